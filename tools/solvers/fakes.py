@@ -1,16 +1,18 @@
 #!/usr/bin/env python3
-"""Tries try-smt on answers that are made up: fakes.py TRY-SMT. Small programs stand in for isle, z3 and cvc5; a solver reads what
-it has to do from a comment in the question. Status: 0 if all is as it must be, 1 if something isn't."""
+"""Tries try-smt on answers that are made up: fakes.py TRY-SMT. Small programs stand in for isle, z3 and cvc5: isle wants some texts
+to be asked until a solver said `sat` or `unsat`, and then shows the file of records; a solver reads what it has to do from a comment
+in the text. Status: 0 if all is as it must be, 1 if something isn't."""
 import json
 import os
 import subprocess
 import sys
 import tempfile
 
-# A solver that does what stands behind its name in the question: answers so, says something else, dies, or hangs.
+# A solver that does what stands behind its name in the text: answers so, says something else, dies, or hangs.
 SOLVER = """#!%(python)s
 import os, re, signal, sys, time
 text = sys.stdin.read()
+open(%(room)r + "/started", "a").write("%(name)s\\n")
 found = re.search("; %(name)s ([^(\\n]*)", text)
 what = found.group(1) if found else "unsat"
 if what == "die":
@@ -23,62 +25,60 @@ if what == "hang":
     time.sleep(60)
 if what not in ("nothing", "hang"):
     print(what)
-if "get-value" in text:
-    print("((s1 #b0000000000000011) (arg0 (_ bv131071 32)) (s2 #x2a) ((= s2 (f arg0)) false) ((f arg0) (- 5)))")
 """
 
+# Which texts lack an answer, and at last the records.
 ISLE = """#!%(python)s
-import sys
-if sys.argv[1] != "conditions":
-    sys.exit(2)
-print(open(sys.argv[-1] + (".above" if "--above" in sys.argv else ""), encoding="utf-8").read())
-sys.exit(int(sys.argv[-1].rpartition(".")[2]) if sys.argv[-1].rpartition(".")[2].isdigit() else 0)
+import json, re, sys
+words = sys.argv[1:]
+path, asked = words[words.index("--answers") + 1], words[-1]
+if asked.rpartition(".")[2].isdigit():
+    sys.exit(int(asked.rpartition(".")[2]))
+records, text, behind = {}, "", False
+for line in open(path, encoding="utf-8"):
+    if line.startswith("> "):
+        text = line if behind else text + line
+    elif line.startswith("< "):
+        records.setdefault(text, []).append(line[2:].strip())
+    behind = not line.startswith("> ")
+if "--format" in words:
+    for text in json.load(open(asked, encoding="utf-8")):
+        text = "".join("> %%s\\n" %% line for line in text.split("\\n"))
+        if words[words.index("--format") + 1] == "asked" or not set(records.get(text, [])) & {"sat", "unsat"}:
+            print(text)
+else:
+    sys.stdout.write(open(path, encoding="utf-8").read())
+    sys.exit(1 if "--deny" in words else 0)
 """
 
 
-def row(line, wrong, taken="sat", widths=0, values=None):
-    def text(what):
-        return "\n".join("; %s %s" % pair for pair in what.items()) if isinstance(what, dict) else "; z3 %s\n; cvc5 %s" % (what, what)
-    return {"rule": None, "file": "a.isle", "line": line, "term": "f", "widths": [{"of": "arg0", "width": widths}] if widths else [], "taken": text(taken) + "\n; taken %d" % line,
-            "wrong": text(wrong) + "\n; wrong %d %d" % (line, widths), "names": {},
-            "values": [{"of": name, "is": formula} for name, formula in values or []]}
+def text(what, number=0):
+    """A text that says what each solver has to do."""
+    pairs = what if isinstance(what, dict) else {"z3": what, "cvc5": what}
+    return "; number %d\n" % number + "\n".join("; %s %s" % pair for pair in pairs.items())
 
 
-WITHOUT = {"rule": "other", "file": "a.isle", "line": 90, "term": "g", "reason": "its term has no spec"}
-
-# What is asked, with which words, under "no rule above" too; the lines that are told, and the status.
+# What is asked, with which words, and what each solver is noted to have written.
 ROWS = [
-    ("right", [row(1, "unsat")], [], ["right: rule at a.isle:1 of f"], 0),
-    ("never taken", [row(1, "unsat", "unsat")], [], ["idle: rule at a.isle:1 of f: no call takes it, by the specs"], 0),
-    ("asked at some widths only", [dict(row(90, "unsat"), term="g")], [], [], 0),
-    ("never taken is not right", [row(1, "unsat", "unsat")], ["--deny"], ["idle: rule at a.isle:1 of f: no call takes it, by the specs"], 1),
-    ("wrong, with values", [row(1, "sat\n(assert (not (= s2 (f arg0))))", values=[("x", "s1"), ("y", "arg0"), ("result", "s2")])], [],
-     ["wrong: rule at a.isle:1 of f, where x is 3, y is 0x1ffff: gives 42, the spec wants -5"], 1),
-    ("dies", [row(1, "die")], [], ["unknown: rule at a.isle:1 of f: z3 was ended by signal 11; cvc5 was ended by signal 11"], 0),
-    ("fails", [row(1, "fail")], [], ["unknown: rule at a.isle:1 of f: z3 ended with the status 1; cvc5 ended with the status 1"], 0),
-    ("says nothing", [row(1, "nothing")], [], ["unknown: rule at a.isle:1 of f: z3 said ''; cvc5 said ''"], 0),
-    ("nonsense", [row(1, "unsat unsat")], [], ["unknown: rule at a.isle:1 of f: z3 said 'unsat unsat'; cvc5 said 'unsat unsat'"], 0),
-    ("doesn't know", [row(1, "unknown")], ["--deny"], ["unknown: rule at a.isle:1 of f: z3 doesn't know; cvc5 doesn't know"], 1),
-    ("hangs", [row(1, {"z3": "hang", "cvc5": "timeout"})], ["--seconds", "1"],
-     ["unknown: rule at a.isle:1 of f: z3 gave no answer in 1 seconds; cvc5 gave no answer in 1 seconds"], 0),
-    ("one answers", [row(1, {"z3": "unknown", "cvc5": "unsat"})], [], ["right: rule at a.isle:1 of f"], 0),
-    ("one isn't asked", [row(1, {"z3": "unknown", "cvc5": "unsat"})], ["--solver", "z3"], ["unknown: rule at a.isle:1 of f: z3 doesn't know"], 0),
-    ("they differ", [row(1, {"z3": "sat", "cvc5": "unsat"})], [],
-     ["unknown: rule at a.isle:1 of f: z3 says that it can be, cvc5 that it can't"], 0),
-    ("whether it is taken isn't known", [row(1, "unsat", "unknown")], [],
-     ["unknown: rule at a.isle:1 of f: whether a call takes it: z3 doesn't know; cvc5 doesn't know"], 0),
-    ("widths", [row(1, "unsat", widths=8), row(1, "unsat", "unsat", widths=16), row(2, "unsat", widths=8), row(2, "sat", widths=16)],
-     [], ["right: rule at a.isle:1 of f", "wrong: rule at a.isle:2 of f (arg0 of 16 bits)"], 1),
+    ("unsat", ["unsat"], [], ["= z3 20", "< unsat"]),
+    ("sat", ["sat"], [], ["= z3 20", "< sat"]),
+    ("dies", ["die"], [], ["= z3 20", "< nothing: it was ended by signal 11", "= cvc5 20", "< nothing: it was ended by signal 11"]),
+    ("fails", ["fail"], [], ["= z3 20", "< nothing: it ended with the status 1", "= cvc5 20", "< nothing: it ended with the status 1"]),
+    ("says nothing", ["nothing"], [], ["= z3 20", "= cvc5 20"]),
+    ("nonsense", ["unsat unsat"], [], ["= z3 20", "< unsat unsat", "= cvc5 20", "< unsat unsat"]),
+    ("doesn't know", ["unknown"], [], ["= z3 20", "< unknown", "= cvc5 20", "< unknown"]),
+    ("hangs", [{"z3": "hang", "cvc5": "timeout"}], ["--seconds", "1"],
+     ["= z3 1", "< timeout after 1 seconds", "= cvc5 1", "< timeout after 1 seconds"]),
+    ("the second one knows", [{"z3": "unknown", "cvc5": "unsat"}], [], ["= z3 20", "< unknown", "= cvc5 20", "< unsat"]),
+    ("the second one isn't asked", [{"z3": "unknown", "cvc5": "unsat"}], ["--solver", "z3"], ["= z3 20", "< unknown"]),
+    ("both are asked", [{"z3": "sat", "cvc5": "unsat"}], ["--solver", "both", "--jobs", "1"], ["= z3 20", "< sat", "= cvc5 20", "< unsat"]),
+    ("one text twice", ["unsat", "unsat"], [], ["= z3 20", "< unsat"]),
 ]
 
-# A rule that is right only where no rule above matches, and one that isn't right even there.
-ABOVE = ("above", [row(1, "sat"), row(2, "sat")], [row(1, "unsat"), row(2, "sat")],
-         ["right: rule at a.isle:1 of f", "wrong: rule at a.isle:2 of f"], 1)
 
-
-def write(path, text, mode=0o644):
+def write(path, words, mode=0o644):
     with open(path, "w", encoding="utf-8") as file:
-        file.write(text)
+        file.write(words)
     os.chmod(path, mode)
 
 
@@ -88,10 +88,9 @@ def run(script, room, words, path=None):
     return found.stdout.decode("utf-8").splitlines(), found.returncode
 
 
-def ask(script, room, rows, above, words):
+def ask(script, room, texts, words):
     file = os.path.join(room, "asked")
-    write(file, json.dumps({"conditions": rows, "without": [WITHOUT]}))
-    write(file + ".above", json.dumps({"conditions": above, "without": []}))
+    write(file, json.dumps(texts))
     return run(script, room, words + [file])
 
 
@@ -107,27 +106,28 @@ def main(script):
     with tempfile.TemporaryDirectory() as room:
         write(os.path.join(room, "isle"), ISLE % {"python": sys.executable}, 0o755)
         for name in ("z3", "cvc5"):
-            write(os.path.join(room, name), SOLVER % {"python": sys.executable, "name": name}, 0o755)
-        for name, rows, words, lines, status in ROWS:
-            found = ask(script, room, rows, rows, words)
-            last = "without: rule other at a.isle:90 of g: its term has no spec"
-            check(name, found[0][:-2] == lines and found[0][-2] == last and found[1] == status, found)
-        name, rows, above, lines, status = ABOVE
-        found = ask(script, room, rows, above, [])
-        check(name, found[0][:-2] == lines and found[1] == status, found)
-        check("counts", found[0][-1] == "3 rules: 1 right, 1 wrong, 0 unknown, 0 never taken, 1 without a condition", found)
+            write(os.path.join(room, name), SOLVER % {"python": sys.executable, "name": name, "room": room}, 0o755)
+        for name, texts, words, lines in ROWS:
+            found = ask(script, room, [text(what) for what in texts], words)
+            said = [line for line in found[0] if line[:2] in ("= ", "< ")]
+            check(name, said == lines and found[1] == 0, found)
+        kept = os.path.join(room, "answers")
+        texts = [text("unsat"), text("unknown", 1)]
+        first = ask(script, room, texts, ["--answers", kept])
+        started = os.path.join(room, "started")
+        os.remove(started)
+        second = ask(script, room, texts, ["--answers", kept])
+        check("a second run starts no solver", first == second and not os.path.exists(started), (first, second))
+        third = ask(script, room, texts, ["--answers", kept, "--seconds", "30"])
+        check("more time asks again what isn't known", "= z3 30" in third[0] and len(open(started).read().split()) == 2, third)
+        with open(kept, "a", encoding="utf-8") as file:
+            file.write("> cut")
+        check("a file that is cut off", ask(script, room, texts + [text("sat", 2)], ["--answers", kept])[1] == 0, None)
+        found = ask(script, room, texts, ["--deny"])
+        check("--deny is isle's", found[1] == 1, found)
         for status, wanted in ((1, 1), (2, 2), (3, 70), (70, 70)):
-            write(os.path.join(room, "asked.%d" % status), "")
             found = run(script, room, [os.path.join(room, "asked.%d" % status)])
             check("isle ends with %d" % status, found[1] == wanted, found)
-        for text in ("", "{}", "[]", '{"conditions": [{}], "without": []}', '{"conditions": [], "without": [3]}'):
-            write(os.path.join(room, "asked"), text)
-            found = run(script, room, [os.path.join(room, "asked")])
-            check("isle writes %r" % text, found[1] == 70, found)
-        for words, status in (([], 0), (["--deny"], 1)):
-            write(os.path.join(room, "asked"), '{"conditions": [], "without": []}')
-            found = run(script, room, words + [os.path.join(room, "asked")])
-            check("no rules %s" % words, found[1] == status and "none of these rules is of a term with a spec" in found[0][-1], found)
         check("no file", run(script, room, [])[1] == 2, None)
         check("no seconds", run(script, room, ["--seconds", "0", "a"])[1] == 2, None)
         os.remove(os.path.join(room, "cvc5"))

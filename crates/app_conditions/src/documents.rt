@@ -3,6 +3,8 @@
 ghost use Rattle.std.specs.Prelude.{◌≢◌, [], string_bytes, IfOk};
 
 use crate::forms::push_forms;
+use crate::judging::{Counts, Judge, NO_COUNTS};
+use crate::told::Teller;
 use cranelift_isle::lower::Lowered;
 use cranelift_isle::sema::{RuleId, TermId};
 use cranelift_isle::syntax::{Files, Pos};
@@ -10,7 +12,7 @@ use report_json::documents::{begun, ended};
 use report_json::places::LinePlaces;
 use report_json::writer::Json;
 use report_queries::names::{rule_name, term_name};
-use spec_questions::questions::{Question, Questions, Without};
+use spec_questions::questions::{Question, Questions, RuleQuestions, Without};
 use std::alloc::{AllocError, Global};
 use text_reader::syntax::VerificationForm;
 
@@ -31,8 +33,13 @@ pub(crate) fn document_of_questions(
     };
     let mut json = begun(alloc)?;
     json.begin_at("conditions", '[')?;
-    for question in &asked.questions {
-        writer.push_question(&mut json, question)?;
+    for rule in &asked.rules {
+        writer.push_questions(&mut json, rule)?;
+    }
+    json.end(']')?;
+    json.begin_at("left_out", '[')?;
+    for rule in &asked.rules {
+        writer.push_left_out(&mut json, rule)?;
     }
     json.end(']')?;
     json.begin_at("without", '[')?;
@@ -44,26 +51,88 @@ pub(crate) fn document_of_questions(
     ended(alloc, json)
 }
 
-// What questions are written with.
-#[derive(Clone, Copy)]
-struct Writer<'a> {
-    lowered: &'a Lowered,
-    places: &'a LinePlaces<'a>,
+/// The document of what answers say of rules, in one line, and how many rules there are of each verdict.
+pub(crate) fn document_of_verdicts(
+    judge: Judge<'_, '_>,
+    out: &mut String,
+) -> Result<Counts, AllocError> {
+    let Teller {
+        alloc,
+        lines,
+        lowered,
+    } = judge.teller;
+    let places = LinePlaces::new(alloc, lines.files())?;
+    let writer = Writer {
+        lowered,
+        places: &places,
+    };
+    let mut counts = NO_COUNTS;
+    let mut json = begun(alloc)?;
+    json.begin_at("verdicts", '[')?;
+    for rule in &judge.asked.rules {
+        let mut told = String::new(alloc);
+        let verdict = judge.push_told(&mut told, judge.last(rule), &mut counts)?;
+        json.begin('{')?;
+        writer.push_rule(&mut json, rule.rule, rule.pos, rule.term)?;
+        json.key_string("verdict", verdict.word())?;
+        json.key_string("told", &told)?;
+        json.end('}')?;
+    }
+    for rule in &judge.asked.without {
+        let mut told = String::new(alloc);
+        judge.push_without(&mut told, rule, &mut counts)?;
+        json.begin('{')?;
+        writer.push_rule(&mut json, rule.rule, rule.pos, rule.term)?;
+        json.key_string("verdict", "without")?;
+        json.key_string("told", &told)?;
+        json.end('}')?;
+    }
+    json.end(']')?;
+    out.push_str(&ended(alloc, json)?)?;
+    Ok(counts)
 }
 
-impl<'a> Writer<'a> {
-    // Adds a question.
-    fn push_question(self, json: &mut Json, question: &Question) -> Result<(), AllocError> {
-        json.begin('{')?;
-        self.push_rule(json, question.rule, question.pos, question.term)?;
-        json.begin_at("widths", '[')?;
-        for (of, width) in &question.widths {
+// What questions are written with.
+#[derive(Clone, Copy)]
+struct Writer<'a, 'f> {
+    lowered: &'a Lowered,
+    places: &'a LinePlaces<'f>,
+}
+
+impl<'a, 'f> Writer<'a, 'f> {
+    // Adds the questions about a rule.
+    fn push_questions(self, json: &mut Json, rule: &RuleQuestions) -> Result<(), AllocError> {
+        for question in &rule.questions {
+            self.push_question(json, rule, question)?;
+        }
+        Ok(())
+    }
+
+    // Adds the choices of widths at which a rule isn't asked about.
+    fn push_left_out(self, json: &mut Json, rule: &RuleQuestions) -> Result<(), AllocError> {
+        for choice in &rule.left_out {
             json.begin('{')?;
-            json.key_string("of", of)?;
-            json.key_number("width", *width)?;
+            self.push_rule(json, rule.rule, rule.pos, rule.term)?;
+            push_widths(json, &choice.widths)?;
+            match &choice.reason {
+                Some(reason) => json.key_string("reason", reason)?,
+                None => json.key_null("reason")?,
+            }
             json.end('}')?;
         }
-        json.end(']')?;
+        Ok(())
+    }
+
+    // Adds a question.
+    fn push_question(
+        self,
+        json: &mut Json,
+        rule: &RuleQuestions,
+        question: &Question,
+    ) -> Result<(), AllocError> {
+        json.begin('{')?;
+        self.push_rule(json, rule.rule, rule.pos, rule.term)?;
+        push_widths(json, &question.widths)?;
         json.key_string("taken", &question.taken)?;
         json.key_string("wrong", &question.wrong)?;
         json.begin_at("names", '{')?;
@@ -106,4 +175,16 @@ impl<'a> Writer<'a> {
         self.places.push_place(json, pos)?;
         json.key_string("term", term_name(tyenv, termenv, term).unwrap_or("_"))
     }
+}
+
+// Adds a choice of widths.
+fn push_widths(json: &mut Json, widths: &[(String, usize)]) -> Result<(), AllocError> {
+    json.begin_at("widths", '[')?;
+    for (of, width) in widths {
+        json.begin('{')?;
+        json.key_string("of", of)?;
+        json.key_number("width", *width)?;
+        json.end('}')?;
+    }
+    json.end(']')
 }

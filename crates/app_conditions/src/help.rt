@@ -9,14 +9,18 @@ Options:
   --rule RULE            only these rules. RULE is the name of a rule or of a term, a line in the rule, or FILE:LINE. FILE
                          may be the end of a path.
   --above                asks where no rule of greater priority matches
-  --format FORMAT        json: all questions, as without this option. smt: the text of the one question about the rule of
-                         --rule, for a solver. Its answer unsat says that the rule is right
-  --answers FILE         tells what a solver wrote in FILE, which was asked by the same words with --format smt. The line
-                         begins with right, wrong or unknown. The file - is standard input here too
+  --answers FILE         tells what solvers' answers in FILE, a file of records, say of each rule. The file - is standard
+                         input here too
+  --deny                 status 1 unless each rule is right at all widths
+  --expect FILE          status 1 unless each rule is right but those that FILE names: each of its lines begins the line
+                         that is told of one, as 'wrong: rule at a.isle:7 of f'
+  --format FORMAT        json: all questions, as without this option; or with --answers what is said of each rule. smt: the
+                         text of the one question about the rule of --rule, for a solver. open: the texts that lack an
+                         answer, as records. asked: all texts that are asked, as records
   -C FOLDER              looks for files in this folder
   --help
 
-Status: 0 success, 1 errors or a rule that isn't shown to be right, 2 wrong use, 3 out of memory, 4 a file cannot be read or
-the answer cannot be written. The script ./isle adds 70: no program gave an answer. tools/try-smt asks the solvers that are
-installed about all rules.
+Status: 0 success, 1 errors or a rule that is wrong or left out at some widths, 2 wrong use, 3 out of memory, 4 a file
+cannot be read or the answer cannot be written. The script ./isle adds 70: no program gave an answer. tools/try-smt asks
+the solvers that are installed about all rules.
 ";

@@ -2,10 +2,12 @@
 //! rule.
 #![tactic(auto)]
 
+mod calls;
 mod chosen;
 mod documents;
 mod forms;
 mod help;
+mod judging;
 mod reading;
 pub mod run;
 mod told;

@@ -1,32 +1,42 @@
 //! What `conditions` does.
 
-ghost use Rattle.std.specs.Prelude.{◌≡◌, ◌≢◌, ◌≤◌, ◌⊎◌};
+ghost use Rattle.std.specs.Prelude.{◌≡◌, ◌≢◌, ◌≤◌, ◌⊎◌, map, string_bytes, IfOk};
+ghost use Rattle.app_conditions.specs.Accepted.{AreAcceptedTexts, IsMadeOf, IsRefusal};
+ghost use Rattle.app_command.specs.Readings.{none_without, AreOfTexts};
+ghost use Rattle.cranelift_isle.specs.SyntaxViews.{definition_views};
 
 use crate::chosen::{Chosen, only_question};
-use crate::documents::document_of_questions;
+use crate::documents::{document_of_questions, document_of_verdicts};
 use crate::help::HELP;
-use crate::reading::{Said, Texts, said_in, texts_of};
-use crate::told::{Teller, Told, text_for_solver};
-use crate::words::{ConditionsRequest, ask_for_help, conditions_by};
+use crate::judging::{Judge, wrong_places};
+use crate::reading::{Said, Texts, definitions_in, said_in, texts_of};
+use crate::told::{Teller, text_for_solver};
+use crate::words::{ConditionsRequest, QuestionFormat, ask_for_help, conditions_by};
+use app_command::project::find_files;
+use app_command::reading::Reading;
 use app_command::run::cannot_read;
+use app_command::unread::reports_of_texts;
 use app_command::words::Unasked;
 use cranelift_isle::lower::{Lowered, lower};
 use cranelift_isle::syntax::{Def, Error, Fault, Files, Pos};
 use report_errors::diagnosis::reports_of;
 use report_errors::meant_rules::Called;
 use report_print::layout::{Layout, push_reports};
+use report_print::lines::FileLines;
 use report_print::report::{Level, Report};
 use report_queries::answers::{end, no_memory, write_text};
 use spec_formulas::faults::SpecError;
-use spec_questions::questions::{Question, QuestionFault, Questions, Wanted, questions_about};
+use spec_questions::answers::{Answer, answers_in};
+use spec_questions::questions::{QuestionFault, Questions, Wanted, questions_about};
 use std::alloc::{AllocError, Global};
 use std::io::{Read, Write};
+use text_reader::errors::TextError;
 use text_reader::syntax::VerificationForm;
 
 /// Runs `isle conditions`: `words` are the words behind it, `input` is standard input, and the answer is the status.
 ///
-/// 0: what is asked is on `out`: questions, or that a rule is right. 1: a text, a definition or a spec is wrong, or there isn't one
-/// question where one is asked about, as `err` says; or a rule isn't shown to be right, as `out` says. 2: the words ask nothing,
+/// 0: what is asked is on `out`: questions, or what is told of rules, none of which is wrong. 1: a text, a definition or a spec is
+/// wrong, or there isn't one question where one is asked about, as `err` says; or a rule is wrong, as `out` says. 2: the words ask nothing,
 /// and `err` says why. 3: memory was refused. 4: a file can't be read, or `out` can't be written.
 pub fn run<R: std::rt::Files + AllocGlobal, I: Read + Drop, O: Write, E: Write>(
     rt: &R,
@@ -41,9 +51,25 @@ pub fn run<R: std::rt::Files + AllocGlobal, I: Read + Drop, O: Write, E: Write>(
         return write_text(HELP, out, err);
     }
     match conditions_by(rt.alloc(), words) {
-        Ok(asked) => run_conditions(rt, &asked, input, out, err),
+        Ok(asked) => run_asked(rt, asked, input, out, err),
         Err(Unasked::Words(why)) => wrong_words(rt.alloc(), &why, err),
         Err(Unasked::Memory) => no_memory(err),
+    }
+}
+
+// Writes what is asked of the files that words name, or of those of a project.
+fn run_asked<R: std::rt::Files + AllocGlobal, I: Read + Drop, O: Write, E: Write>(
+    rt: &R,
+    mut asked: ConditionsRequest<'_>,
+    input: I,
+    out: &mut O,
+    err: &mut E,
+) -> u8
+    ensures { result ≤ 4 }
+{
+    match find_files(rt, asked.folder, &mut asked.files, err) {
+        Ok(()) => run_conditions(rt, &asked, input, out, err),
+        Err(status) => status,
     }
 }
 
@@ -77,9 +103,9 @@ fn run_conditions<R: std::rt::Files + AllocGlobal, I: Read + Drop, O: Write, E: 
 // What comes of files.
 #[derive(Drop)]
 enum Made {
-    // Questions, or that a rule is right.
+    // Questions, or what is told of rules of which none is wrong.
     Text(String),
-    // That a rule isn't shown to be right.
+    // What is told of rules, where one is wrong or isn't shown to be right.
     Unshown(String),
     // Why there is no such text.
     Wrong(String),
@@ -95,6 +121,8 @@ fn answer<O: Write, E: Write>(
 ) -> u8
     ensures known { result ≤ 4 }
     ensures used { result ≢ 2 }
+    // success means that the definitions are accepted
+    ensures accepted { result ≡ 0 → AreAcceptedTexts (map string_bytes texts.now.files.texts.items) }
 {
     match made_of(alloc, asked, texts) {
         Ok(Made::Text(text)) => write_text(&text, out, err),
@@ -104,7 +132,7 @@ fn answer<O: Write, E: Write>(
     }
 }
 
-// Writes that a rule isn't shown to be right.
+// Writes what is told of rules of which one is wrong or isn't shown to be right.
 fn write_unshown<O: Write, E: Write>(text: &str, out: &mut O, err: &mut E) -> u8
     ensures { (result ≡ 1) ⊎ (result ≡ 4) }
 {
@@ -115,30 +143,64 @@ fn write_unshown<O: Write, E: Write>(text: &str, out: &mut O, err: &mut E) -> u8
 }
 
 // What comes of files.
-fn made_of(
+#[tactic(auto, using(crate::proofs::Made::refused_of_any))]
+fn made_of(alloc: Global, asked: &ConditionsRequest<'_>, texts: &Texts) -> Result<Made, AllocError>
+    ensures { IfOk result (IsMadeOf (map string_bytes texts.now.files.texts.items)) }
+{
+    let reading = definitions_in(alloc, &texts.files)?;
+    match &reading {
+        Reading::Defs(defs) => made_of_definitions(alloc, asked, texts, defs),
+        Reading::Unread(mistakes) => unread(alloc, &texts.files, mistakes),
+    }
+}
+
+// What is wrong with texts.
+fn unread(alloc: Global, files: &Files, mistakes: &[TextError]) -> Result<Made, AllocError>
+    ensures { IfOk result IsRefusal }
+{
+    let reports = reports_of_texts(alloc, files, mistakes)?;
+    Ok(Made::Wrong(text_of(alloc, files, &reports)?))
+}
+
+// What comes of the definitions of files, and of what they say for a verifier.
+fn made_of_definitions(
     alloc: Global,
     asked: &ConditionsRequest<'_>,
     texts: &Texts,
-) -> Result<Made, AllocError> {
-    let files = &texts.files;
-    let said = said_in(alloc, files)?;
-    if !said.reports.is_empty() {
-        return Ok(Made::Wrong(text_of(alloc, files, &said.reports)?));
+    defs: &[Def],
+) -> Result<Made, AllocError>
+    requires said { AreOfTexts none_without 0 (map string_bytes texts.now.files.texts.items) (definition_views defs.now) }
+    ensures { IfOk result (IsMadeOf (map string_bytes texts.now.files.texts.items)) }
+{
+    match said_in(alloc, &texts.files)? {
+        Said::Forms(forms) => made_of_all(alloc, asked, texts, defs, &forms),
+        Said::Unread(reports) => Ok(Made::Wrong(text_of(alloc, &texts.files, &reports)?)),
     }
-    match lower(alloc, &said.defs, true) {
-        Ok(lowered) => asked_of(alloc, asked, texts, &said, &lowered),
-        Err(Fault::Errors(errors)) => refused(alloc, files, &said.defs, &errors),
+}
+
+// What comes of what files say.
+#[tactic(auto, using(crate::proofs::Made::made_of_accepted, crate::proofs::Made::refused_of_any))]
+fn made_of_all(
+    alloc: Global,
+    asked: &ConditionsRequest<'_>,
+    texts: &Texts,
+    defs: &[Def],
+    forms: &[VerificationForm],
+) -> Result<Made, AllocError>
+    requires said { AreOfTexts none_without 0 (map string_bytes texts.now.files.texts.items) (definition_views defs.now) }
+    ensures { IfOk result (IsMadeOf (map string_bytes texts.now.files.texts.items)) }
+{
+    match lower(alloc, defs, true) {
+        Ok(lowered) => asked_of(alloc, asked, texts, defs, forms, &lowered),
+        Err(Fault::Errors(errors)) => refused(alloc, &texts.files, defs, &errors),
         Err(Fault::Memory(error)) => Err(error),
     }
 }
 
 // What is wrong with definitions.
-fn refused(
-    alloc: Global,
-    files: &Files,
-    defs: &[Def],
-    errors: &[Error],
-) -> Result<Made, AllocError> {
+fn refused(alloc: Global, files: &Files, defs: &[Def], errors: &[Error]) -> Result<Made, AllocError>
+    ensures { IfOk result IsRefusal }
+{
     let found = reports_of(alloc, defs, true, errors, false)?;
     Ok(Made::Wrong(text_of(alloc, files, &found.reports)?))
 }
@@ -155,29 +217,23 @@ fn asked_of(
     alloc: Global,
     asked: &ConditionsRequest<'_>,
     texts: &Texts,
-    said: &Said,
+    defs: &[Def],
+    forms: &[VerificationForm],
     lowered: &Lowered,
 ) -> Result<Made, AllocError> {
     let above = asked.above;
     let Some(called) = asked.rule else {
         let wanted = Wanted { above, only: None };
-        return made_for(alloc, asked, texts, &said.forms, lowered, wanted);
+        return made_for(alloc, asked, texts, forms, lowered, wanted);
     };
-    let places = places_called(alloc, &texts.files, &said.defs, called)?;
+    let places = places_called(alloc, &texts.files, defs, called)?;
     if places.is_empty() {
         return Ok(Made::Wrong(format!(in alloc;
             "error: no rule or term with rules is called `{called}`\n"
         )?));
     }
     let only = Some(places.as_slice());
-    made_for(
-        alloc,
-        asked,
-        texts,
-        &said.forms,
-        lowered,
-        Wanted { above, only },
-    )
+    made_for(alloc, asked, texts, forms, lowered, Wanted { above, only })
 }
 
 // Where the rules stand that are so called.
@@ -218,7 +274,7 @@ fn made_for(
     }
 }
 
-// What is made of questions: their document, or what is asked about a single one.
+// What is made of questions: what answers say of their rules, a text for a solver, or their document.
 fn made_with(
     alloc: Global,
     asked: &ConditionsRequest<'_>,
@@ -228,34 +284,104 @@ fn made_with(
     found: &Questions,
 ) -> Result<Made, AllocError> {
     let files = &texts.files;
-    if !asked.is_of_one() {
-        return Ok(Made::Text(document_of_questions(alloc, files, lowered, forms, found)?));
-    }
+    let lines = FileLines::new(alloc, files)?;
     let teller = Teller {
         alloc,
-        files,
+        lines: &lines,
         lowered,
     };
+    match (asked.answers, asked.format) {
+        (None, Some(QuestionFormat::Smt)) => made_of_one(teller, asked, found),
+        (None, None | Some(QuestionFormat::Json)) => {
+            Ok(Made::Text(document_of_questions(alloc, files, lowered, forms, found)?))
+        }
+        _ => made_by_answers(teller, asked, texts, forms, found),
+    }
+}
+
+// The text of a question for a solver.
+fn made_of_one(
+    teller: Teller<'_, '_>,
+    asked: &ConditionsRequest<'_>,
+    found: &Questions,
+) -> Result<Made, AllocError> {
     match only_question(teller, asked.rule.unwrap_or("_"), found)? {
-        Chosen::Only(question) => made_of_one(teller, question, &texts.answer),
+        Chosen::Only(question) => Ok(Made::Text(text_for_solver(teller.alloc, question)?)),
         Chosen::Not(why) => Ok(Made::Wrong(why)),
     }
 }
 
-// The text of a question for a solver, or what a solver said of it.
-fn made_of_one(
-    teller: Teller<'_>,
-    question: &Question,
-    answer: &Option<String>,
+// What records of answers say of rules, or the texts that are asked.
+fn made_by_answers(
+    teller: Teller<'_, '_>,
+    asked: &ConditionsRequest<'_>,
+    texts: &Texts,
+    forms: &[VerificationForm],
+    found: &Questions,
 ) -> Result<Made, AllocError> {
-    let Some(answer) = answer else {
-        return Ok(Made::Text(text_for_solver(teller.alloc, question)?));
+    let answers = answers_in(teller.alloc, &texts.answers)?;
+    let above = above_wrong(teller, asked, forms, found, &answers)?;
+    let judge = Judge {
+        teller,
+        expected: &texts.expected,
+        answers: &answers,
+        asked: found,
+        above: &above,
     };
-    let Told { is_right, line } = teller.told(question, answer)?;
-    Ok(if is_right {
-        Made::Text(line)
+    judged(judge, asked, forms)
+}
+
+// What is asked of rules that are wrong by themselves, where no rule of greater priority matches.
+fn above_wrong(
+    teller: Teller<'_, '_>,
+    asked: &ConditionsRequest<'_>,
+    forms: &[VerificationForm],
+    found: &Questions,
+    answers: &[Answer],
+) -> Result<Questions, AllocError> {
+    let alloc = teller.alloc;
+    let none = Questions {
+        rules: Vec::new(alloc),
+        without: Vec::new(alloc),
+    };
+    let places = wrong_places(teller, found, answers)?;
+    if asked.above || places.is_empty() {
+        return Ok(none);
+    }
+    let wanted = Wanted {
+        above: true,
+        only: Some(&places),
+    };
+    match questions_about(alloc, teller.lowered, forms, wanted) {
+        Ok(above) => Ok(above),
+        Err(QuestionFault::Wrong(_)) => Ok(none),
+        Err(QuestionFault::Memory) => Err(AllocError),
+    }
+}
+
+// What is written of rules that are judged.
+fn judged(
+    judge: Judge<'_, '_>,
+    asked: &ConditionsRequest<'_>,
+    forms: &[VerificationForm],
+) -> Result<Made, AllocError> {
+    let mut text = String::new(judge.teller.alloc);
+    if let Some(format @ (QuestionFormat::Open | QuestionFormat::Asked)) = asked.format {
+        judge.push_texts(&mut text, format == QuestionFormat::Asked)?;
+        return Ok(Made::Text(text));
+    }
+    let counts = match asked.format {
+        Some(QuestionFormat::Json) => document_of_verdicts(judge, &mut text)?,
+        _ => judge.push_lines(&mut text, forms)?,
+    };
+    let is_pass = match asked.expected {
+        Some(_) => judge.are_expected(&counts),
+        None => counts.is_pass(asked.deny),
+    };
+    Ok(if is_pass {
+        Made::Text(text)
     } else {
-        Made::Unshown(line)
+        Made::Unshown(text)
     })
 }
 
@@ -271,11 +397,12 @@ fn spec_reports(alloc: Global, errors: Vec<SpecError>) -> Result<Vec<Report>, Al
 // The report of a wrong spec.
 fn spec_report(alloc: Global, error: SpecError) -> Result<Report, AllocError> {
     let SpecError {
+        code,
         pos,
         message,
         other,
     } = error;
-    let mut report = Report::new(alloc, Level::Error, "spec", message);
+    let mut report = Report::new(alloc, Level::Error, code, message);
     report.add_label(pos, String::new(alloc))?;
     if let Some(other) = other {
         report.add_label(other, String::from_str(alloc, "the other place")?)?;

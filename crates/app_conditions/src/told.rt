@@ -1,19 +1,16 @@
-//! A single question: its text for a solver, and what the solver's answer says of its rule.
+//! A single question: its text for a solver, and the values that a solver gave, in the words of its rule.
 
-ghost use Rattle.std.specs.Prelude.{◌≡◌, IfOk, codes, true};
-ghost use Rattle.std.specs.Str.{trim_start};
-ghost use Rattle.spec_questions.specs.Replies.{BeginsText};
-
+use crate::calls::Given;
 use cranelift_isle::lower::Lowered;
-use cranelift_isle::sema::{RuleId, TermId};
-use cranelift_isle::syntax::{Files, Pos};
-use report_print::lines::{file_name, file_text, line_at};
+use cranelift_isle::sema::{ExtractorKind, RuleId, TermId, TermKind};
+use cranelift_isle::syntax::{Ident, Pos};
+use report_print::lines::{FileLines, file_name};
 use report_queries::names::{rule_name, term_name};
 use spec_questions::questions::Question;
-use spec_questions::replies::{Reply, reply_in};
 use std::alloc::{AllocError, Global};
+use text_reader::syntax::VerificationForm;
 
-/// A question as a solver reads it: the values of its formulas are asked for behind it.
+/// A question as a solver reads it: the values of its formulas, of what is to be shown and of its constants are asked for behind it.
 pub(crate) fn text_for_solver(alloc: Global, question: &Question) -> Result<String, AllocError> {
     let mut text = question.wrong.clone()?;
     if question.values.is_empty() {
@@ -26,43 +23,78 @@ pub(crate) fn text_for_solver(alloc: Global, question: &Question) -> Result<Stri
         }
         text.push_str(formula)?;
     }
+    for (_, formula) in &question.goals {
+        text.push(' ')?;
+        text.push_str(formula)?;
+    }
+    for (name, _) in &question.names {
+        text.push(' ')?;
+        text.push_str(name)?;
+    }
     text.push_str("))\n")?;
     Ok(text)
 }
 
-/// What an answer says of a rule.
-#[derive(Drop)]
-pub(crate) struct Told {
-    /// Whether the rule is right.
-    pub(crate) is_right: bool,
-    /// The same in a line.
-    pub(crate) line: String,
+/// How many values are asked for behind a question.
+pub(crate) fn count_of_values(question: &Question) -> usize {
+    question
+        .values
+        .len()
+        .saturating_add(question.goals.len())
+        .saturating_add(question.names.len())
+}
+
+/// Adds what values show that are given for a question about a rule of a term: of its variables and its result, of what is to be
+/// shown, and of a call.
+pub(crate) fn push_given(
+    teller: Teller<'_, '_>,
+    out: &mut String,
+    term: TermId,
+    question: &Question,
+    given: &[String],
+) -> Result<(), AllocError> {
+    let shown = question.values.len();
+    let behind = shown.saturating_add(question.goals.len());
+    push_values(out, &question.values, given.get(..shown).unwrap_or(&[]))?;
+    push_failed(
+        teller,
+        out,
+        &question.goals,
+        given.get(shown..).unwrap_or(&[]),
+    )?;
+    let constants = Given {
+        names: &question.names,
+        values: given.get(behind..).unwrap_or(&[]),
+    };
+    teller.push_call(out, term, constants)
+}
+
+// Adds where a spec says the first thing that isn't so, by the values of what is to be shown.
+fn push_failed(
+    teller: Teller<'_, '_>,
+    out: &mut String,
+    goals: &[(Pos, String)],
+    values: &[String],
+) -> Result<(), AllocError> {
+    for ((pos, _), value) in goals.iter().zip(values) {
+        if value.as_str() == "false" {
+            out.push_str("; what ")?;
+            teller.push_place(out, *pos)?;
+            return out.push_str(" says isn't so");
+        }
+    }
+    Ok(())
 }
 
 /// How rules are told.
 #[derive(Clone, Copy)]
-pub(crate) struct Teller<'a> {
+pub(crate) struct Teller<'a, 'f> {
     pub(crate) alloc: Global,
-    pub(crate) files: &'a Files,
+    pub(crate) lines: &'a FileLines<'f>,
     pub(crate) lowered: &'a Lowered,
 }
 
-impl<'a> Teller<'a> {
-    /// What a solver said of a question, in the words of its rule.
-    pub(crate) fn told(self, question: &Question, answer: &str) -> Result<Told, AllocError>
-        ensures right { IfOk result (λ told. told.is_right ≡ true → BeginsText (codes "unsat") (trim_start answer.now)) }
-    {
-        let reply = reply_in(self.alloc, answer, question.values.len())?;
-        let mut line = String::from_str(self.alloc, verdict(&reply))?;
-        self.push_rule(&mut line, question.rule, question.pos, question.term)?;
-        push_reply(&mut line, question, &reply)?;
-        line.push('\n')?;
-        Ok(Told {
-            is_right: matches!(&reply, Reply::Unsat),
-            line,
-        })
-    }
-
+impl<'a, 'f> Teller<'a, 'f> {
     /// Adds which rule this is.
     pub(crate) fn push_rule(
         self,
@@ -78,9 +110,35 @@ impl<'a> Teller<'a> {
             Some(name) if name != term => write!(out, "{name} ")?,
             _ => {}
         }
-        let file = file_name(self.files, pos.file);
-        let number = line_at(file_text(self.files, pos.file), pos.offset).number;
-        write!(out, "at {file}:{number} of {term}")
+        out.push_str("at ")?;
+        self.push_place(out, pos)?;
+        write!(out, " of {term}")
+    }
+
+    /// Adds the file and the line of a place.
+    pub(crate) fn push_place(self, out: &mut String, pos: Pos) -> Result<(), AllocError> {
+        let file = file_name(self.lines.files(), pos.file);
+        let number = self.lines.place(pos).line;
+        write!(out, "{file}:{number}")
+    }
+
+    /// Adds a line where a list is a spec that isn't used, since its term is an internal extractor.
+    pub(crate) fn push_if_unused(
+        self,
+        out: &mut String,
+        form: &VerificationForm,
+    ) -> Result<(), AllocError> {
+        match form {
+            VerificationForm::Spec(said) if is_replaced(self.lowered, &said.term) => {
+                let name = &said.term.0;
+                write!(out, "warning: the spec of `{name}` at ")?;
+                self.push_place(out, said.term.1)?;
+                out.push_str(
+                    " isn't used: an internal extractor is replaced by what it stands for\n",
+                )
+            }
+            _ => Ok(()),
+        }
     }
 
     /// Adds which rule this is in a line of its own.
@@ -97,22 +155,21 @@ impl<'a> Teller<'a> {
     }
 }
 
-// The first word of what is told.
-fn verdict(reply: &Reply) -> &'static str {
-    match reply {
-        Reply::Unsat => "right: ",
-        Reply::Sat(_) => "wrong: ",
-        Reply::Other(_) => "unknown: ",
+// Whether a term of this name is an internal extractor, and no constructor.
+fn is_replaced(lowered: &Lowered, name: &Ident) -> bool {
+    for term in &lowered.termenv.terms {
+        if lowered.tyenv.text_of(term.name) == name.0.as_str() {
+            return matches!(
+                &term.kind,
+                TermKind::Decl {
+                    constructor_kind: None,
+                    extractor_kind: Some(ExtractorKind::InternalExtractor { .. }),
+                    ..
+                }
+            );
+        }
     }
-}
-
-// Adds why a rule isn't right.
-fn push_reply(out: &mut String, question: &Question, reply: &Reply) -> Result<(), AllocError> {
-    match reply {
-        Reply::Unsat => Ok(()),
-        Reply::Sat(values) => push_values(out, &question.values, values),
-        Reply::Other(said) => write!(out, ": the solver says {said}"),
-    }
+    false
 }
 
 // Adds the values of a rule's variables, what it gives, and what its spec wants.

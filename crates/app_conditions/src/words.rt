@@ -1,10 +1,10 @@
 //! What `conditions` is asked by its words.
 
-ghost use Rattle.std.specs.Prelude.{◌≡◌, ◌≢◌, ◌↔◌, [], IfOk, IsSome, IsTrue, None};
+ghost use Rattle.std.specs.Prelude.{◌≡◌, ◌↔◌, IfOk, IsSome, IsTrue, None};
 ghost use Rattle.app_conditions.specs.Asked.{IsOfOne};
 
-use app_command::words::Unasked;
-use std::alloc::{AllocError, Global};
+use app_command::words::{Unasked, wrong, wrong_as};
+use std::alloc::Global;
 
 /// The form that questions are written in.
 #[derive(Clone, Copy, PartialEq, Eq)]
@@ -13,6 +13,10 @@ pub enum QuestionFormat {
     Json,
     /// The only one that is asked about, as a text for a solver.
     Smt,
+    /// The texts that lack an answer, as lines of a file of records.
+    Open,
+    /// All texts that verdicts rest on, in the same form.
+    Asked,
 }
 
 /// What `conditions` is asked.
@@ -25,11 +29,14 @@ pub struct ConditionsRequest<'a> {
     pub rule: Option<&'a str>,
     /// The form that questions are written in, where it is said.
     pub format: Option<QuestionFormat>,
-    /// The file with what a solver said of the only question that is asked about, or `-`; questions are written where there is
-    /// none.
+    /// The file of records with what solvers answered, or `-`: what that says of rules is written then.
     pub answers: Option<&'a str>,
-    /// The files, where `-` is standard input.
-    pub files: Vec<&'a str>,
+    /// Whether each rule has to be right.
+    pub deny: bool,
+    /// The file of what is expected to be told of rules that aren't right, or `-`.
+    pub expected: Option<&'a str>,
+    /// The files that are named, where `-` is standard input.
+    pub files: Vec<String>,
 }
 
 impl<'a> Drop for ConditionsRequest<'a> {
@@ -40,6 +47,8 @@ impl<'a> Drop for ConditionsRequest<'a> {
             rule: _,
             format: _,
             answers: _,
+            deny: _,
+            expected: _,
             files: _,
         } = self;
     }
@@ -52,6 +61,7 @@ enum Awaited {
     Rule,
     Format,
     Answers,
+    Expected,
     // An option or a file.
     Any,
 }
@@ -63,8 +73,8 @@ pub fn ask_for_help(words: &[String]) -> bool {
         .any(|word| word.as_str() == "--help" || word.as_str() == "-h")
 }
 
-/// What the words behind `conditions` ask: `-C FOLDER`, `--above`, `--rule RULE`, `--format FORMAT`, `--answers FILE`, and files.
-/// A text for a solver and what a solver said are of one rule, so they go with `--rule`.
+/// What the words behind `conditions` ask: `-C FOLDER`, `--above`, `--rule RULE`, `--format FORMAT`, `--answers FILE`, `--deny`,
+/// `--expect FILE`, and files. A text for a solver is of one rule, so it goes with `--rule`.
 ///
 /// # Errors
 ///
@@ -73,8 +83,7 @@ pub fn conditions_by<'a>(
     alloc: Global,
     words: &'a [String],
 ) -> Result<ConditionsRequest<'a>, Unasked>
-    ensures files { IfOk result (λ asked. asked.files.items ≢ []) }
-    ensures one { IfOk result (λ asked. IsOfOne asked → IsSome asked.rule) }
+    ensures { IfOk result (λ asked. IsOfOne asked → IsSome asked.rule) }
 {
     let mut asked = ConditionsRequest {
         folder: "",
@@ -82,6 +91,8 @@ pub fn conditions_by<'a>(
         rule: None,
         format: None,
         answers: None,
+        deny: false,
+        expected: None,
         files: Vec::new(alloc),
     };
     let mut awaited = Awaited::Any;
@@ -89,16 +100,8 @@ pub fn conditions_by<'a>(
         awaited = asked.read(alloc, awaited, word.as_str())?;
     }
     match asked.missing(awaited) {
-        Some(why) => Err(wrong(String::from_str(alloc, why))),
+        Some(why) => Err(wrong_as(alloc, why)),
         None => Ok(asked),
-    }
-}
-
-// That something is wrong with the words.
-fn wrong(why: Result<String, AllocError>) -> Unasked {
-    match why {
-        Ok(why) => Unasked::Words(why),
-        Err(AllocError) => Unasked::Memory,
     }
 }
 
@@ -107,35 +110,35 @@ fn format_of(alloc: Global, word: &str) -> Result<QuestionFormat, Unasked> {
     match word {
         "json" => Ok(QuestionFormat::Json),
         "smt" => Ok(QuestionFormat::Smt),
-        _ => Err(wrong(format!(in alloc; "conditions has no format '{word}', but json and smt"))),
+        "open" => Ok(QuestionFormat::Open),
+        "asked" => Ok(QuestionFormat::Asked),
+        _ => Err(wrong(format!(in alloc;
+            "conditions has no format '{word}', but json, smt, open and asked"
+        ))),
     }
 }
 
 impl<'a> ConditionsRequest<'a> {
     // What is missing behind the last word, where something is.
     fn missing(&self, awaited: Awaited) -> Option<&'static str>
-        ensures files { result ≡ None → self.now.files.items ≢ [] }
-        ensures one { result ≡ None → IsOfOne self.now → IsSome self.now.rule }
+        ensures { result ≡ None → IsOfOne self.now → IsSome self.now.rule }
     {
         match awaited {
             Awaited::Folder => Some("nothing after '-C'"),
             Awaited::Rule => Some("nothing after '--rule'"),
             Awaited::Format => Some("nothing after '--format'"),
             Awaited::Answers => Some("nothing after '--answers'"),
+            Awaited::Expected => Some("nothing after '--expect'"),
             Awaited::Any => self.lacking(),
         }
     }
 
     // What is missing or too much where all words were read, where something is.
     fn lacking(&self) -> Option<&'static str>
-        ensures files { result ≡ None → self.now.files.items ≢ [] }
-        ensures one { result ≡ None → IsOfOne self.now → IsSome self.now.rule }
+        ensures { result ≡ None → IsOfOne self.now → IsSome self.now.rule }
     {
-        if self.files.is_empty() {
-            return Some("no file");
-        }
-        if self.answers.is_some() && self.format.is_some() {
-            return Some("'--answers' and '--format' don't go together");
+        if self.answers.is_some() && self.is_of_one() {
+            return Some("'--answers' and '--format smt' don't go together");
         }
         if self.is_of_one() && self.rule.is_none() {
             return Some("no rule to ask about, by '--rule'");
@@ -147,7 +150,7 @@ impl<'a> ConditionsRequest<'a> {
     pub fn is_of_one(&self) -> bool
         ensures { IsTrue result ↔ IsOfOne self.now }
     {
-        self.answers.is_some() || self.format == Some(QuestionFormat::Smt)
+        self.format == Some(QuestionFormat::Smt)
     }
 
     // Reads a word, and answers what is awaited then.
@@ -157,6 +160,7 @@ impl<'a> ConditionsRequest<'a> {
             Awaited::Rule => self.rule = Some(word),
             Awaited::Format => self.format = Some(format_of(alloc, word)?),
             Awaited::Answers => self.answers = Some(word),
+            Awaited::Expected => self.expected = Some(word),
             Awaited::Any => return self.read_any(alloc, word),
         }
         Ok(Awaited::Any)
@@ -169,12 +173,14 @@ impl<'a> ConditionsRequest<'a> {
             "--rule" => return Ok(Awaited::Rule),
             "--format" => return Ok(Awaited::Format),
             "--answers" => return Ok(Awaited::Answers),
+            "--expect" => return Ok(Awaited::Expected),
             "--above" => self.above = true,
-            "" => return Err(wrong(String::from_str(alloc, "a file without a name"))),
+            "--deny" => self.deny = true,
+            "" => return Err(wrong_as(alloc, "a file without a name")),
             _ if word != "-" && word.starts_with('-') => {
                 return Err(wrong(format!(in alloc; "conditions has no option '{word}'")));
             }
-            _ => self.files.push(word)?,
+            _ => self.files.push(String::from_str(alloc, word)?)?,
         }
         Ok(Awaited::Any)
     }

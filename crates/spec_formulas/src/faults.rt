@@ -6,6 +6,8 @@ use std::alloc::{AllocError, AllocFailed};
 /// What is wrong with a spec, and where.
 #[derive(Drop)]
 pub struct SpecError {
+    /// What kind of error it is: `spec`, or `spec-` and a word.
+    pub code: &'static str,
     /// The place that it is told at.
     pub pos: Pos,
     /// What is wrong, in one line.
@@ -49,8 +51,14 @@ impl<T: Drop> From<AllocFailed<T>> for NoCondition {
 
 /// That a spec is wrong at a place.
 pub fn wrong(pos: Pos, message: Result<String, AllocError>) -> NoCondition {
+    wrong_as("spec", pos, message)
+}
+
+/// That a spec is wrong at a place, by an error of this kind.
+pub fn wrong_as(code: &'static str, pos: Pos, message: Result<String, AllocError>) -> NoCondition {
     match message {
         Ok(message) => NoCondition::Wrong(SpecError {
+            code,
             pos,
             message,
             other: None,

@@ -53,6 +53,8 @@ pub enum Operator {
     Convert,
     /// An integer as a word.
     ToWord,
+    /// How far a word is turned by an integer: the integer modulo the width, as a word.
+    Turns,
     /// A word as an integer that isn't negative.
     ToInteger,
     /// The width of a word.

@@ -1,6 +1,6 @@
 //! Formulas: truth values, integers and words, each made of earlier ones.
 
-use crate::faults::NoCondition;
+use crate::faults::{NoCondition, missing};
 use crate::operators::Operator;
 use crate::widths::{WidthId, Widths};
 use std::alloc::{AllocError, Global};
@@ -118,8 +118,8 @@ pub struct Terms {
     pub widths: Widths,
     // The integers that formulas are known to be.
     numbers: Vec<Option<i128>>,
-    // Widths that follow from others, or from integers.
-    rules: Vec<(WidthId, WidthRule)>,
+    // Widths that follow from others, or from integers, and whether the rule demands it.
+    rules: Vec<(WidthId, WidthRule, bool)>,
     // Words that others extend: the width that is no less, the other one, and whether the rule demands it.
     extended: Vec<Extension>,
     /// Whether what is said now is demanded by the rule: where widths don't fit that, the rule isn't taken.
@@ -425,7 +425,8 @@ impl Terms {
         };
         let width = self.widths.add(known)?;
         if known.is_none() {
-            self.rules.push((width, WidthRule::Number(number)))?;
+            self.rules
+                .push((width, WidthRule::Number(number), self.is_demanded))?;
         }
         Ok(width)
     }
@@ -433,7 +434,8 @@ impl Terms {
     /// A width that is the sum of two.
     pub fn width_sum(&mut self, a: WidthId, b: WidthId) -> Result<WidthId, NoCondition> {
         let width = self.widths.add(None)?;
-        self.rules.push((width, WidthRule::Sum(a, b)))?;
+        self.rules
+            .push((width, WidthRule::Sum(a, b), self.is_demanded))?;
         self.settle()?;
         Ok(width)
     }
@@ -458,6 +460,17 @@ impl Terms {
 
     /// Notes that a formula is assumed, for the integers that are known by it.
     pub fn assume(&mut self, fact: NodeId) -> Result<(), NoCondition> {
+        if let Some(Node::Apply(Operator::And, of)) = self.node(fact) {
+            let parts = Vec::from_slice(self.alloc, of)?;
+            for part in &parts {
+                self.assume_equal(*part)?;
+            }
+        }
+        self.assume_equal(fact)
+    }
+
+    // The same of a fact that isn't made of others.
+    fn assume_equal(&mut self, fact: NodeId) -> Result<(), NoCondition> {
         let pair = match self.node(fact) {
             Some(Node::Apply(Operator::Equal, of)) => match of.as_slice() {
                 [a, b] => Some((*a, *b)),
@@ -484,11 +497,20 @@ impl Terms {
         {
             self.settle_numbers();
             let more = self.settle_equal();
+            let more = self.settle_words()? || more;
             if !self.settle_widths()? && !more {
                 return self.check_extensions();
             }
         }
         self.check_extensions()
+    }
+
+    // That widths don't fit: where the rule demands them, it isn't taken.
+    fn unfit(&self, is_demanded: bool) -> NoCondition {
+        if is_demanded {
+            return NoCondition::Untaken;
+        }
+        missing(String::from_str(self.alloc, "a width follows that doesn't fit"))
     }
 
     // Whether words that extend others are as wide as these, as far as that is known.
@@ -498,11 +520,7 @@ impl Terms {
             let old = self.widths.known(extension.old);
             if let (Some(width), Some(old)) = (width, old) {
                 if width < old {
-                    return Err(if extension.is_demanded {
-                        NoCondition::Untaken
-                    } else {
-                        NoCondition::Unfit
-                    });
+                    return Err(self.unfit(extension.is_demanded));
                 }
             }
         }
@@ -554,12 +572,50 @@ impl Terms {
         more
     }
 
+    // Finds the widths of words by integers that are known to be them. True if one was found.
+    fn settle_words(&mut self) -> Result<bool, NoCondition> {
+        let mut more = false;
+        for id in 0..self.nodes.len() {
+            if let Some((width, number)) = self.width_by_number(id) {
+                let Ok(found) = width_of(number) else {
+                    return Err(NoCondition::Untaken);
+                };
+                let _ = self.widths.set(width, found);
+                more = true;
+            }
+        }
+        Ok(more)
+    }
+
+    // The open width that a known integer is, if it is one.
+    fn width_by_number(&self, id: usize) -> Option<(WidthId, i128)> {
+        let number = self.number(NodeId(id))?;
+        match self.nodes.get(id)? {
+            Node::Apply(Operator::WidthOf, of) => {
+                let width = self.word_width(*of.first()?)?;
+                Some((width, number))
+            }
+            _ => None,
+        }
+    }
+
+    // The width of a word, where it is open.
+    fn word_width(&self, word: NodeId) -> Option<WidthId> {
+        match self.sort(word) {
+            Sort::Word(width) if self.widths.known(width).is_none() => Some(width),
+            _ => None,
+        }
+    }
+
     // Finds widths by their rules. True if one was found.
     fn settle_widths(&mut self) -> Result<bool, NoCondition> {
         let mut more = false;
         for i in 0..self.rules.len() {
-            if let Some((width, rule)) = self.rules.get(i).copied() {
-                more = self.settle_width(width, rule)? || more;
+            if let Some((width, rule, is_demanded)) = self.rules.get(i).copied() {
+                match self.settle_width(width, rule) {
+                    Ok(is_new) => more = is_new || more,
+                    Err(_) => return Err(self.unfit(is_demanded)),
+                }
             }
         }
         Ok(more)

@@ -349,6 +349,7 @@ impl<'t> Printer<'t> {
             (Operator::SignExtend, [a]) => self.push_extension(out, id, "sign_extend", *a),
             (Operator::Convert, [a, open]) => self.push_conversion(out, id, *a, *open),
             (Operator::ToWord, [a]) => self.push_to_word(out, id, *a),
+            (Operator::Turns, [a]) => self.push_turns(out, id, *a),
             (Operator::WidthOf, [a]) => {
                 let width = self.width(*a)?;
                 Ok(write!(out, "{width}")?)
@@ -414,6 +415,19 @@ impl<'t> Printer<'t> {
         write!(out, "((_ int2bv {width}) ")?;
         self.push_part(out, id, a)?;
         Ok(out.push(')')?)
+    }
+
+    // An integer modulo the width, as a word.
+    #[cycle(node)]
+    fn push_turns(&self, out: &mut String, id: NodeId, a: NodeId) -> Result<(), NoCondition> {
+        let width = self.width(id)?;
+        if let Some(value) = self.terms.number(a) {
+            let turns = value.checked_rem_euclid(width as i128).unwrap_or(0);
+            return Ok(push_word(out, turns, width)?);
+        }
+        write!(out, "((_ int2bv {width}) (mod ")?;
+        self.push_part(out, id, a)?;
+        Ok(write!(out, " {width}))")?)
     }
 
     // A word that is turned, by two shifts, the second by what is left of its width.

@@ -1,7 +1,6 @@
 -- What is told of stays so, and grows rule by rule.
 use Rattle.std.proofs.Common.{◌≡◌, ◌≤◌, ℕ, ◌<◌, ◌+◌, Bool, true, List, [], ◌∷◌, length, get_or, take, subst, arith, ◌∙◌}
 use Rattle.std.specs.Prelude.{IsTrue}
-use Rattle.std.specs.List.{list_any, list_all}
 use Rattle.std.proofs.lemmas.List.{take_all}
 use Rattle.std.proofs.lemmas.List.Elements.{All-more}
 use Rattle.core_rule_sets.specs.declared.trie_again.Rule.{Rule}
@@ -35,8 +34,3 @@ all_told_step w said a b ts i m n t l e more keep all one none =
 -- all terms, where no error is added
 pub all_told_end : (w : Wanted) (said : List TermSpec) (a : Questions) (ts all : List LoweredTerm) (i m : ℕ) → length ts ≤ i → ts ≡ all → (m ≡ 0 → AreAllTold w said a (take i ts)) → m ≡ 0 → AreAllTold w said a all
 all_told_end w said a ts all i m l e so none = subst (λ (xs : List LoweredTerm). AreAllTold w said a xs) (take_all i ts l ∙ e) (so none)
-
--- of some, all of which pass, one does
-pub any_of_all : {X : Type 0} (p : X → Bool) (xs : List X) → 0 < length xs → list_all p xs ≡ true → list_any p xs ≡ true
-any_of_all p [] l h = absurd (omega arith)
-any_of_all p (x ∷ xs) l h = grind arith

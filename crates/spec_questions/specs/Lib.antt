@@ -1,2 +1,3 @@
+pub mod Refuting
 pub mod Replies
 pub mod Telling

@@ -1,11 +1,11 @@
 -- Which rules are asked about, and that each of them is told of: in a question, or among those that have none.
-use Rattle.std.specs.Prelude.{ℕ, Bool, true, false, ◌==◌, ◌&&◌, ◌||◌, List, Option, None, Some, IsTrue, slice_get, option_map, is_some}
+use Rattle.std.specs.Prelude.{ℕ, Bool, true, false, ◌==◌, ◌&&◌, ◌||◌, List, Option, None, Some, IsTrue, slice_get, option_map, is_some, length, nat_lt}
 use Rattle.std.specs.List.{All, list_any}
 use Rattle.core_syntax.specs.declared.syntax.Pos.{Pos}
 use Rattle.core_rule_sets.specs.declared.trie_again.Rule.{Rule}
 use Rattle.cranelift_isle.specs.declared.lower.LoweredTerm.{LoweredTerm}
 use Rattle.spec_values.specs.declared.specs.TermSpec.{TermSpec}
-use Rattle.spec_questions.specs.declared.questions.Question.{Question}
+use Rattle.spec_questions.specs.declared.questions.RuleQuestions.{RuleQuestions}
 use Rattle.spec_questions.specs.declared.questions.Questions.{Questions}
 use Rattle.spec_questions.specs.declared.questions.Wanted.{Wanted}
 use Rattle.spec_questions.specs.declared.questions.Without.{Without}
@@ -30,9 +30,9 @@ says_something (Some said) = is_some said.spec
 abbrev pub has_spec : List TermSpec → ℕ → Bool
 has_spec said term = says_something (slice_get said term)
 
--- whether a question is about this rule of this term
-abbrev pub is_about : ℕ → ℕ → Question → Bool
-is_about term rule q = (q.term.0 == term) && (q.rule.0 == rule)
+-- whether these are questions about this rule of this term, of which there is one at least
+abbrev pub is_about : ℕ → ℕ → RuleQuestions → Bool
+is_about term rule q = (q.term.0 == term) && (q.rule.0 == rule) && nat_lt 0 (length q.questions.items)
 
 -- whether this rule of this term is one without a question
 abbrev pub is_without : ℕ → ℕ → Without → Bool
@@ -41,7 +41,7 @@ is_without term rule w = (w.term.0 == term) && (w.rule.0 == rule)
 -- whether a rule of a term has a question, or a reason why it has none
 abbrev pub is_told : Questions → ℕ → ℕ → Bool
 is_told found term rule =
-    list_any (is_about term rule) found.questions.items || list_any (is_without term rule) found.without.items
+    list_any (is_about term rule) found.rules.items || list_any (is_without term rule) found.without.items
 
 -- each rule that is asked about is told of
 abbrev pub AreTold : Wanted → Questions → ℕ → List Rule → Type 0

@@ -1,10 +1,42 @@
 //! That no rule of greater priority matches.
 
 use crate::sites::Sites;
+use core_syntax::syntax::Pos;
+use cranelift_isle::lower::Lowered;
+use cranelift_isle::sema::{RuleId, TermId};
 use cranelift_isle::trie_again::{Binding, BindingId, Constraint, Overlap, Rule};
 use spec_formulas::faults::NoCondition;
 use spec_formulas::terms::NodeId;
 use spec_values::builder::{Builder, DEEPEST_VALUE};
+use std::alloc::{AllocError, Global};
+
+/// The rules that come before a rule where both match, and that "no rule of greater priority matches" leaves out, by their places.
+pub fn left_out_above(
+    alloc: Global,
+    lowered: &Lowered,
+    term: TermId,
+    rule: RuleId,
+) -> Result<Vec<Pos>, AllocError> {
+    for known in &lowered.terms {
+        if known.id == term {
+            return left_out_in(alloc, &known.rules.rules, rule);
+        }
+    }
+    Ok(Vec::new(alloc))
+}
+
+// Those of the rules of its term.
+fn left_out_in(alloc: Global, rules: &[Rule], rule: RuleId) -> Result<Vec<Pos>, AllocError> {
+    let mut places = Vec::new(alloc);
+    if let Some(below) = rules.iter().find(|known| known.id == rule) {
+        for above in rules {
+            if is_above(above, below) && !is_told_apart(above, below) {
+                places.push(above.pos)?;
+            }
+        }
+    }
+    Ok(places)
+}
 
 /// Whether a rule comes before another one, and may match where it does.
 pub(crate) fn is_above(rule: &Rule, below: &Rule) -> bool {

@@ -1,12 +1,13 @@
 //! What is said of the calls of a rule, and of its result.
 
+use crate::conditions::{Goal, formulas_of};
 use crate::makers::Maker;
 use cranelift_isle::sema::TermId;
 use cranelift_isle::trie_again::{Binding, BindingId};
 use spec_formulas::faults::NoCondition;
 use spec_formulas::terms::NodeId;
 use spec_values::values::{ValueId, copied};
-use std::slice;
+use std::{mem, slice};
 use text_reader::syntax::Spec;
 
 impl<'a, 'b> Maker<'a, 'b> {
@@ -81,9 +82,34 @@ impl<'a, 'b> Maker<'a, 'b> {
             return self.check_function(term, &args);
         };
         let result = self.answer_at(term, site)?;
-        self.take_signature(term, &args, Some(result))?;
+        if !self.has_signature(term, &args, None)? {
+            return Ok(());
+        }
         let required = self.required_of(spec, &args)?;
-        self.assume_provided(spec, &args, result, &required)
+        let guard = self.all_of(&required)?;
+        match self.builder.terms.literal(guard) {
+            Some(false) => Ok(()),
+            Some(true) => self.assume_provided(term, spec, &args, result, guard),
+            None => self.assume_guarded(term, spec, &args, result, guard),
+        }
+    }
+
+    // Assumes what a call provides where this is true. That decides no width.
+    fn assume_guarded(
+        &mut self,
+        term: TermId,
+        spec: &'a Spec,
+        args: &[ValueId],
+        given: ValueId,
+        guard: NodeId,
+    ) -> Result<(), NoCondition> {
+        let mut values = copied(self.builder.alloc, args)?;
+        values.push(given)?;
+        self.builder.split_values(&values)?;
+        let is_demanded = mem::replace(&mut self.builder.terms.is_demanded, false);
+        let outcome = self.assume_provided(term, spec, args, given, guard);
+        self.builder.terms.is_demanded = is_demanded;
+        outcome
     }
 
     // That a term without a spec is an unknown function.
@@ -106,30 +132,28 @@ impl<'a, 'b> Maker<'a, 'b> {
         }
     }
 
-    fn required_of(
-        &mut self,
-        spec: &'a Spec,
-        args: &[ValueId],
-    ) -> Result<Vec<NodeId>, NoCondition> {
+    fn required_of(&mut self, spec: &'a Spec, args: &[ValueId]) -> Result<Vec<Goal>, NoCondition> {
         let mut required = Vec::new(self.builder.alloc);
         self.show_list(spec, args, None, &spec.required, &mut required)?;
         Ok(required)
     }
 
-    // Assumes what a call provides where this is true.
+    // Assumes what a call provides where this is true: also that it is as wide as a signature says.
     fn assume_provided(
         &mut self,
+        term: TermId,
         spec: &'a Spec,
         args: &[ValueId],
         given: ValueId,
-        required: &[NodeId],
+        guard: NodeId,
     ) -> Result<(), NoCondition> {
-        let guard = self.builder.terms.all(required)?;
-        if self.builder.terms.literal(guard) == Some(false) {
+        self.assume_list_under(spec, args, given, &spec.provides, guard)?;
+        self.assume_list_under(spec, args, given, &spec.matches, guard)?;
+        if self.take_result(term, args, given)? {
             return Ok(());
         }
-        self.assume_list_under(spec, args, given, &spec.provides, guard)?;
-        self.assume_list_under(spec, args, given, &spec.matches, guard)
+        let unmet = self.builder.terms.not(guard)?;
+        self.assume(unmet)
     }
 
     /// An impure call: that it is called as required is to be shown, and then it answers as its spec says.
@@ -158,29 +182,47 @@ impl<'a, 'b> Maker<'a, 'b> {
         let new = self.hold_below(parameters)?;
         let outcome = self.assume_calls(&new);
         self.fitting(term, outcome)?;
-        let _call = self.hold_below(slice::from_ref(&call))?;
         let Some(spec) = self.builder.specs.spec(term) else {
             return Err(self.no_spec(term));
         };
         let args = self.sites.values_at(parameters)?;
+        let guard = self.take_step(term, spec, &args)?;
+        let _call = self.hold_below(slice::from_ref(&call))?;
         let result = self.answer_at(term, call.index())?;
-        let outcome = self.take_signature(term, &args, Some(result));
-        self.fitting(term, outcome)?;
-        self.take_step(term, spec, &args, result)
+        if self.builder.terms.literal(guard) == Some(false) {
+            return Ok(());
+        }
+        let outcome = self.assume_provided(term, spec, &args, result, guard);
+        self.fitting(term, outcome)
     }
 
-    // That an impure call is called as required is to be shown, and then it answers as its spec says.
+    // That an impure call is called as required is to be shown: this, which also says that a signature fits its arguments.
     fn take_step(
         &mut self,
         term: TermId,
         spec: &'a Spec,
         args: &[ValueId],
-        given: ValueId,
-    ) -> Result<(), NoCondition> {
-        let required = self.required_of(spec, args)?;
+    ) -> Result<NodeId, NoCondition> {
+        let mut required = self.required_of(spec, args)?;
+        if !self.has_signature(term, args, None)? {
+            required.push(self.unmet(spec)?)?;
+        }
         self.begin_step(&required)?;
-        let outcome = self.assume_provided(spec, args, given, &required);
-        self.fitting(term, outcome)
+        self.all_of(&required)
+    }
+
+    // That no signature of a term fits: it isn't as its spec says.
+    fn unmet(&mut self, spec: &Spec) -> Result<Goal, NoCondition> {
+        Ok(Goal {
+            formula: self.builder.terms.truth(false)?,
+            pos: spec.term.1,
+        })
+    }
+
+    // That these are all so.
+    fn all_of(&mut self, goals: &[Goal]) -> Result<NodeId, NoCondition> {
+        let formulas = formulas_of(self.builder.alloc, goals)?;
+        Ok(self.builder.terms.all(&formulas)?)
     }
 
     // The call that an impure call's answer is of, unwrapped or not.
@@ -206,12 +248,15 @@ impl<'a, 'b> Maker<'a, 'b> {
     }
 
     // That the result is what the term's spec provides.
-    fn goals_of(&mut self, spec: &'a Spec) -> Result<Vec<NodeId>, NoCondition> {
+    fn goals_of(&mut self, spec: &'a Spec) -> Result<Vec<Goal>, NoCondition> {
         let result = Some(self.sites.value_at(self.rule.result)?);
         let args = copied(self.builder.alloc, &self.args)?;
         let mut goals = Vec::new(self.builder.alloc);
         self.show_list(spec, &args, result, &spec.provides, &mut goals)?;
         self.show_list(spec, &args, result, &spec.matches, &mut goals)?;
+        if !self.has_signature(self.root.id, &args, result)? {
+            goals.push(self.unmet(spec)?)?;
+        }
         Ok(goals)
     }
 }

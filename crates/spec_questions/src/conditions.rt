@@ -2,18 +2,37 @@
 
 use crate::makers::Maker;
 use crate::sites::{Sites, Variable};
+use core_syntax::syntax::Pos;
 use cranelift_isle::lower::{Lowered, LoweredTerm};
 use cranelift_isle::trie_again::Rule;
 use spec_formulas::faults::{NoCondition, missing};
 use spec_formulas::terms::{NodeId, Terms};
 use spec_values::builder::Builder;
 use spec_values::specs::Specs;
-use std::alloc::Global;
+use std::alloc::{AllocError, Global};
+
+/// Something that is to be shown.
+#[derive(Clone, Copy)]
+pub struct Goal {
+    /// That it is so.
+    pub formula: NodeId,
+    /// Where a spec says it.
+    pub pos: Pos,
+}
+
+/// The formulas of goals.
+pub(crate) fn formulas_of(alloc: Global, goals: &[Goal]) -> Result<Vec<NodeId>, AllocError> {
+    let mut formulas = Vec::new(alloc);
+    for goal in goals {
+        formulas.push(goal.formula)?;
+    }
+    Ok(formulas)
+}
 
 /// What is to be shown at a place of a rule, and what is assumed from there on.
 pub struct Step {
     /// What is to be shown, of an impure call or of the result.
-    pub goals: Vec<NodeId>,
+    pub goals: Vec<Goal>,
     /// What is assumed after the call.
     pub then: Vec<NodeId>,
 }
@@ -79,7 +98,7 @@ pub(crate) struct Choice<'c> {
 ///
 /// # Errors
 ///
-/// Why there is none.
+/// Why there is none. The widths of the arguments are added that are known by then.
 pub(crate) fn condition_of(
     alloc: Global,
     lowered: &Lowered,
@@ -87,6 +106,7 @@ pub(crate) fn condition_of(
     term: &LoweredTerm,
     rule: &Rule,
     choice: Choice<'_>,
+    widths: &mut Vec<(String, usize)>,
 ) -> Result<Condition, NoCondition> {
     let Some(root) = lowered.termenv.terms.get(term.id.index()) else {
         return Err(missing(String::from_str(alloc, "a term isn't known")));
@@ -101,8 +121,14 @@ pub(crate) fn condition_of(
         steps: Vec::new(alloc),
         is_certain: true,
     };
-    maker.make(&term.rules.rules, choice.above)?;
-    let outcome = maker.outcome(choice.variables)?;
-    let (terms, steps) = maker.into_parts();
-    Ok(outcome.into_condition(terms, steps))
+    match maker.made(&term.rules.rules, choice) {
+        Ok(outcome) => {
+            let (terms, steps) = maker.into_parts();
+            Ok(outcome.into_condition(terms, steps))
+        }
+        Err(fault) => {
+            maker.add_argument_widths(widths)?;
+            Err(fault)
+        }
+    }
 }

@@ -32,7 +32,7 @@ impl<'a, 'b> Maker<'a, 'b> {
         }
         self.assume_required()?;
         self.assume_calls(&new)?;
-        self.builder.terms.settle()
+        self.builder.split_open()
     }
 
     // Makes the calls of the right side, and finds what is to be shown of them and of the result.
@@ -123,7 +123,7 @@ impl<'a, 'b> Maker<'a, 'b> {
     fn take_equal(&mut self, a: BindingId, b: BindingId) -> Result<(), NoCondition> {
         let a = self.sites.value_at(a)?;
         let b = self.sites.value_at(b)?;
-        let equal = self.builder.equal(a, b, DEEPEST_VALUE)?;
+        let equal = untaken(self.builder.equal(a, b, DEEPEST_VALUE))?;
         self.assume(equal)
     }
 
@@ -199,9 +199,19 @@ impl<'a, 'b> Maker<'a, 'b> {
             return Ok(());
         };
         let mut facts = Vec::new(self.builder.alloc);
-        self.sites
-            .narrow(&mut self.builder, id, constraint, &mut facts)?;
+        untaken(
+            self.sites
+                .narrow(&mut self.builder, id, constraint, &mut facts),
+        )?;
         self.assume_each(&facts)
+    }
+}
+
+// Where widths don't fit that a rule demands to be equal, the rule isn't taken.
+fn untaken<T: Drop>(outcome: Result<T, NoCondition>) -> Result<T, NoCondition> {
+    match outcome {
+        Err(NoCondition::Unfit) => Err(NoCondition::Untaken),
+        other => other,
     }
 }
 

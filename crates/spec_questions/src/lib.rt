@@ -2,7 +2,8 @@
 //! what a solver wrote when it was asked: `unsat`, or `sat` and the values of formulas.
 #![tactic(auto)]
 
-mod above;
+pub mod above;
+pub mod answers;
 mod calls;
 mod conditions;
 mod demands;
@@ -16,4 +17,5 @@ mod signatures;
 mod sites;
 mod tokens;
 mod values;
+pub mod verdicts;
 mod wanted;

@@ -1,6 +1,6 @@
 //! A condition that is being made.
 
-use crate::conditions::Step;
+use crate::conditions::{Goal, Step, formulas_of};
 use crate::sites::Sites;
 use cranelift_isle::sema::{Term, TermId};
 use cranelift_isle::trie_again::Rule;
@@ -55,11 +55,11 @@ impl<'a, 'b> Maker<'a, 'b> {
         (builder.into_terms(), steps)
     }
 
-    /// Assumes a fact, unless it is plain.
+    /// Assumes a fact, unless it is plain. Where it is plainly false, the rule isn't taken; after a step nothing more is to be shown.
     pub(crate) fn assume(&mut self, fact: NodeId) -> Result<(), NoCondition> {
         match self.builder.terms.literal(fact) {
             Some(true) => Ok(()),
-            Some(false) if self.builder.terms.is_demanded => Err(NoCondition::Untaken),
+            Some(false) if self.steps.is_empty() => Err(NoCondition::Untaken),
             _ => self.note_assumed(fact),
         }
     }
@@ -85,8 +85,9 @@ impl<'a, 'b> Maker<'a, 'b> {
     }
 
     /// From here on something is to be shown, unless nothing is.
-    pub(crate) fn begin_step(&mut self, goals: &[NodeId]) -> Result<(), NoCondition> {
-        let goal = self.builder.terms.all(goals)?;
+    pub(crate) fn begin_step(&mut self, goals: &[Goal]) -> Result<(), NoCondition> {
+        let formulas = formulas_of(self.builder.alloc, goals)?;
+        let goal = self.builder.terms.all(&formulas)?;
         if self.builder.terms.literal(goal) == Some(true) {
             return Ok(());
         }
@@ -96,7 +97,7 @@ impl<'a, 'b> Maker<'a, 'b> {
     }
 
     /// Adds a step.
-    pub(crate) fn add_step(&mut self, goals: Vec<NodeId>) -> Result<(), NoCondition> {
+    pub(crate) fn add_step(&mut self, goals: Vec<Goal>) -> Result<(), NoCondition> {
         let then = Vec::new(self.builder.alloc);
         self.steps.push(Step { goals, then })?;
         Ok(())

@@ -1,9 +1,9 @@
 //! What is known of a rule once all is assumed.
 
-use crate::conditions::{Condition, Step};
+use crate::conditions::{Choice, Condition, Step};
 use crate::makers::Maker;
 use crate::sites::Variable;
-use cranelift_isle::trie_again::BindingId;
+use cranelift_isle::trie_again::{BindingId, Rule};
 use spec_formulas::faults::NoCondition;
 use spec_formulas::terms::{NodeId, Terms};
 use spec_values::models::ValueModel;
@@ -46,8 +46,18 @@ impl Outcome {
 }
 
 impl<'a, 'b> Maker<'a, 'b> {
-    /// What is known once all is assumed.
-    pub(crate) fn outcome(&mut self, variables: &[Variable<'_>]) -> Result<Outcome, NoCondition> {
+    /// What is known of a rule of these, once all is assumed.
+    pub(crate) fn made(
+        &mut self,
+        rules: &[Rule],
+        choice: Choice<'_>,
+    ) -> Result<Outcome, NoCondition> {
+        self.make(rules, choice.above)?;
+        self.outcome(choice.variables)
+    }
+
+    // What is known once all is assumed.
+    fn outcome(&mut self, variables: &[Variable<'_>]) -> Result<Outcome, NoCondition> {
         let settled = self.builder.terms.settle();
         self.fitting(self.root.id, settled)?;
         let mut outcome = Outcome {
@@ -61,25 +71,38 @@ impl<'a, 'b> Maker<'a, 'b> {
         Ok(outcome)
     }
 
-    // Adds the widths of the arguments, of variables that are words of any width, and of the result.
+    /// Adds the widths of the arguments that are words of any width, as far as they are known.
+    pub(crate) fn add_argument_widths(
+        &self,
+        widths: &mut Vec<(String, usize)>,
+    ) -> Result<(), AllocError> {
+        for (place, (value, ty)) in self.args.iter().zip(&self.root.arg_tys).enumerate() {
+            if self.builder.specs.model(*ty) == ValueModel::AnyWord {
+                if let Some(width) = self.builder.width_of(*value) {
+                    widths.push((argument_name(self.builder.alloc, place)?, width))?;
+                }
+            }
+        }
+        Ok(())
+    }
+
+    // Adds the widths of the arguments, of variables and of the result, where these are words of any width.
     fn add_widths(
         &self,
         variables: &[Variable<'_>],
         widths: &mut Vec<(String, usize)>,
     ) -> Result<(), AllocError> {
         let alloc = self.builder.alloc;
-        for (place, value) in self.args.iter().enumerate() {
-            if let Some(width) = self.builder.width_of(*value) {
-                widths.push((argument_name(alloc, place)?, width))?;
-            }
-        }
+        self.add_argument_widths(widths)?;
         for variable in variables {
             if let Some(width) = self.width_of_variable(variable) {
                 widths.push((String::from_str(alloc, variable.name)?, width))?;
             }
         }
-        if let Some(width) = self.width_at(self.rule.result) {
-            widths.push((String::from_str(alloc, "result")?, width))?;
+        if self.builder.specs.model(self.root.ret_ty) == ValueModel::AnyWord {
+            if let Some(width) = self.width_at(self.rule.result) {
+                widths.push((String::from_str(alloc, "result")?, width))?;
+            }
         }
         Ok(())
     }

@@ -1,10 +1,10 @@
 //! The questions about all rules.
 
-ghost use Rattle.std.specs.Prelude.{◌≡◌, ◌<◌, ◌≤◌, length, true, IsTrue, IfOk, OnOk};
-ghost use Rattle.std.specs.List.{list_all, list_any};
-ghost use Rattle.spec_questions.specs.Telling.{AreTold, AreAllTold, KeepsTold, has_spec, is_about, is_place, is_told, is_wanted_at};
+ghost use Rattle.std.specs.Prelude.{◌≡◌, ◌<◌, ◌≤◌, length, IsTrue, IfOk, OnOk};
+ghost use Rattle.std.specs.List.{list_any};
+ghost use Rattle.spec_questions.specs.Telling.{AreTold, AreAllTold, KeepsTold, has_spec, is_place, is_told, is_wanted_at};
 
-use crate::conditions::{Choice, Condition, Step, condition_of};
+use crate::conditions::{Choice, Condition, Step, condition_of, formulas_of};
 use crate::sites::Variable;
 use crate::wanted::add_wanted;
 use core_syntax::syntax::Pos;
@@ -24,13 +24,7 @@ use text_reader::syntax::VerificationForm;
 
 /// What is asked of a rule at one choice of widths.
 pub struct Question {
-    /// The rule.
-    pub rule: RuleId,
-    /// Where it is defined.
-    pub pos: Pos,
-    /// Its term.
-    pub term: TermId,
-    /// The widths of arguments and of the result that are words of any width or of a known one: what, and how wide.
+    /// The widths of arguments, variables and the result that are words of any width: what, and how wide.
     pub widths: Vec<(String, usize)>,
     /// A text that has an answer `sat` exactly if the rule may be taken.
     pub taken: String,
@@ -41,19 +35,70 @@ pub struct Question {
     /// The variables of the rule, then its `result`, then what its spec wants the result to be, called `wanted`: each with a
     /// formula for it that may stand behind the text `wrong`.
     pub values: Vec<(String, String)>,
+    /// What is to be shown, in order: where a spec says it, and a formula for it that may stand there too.
+    pub goals: Vec<(Pos, String)>,
 }
 
 impl Drop for Question {
     fn drop(self) {
         let Question {
-            rule: _,
-            pos: _,
-            term: _,
             widths: _,
             taken: _,
             wrong: _,
             names: _,
             values: _,
+            goals: _,
+        } = self;
+    }
+}
+
+/// A choice of widths at which a rule isn't asked about.
+pub struct LeftOut {
+    /// The widths of arguments that are words of any width, as far as they are known.
+    pub widths: Vec<(String, usize)>,
+    /// Why it isn't asked there, in one line; None where no call takes the rule there, by the specs.
+    pub reason: Option<String>,
+}
+
+impl Drop for LeftOut {
+    fn drop(self) {
+        let LeftOut {
+            widths: _,
+            reason: _,
+        } = self;
+    }
+}
+
+impl LeftOut {
+    // Why it isn't asked there.
+    fn into_reason(self) -> Option<String> {
+        let LeftOut { widths: _, reason } = self;
+        reason
+    }
+}
+
+/// What is asked of a rule.
+pub struct RuleQuestions {
+    /// The rule.
+    pub rule: RuleId,
+    /// Where it is defined.
+    pub pos: Pos,
+    /// Its term.
+    pub term: TermId,
+    /// The questions, one for each choice of widths that is asked. There is at least one.
+    pub questions: Vec<Question>,
+    /// The other choices.
+    pub left_out: Vec<LeftOut>,
+}
+
+impl Drop for RuleQuestions {
+    fn drop(self) {
+        let RuleQuestions {
+            rule: _,
+            pos: _,
+            term: _,
+            questions: _,
+            left_out: _,
         } = self;
     }
 }
@@ -83,8 +128,8 @@ impl Drop for Without {
 
 /// What is asked of rules.
 pub struct Questions {
-    /// The questions, in the order of terms and rules.
-    pub questions: Vec<Question>,
+    /// The rules with questions, in the order of terms and rules.
+    pub rules: Vec<RuleQuestions>,
     /// The rules of terms with specs that have none.
     pub without: Vec<Without>,
 }
@@ -92,7 +137,7 @@ pub struct Questions {
 impl Drop for Questions {
     fn drop(self) {
         let Questions {
-            questions: _,
+            rules: _,
             without: _,
         } = self;
     }
@@ -203,7 +248,7 @@ pub fn questions_by(
         wanted,
     };
     let mut found = Questions {
-        questions: Vec::new(alloc),
+        rules: Vec::new(alloc),
         without: Vec::new(alloc),
     };
     add_terms(asker, &mut found, errors)?;
@@ -352,7 +397,7 @@ fn add_rule(
         variables: &variables,
     };
     match ask(asker, asked) {
-        Ok(questions) => found.add_questions(asked, questions),
+        Ok(tried) => found.add_questions(asked, tried),
         Err(fault) => add_fault(asker.alloc, asked, fault, found, errors),
     }
 }
@@ -379,7 +424,7 @@ fn add_fault(
         }
         NoCondition::Unfit | NoCondition::Untaken | NoCondition::Nothing | NoCondition::Unsorted =>
             {
-                let reason = String::from_str(alloc, "no choice of widths fits the rule")?;
+                let reason = String::from_str(alloc, "no call takes it, by the specs")?;
                 found.add_without(asked, reason)
             }
     }
@@ -408,17 +453,23 @@ fn has_error_at(errors: &[SpecError], pos: Pos) -> bool
 }
 
 impl Questions {
-    fn add_questions(
-        &mut self,
-        asked: Asked<'_>,
-        questions: Vec<Question>,
-    ) -> Result<(), AllocError>
-        requires { IsTrue (list_any (is_about asked.term.now.id.0 asked.rule.now.id.0) questions.items) }
+    fn add_questions(&mut self, asked: Asked<'_>, tried: Tried) -> Result<(), AllocError>
+        requires { 0 < length tried.questions.items }
         ensures told { OnOk result (IsTrue (is_told self.new asked.entry.term.now.id.0 asked.entry.rule.now.id.0)) }
         ensures kept { OnOk result (KeepsTold self.old self.new) }
     {
-        let mut questions = questions;
-        self.questions.append(&mut questions)
+        let Tried {
+            questions,
+            left_out,
+        } = tried;
+        self.rules.push(RuleQuestions {
+            rule: asked.rule.id,
+            pos: asked.rule.pos,
+            term: asked.term.id,
+            questions,
+            left_out,
+        })?;
+        Ok(())
     }
 
     // Adds a rule that has no question.
@@ -436,55 +487,85 @@ impl Questions {
     }
 }
 
-// The questions about a rule at each choice of signatures that fits. There is at least one.
-fn ask(asker: Asker<'_>, asked: Asked<'_>) -> Result<Vec<Question>, NoCondition>
-    ensures { IfOk result (λ qs. IsTrue (list_any (is_about asked.entry.term.now.id.0 asked.entry.rule.now.id.0) qs.items)) }
+// The choices of widths of a rule: those that are asked, and the others.
+#[derive(Drop)]
+struct Tried {
+    questions: Vec<Question>,
+    left_out: Vec<LeftOut>,
+}
+
+// The questions about a rule at each choice of widths. There is at least one.
+fn ask(asker: Asker<'_>, asked: Asked<'_>) -> Result<Tried, NoCondition>
+    ensures { IfOk result (λ tried. 0 < length tried.questions.items) }
 {
-    let mut questions = Vec::new(asker.alloc);
+    let mut tried = Tried {
+        questions: Vec::new(asker.alloc),
+        left_out: Vec::new(asker.alloc),
+    };
     let mut waiting = Vec::new(asker.alloc);
     waiting.push(Vec::new(asker.alloc))?;
     for _try in 0..MOST_TRIES {
         let Some(decisions) = waiting.pop() else {
-            return some_of(asked, questions);
+            return some_of(tried);
         };
-        try_choice(asker, asked, &decisions, &mut questions, &mut waiting)?;
+        try_choice(asker, asked, &decisions, &mut tried, &mut waiting)?;
     }
     Err(NoCondition::Undecided(0))
 }
 
-// These questions about a rule, if there are some.
-#[tactic(auto, using(crate::proofs::Told::any_of_all))]
-fn some_of(asked: Asked<'_>, questions: Vec<Question>) -> Result<Vec<Question>, NoCondition>
-    requires { list_all (is_about asked.term.now.id.0 asked.rule.now.id.0) questions.items ≡ true }
-    ensures { IfOk result (λ qs. IsTrue (list_any (is_about asked.entry.term.now.id.0 asked.entry.rule.now.id.0) qs.items)) }
+// What was tried, if there is a question, or else why there is none.
+fn some_of(tried: Tried) -> Result<Tried, NoCondition>
+    ensures { IfOk result (λ tried. 0 < length tried.questions.items) }
 {
-    if questions.is_empty() {
-        Err(NoCondition::Unfit)
-    } else {
-        Ok(questions)
+    if !tried.questions.is_empty() {
+        return Ok(tried);
     }
+    let Tried {
+        questions: _,
+        left_out,
+    } = tried;
+    for choice in left_out {
+        if let Some(reason) = choice.into_reason() {
+            return Err(NoCondition::Missing(reason));
+        }
+    }
+    Err(NoCondition::Untaken)
 }
 
-// Asks about a rule at one choice of signatures, or adds the choices that go further.
+// Asks about a rule at one choice of widths, or adds the choices that go further.
 fn try_choice(
     asker: Asker<'_>,
     asked: Asked<'_>,
     decisions: &[usize],
-    questions: &mut Vec<Question>,
+    tried: &mut Tried,
     waiting: &mut Vec<Vec<usize>>,
-) -> Result<(), NoCondition>
-    ensures { OnOk result (list_all (is_about asked.entry.term.now.id.0 asked.entry.rule.now.id.0) questions.old.items ≡ true → list_all (is_about asked.entry.term.now.id.0 asked.entry.rule.now.id.0) questions.new.items ≡ true) }
-{
+) -> Result<(), NoCondition> {
     let choice = Choice {
         decisions,
         above: asker.wanted.above,
         variables: asked.variables,
     };
-    match question_at(asker, asked, choice) {
-        Ok(question) => Ok(questions.push(question)?),
+    let mut widths = Vec::new(asker.alloc);
+    match question_at(asker, asked, choice, &mut widths) {
+        Ok(question) => Ok(tried.questions.push(question)?),
         Err(NoCondition::Undecided(count)) => Ok(branch(asker.alloc, waiting, decisions, count)?),
-        Err(NoCondition::Unfit | NoCondition::Untaken) => Ok(()),
-        Err(fault) => Err(fault),
+        Err(fault) => {
+            let reason = reason_of(asker.alloc, fault)?;
+            Ok(tried.left_out.push(LeftOut { widths, reason })?)
+        }
+    }
+}
+
+// Why a choice of widths is left out; None where the rule isn't taken there.
+fn reason_of(alloc: Global, fault: NoCondition) -> Result<Option<String>, NoCondition> {
+    match fault {
+        NoCondition::Untaken => Ok(None),
+        NoCondition::Missing(reason) => Ok(Some(reason)),
+        NoCondition::Unfit => {
+            let reason = String::from_str(alloc, "widths don't fit one another")?;
+            Ok(Some(reason))
+        }
+        fault => Err(fault),
     }
 }
 
@@ -493,19 +574,18 @@ fn question_at(
     asker: Asker<'_>,
     asked: Asked<'_>,
     choice: Choice<'_>,
-) -> Result<Question, NoCondition>
-    ensures { IfOk result (λ q. is_about asked.entry.term.now.id.0 asked.entry.rule.now.id.0 q ≡ true) }
-{
-    let alloc = asker.alloc;
+    widths: &mut Vec<(String, usize)>,
+) -> Result<Question, NoCondition> {
     let condition = condition_of(
-        alloc,
+        asker.alloc,
         asker.lowered,
         asker.specs,
         asked.term,
         asked.rule,
         choice,
+        widths,
     )?;
-    question_of(alloc, asked, condition)
+    question_of(asker.alloc, condition)
 }
 
 // Adds each further decision, so that the first is tried first.
@@ -523,16 +603,10 @@ fn branch(
     Ok(())
 }
 
-fn question_of(
-    alloc: Global,
-    asked: Asked<'_>,
-    condition: Condition,
-) -> Result<Question, NoCondition>
-    ensures { IfOk result (λ q. is_about asked.entry.term.now.id.0 asked.entry.rule.now.id.0 q ≡ true) }
-{
+fn question_of(alloc: Global, condition: Condition) -> Result<Question, NoCondition> {
     let mut condition = condition;
     let texts = texts_of(alloc, &mut condition)?;
-    Ok(texts.into_question(asked, condition.into_widths()))
+    Ok(texts.into_question(condition.into_widths()))
 }
 
 struct Texts {
@@ -540,6 +614,7 @@ struct Texts {
     wrong: String,
     names: Vec<(String, String)>,
     values: Vec<(String, String)>,
+    goals: Vec<(Pos, String)>,
 }
 
 impl Drop for Texts {
@@ -549,29 +624,27 @@ impl Drop for Texts {
             wrong: _,
             names: _,
             values: _,
+            goals: _,
         } = self;
     }
 }
 
 impl Texts {
-    fn into_question(self, asked: Asked<'_>, widths: Vec<(String, usize)>) -> Question
-        ensures { is_about asked.entry.term.now.id.0 asked.entry.rule.now.id.0 result ≡ true }
-    {
+    fn into_question(self, widths: Vec<(String, usize)>) -> Question {
         let Texts {
             taken,
             wrong,
             names,
             values,
+            goals,
         } = self;
         Question {
-            rule: asked.rule.id,
-            pos: asked.rule.pos,
-            term: asked.term.id,
             widths,
             taken,
             wrong,
             names,
             values,
+            goals,
         }
     }
 }
@@ -585,12 +658,35 @@ fn texts_of(alloc: Global, condition: &mut Condition) -> Result<Texts, NoConditi
     add_wanted(alloc, condition)?;
     let values = mem::replace(&mut condition.values, Vec::new(alloc));
     let values = shown_in(alloc, &condition.terms, &facts, values)?;
+    let mut goals = Vec::new(alloc);
+    for step in &condition.steps {
+        add_goals(alloc, &condition.terms, &facts, step, &mut goals)?;
+    }
     Ok(Texts {
         taken,
         wrong,
         names,
         values,
+        goals,
     })
+}
+
+// Adds the goals of a step as formulas that may stand behind the question.
+fn add_goals(
+    alloc: Global,
+    terms: &Terms,
+    facts: &[NodeId],
+    step: &Step,
+    goals: &mut Vec<(Pos, String)>,
+) -> Result<(), NoCondition> {
+    for goal in &step.goals {
+        let mut values = Vec::new(alloc);
+        values.push((String::new(alloc), goal.formula))?;
+        for (_, formula) in shown_in(alloc, terms, facts, values)? {
+            goals.push((goal.pos, formula))?;
+        }
+    }
+    Ok(())
 }
 
 // The question whether a rule may be taken, and its calls answer.
@@ -621,7 +717,8 @@ fn fails_from(
     step: &Step,
     later: NodeId,
 ) -> Result<NodeId, AllocError> {
-    let goal = terms.all(&step.goals)?;
+    let goals = formulas_of(alloc, &step.goals)?;
+    let goal = terms.all(&goals)?;
     let fails = terms.not(goal)?;
     let mut then = Vec::from_slice(alloc, &step.then)?;
     then.push(later)?;

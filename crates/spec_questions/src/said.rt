@@ -1,11 +1,13 @@
 //! What lists of a spec say of a call, as what is assumed or to be shown.
 
+use crate::conditions::Goal;
 use crate::makers::Maker;
-use spec_formulas::faults::{NoCondition, missing};
+use spec_formulas::faults::NoCondition;
 use spec_formulas::terms::NodeId;
 use spec_values::builder::DEEPEST;
-use spec_values::expressions::Scope;
+use spec_values::expressions::{Scope, pos_of};
 use spec_values::values::ValueId;
+use std::mem;
 use text_reader::syntax::{Spec, SpecExpr};
 
 impl<'a, 'b> Maker<'a, 'b> {
@@ -47,7 +49,7 @@ impl<'a, 'b> Maker<'a, 'b> {
         Ok(())
     }
 
-    // Assumes what an expression says, where it says something.
+    // Assumes what an expression says, where it says something. Where its operands don't fit, the rule isn't taken.
     fn assume_said(
         &mut self,
         spec: &'a Spec,
@@ -61,6 +63,7 @@ impl<'a, 'b> Maker<'a, 'b> {
                 self.assume(fact)
             }
             Err(NoCondition::Nothing) => Ok(()),
+            Err(NoCondition::Unfit) => Err(NoCondition::Untaken),
             Err(fault) => Err(fault),
         }
     }
@@ -97,18 +100,10 @@ impl<'a, 'b> Maker<'a, 'b> {
                 self.builder.terms.implies(guard, said)?
             }
             Err(NoCondition::Nothing) => return Ok(()),
-            Err(NoCondition::Unfit) => self.not_guard(guard)?,
+            Err(NoCondition::Unfit) => self.builder.terms.not(guard)?,
             Err(fault) => return Err(fault),
         };
         self.assume(fact)
-    }
-
-    // That a guard isn't true, where what it guards doesn't fit.
-    fn not_guard(&mut self, guard: NodeId) -> Result<NodeId, NoCondition> {
-        if self.builder.terms.literal(guard) == Some(true) {
-            return Err(NoCondition::Unfit);
-        }
-        Ok(self.builder.terms.not(guard)?)
     }
 
     /// Adds that the expressions of a list are true, if there is one.
@@ -118,11 +113,13 @@ impl<'a, 'b> Maker<'a, 'b> {
         args: &[ValueId],
         given: Option<ValueId>,
         list: &'a Option<Vec<SpecExpr>>,
-        goals: &mut Vec<NodeId>,
+        goals: &mut Vec<Goal>,
     ) -> Result<(), NoCondition> {
         if let Some(exprs) = list {
             for expr in exprs {
-                goals.push(self.shown(spec, args, given, expr)?)?;
+                let formula = self.shown(spec, args, given, expr)?;
+                let pos = pos_of(expr);
+                goals.push(Goal { formula, pos })?;
             }
         }
         Ok(())
@@ -136,9 +133,10 @@ impl<'a, 'b> Maker<'a, 'b> {
         given: Option<ValueId>,
         expr: &'a SpecExpr,
     ) -> Result<NodeId, NoCondition> {
-        let open = self.builder.terms.open_unknowns()?;
+        self.builder.split_open()?;
+        let is_demanded = mem::replace(&mut self.builder.terms.is_demanded, false);
         let said = self.said(spec, args, given, expr);
-        self.check_open(&open)?;
+        self.builder.terms.is_demanded = is_demanded;
         self.shown_by(said)
     }
 
@@ -152,22 +150,5 @@ impl<'a, 'b> Maker<'a, 'b> {
             Err(NoCondition::Nothing | NoCondition::Unfit) => Ok(self.builder.terms.truth(false)?),
             Err(fault) => Err(fault),
         }
-    }
-
-    // That unknowns are still of any width.
-    fn check_open(&self, open: &[NodeId]) -> Result<(), NoCondition> {
-        for unknown in open {
-            if !self.builder.terms.is_open(*unknown) {
-                return Err(self.width_shown(*unknown));
-            }
-        }
-        Ok(())
-    }
-
-    // That the width of an unknown isn't known before something is shown.
-    fn width_shown(&self, unknown: NodeId) -> NoCondition {
-        let alloc = self.builder.alloc;
-        let words = self.builder.terms.words_of(unknown);
-        missing(format!(in alloc; "the width of {words} follows from what is to be shown alone"))
     }
 }

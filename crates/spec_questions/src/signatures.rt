@@ -8,7 +8,8 @@ use std::alloc::AllocError;
 use text_reader::syntax::{ModelType, Signature};
 
 impl<'a, 'b> Maker<'a, 'b> {
-    /// Takes a signature that fits values, if the term has signatures.
+    /// Takes a signature that fits values, if the term has signatures: of the rule's own term, or of an extractor. Where none fits,
+    /// the rule isn't taken.
     pub(crate) fn take_signature(
         &mut self,
         term: TermId,
@@ -23,7 +24,49 @@ impl<'a, 'b> Maker<'a, 'b> {
         let fitting = self.fitting_places(signatures, args, given)?;
         match self.taken_of(signatures, &fitting)? {
             Some(signature) => self.have_models(signature, args, given),
-            None => Err(NoCondition::Unfit),
+            None => Err(NoCondition::Untaken),
+        }
+    }
+
+    /// Whether a signature of a term fits the widths of values, if the term has signatures. It decides no width.
+    pub(crate) fn has_signature(
+        &mut self,
+        term: TermId,
+        args: &[ValueId],
+        given: Option<ValueId>,
+    ) -> Result<bool, NoCondition> {
+        let signatures = self.builder.specs.signatures(term);
+        if signatures.is_empty() {
+            return Ok(true);
+        }
+        for value in args {
+            self.builder.split_value(*value)?;
+        }
+        if let Some(value) = given {
+            self.builder.split_value(value)?;
+        }
+        Ok(!self.fitting_places(signatures, args, given)?.is_empty())
+    }
+
+    /// Takes what a call gives to be as wide as a signature says that fits its arguments. False if none does.
+    pub(crate) fn take_result(
+        &mut self,
+        term: TermId,
+        args: &[ValueId],
+        given: ValueId,
+    ) -> Result<bool, NoCondition> {
+        let signatures = self.builder.specs.signatures(term);
+        if signatures.is_empty() {
+            return Ok(true);
+        }
+        self.builder.terms.settle()?;
+        let fitting = self.fitting_places(signatures, args, Some(given))?;
+        match self.taken_of(signatures, &fitting)? {
+            Some(signature) => {
+                self.have_models(signature, args, Some(given))?;
+                Ok(true)
+            }
+            None => Ok(false),
         }
     }
 

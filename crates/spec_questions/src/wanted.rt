@@ -21,7 +21,7 @@ fn wanted_by(alloc: Global, condition: &Condition) -> Result<Vec<NodeId>, AllocE
     if let Some(given) = result_in(&condition.values) {
         if let Some(step) = condition.steps.last() {
             for goal in &step.goals {
-                add_wanted_by(&condition.terms, *goal, given, &mut wanted)?;
+                add_wanted_by(&condition.terms, goal.formula, given, &mut wanted)?;
             }
         }
     }

@@ -4,7 +4,7 @@ use crate::builder::{Builder, DEEPEST_VALUE};
 use crate::values::ValueId;
 use core_syntax::syntax::Pos;
 use cranelift_isle::sema::Term;
-use spec_formulas::faults::{NoCondition, wrong};
+use spec_formulas::faults::{NoCondition, missing, wrong};
 use spec_formulas::operators::{Group, Operator};
 use spec_formulas::terms::{Function, Node, NodeId, Sort};
 use spec_formulas::widths::WidthId;
@@ -363,7 +363,7 @@ impl<'a> Builder<'a> {
             }
             Sort::Integer => {
                 let sort = self.terms.sort(a);
-                let by = self.terms.one(Operator::ToWord, by, sort)?;
+                let by = self.terms.one(Operator::Turns, by, sort)?;
                 Ok(Some(self.turned(operator, a, by)?))
             }
         }
@@ -386,8 +386,11 @@ impl<'a> Builder<'a> {
             return Ok(None);
         }
         self.terms.settle()?;
+        if self.terms.number(high).is_none() || self.terms.number(low).is_none() {
+            self.split_open()?;
+        }
         let (Some(high), Some(low)) = (self.bit_of(high), self.bit_of(low)) else {
-            return Err(NoCondition::Unfit);
+            return Err(missing(String::from_str(self.alloc, "the number of a bit isn't known")));
         };
         Ok(Some(self.bits(high, low, a)?))
     }
@@ -582,11 +585,21 @@ impl<'a> Builder<'a> {
         Ok(true)
     }
 
+    /// That an unknown function is applied to words of another width than elsewhere.
+    pub fn other_function(&self) -> NoCondition {
+        missing(String::from_str(
+            self.alloc,
+            "an unknown function is applied to a word of another width",
+        ))
+    }
+
     // Makes formulas stand for values of one sort, each with the other list's.
     fn join_each(&mut self, first: &[NodeId], second: &[NodeId]) -> Result<(), NoCondition> {
         for (a, b) in first.iter().zip(second) {
-            if !self.terms.join_sorts(*a, *b)? {
-                return Err(NoCondition::Unfit);
+            match self.terms.join_sorts(*a, *b) {
+                Ok(true) => {}
+                Ok(false) | Err(NoCondition::Unfit) => return Err(self.other_function()),
+                Err(fault) => return Err(fault),
             }
         }
         Ok(())

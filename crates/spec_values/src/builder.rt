@@ -92,6 +92,57 @@ impl<'a> Builder<'a> {
         }
     }
 
+    /// Takes each word of an open width at each of the listed widths.
+    pub fn split_open(&mut self) -> Result<(), NoCondition> {
+        self.terms.settle()?;
+        let open = self.terms.open_unknowns()?;
+        for word in open {
+            self.split(word)?;
+        }
+        Ok(())
+    }
+
+    /// Takes these values at each of the listed widths, as far as they are words of open widths. Where one has fields, each word of an
+    /// open width is taken so.
+    pub fn split_values(&mut self, values: &[ValueId]) -> Result<(), NoCondition> {
+        if values.iter().any(|value| self.has_fields(*value)) {
+            return self.split_open();
+        }
+        self.terms.settle()?;
+        for value in values {
+            self.split_value(*value)?;
+        }
+        Ok(())
+    }
+
+    // Whether a value may have fields.
+    fn has_fields(&self, id: ValueId) -> bool {
+        match self.enum_of(id) {
+            Some(ty) => match self.lowered.tyenv.types.get(ty.index()) {
+                Some(Type::Enum { variants, .. }) => variants
+                    .iter()
+                    .any(|variant| !matches!(&variant.fields, Fields::Unit)),
+                _ => true,
+            },
+            None => matches!(self.shape(id), ValueShape::Struct(_)),
+        }
+    }
+
+    // Takes a word at each of the listed widths, if its width is open.
+    fn split(&mut self, word: NodeId) -> Result<(), NoCondition> {
+        let specs = self.specs;
+        match self.terms.sort(word) {
+            Sort::Word(width) if self.terms.widths.known(width).is_none() => {
+                let place = self.decide(specs.widths.len())?;
+                if let Some(bits) = specs.widths.get(place) {
+                    let _ = self.terms.widths.set(width, *bits);
+                }
+                self.terms.settle()
+            }
+            _ => Ok(()),
+        }
+    }
+
     /// A new value.
     pub fn add(&mut self, value: SymbolicValue) -> Result<ValueId, AllocError> {
         let id = ValueId(self.values.len());
@@ -563,11 +614,24 @@ impl<'a> Builder<'a> {
         a: NodeId,
         b: NodeId,
     ) -> Result<ValueId, NoCondition> {
-        if !self.terms.join_sorts(a, b)? {
-            return Err(NoCondition::Unsorted);
+        self.split(a)?;
+        self.split(b)?;
+        match self.terms.join_sorts(a, b) {
+            Ok(true) => {}
+            Ok(false) => return Err(NoCondition::Unsorted),
+            Err(NoCondition::Unfit) => return Err(self.of_other_widths()),
+            Err(fault) => return Err(fault),
         }
         let term = self.terms.choice(condition, a, b)?;
         Ok(self.term_value(term)?)
+    }
+
+    // That one of two values is taken, nobody knows which, and they are of different widths isn't supported.
+    fn of_other_widths(&self) -> NoCondition {
+        missing(String::from_str(
+            self.alloc,
+            "a spec chooses between words of different widths",
+        ))
     }
 
     #[cycle(choose)]
@@ -647,9 +711,21 @@ impl<'a> Builder<'a> {
     ) -> Result<NodeId, NoCondition> {
         let mut parts = Vec::new(self.alloc);
         for (a, b) in a.iter().zip(b) {
-            parts.push(self.equal(*a, *b, fuel)?)?;
+            // words of different widths are other values, which decides no width
+            self.split_value(*a)?;
+            self.split_value(*b)?;
+            let equal = self.equal(*a, *b, fuel);
+            parts.push(self.or_false(equal)?)?;
         }
         Ok(self.terms.all(&parts)?)
+    }
+
+    /// Takes a value at each of the listed widths, if it is a word whose width is open.
+    pub fn split_value(&mut self, id: ValueId) -> Result<(), NoCondition> {
+        match self.term_of(id) {
+            Some(word) => self.split(word),
+            None => Ok(()),
+        }
     }
 
     // That two values of an enum are equal.
@@ -729,8 +805,7 @@ impl<'a> Builder<'a> {
         let (Some(first), Some(second)) = (first, second) else {
             return Ok(self.terms.truth(true)?);
         };
-        let equal = self.equal_each(&first, &second, fuel);
-        let equal = self.or_false(equal)?;
+        let equal = self.equal_each(&first, &second, fuel)?;
         Ok(self.terms.implies(condition, equal)?)
     }
 
@@ -743,7 +818,8 @@ impl<'a> Builder<'a> {
     }
 
     /// That unknown values have one of the variants that there are. Of an enum without variants nothing is said: a value may be
-    /// a field of another variant than the one that there is.
+    /// a field of another variant than the one that there is. Nor of an `extern` enum, unless each variant stands for a number by
+    /// its model: it has values of none of its variants too.
     pub fn tags_in_range(&mut self) -> Result<Vec<NodeId>, NoCondition> {
         let mut facts = Vec::new(self.alloc);
         for number in 0..self.values.len() {
@@ -760,12 +836,22 @@ impl<'a> Builder<'a> {
             return Ok(None);
         };
         let count = self.variants_of(ty);
-        if count == 0 {
+        if count == 0 || self.is_open(ty) {
             return Ok(None);
         }
         let bound = self.terms.word(number_of(count), tag_width(count))?;
         let fact = self.terms.two(Operator::WordLess, tag, bound, Sort::Truth)?;
         Ok(Some(fact))
+    }
+
+    // Whether a type has values of none of its variants.
+    fn is_open(&self, ty: TypeId) -> bool {
+        match self.lowered.tyenv.types.get(ty.index()) {
+            Some(Type::Enum { is_extern, .. }) => {
+                *is_extern && self.specs.variant_values(ty).is_empty()
+            }
+            _ => false,
+        }
     }
 
     /// That values nest too deep.
@@ -818,9 +904,9 @@ impl<'a> Builder<'a> {
     }
 }
 
-// The width of the number of one of so many variants.
+// The width of the number of one of so many variants, with numbers left for a hundred values of none of them.
 fn tag_width(count: usize) -> usize {
-    if count < 256 { 8 } else { 32 }
+    if count < 128 { 8 } else { 32 }
 }
 
 // A number of variants as an integer.

@@ -1,6 +1,8 @@
 //! Names in specs that stand for nothing.
 
-use crate::specs::Specs;
+use crate::expressions::pos_of;
+use crate::models::ValueModel;
+use crate::specs::{ConstantModel, Specs};
 use core_syntax::syntax::{Ident, Pos};
 use cranelift_isle::lower::Lowered;
 use spec_formulas::faults::SpecError;
@@ -28,6 +30,7 @@ pub fn check_names<'c, 's>(
     }
     for constant in &specs.constants {
         checker.check_apart(constant.value, errors)?;
+        checker.check_constant(constant, errors)?;
     }
     Ok(())
 }
@@ -116,8 +119,15 @@ impl<'c, 's> Checker<'c, 's> {
                 Ok(())
             }
             SpecExpr::As { value, .. } => self.check(scope, value, errors),
-            SpecExpr::With { pos, .. } => self.report(*pos, "`with` isn't supported", errors),
-            SpecExpr::Pair { pos, .. } => self.report(*pos, "a pair stands in no case", errors),
+            SpecExpr::With { pos, .. } => {
+                self.report("spec-unsupported", *pos, "`with` isn't supported", errors)
+            }
+            SpecExpr::Pair { pos, .. } => self.report(
+                "spec",
+                *pos,
+                "a pair stands in no case",
+                errors,
+            ),
             SpecExpr::ConstInt { .. }
             | SpecExpr::ConstBitVec { .. }
             | SpecExpr::ConstBool { .. }
@@ -205,7 +215,7 @@ impl<'c, 's> Checker<'c, 's> {
         }
         let alloc = self.alloc;
         let why = format!(in alloc; "nothing here is called `{}`", name.0)?;
-        note(errors, name.1, why)
+        note(errors, "spec", name.1, why)
     }
 
     // Checks the head of a list: an operator, a field, a macro or a term.
@@ -215,7 +225,7 @@ impl<'c, 's> Checker<'c, 's> {
         }
         let alloc = self.alloc;
         let why = format!(in alloc; "no operator, macro or term is called `{}`", op.0)?;
-        note(errors, op.1, why)
+        note(errors, "spec", op.1, why)
     }
 
     // Whether a name is an operator's, a field's, a macro's or a term's.
@@ -238,19 +248,62 @@ impl<'c, 's> Checker<'c, 's> {
         }
     }
 
-    fn report(&self, pos: Pos, why: &str, errors: &mut Vec<SpecError>) -> Result<(), AllocError> {
+    fn report(
+        &self,
+        code: &'static str,
+        pos: Pos,
+        why: &str,
+        errors: &mut Vec<SpecError>,
+    ) -> Result<(), AllocError> {
         let message = String::from_str(self.alloc, why)?;
-        note(errors, pos, message)
+        note(errors, code, pos, message)
+    }
+
+    // Notes that a constant is written in another sort than its type's.
+    fn check_constant(
+        &self,
+        constant: &ConstantModel<'_>,
+        errors: &mut Vec<SpecError>,
+    ) -> Result<(), AllocError> {
+        match self.lowered.tyenv.const_types.get(&constant.name) {
+            Some(ty) if !is_of_model(constant.value, self.specs.model(*ty)) => self.report(
+                "spec-model",
+                pos_of(constant.value),
+                "the constant's type has a model of another sort",
+                errors,
+            ),
+            _ => Ok(()),
+        }
     }
 }
 
-fn note(errors: &mut Vec<SpecError>, pos: Pos, message: String) -> Result<(), AllocError> {
+fn note(
+    errors: &mut Vec<SpecError>,
+    code: &'static str,
+    pos: Pos,
+    message: String,
+) -> Result<(), AllocError> {
     errors.push(SpecError {
+        code,
         pos,
         message,
         other: None,
     })?;
     Ok(())
+}
+
+// Whether what is written may be of a model. Expressions that aren't written values may be of any.
+fn is_of_model(value: &SpecExpr, model: ValueModel) -> bool {
+    match (value, model) {
+        (SpecExpr::ConstBitVec { width, .. }, ValueModel::Word(known)) => *width == known,
+        (SpecExpr::ConstBitVec { .. }, ValueModel::Integer | ValueModel::Truth)
+        | (SpecExpr::ConstInt { .. }, ValueModel::Word(_) | ValueModel::AnyWord | ValueModel::Truth)
+        | (
+            SpecExpr::ConstBool { .. },
+            ValueModel::Word(_) | ValueModel::AnyWord | ValueModel::Integer,
+        ) => false,
+        _ => true,
+    }
 }
 
 fn names_of<'e>(alloc: Global, names: &'e [Ident]) -> Result<Vec<&'e str>, AllocError> {

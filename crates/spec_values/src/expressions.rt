@@ -6,10 +6,12 @@ use crate::models::{ValueModel, said_model};
 use crate::values::{SymbolicValue, ValueId, ValueShape};
 use core_syntax::syntax::{Ident, Pos};
 use cranelift_isle::sema::{Fields, Term, TermId, TermKind, Type, TypeId, VariantId};
-use spec_formulas::faults::{NoCondition, missing, wrong};
+use report_queries::names::type_name;
+use spec_formulas::faults::{NoCondition, wrong, wrong_as};
 use spec_formulas::operators::{Operator, operator_of};
 use spec_formulas::terms::{NodeId, Sort};
 use std::alloc::{AllocError, Global};
+use std::mem;
 use text_reader::syntax::{Macro, ModelType, SpecExpr};
 
 #[derive(Clone, Copy)]
@@ -51,6 +53,15 @@ impl<'e> Scope<'e> {
     // Takes names away, so that so many are left.
     fn shorten(&mut self, len: usize) {
         self.names.truncate(len);
+    }
+
+    // What the names stand for.
+    fn values(&self, alloc: Global) -> Result<Vec<ValueId>, AllocError> {
+        let mut values = Vec::new(alloc);
+        for known in &self.names {
+            values.push(known.value)?;
+        }
+        Ok(values)
     }
 
     // What a name stands for: the last that has it.
@@ -443,7 +454,7 @@ impl<'a> Builder<'a> {
             )),
             (ValueModel::Word(width), Sort::Word(known)) => {
                 if !self.terms.widths.set(known, width) {
-                    return Err(NoCondition::Unfit);
+                    return Err(self.other_function());
                 }
                 Ok(Some(term))
             }
@@ -626,11 +637,14 @@ impl<'a> Builder<'a> {
             return Err(self.unsupported("a case that is no pair", pos_of(case)));
         };
         let len = scope.len();
-        let arm = self.arm_of_case(scope, matched, left, right, fuel);
+        let arm = self.arm_of_case(scope, matched, left, right, &found.arms, fuel);
         scope.shorten(len);
         let arm = arm?;
         if matched.is_match && arm.gives.is_some() {
             if let Some(variant) = self.variant_in(matched.value, left) {
+                if is_among(&found.named, variant.index()) {
+                    return Err(self.arm_twice(pos_of(left)));
+                }
                 found.named.push(variant)?;
             }
         }
@@ -641,7 +655,16 @@ impl<'a> Builder<'a> {
         Ok(taken == Some(true))
     }
 
-    // The arm of a case, by its pattern or key and its body. The names that the pattern binds stay.
+    // That two arms of a match are of one variant.
+    fn arm_twice(&self, pos: Pos) -> NoCondition {
+        wrong_as(
+            "spec-variant",
+            pos,
+            String::from_str(self.alloc, "two arms are of one variant"),
+        )
+    }
+
+    // The arm of a case behind these, by its pattern or key and its body. The names that the pattern binds stay.
     #[cycle(says)]
     fn arm_of_case<'e>(
         &mut self,
@@ -649,6 +672,7 @@ impl<'a> Builder<'a> {
         matched: Matched,
         left: &'e SpecExpr,
         right: &'e SpecExpr,
+        before: &[Arm],
         fuel: usize,
     ) -> Result<Arm, NoCondition> {
         let condition = if matched.is_match {
@@ -656,7 +680,21 @@ impl<'a> Builder<'a> {
         } else {
             self.switch_condition(scope, matched.value, left, fuel)?
         };
-        self.arm(scope, condition, right, fuel)
+        let taken = self.taken_behind(before, condition)?;
+        self.arm(scope, condition, taken, right, fuel)
+    }
+
+    // Where an arm of this condition is taken behind others. Of two variants or keys at most one is met; any other value is met where
+    // none of the others is.
+    fn taken_behind(&mut self, before: &[Arm], condition: NodeId) -> Result<NodeId, AllocError> {
+        if self.terms.literal(condition) != Some(true) {
+            return Ok(condition);
+        }
+        let mut others = Vec::new(self.alloc);
+        for arm in before {
+            others.push(self.terms.not(arm.condition)?)?;
+        }
+        self.terms.all(&others)
     }
 
     // Whether these are all variants of the enum that a value is of.
@@ -710,7 +748,7 @@ impl<'a> Builder<'a> {
             (Some(value), None) => Ok(Some(value)),
             (Some(value), Some(rest)) => {
                 let chosen = self.choose(arm.condition, value, rest, DEEPEST_VALUE);
-                Ok(Some(self.placed_value(self.of_one_width(chosen), pos)?))
+                Ok(Some(self.placed_value(chosen, pos)?))
             }
         }
     }
@@ -742,20 +780,6 @@ impl<'a> Builder<'a> {
     // That two formulas are true.
     fn both(&mut self, a: NodeId, b: NodeId) -> Result<NodeId, AllocError> {
         self.terms.all(&[a, b])
-    }
-
-    /// That one of two values is taken, nobody knows which, and they are of different widths isn't supported.
-    pub fn of_one_width(
-        &self,
-        chosen: Result<ValueId, NoCondition>,
-    ) -> Result<ValueId, NoCondition> {
-        match chosen {
-            Err(NoCondition::Unfit) => Err(missing(String::from_str(
-                self.alloc,
-                "a spec chooses between words of different widths",
-            ))),
-            other => other,
-        }
     }
 
     // What is wrong with sorts is wrong at this place.
@@ -820,8 +844,8 @@ impl<'a> Builder<'a> {
         let condition = self.says(scope, condition, fuel - 1)?;
         let condition = self.truth_of(condition, Operator::If, pos)?;
         let other = self.terms.not(condition)?;
-        let first = self.arm(scope, condition, first, fuel - 1)?;
-        let second = self.arm(scope, other, second, fuel - 1)?;
+        let first = self.arm(scope, condition, condition, first, fuel - 1)?;
+        let second = self.arm(scope, other, other, second, fuel - 1)?;
         let otherwise = Arm {
             condition: self.terms.truth(true)?,
             gives: second.gives,
@@ -829,45 +853,58 @@ impl<'a> Builder<'a> {
         self.joined(&[first, otherwise], false, pos)
     }
 
-    // What an arm gives, where it may be taken.
+    // What an arm gives, where it may be taken: behind earlier arms it is taken where `taken` is true.
     #[cycle(says)]
     fn arm<'e>(
         &mut self,
         scope: &mut Scope<'e>,
         condition: NodeId,
+        taken: NodeId,
         body: &'e SpecExpr,
         fuel: usize,
     ) -> Result<Arm, NoCondition> {
         if fuel == 0 {
             return Err(self.nests_too_deep(pos_of(body)));
         }
-        if self.terms.literal(condition) == Some(false) {
+        if self.terms.literal(taken) == Some(false) {
             return Ok(Arm {
                 condition,
                 gives: None,
             });
         }
         let before = self.defined.len();
+        if self.terms.literal(taken) == Some(true) {
+            let said = self.says(scope, body, fuel - 1);
+            return self.arm_said(before, condition, taken, said);
+        }
+        // what an arm says that may not be taken decides no width
+        let known = scope.values(self.alloc)?;
+        self.split_values(&known)?;
+        let is_demanded = mem::replace(&mut self.terms.is_demanded, false);
         let said = self.says(scope, body, fuel - 1);
-        self.arm_said(before, condition, said)
+        self.terms.is_demanded = is_demanded;
+        self.arm_said(before, condition, taken, said)
     }
 
-    // What an arm gives that says this. So many facts had to be true before it.
+    // What an arm gives that says this. So many facts had to be true before it. An arm whose operands don't fit says nothing.
     fn arm_said(
         &mut self,
         before: usize,
         condition: NodeId,
+        taken: NodeId,
         said: Result<ValueId, NoCondition>,
     ) -> Result<Arm, NoCondition> {
+        let is_sure = self.terms.literal(taken) == Some(true);
         match said {
             Ok(value) => {
-                self.guard_defined(before, condition)?;
+                self.guard_defined(before, taken)?;
                 Ok(Arm {
                     condition,
                     gives: Some(value),
                 })
             }
-            Err(NoCondition::Nothing) => {
+            Err(NoCondition::Unfit) if is_sure => Err(NoCondition::Unfit),
+            Err(NoCondition::Nothing | NoCondition::Unfit) => {
                 self.defined.truncate(before);
                 Ok(Arm {
                     condition,
@@ -921,9 +958,13 @@ impl<'a> Builder<'a> {
         if let Some(variant) = self.variant_called(value, name) {
             return self.is_variant(value, variant);
         }
-        if name.0.as_str() != "_" {
-            scope.add(name.0.as_str(), value)?;
+        if name.0.as_str() == "_" {
+            return Ok(self.terms.truth(true)?);
         }
+        if self.enum_of(value).is_some() {
+            return Err(self.no_variant(name));
+        }
+        scope.add(name.0.as_str(), value)?;
         Ok(self.terms.truth(true)?)
     }
 
@@ -962,11 +1003,12 @@ impl<'a> Builder<'a> {
         pos: Pos,
     ) -> Result<NodeId, NoCondition> {
         match self.shape(value) {
-            ValueShape::Struct(_) => {
-                let fields = self.parts(value)?;
-                self.bind_all(scope, name, &fields, args, pos)?;
-                Ok(self.terms.truth(true)?)
-            }
+            ValueShape::Struct(ty) if type_name(&self.lowered.tyenv, ty) == Some(name.0.as_str()) =>
+                {
+                    let fields = self.parts(value)?;
+                    self.bind_all(scope, name, &fields, args, pos)?;
+                    Ok(self.terms.truth(true)?)
+                }
             _ => Err(self.no_variant(name)),
         }
     }
@@ -1006,7 +1048,8 @@ impl<'a> Builder<'a> {
 
     fn no_variant(&self, name: &Ident) -> NoCondition {
         let alloc = self.alloc;
-        wrong(
+        wrong_as(
+            "spec-variant",
             name.1,
             format!(in alloc; "the value that is matched has no variant `{}`", name.0),
         )

@@ -35,8 +35,8 @@ pub fn own_models(alloc: Global, types: &[Type]) -> Result<Vec<ValueModel>, Allo
     Ok(models)
 }
 
-// The model of a type where no spec says another one.
-fn own_model(ty: &Type) -> ValueModel {
+/// The model of a type where no spec says another one.
+pub(crate) fn own_model(ty: &Type) -> ValueModel {
     match ty {
         Type::Builtin(BuiltinType::Bool) => ValueModel::Truth,
         Type::Builtin(BuiltinType::Int(int)) => ValueModel::Word(bits_of(*int)),
@@ -70,6 +70,24 @@ pub fn said_model(
             Some(ty) => Ok(model_at(models, ty)),
             None => Err(wrong(name.1, format!(in alloc; "no type is called `{}`", name.0))),
         },
+    }
+}
+
+// The widest words.
+const WIDEST: usize = 4096;
+
+/// Whether values of a model can be of the sort that a signature says.
+pub(crate) fn fits_model(said: &ModelType, model: ValueModel) -> bool {
+    match (said, model) {
+        (ModelType::BitVec(Some(width), _), ValueModel::Word(known)) => *width == known,
+        (ModelType::BitVec(Some(width), _), ValueModel::AnyWord) => 0 < *width && *width <= WIDEST,
+        (ModelType::BitVec(None, _), ValueModel::Word(_) | ValueModel::AnyWord)
+        | (ModelType::Bool(_), ValueModel::Truth)
+        | (ModelType::Int(_), ValueModel::Integer)
+        | (ModelType::Unit(_), ValueModel::Unit)
+        | (ModelType::Named(..), _)
+        | (_, ValueModel::Own | ValueModel::Unknown) => true,
+        _ => false,
     }
 }
 

@@ -1,14 +1,14 @@
 //! Specs, looked up: which term, type or constant each of them is of.
 
-use crate::models::{ValueModel, model_at, own_models, said_model};
+use crate::models::{ValueModel, fits_model, model_at, own_model, own_models, said_model};
 use core_syntax::syntax::{Ident, Pos};
 use cranelift_isle::lower::Lowered;
-use cranelift_isle::sema::{Sym, TermId, TypeId};
+use cranelift_isle::sema::{Fields, Sym, TermId, TermKind, Type, TypeId, Variant};
 use spec_formulas::faults::{NoCondition, SpecError};
 use std::alloc::{AllocError, Global};
 use text_reader::syntax::{
-    Form, Instantiation, Macro, Model as SaidModel, ModelValue, Signature, Spec, SpecExpr,
-    VariantValue, VerificationForm,
+    Attr, AttrKind, Form, Instantiation, Macro, Model as SaidModel, ModelType, ModelValue,
+    Signature, Spec, SpecExpr, VariantValue, VerificationForm,
 };
 
 /// What is said of one term.
@@ -46,6 +46,8 @@ pub struct Specs<'a> {
     // Where models of types were said, by the types' ids.
     modelled: Vec<Option<Pos>>,
     forms: Vec<&'a Form>,
+    /// The widths that words of any width are asked at: 8, 16, 32 and 64, and those that signatures name.
+    pub widths: Vec<usize>,
 }
 
 // Written out, and so proved here once.
@@ -59,6 +61,7 @@ impl<'a> Drop for Specs<'a> {
             variants: _,
             modelled: _,
             forms: _,
+            widths: _,
         } = self;
     }
 }
@@ -78,6 +81,11 @@ impl<'a> Specs<'a> {
         let mut errors = Vec::new(alloc);
         let reader = Reader { alloc, lowered };
         reader.add_forms(&mut specs, forms, &mut errors)?;
+        let mut widths = Vec::from_slice(alloc, &LISTED)?;
+        for said in &specs.terms {
+            add_widths(said.signatures, &mut widths)?;
+        }
+        specs.widths = widths;
         Ok((specs, errors))
     }
 
@@ -92,6 +100,7 @@ impl<'a> Specs<'a> {
             variants: no_values(alloc, types.len())?,
             modelled: no_places(alloc, types.len())?,
             forms: Vec::new(alloc),
+            widths: Vec::new(alloc),
         })
     }
 
@@ -135,6 +144,31 @@ impl<'a> Specs<'a> {
     pub fn macro_of(&self, name: &str) -> Option<&'a Macro> {
         let plain = name.strip_suffix("!").unwrap_or(name);
         macro_called(&self.macros, plain)
+    }
+}
+
+// The widths that words of any width are asked at, where signatures name no others.
+const LISTED: [usize; 4] = [8, 16, 32, 64];
+
+// Adds the widths that signatures name.
+fn add_widths(signatures: &[Signature], widths: &mut Vec<usize>) -> Result<(), AllocError> {
+    for signature in signatures {
+        for ty in &signature.args {
+            add_width(ty, widths)?;
+        }
+        add_width(&signature.ret, widths)?;
+    }
+    Ok(())
+}
+
+// Adds the width that a model names, if it names one that isn't there yet.
+fn add_width(ty: &ModelType, widths: &mut Vec<usize>) -> Result<(), AllocError> {
+    match ty {
+        ModelType::BitVec(Some(width), _) if !widths.iter().any(|known| *known == *width) => {
+            widths.push(*width)?;
+            Ok(())
+        }
+        _ => Ok(()),
     }
 }
 
@@ -218,8 +252,34 @@ impl<'r> Reader<'r> {
         match form {
             VerificationForm::Spec(said) => self.add_spec(specs, said, errors),
             VerificationForm::Instantiation(said) => self.add_signatures(specs, said, errors),
+            VerificationForm::State(said) => {
+                self.report(
+                    "spec-unsupported",
+                    said.pos,
+                    "states aren't supported",
+                    errors,
+                )
+            }
+            VerificationForm::Attr(said) if changes_questions(said) => self.report(
+                "spec-unsupported",
+                said.pos,
+                "`veri` isn't supported",
+                errors,
+            ),
             _ => Ok(()),
         }
+    }
+
+    // Notes what is wrong at a place.
+    fn report(
+        &self,
+        code: &'static str,
+        pos: Pos,
+        why: &str,
+        errors: &mut Vec<SpecError>,
+    ) -> Result<(), AllocError> {
+        let message = String::from_str(self.alloc, why)?;
+        note(errors, code, pos, message, None)
     }
 
     // Notes that there is nothing of a name.
@@ -231,7 +291,7 @@ impl<'r> Reader<'r> {
     ) -> Result<(), AllocError> {
         let alloc = self.alloc;
         let message = format!(in alloc; "no {what} is called `{}`", name.0)?;
-        note(errors, name.1, message, None)
+        note(errors, "spec", name.1, message, None)
     }
 
     // Notes that something is said for the second time.
@@ -244,7 +304,7 @@ impl<'r> Reader<'r> {
     ) -> Result<(), AllocError> {
         let alloc = self.alloc;
         let message = format!(in alloc; "`{}` has two {what}", name.0)?;
-        note(errors, name.1, message, first)
+        note(errors, "spec", name.1, message, first)
     }
 
     fn add_macro<'a>(
@@ -330,14 +390,21 @@ impl<'r> Reader<'r> {
             return self.report_second("models", &said.name, first, errors);
         }
         specs.note_modelled(ty, said.name.1);
+        let name = &said.name;
         match &said.value {
             ModelValue::Type(said) => {
                 let model = said_model(self.alloc, &self.lowered.tyenv, &specs.models, said);
-                note_model(specs, ty, model, errors)
+                note_model(specs, ty, model, errors)?;
+                if self.is_other_builtin(ty, specs.model(ty)) {
+                    let why =
+                        "a built-in type has a model of its own: two of its values would stand for one";
+                    return self.report("spec-model", name.1, why, errors);
+                }
+                Ok(())
             }
             ModelValue::Enum(values) => {
                 specs.note_variants(ty, values);
-                Ok(())
+                self.check_enum(ty, name, values, errors)
             }
             ModelValue::Const(_) => Ok(()),
         }
@@ -376,6 +443,7 @@ impl<'r> Reader<'r> {
         if self.count_of(term) != said.args.len() {
             return self.report_arguments(&said.term, term, said.args.len(), errors);
         }
+        self.check_spec(term, said, errors)?;
         match specs.spec(term) {
             Some(first) => { self.report_second("specs", &said.term, Some(first.term.1), errors) }
             None => {
@@ -383,6 +451,127 @@ impl<'r> Reader<'r> {
                 Ok(())
             }
         }
+    }
+
+    // Notes what is wrong with a spec, whatever its expressions say.
+    fn check_spec(
+        &self,
+        term: TermId,
+        said: &Spec,
+        errors: &mut Vec<SpecError>,
+    ) -> Result<(), AllocError> {
+        let place = said.term.1;
+        if self.is_own(term) {
+            let why = "a variant or a struct stands for itself: a spec of it would be passed over";
+            self.report("spec-own", place, why, errors)?;
+        }
+        if said.provides.is_none() && said.matches.is_none() {
+            let why =
+                "a spec without `provide` makes each rule right: write `(provide true)` if it is meant";
+            self.report("spec-provide", place, why, errors)?;
+        }
+        if !said.modifies.is_empty() {
+            self.report(
+                "spec-unsupported",
+                said.pos,
+                "`modifies` isn't supported",
+                errors,
+            )?;
+        }
+        for (count, name) in said.args.iter().enumerate() {
+            let earlier = said.args.get(..count).unwrap_or(&[]);
+            if let Some(why) = fault_of_argument(earlier, name) {
+                self.report("spec-argument", name.1, why, errors)?;
+            }
+        }
+        Ok(())
+    }
+
+    // Whether a term makes a variant or a struct.
+    fn is_own(&self, term: TermId) -> bool {
+        match self.lowered.termenv.terms.get(term.index()) {
+            Some(term) => matches!(&term.kind, TermKind::EnumVariant { .. } | TermKind::Struct),
+            None => false,
+        }
+    }
+
+    // Notes what is wrong with a model of an enum: each variant has to have a number of its own.
+    fn check_enum(
+        &self,
+        ty: TypeId,
+        name: &Ident,
+        values: &[VariantValue],
+        errors: &mut Vec<SpecError>,
+    ) -> Result<(), AllocError> {
+        let variants = match self.lowered.tyenv.types.get(ty.index()) {
+            Some(Type::Enum { variants, .. }) => variants.as_slice(),
+            _ => &[],
+        };
+        if variants.len() != values.len() {
+            let why = "a model of an enum has to give each variant a number";
+            self.report("spec-enum", name.1, why, errors)?;
+        }
+        for (count, value) in values.iter().enumerate() {
+            let earlier = values.get(..count).unwrap_or(&[]);
+            let why = if self.is_variant_among(variants, &value.name) {
+                fault_of_value(earlier, value)
+            } else {
+                Some("the enum has no such variant without fields")
+            };
+            if let Some(why) = why {
+                self.report("spec-enum", value.pos, why, errors)?;
+            }
+        }
+        Ok(())
+    }
+
+    // Whether a variant without fields is so called, with the enum's name or without.
+    fn is_variant_among(&self, variants: &[Variant], name: &Ident) -> bool {
+        let tyenv = &self.lowered.tyenv;
+        for variant in variants {
+            if tyenv.text_of(variant.name) == name.0.as_str()
+                || tyenv.text_of(variant.fullname) == name.0.as_str()
+            {
+                return match &variant.fields {
+                    Fields::Unit => true,
+                    Fields::Tuple(_) | Fields::Struct(_) => false,
+                };
+            }
+        }
+        false
+    }
+
+    // Whether a type is a built-in one, and its own model is another one than this.
+    fn is_other_builtin(&self, ty: TypeId, model: ValueModel) -> bool {
+        match self.lowered.tyenv.types.get(ty.index()) {
+            Some(known) => matches!(known, Type::Builtin(_)) && own_model(known) != model,
+            None => false,
+        }
+    }
+
+    // Notes the signatures that can't be of a term: of widths that no word has, or of sorts that its types haven't.
+    fn check_signatures(
+        &self,
+        specs: &Specs<'_>,
+        term: TermId,
+        signatures: &[Signature],
+        errors: &mut Vec<SpecError>,
+    ) -> Result<(), AllocError> {
+        let Some(term) = self.lowered.termenv.terms.get(term.index()) else {
+            return Ok(());
+        };
+        for signature in signatures {
+            let fits = signature
+                .args
+                .iter()
+                .zip(&term.arg_tys)
+                .all(|(said, ty)| fits_model(said, specs.model(*ty)));
+            if !fits || !fits_model(&signature.ret, specs.model(term.ret_ty)) {
+                let why = "this signature isn't one that the term's types have";
+                self.report("spec-signature", signature.pos, why, errors)?;
+            }
+        }
+        Ok(())
     }
 
     // Notes that there are more or fewer arguments than a term has.
@@ -400,7 +589,7 @@ impl<'r> Reader<'r> {
             "`{}` has {wanted} arguments, and here are {count}",
             name.0
         )?;
-        note(errors, name.1, message, declared)
+        note(errors, "spec", name.1, message, declared)
     }
 
     // Adds the signatures of a term: its own, or those of a form.
@@ -437,6 +626,7 @@ impl<'r> Reader<'r> {
         if first.is_some() {
             return self.report_second("instantiations", &said.term, first, errors);
         }
+        self.check_signatures(specs, term, signatures, errors)?;
         specs.note_signatures(term, said.term.1, signatures);
         Ok(())
     }
@@ -478,14 +668,72 @@ impl<'a> Specs<'a> {
     }
 }
 
+// What is wrong with the name of an argument behind others, if something is.
+fn fault_of_argument(earlier: &[Ident], name: &Ident) -> Option<&'static str> {
+    if name.0.as_str() == "result" {
+        return Some("an argument called `result` hides the result");
+    }
+    if name.0.as_str() != "_"
+        && earlier
+            .iter()
+            .any(|known| known.0.as_str() == name.0.as_str())
+    {
+        return Some("two arguments have one name, so only the second is seen");
+    }
+    None
+}
+
+// What is wrong with the number of a variant behind others, if something is.
+fn fault_of_value(earlier: &[VariantValue], value: &VariantValue) -> Option<&'static str> {
+    if earlier
+        .iter()
+        .any(|known| known.name.0.as_str() == value.name.0.as_str())
+    {
+        return Some("the variant has two numbers");
+    }
+    let Some(number) = number_of(value) else {
+        return Some("the variant has no number");
+    };
+    for known in earlier {
+        match number_of(known) {
+            Some(other) if other.0 != number.0 => return Some("the numbers are of two sorts"),
+            Some(other) if other.1 == number.1 => return Some("two variants have one number"),
+            _ => {}
+        }
+    }
+    None
+}
+
+// The number of a variant: how wide it is, where it is a word, and the number itself.
+fn number_of(value: &VariantValue) -> Option<(Option<usize>, i128)> {
+    match &value.value {
+        Some(SpecExpr::ConstInt { val, .. }) => Some((None, *val)),
+        Some(SpecExpr::ConstBitVec { val, width, .. }) => Some((Some(*width), val.cast_signed())),
+        _ => None,
+    }
+}
+
+// Whether an attribute says something of questions.
+fn changes_questions(said: &Attr) -> bool {
+    for kind in &said.kinds {
+        match kind {
+            AttrKind::Chain(_) | AttrKind::Priority(_) => return true,
+            AttrKind::Tag(..) => {}
+        }
+    }
+    false
+}
+
 // Notes what is wrong at a place, and another place that has to do with it.
 fn note(
     errors: &mut Vec<SpecError>,
+    code: &'static str,
     pos: Pos,
     message: String,
     other: Option<Pos>,
 ) -> Result<(), AllocError> {
     errors.push(SpecError {
+        code,
         pos,
         message,
         other,

@@ -27,3 +27,6 @@ decreases-push_application l = 4 * l.id.0 + 1
 
 abbrev pub decreases-push_bits : goal.decreases-push_bits
 decreases-push_bits l = 4 * l.id.0 + 1
+
+abbrev pub decreases-push_turns : goal.decreases-push_turns
+decreases-push_turns l = 4 * l.id.0 + 1

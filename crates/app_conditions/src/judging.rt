@@ -1,0 +1,473 @@
+//! What solvers' answers say of rules, in lines; and the texts that still lack an answer.
+
+use crate::told::{Teller, count_of_values, push_given, text_for_solver};
+use cranelift_isle::sema::{RuleId, TermId};
+use cranelift_isle::syntax::Pos;
+use spec_questions::above::left_out_above;
+use spec_questions::answers::{Answer, push_text};
+use spec_questions::questions::{LeftOut, Question, Questions, RuleQuestions, Without};
+use spec_questions::replies::{Reply, reply_in};
+use spec_questions::verdicts::{Verdict, is_answered, is_possible, is_refuted, verdict_of};
+use std::alloc::{AllocError, Global};
+use text_reader::syntax::VerificationForm;
+
+/// What rules are judged by.
+#[derive(Clone, Copy)]
+pub(crate) struct Judge<'a, 'f> {
+    /// How rules are told.
+    pub(crate) teller: Teller<'a, 'f>,
+    /// What is expected to be told of rules that aren't right, a line each.
+    pub(crate) expected: &'a str,
+    /// What solvers answered.
+    pub(crate) answers: &'a [Answer],
+    /// What is asked of rules.
+    pub(crate) asked: &'a Questions,
+    /// What is asked of those that are wrong by themselves, where no rule of greater priority matches.
+    pub(crate) above: &'a Questions,
+}
+
+/// Where the rules stand that are wrong by themselves.
+pub(crate) fn wrong_places(
+    teller: Teller<'_, '_>,
+    asked: &Questions,
+    answers: &[Answer],
+) -> Result<Vec<Pos>, AllocError> {
+    let mut places = Vec::new(teller.alloc);
+    for rule in &asked.rules {
+        if verdict_of(&rule.questions, &rule.left_out, answers) == Verdict::Wrong {
+            places.push(rule.pos)?;
+        }
+    }
+    Ok(places)
+}
+
+/// How many rules there are of each verdict.
+#[derive(Clone, Copy)]
+pub(crate) struct Counts {
+    pub(crate) right: usize,
+    pub(crate) partly: usize,
+    pub(crate) wrong: usize,
+    pub(crate) unknown: usize,
+    pub(crate) idle: usize,
+    pub(crate) without: usize,
+    /// Those of which an expected line tells the same.
+    pub(crate) expected: usize,
+    /// Those that aren't right, and of which none does.
+    pub(crate) unexpected: usize,
+}
+
+impl Counts {
+    // Counts what is told of a rule; None where it has no question.
+    fn add(&mut self, verdict: Option<Verdict>, is_expected: bool) {
+        let count = match verdict {
+            Some(Verdict::Right) => &mut self.right,
+            Some(Verdict::Partly) => &mut self.partly,
+            Some(Verdict::Wrong) => &mut self.wrong,
+            Some(Verdict::Unknown) => &mut self.unknown,
+            Some(Verdict::Idle) => &mut self.idle,
+            None => &mut self.without,
+        };
+        *count = count.saturating_add(1);
+        if is_expected {
+            self.expected = self.expected.saturating_add(1);
+        } else if verdict != Some(Verdict::Right) {
+            self.unexpected = self.unexpected.saturating_add(1);
+        }
+    }
+
+    /// Whether no rule is wrong or left out at some widths, and, where each has to be right, each is.
+    pub(crate) fn is_pass(self, deny: bool) -> bool {
+        let shown = self.unknown == 0 && self.idle == 0 && self.without == 0;
+        self.wrong == 0 && self.partly == 0 && (!deny || shown && self.right > 0)
+    }
+
+    // Adds the counts in a line.
+    fn push(self, out: &mut String) -> Result<(), AllocError> {
+        let Counts {
+            right,
+            partly,
+            wrong,
+            unknown,
+            idle,
+            without,
+            expected: _,
+            unexpected: _,
+        } = self;
+        write!(
+            out,
+            "{right} right, {partly} right at some widths, {wrong} wrong, {unknown} unknown, {idle} never taken, {without} without a question\n"
+        )
+    }
+}
+
+/// No rule is counted.
+pub(crate) const NO_COUNTS: Counts = Counts {
+    right: 0,
+    partly: 0,
+    wrong: 0,
+    unknown: 0,
+    idle: 0,
+    without: 0,
+    expected: 0,
+    unexpected: 0,
+};
+
+impl<'a, 'f> Judge<'a, 'f> {
+    /// Adds a line about each rule, one about each spec that isn't used, and then how many rules there are of each verdict.
+    pub(crate) fn push_lines(
+        self,
+        out: &mut String,
+        forms: &[VerificationForm],
+    ) -> Result<Counts, AllocError> {
+        let mut counts = NO_COUNTS;
+        for rule in &self.asked.rules {
+            self.push_told(out, self.last(rule), &mut counts)?;
+        }
+        for rule in &self.asked.without {
+            self.push_without(out, rule, &mut counts)?;
+        }
+        for form in forms {
+            self.teller.push_if_unused(out, form)?;
+        }
+        counts.push(out)?;
+        Ok(counts)
+    }
+
+    /// Whether what is told is what is expected: each rule is right, but for those that lines tell of, of which each is told.
+    pub(crate) fn are_expected(self, counts: &Counts) -> bool {
+        let mut lines = 0usize;
+        for line in self.expected.lines() {
+            if line.contains(": rule ") {
+                lines = lines.saturating_add(1);
+            }
+        }
+        counts.unexpected == 0 && counts.expected == lines
+    }
+
+    // Adds what is told of a rule by a word, and which rule it is, and counts it.
+    fn push_head(
+        self,
+        out: &mut String,
+        verdict: Option<Verdict>,
+        rule: RuleId,
+        pos: Pos,
+        term: TermId,
+        counts: &mut Counts,
+    ) -> Result<(), AllocError> {
+        let word = match verdict {
+            Some(verdict) => verdict.word(),
+            None => "without",
+        };
+        let mut head = String::from_str(self.teller.alloc, word)?;
+        head.push_str(": ")?;
+        self.teller.push_rule(&mut head, rule, pos, term)?;
+        counts.add(
+            verdict,
+            self.expected.lines().any(|line| tells(line, &head)),
+        );
+        out.push_str(&head)
+    }
+
+    /// What decides a rule: if it is wrong by itself, what is asked of it where no rule of greater priority matches.
+    pub(crate) fn last(self, rule: &'a RuleQuestions) -> &'a RuleQuestions {
+        for other in &self.above.rules {
+            if other.rule == rule.rule {
+                return other;
+            }
+        }
+        rule
+    }
+
+    /// Adds what is told of a rule, by the questions that decide it.
+    pub(crate) fn push_told(
+        self,
+        out: &mut String,
+        rule: &RuleQuestions,
+        counts: &mut Counts,
+    ) -> Result<Verdict, AllocError> {
+        let verdict = verdict_of(&rule.questions, &rule.left_out, self.answers);
+        let (id, pos, term) = (rule.rule, rule.pos, rule.term);
+        self.push_head(out, Some(verdict), id, pos, term, counts)?;
+        match verdict {
+            Verdict::Right | Verdict::Partly => self.push_right(out, rule)?,
+            Verdict::Idle => out.push_str(": no call takes it, by the specs\n")?,
+            Verdict::Wrong => self.push_wrong(out, rule)?,
+            Verdict::Unknown => self.push_unknown(out, rule)?,
+        }
+        Ok(verdict)
+    }
+
+    /// Adds that a rule has no question.
+    pub(crate) fn push_without(
+        self,
+        out: &mut String,
+        rule: &Without,
+        counts: &mut Counts,
+    ) -> Result<(), AllocError> {
+        self.push_head(out, None, rule.rule, rule.pos, rule.term, counts)?;
+        write!(out, ": {}\n", rule.reason)
+    }
+
+    // Adds at which widths a rule is right, at which no call takes it, and at which it isn't asked about.
+    fn push_right(self, out: &mut String, rule: &RuleQuestions) -> Result<(), AllocError> {
+        let alloc = self.teller.alloc;
+        let mut told = Vec::new(alloc);
+        for question in &rule.questions {
+            if is_possible(self.answers, &question.taken) {
+                push_choice(
+                    alloc,
+                    out,
+                    "",
+                    of_arguments(&question.widths),
+                    "",
+                    &mut told,
+                )?;
+            }
+        }
+        for question in &rule.questions {
+            let mark = if is_refuted(self.answers, &question.taken) {
+                "; never taken"
+            } else {
+                "; nobody knows whether taken"
+            };
+            push_choice(
+                alloc,
+                out,
+                mark,
+                of_arguments(&question.widths),
+                "",
+                &mut told,
+            )?;
+        }
+        for choice in &rule.left_out {
+            push_left_out(alloc, out, choice, &mut told)?;
+        }
+        out.push('\n')
+    }
+
+    // Adds a choice of widths at which a rule is wrong, and values that show it.
+    fn push_wrong(self, out: &mut String, rule: &RuleQuestions) -> Result<(), AllocError> {
+        if let Some(question) = self.wrong_of(rule) {
+            if rule.questions.len() > 1 {
+                push_widths(out, &question.widths)?;
+            }
+            self.push_shown(out, rule.term, question)?;
+        }
+        out.push('\n')?;
+        let teller = self.teller;
+        for pos in left_out_above(teller.alloc, teller.lowered, rule.term, rule.rule)? {
+            out.push_str("  the rule at ")?;
+            teller.push_place(out, pos)?;
+            out.push_str(" comes first where it matches too; the question leaves that out\n")?;
+        }
+        Ok(())
+    }
+
+    // The first question that says that a rule is wrong.
+    fn wrong_of(self, rule: &RuleQuestions) -> Option<&Question> {
+        rule.questions
+            .iter()
+            .find(|question| is_possible(self.answers, &question.wrong))
+    }
+
+    // Adds values that show that a rule is wrong, where a solver gave them.
+    fn push_shown(
+        self,
+        out: &mut String,
+        term: TermId,
+        question: &Question,
+    ) -> Result<(), AllocError> {
+        let alloc = self.teller.alloc;
+        let text = text_for_solver(alloc, question)?;
+        for answer in self.answers {
+            if answer.text.as_str() == text.as_str() {
+                let reply = reply_in(alloc, &answer.written, count_of_values(question))?;
+                if let Reply::Sat(given) = &reply {
+                    return push_given(self.teller, out, term, question, given);
+                }
+            }
+        }
+        Ok(())
+    }
+
+    // Adds why nobody knows whether a rule is right: the first question without an answer, and what solvers said.
+    fn push_unknown(self, out: &mut String, rule: &RuleQuestions) -> Result<(), AllocError> {
+        for question in &rule.questions {
+            if !is_refuted(self.answers, &question.wrong) {
+                push_widths(out, &question.widths)?;
+                return self.push_said(out, &question.wrong);
+            }
+        }
+        for question in &rule.questions {
+            if !is_refuted(self.answers, &question.taken) {
+                out.push_str(": whether a call takes it")?;
+                push_widths(out, &question.widths)?;
+                return self.push_said(out, &question.taken);
+            }
+        }
+        out.push('\n')
+    }
+
+    // Adds what solvers said that were asked a text.
+    fn push_said(self, out: &mut String, text: &str) -> Result<(), AllocError> {
+        let mut is_asked = false;
+        for answer in self.answers {
+            if answer.text.as_str() == text {
+                out.push_str(if is_asked { "; " } else { ": " })?;
+                let said = word_of(&answer.reply);
+                write!(out, "{} says {said}", answer.solver)?;
+                is_asked = true;
+            }
+        }
+        out.push_str(if is_asked {
+            "\n"
+        } else {
+            ": no solver was asked\n"
+        })
+    }
+
+    /// Adds the texts that the verdicts on rules rest on so far, as lines of a file of records with a blank line behind each: all, or
+    /// those without an answer.
+    pub(crate) fn push_texts(self, out: &mut String, all: bool) -> Result<(), AllocError> {
+        for rule in &self.asked.rules {
+            self.push_asked(out, rule, all)?;
+            let last = self.last(rule);
+            if verdict_of(&last.questions, &last.left_out, self.answers) == Verdict::Wrong {
+                self.push_values_asked(out, last, all)?;
+            }
+        }
+        for rule in &self.above.rules {
+            self.push_asked(out, rule, all)?;
+        }
+        Ok(())
+    }
+
+    // Adds the texts of a rule's questions: whether a call takes the rule is asked where all is refuted that may be wrong.
+    fn push_asked(
+        self,
+        out: &mut String,
+        rule: &RuleQuestions,
+        all: bool,
+    ) -> Result<(), AllocError> {
+        let mut is_right = true;
+        for question in &rule.questions {
+            is_right = is_right && is_refuted(self.answers, &question.wrong);
+            self.push_if_asked(out, &question.wrong, all)?;
+        }
+        if is_right {
+            for question in &rule.questions {
+                self.push_if_asked(out, &question.taken, all)?;
+            }
+        }
+        Ok(())
+    }
+
+    // Adds a text, if it has no answer or all are wanted.
+    fn push_if_asked(self, out: &mut String, text: &str, all: bool) -> Result<(), AllocError> {
+        if all || !is_answered(self.answers, text) {
+            push_text(out, text)?;
+            out.push('\n')?;
+        }
+        Ok(())
+    }
+
+    // Adds the text that asks for the values that show that a rule is wrong, unless a solver wrote something.
+    fn push_values_asked(
+        self,
+        out: &mut String,
+        rule: &RuleQuestions,
+        all: bool,
+    ) -> Result<(), AllocError> {
+        let Some(question) = self.wrong_of(rule) else {
+            return Ok(());
+        };
+        let text = text_for_solver(self.teller.alloc, question)?;
+        if all
+            || !self
+                .answers
+                .iter()
+                .any(|answer| answer.text.as_str() == text.as_str())
+        {
+            push_text(out, &text)?;
+            out.push('\n')?;
+        }
+        Ok(())
+    }
+}
+
+// Whether a line tells what another one begins with.
+fn tells(line: &str, head: &str) -> bool {
+    match line.strip_prefix(head) {
+        Some(rest) =>
+            !matches!(rest.chars().next(), Some(first) if first.is_alphanumeric() || first == '_'),
+        None => false,
+    }
+}
+
+// The widths of arguments among these: they stand first, and are called `arg0`, `arg1` and so on.
+fn of_arguments(widths: &[(String, usize)]) -> &[(String, usize)] {
+    let mut count = 0usize;
+    for (of, _) in widths {
+        if !of.starts_with("arg") {
+            break;
+        }
+        count = count.saturating_add(1);
+    }
+    widths.get(..count).unwrap_or(&[])
+}
+
+// Adds a choice of widths at which a rule isn't asked about, unless the same is told already.
+fn push_left_out(
+    alloc: Global,
+    out: &mut String,
+    choice: &LeftOut,
+    told: &mut Vec<String>,
+) -> Result<(), AllocError> {
+    match &choice.reason {
+        None => push_choice(alloc, out, "; never taken", &choice.widths, "", told),
+        Some(reason) => push_choice(alloc, out, "; not asked", &choice.widths, reason, told),
+    }
+}
+
+// Adds widths behind a mark, and a reason behind them, unless the same is told already. Where there are no widths, only a reason is.
+fn push_choice(
+    alloc: Global,
+    out: &mut String,
+    mark: &str,
+    widths: &[(String, usize)],
+    reason: &str,
+    told: &mut Vec<String>,
+) -> Result<(), AllocError> {
+    let mut words = String::new(alloc);
+    push_widths(&mut words, widths)?;
+    if !reason.is_empty() {
+        write!(words, ": {reason}")?;
+    }
+    if words.is_empty() || told.iter().any(|known| known.as_str() == words.as_str()) {
+        return Ok(());
+    }
+    write!(out, "{mark}{words}")?;
+    told.push(words)?;
+    Ok(())
+}
+
+// Adds a choice of widths, as ` (arg0 of 8 bits)`.
+fn push_widths(out: &mut String, widths: &[(String, usize)]) -> Result<(), AllocError> {
+    for (place, (of, width)) in widths.iter().enumerate() {
+        out.push_str(if place == 0 { " (" } else { ", " })?;
+        write!(out, "{of} of {width} bits")?;
+    }
+    if widths.is_empty() {
+        return Ok(());
+    }
+    out.push(')')
+}
+
+// What a solver said, as it is told.
+fn word_of(reply: &Reply) -> &str {
+    match reply {
+        Reply::Unsat => "unsat",
+        Reply::Sat(_) => "sat",
+        Reply::Other(said) => said.as_str(),
+    }
+}
