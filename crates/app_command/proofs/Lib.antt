@@ -1,3 +1,4 @@
 mod TaskStatuses
 mod Texts
 mod TextsRead
+pub mod AllRead

@@ -10,7 +10,7 @@ ghost use Rattle.app_command.specs.TaskAnswers.{lowered_terms, AsksForAll, IsAns
 ghost use Rattle.app_command.specs.Statuses.{IsStatusOfReading};
 
 use crate::calls::{Told, ran, told_why};
-use crate::code::{Code, code_of_lowered};
+use crate::code::{Code, code_or_stubs};
 use crate::comparison::{difference, differences};
 use crate::graphs::graph_of;
 use crate::printing::printed_texts;
@@ -29,6 +29,7 @@ use report_json::documents::{
     document_of_warnings,
 };
 use report_print::layout::push_reports;
+use report_print::lines::FileLines;
 use report_print::print::{TreeNames, print_bindings, print_block};
 use report_print::report::Report;
 use report_warnings::kinds::is_one_of;
@@ -162,9 +163,10 @@ fn document_for(task: Task) -> DocumentPurpose {
     }
 }
 
-// Adds how many more errors there are.
+// Adds how many more errors or warnings there are.
 fn push_rest(err: &mut String, count: usize) -> Result<(), AllocError>
-    ensures { OnOk result (string_bytes err.old ≢ [] → string_bytes err.new ≢ []) }
+    ensures none { count ≡ 0 → OnOk result (string_bytes err.new ≡ string_bytes err.old) }
+    ensures some { OnOk result (string_bytes err.old ≢ [] → string_bytes err.new ≢ []) }
 {
     if count == 0 {
         return Ok(());
@@ -231,13 +233,19 @@ fn answer_to_lowered<E: Write>(
         Task::Samples | Task::Diff | Task::Print => Ok(accepted(alloc, String::new(alloc))),
         Task::Stats => counted(alloc, asked, lowered),
         Task::Compare => compared(alloc, asked, files, lowered, teller),
-        Task::Run => answer_of_call(alloc, ran(alloc, asked, files, lowered)?),
-        Task::Why => answer_of_call(alloc, told_why(alloc, asked, files, defs, lowered)?),
+        Task::Run => {
+            let lines = FileLines::new(alloc, files)?;
+            answer_of_call(alloc, ran(alloc, asked, &lines, lowered)?)
+        }
+        Task::Why => {
+            let lines = FileLines::new(alloc, files)?;
+            answer_of_call(alloc, told_why(alloc, asked, &lines, defs, lowered)?)
+        }
         Task::Explain => explained(alloc, asked, files, defs, lowered),
     }
 }
 
-// The Rust code of lowered definitions, or why there is none.
+// The Rust code of lowered definitions, or stubs of what it asks for; or why there is no code.
 fn coded(
     alloc: Global,
     asked: &Request<'_>,
@@ -246,7 +254,7 @@ fn coded(
 ) -> Result<Answer, AllocError>
     ensures { IfOk result (λ a. (code : Code) × IsCode code × IsAnswerOfCode code a) }
 {
-    let code = code_of_lowered(alloc, files, lowered, &asked.code)?;
+    let code = code_or_stubs(alloc, files, lowered, &asked.code, asked.stubs)?;
     Ok(answer_of_code(alloc, code))
 }
 
@@ -286,7 +294,8 @@ fn explained(
 ) -> Result<Answer, AllocError>
     ensures { IfOk result (λ a. IsDoneWithText a ⊎ IsFailed a) }
 {
-    let text = explanation(alloc, files, defs, lowered, asked.rule)?;
+    let lines = FileLines::new(alloc, files)?;
+    let text = explanation(alloc, &lines, defs, lowered, asked.rule)?;
     if text.is_empty() {
         missing(alloc, "rule or term with rules", asked.rule)
     } else {
@@ -326,9 +335,26 @@ fn warned(
     if asked.format == Format::Json {
         out = document_of_warnings(alloc, files, warnings)?;
     } else {
-        push_reports(&mut err, files, warnings, asked.layout())?;
+        let shown = shown_of(asked, warnings);
+        push_reports(&mut err, files, shown, asked.layout())?;
+        push_rest(&mut err, warnings.len().saturating_sub(shown.len()))?;
     }
     Ok(Answer { status, out, err })
+}
+
+// How many warnings are shown, if not all are wanted.
+const MOST_WARNINGS: usize = 20;
+
+// The warnings that are shown.
+fn shown_of<'a>(asked: &Request<'_>, warnings: &'a [Report]) -> &'a [Report]
+    ensures none { warnings.now ≡ [] → result.now ≡ [] }
+    ensures some { warnings.now ≢ [] → result.now ≢ [] }
+    ensures within { length result.now ≤ length warnings.now }
+{
+    if asked.wants_all() || warnings.len() <= MOST_WARNINGS {
+        return warnings;
+    }
+    &warnings[..MOST_WARNINGS]
 }
 
 // Whether one of these warnings counts as an error.
@@ -477,10 +503,11 @@ fn drawn<E: Write>(
     // each has a text
     ensures { IfOk result (λ text. length terms.now ≤ string_len text) }
 {
+    let lines = FileLines::new(alloc, files)?;
     let mut out = String::new(alloc);
     for term in terms {
         teller.tell("printing", term_name(lowered, term));
-        let drawing = drawing_of(alloc, format, files, lowered, term)?;
+        let drawing = drawing_of(alloc, format, &lines, lowered, term)?;
         out.push_str(&drawing)?;
     }
     Ok(out)
@@ -490,22 +517,22 @@ fn drawn<E: Write>(
 fn drawing_of(
     alloc: Global,
     format: Format,
-    files: &Files,
+    lines: &FileLines<'_>,
     lowered: &Lowered,
     term: &LoweredTerm,
 ) -> Result<String, AllocError>
     ensures { IfOk result (λ text. 0 < string_len text) }
 {
     match format {
-        Format::Dot => graph_of(alloc, files, lowered, term),
-        Format::Json | Format::Text | Format::Line => tree(alloc, files, lowered, term),
+        Format::Dot => graph_of(alloc, lines, lowered, term),
+        Format::Json | Format::Text | Format::Line => tree(alloc, lines, lowered, term),
     }
 }
 
 // The tree of a term in words, with the rules that its returns take.
 fn tree(
     alloc: Global,
-    files: &Files,
+    lines: &FileLines<'_>,
     lowered: &Lowered,
     term: &LoweredTerm,
 ) -> Result<String, AllocError>
@@ -519,7 +546,7 @@ fn tree(
     let mut printed = String::new(alloc);
     print_bindings(&mut printed, names, &term.rules.bindings)?;
     print_block(&mut printed, names, 2, &term.block)?;
-    let steps = with_rules(alloc, files, lowered, term, &printed)?;
+    let steps = with_rules(alloc, lines, lowered, term, &printed)?;
     let name = term_name(lowered, term);
     format!(in alloc; "term {name}\n{steps}")
 }

@@ -2,7 +2,8 @@
 
 use crate::words::Request;
 use cranelift_isle::lower::Lowered;
-use cranelift_isle::syntax::{Def, Files};
+use cranelift_isle::syntax::Def;
+use report_print::lines::FileLines;
 use report_queries::premises::is_multi;
 use report_traces::answers_file::{ReadAnswers, read_answers};
 use report_traces::calls::{ReadCall, answer_to_call, read_call};
@@ -36,36 +37,36 @@ fn told_of(alloc: Global, answer: Result<String, TraceFault>) -> Result<Told, Al
 pub(crate) fn ran(
     alloc: Global,
     asked: &Request<'_>,
-    files: &Files,
+    lines: &FileLines<'_>,
     lowered: &Lowered,
 ) -> Result<Told, AllocError> {
-    told_of(alloc, outcome(alloc, asked, files, lowered))
+    told_of(alloc, outcome(alloc, asked, lines, lowered))
 }
 
 /// Whether the rules that are asked about are taken on the call.
 pub(crate) fn told_why(
     alloc: Global,
     asked: &Request<'_>,
-    files: &Files,
+    lines: &FileLines<'_>,
     defs: &[Def],
     lowered: &Lowered,
 ) -> Result<Told, AllocError> {
-    told_of(alloc, reasons(alloc, asked, files, defs, lowered))
+    told_of(alloc, reasons(alloc, asked, lines, defs, lowered))
 }
 
 // Whether the rules that are asked about are taken on the call.
 fn reasons(
     alloc: Global,
     asked: &Request<'_>,
-    files: &Files,
+    lines: &FileLines<'_>,
     defs: &[Def],
     lowered: &Lowered,
 ) -> Result<String, TraceFault> {
-    let replies = replies_of(alloc, asked, files, lowered)?;
+    let replies = replies_of(alloc, asked, lines, lowered)?;
     let call = call_asked(alloc, asked, lowered)?;
     let asking = Asking {
         alloc,
-        files,
+        lines,
         defs,
         lowered,
         expand: asked.expand,
@@ -78,16 +79,16 @@ fn reasons(
 fn outcome(
     alloc: Global,
     asked: &Request<'_>,
-    files: &Files,
+    lines: &FileLines<'_>,
     lowered: &Lowered,
 ) -> Result<String, TraceFault> {
     let text = call_text(alloc, &asked.call)?;
     if asked.answers.is_none() && !asked.trace {
         return echoed(alloc, lowered, &text);
     }
-    let replies = replies_of(alloc, asked, files, lowered)?;
+    let replies = replies_of(alloc, asked, lines, lowered)?;
     let call = call_asked(alloc, asked, lowered)?;
-    let mut runs = Runs::new(alloc, lowered, files, &replies, asked.trace);
+    let mut runs = Runs::new(alloc, lowered, lines, &replies, asked.trace);
     let args = value_clones(alloc, &call.args)?;
     let ended = runs.run(call.entry, args)?;
     let mut out = String::from_str(alloc, runs.told())?;
@@ -125,14 +126,14 @@ fn call_asked<'a>(
 fn replies_of(
     alloc: Global,
     asked: &Request<'_>,
-    files: &Files,
+    lines: &FileLines<'_>,
     lowered: &Lowered,
 ) -> Result<Replies, TraceFault> {
     if asked.answers.is_none() {
         return Ok(Replies::Echoes);
     }
-    let number = files.texts.len().saturating_sub(1);
-    match read_answers(alloc, lowered, files, (number, asked.expand))? {
+    let number = lines.files().texts.len().saturating_sub(1);
+    match read_answers(alloc, lowered, lines, (number, asked.expand))? {
         ReadAnswers::Lines(lines) => Ok(Replies::Lines(lines)),
         ReadAnswers::Wrong(why) => Err(TraceFault::Text(why)),
     }

@@ -10,6 +10,7 @@ use crate::reading::Reading;
 use cranelift_isle::lower::{Lowered, lower};
 use cranelift_isle::syntax::{Def, Fault, Files};
 use rust_text::code::{CodeError, CodegenOptions, rust_code_with};
+use rust_text::stubs::stubs_with;
 use std::alloc::{AllocError, Global};
 
 /// What comes of accepted definitions whose Rust code is wanted.
@@ -73,6 +74,26 @@ pub fn code_of_lowered(
     ensures { IfOk result IsCode }
 {
     code_by(alloc, rust_code_with(alloc, lowered, files, options))
+}
+
+/// The same, or in its place stubs of what it asks for.
+///
+/// # Errors
+///
+/// Where memory is refused.
+pub(crate) fn code_or_stubs(
+    alloc: Global,
+    files: &Files,
+    lowered: &Lowered,
+    options: &CodegenOptions,
+    stubs: bool,
+) -> Result<Code, AllocError>
+    ensures { IfOk result IsCode }
+{
+    if stubs {
+        return code_by(alloc, stubs_with(alloc, lowered, files, options));
+    }
+    code_of_lowered(alloc, files, lowered, options)
 }
 
 // What comes of making code.

@@ -4,7 +4,7 @@ ghost use Rattle.std.specs.Prelude.{◌≡◌, ◌≢◌, ◌⊎◌, ◌≤◌, 
 
 use crate::inputs::{file_text, path_of, standard_text};
 use crate::run::{cannot_read, say};
-use crate::words::Unasked;
+use crate::words::{Unasked, wrong, wrong_as};
 use cranelift_isle::syntax::Files;
 use report_errors::syntax_report;
 use report_print::layout::{Layout, push_reports};
@@ -22,7 +22,7 @@ pub struct Formatting<'a> {
     /// Where files are looked for whose names don't begin with `/`; the empty text for where the command runs.
     pub folder: &'a str,
     /// The files, where `-` is standard input, whose layout goes to standard output.
-    pub files: Vec<&'a str>,
+    pub files: Vec<String>,
 }
 
 impl<'a> Drop for Formatting<'a> {
@@ -59,20 +59,9 @@ pub fn formatting_by<'a>(alloc: Global, words: &'a [String]) -> Result<Formattin
         awaited = asked.read(alloc, awaited, word.as_str())?;
     }
     if awaited == Awaited::Folder {
-        return Err(wrong(String::from_str(alloc, "nothing after '-C'")));
-    }
-    if asked.files.is_empty() {
-        return Err(wrong(String::from_str(alloc, "no file")));
+        return Err(wrong_as(alloc, "nothing after '-C'"));
     }
     Ok(asked)
-}
-
-// That something is wrong with the words.
-fn wrong(why: Result<String, AllocError>) -> Unasked {
-    match why {
-        Ok(why) => Unasked::Words(why),
-        Err(AllocError) => Unasked::Memory,
-    }
 }
 
 impl<'a> Formatting<'a> {
@@ -84,12 +73,12 @@ impl<'a> Formatting<'a> {
         match word {
             "--check" => self.check = true,
             "-C" => return Ok(Awaited::Folder),
-            "--stdin" => self.files.push("-")?,
-            "" => return Err(wrong(String::from_str(alloc, "a file without a name"))),
+            "--stdin" => self.files.push(String::from_str(alloc, "-")?)?,
+            "" => return Err(wrong_as(alloc, "a file without a name")),
             _ if word != "-" && word.starts_with('-') => {
                 return Err(wrong(format!(in alloc; "fmt has no option '{word}'")));
             }
-            _ => self.files.push(word)?,
+            _ => self.files.push(String::from_str(alloc, word)?)?,
         }
         Ok(Awaited::Any)
     }
@@ -108,7 +97,7 @@ pub fn run_formatting<R: std::rt::Files + AllocGlobal, I: Read + Drop, O: Write,
     ensures known { result ≤ 4 }
     ensures used { result ≢ 2 }
 {
-    let wants = asked.files.iter().any(|name| *name == "-");
+    let wants = asked.files.iter().any(|name| name.as_str() == "-");
     match standard_text(rt.alloc(), wants, input) {
         Ok(standard) => format_files(rt, asked, &standard, out, err),
         Err(why) => cannot_read(rt.alloc(), why, err),
@@ -128,7 +117,7 @@ fn format_files<R: std::rt::Files + AllocGlobal, O: Write, E: Write>(
 {
     let mut status = 0u8;
     for name in &asked.files {
-        let one = if *name == "-" {
+        let one = if name.as_str() == "-" {
             format_text(rt, asked, "<stdin>", standard, out, err)
         } else {
             format_file(rt, asked, name, out, err)

@@ -4,11 +4,11 @@ ghost use Rattle.std.specs.Prelude.{◌<◌, string_len, IfOk};
 
 use cranelift_isle::lower::{Lowered, LoweredTerm};
 use cranelift_isle::serialize::{Block, ControlFlow, EvalStep, MatchArm};
-use cranelift_isle::syntax::{Files, Pos};
+use cranelift_isle::syntax::Pos;
 use cranelift_isle::trie_again::{BindingId, Rule};
 use report_errors::names::NameTables;
 use report_errors::site_words::{push_head, site_texts, text_at};
-use report_print::lines::{file_name, file_text, line_at};
+use report_print::lines::{FileLines, file_name};
 use std::alloc::{AllocError, Global};
 
 /// The tree of a term as a directed graph: a node for the term and for each step, with what it binds and what it looks at in
@@ -17,7 +17,7 @@ use std::alloc::{AllocError, Global};
 /// through. A return is a box with the name of its rule, where it has one, and its file and line.
 pub(crate) fn graph_of(
     alloc: Global,
-    files: &Files,
+    lines: &FileLines<'_>,
     lowered: &Lowered,
     term: &LoweredTerm,
 ) -> Result<String, AllocError>
@@ -30,7 +30,7 @@ pub(crate) fn graph_of(
     let texts = site_texts(alloc, names, &term.rules.bindings)?;
     let drawing = Drawing {
         alloc,
-        files,
+        lines,
         names,
         rules: &term.rules.rules,
         texts: &texts,
@@ -40,9 +40,9 @@ pub(crate) fn graph_of(
 
 // What the drawing of a tree asks.
 #[derive(Clone, Copy)]
-struct Drawing<'a> {
+struct Drawing<'a, 'f> {
     alloc: Global,
-    files: &'a Files,
+    lines: &'a FileLines<'f>,
     names: NameTables<'a>,
     rules: &'a [Rule],
     texts: &'a [String],
@@ -89,7 +89,7 @@ impl Graph {
     }
 }
 
-impl<'a> Drawing<'a> {
+impl<'a, 'f> Drawing<'a, 'f> {
     // The graph of the tree of a term of this name.
     fn draw(&self, name: &str, block: &Block) -> Result<String, AllocError>
         ensures { IfOk result (λ text. 0 < string_len text) }
@@ -196,8 +196,8 @@ impl<'a> Drawing<'a> {
         if !name.is_empty() {
             write!(label, "{name} at ")?;
         }
-        let file = file_name(self.files, pos.file);
-        let line = line_at(file_text(self.files, pos.file), pos.offset).number;
+        let file = file_name(self.lines.files(), pos.file);
+        let line = self.lines.place(pos).line;
         write!(label, "{file}:{line}")
     }
 

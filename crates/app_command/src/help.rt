@@ -4,7 +4,8 @@
 pub(crate) const HELP: &str = "usage: isle TASK [OPTIONS] FILE..
 
 Reads ISLE text (docs/NOTATION.md) from files. The file - is standard input. All files together are one list of
-definitions. Tasks:
+definitions. A task that is given no file takes those that the file isle.files names, in this folder or above it. A line
+[NAME] in that file begins a list of files, which a task takes if NAME is its only file. Tasks:
   lower FILE..           prints the tree of each term. Each return names its rule.
   print FILE..           prints the definitions of all files as one text, each on a line. They need not be accepted.
   rust FILE..            prints the Rust code of the terms (docs/RUST-CODE.md)
@@ -31,6 +32,7 @@ Options:
   --terms NAME,..        lower, compare: only these terms
   --prefix FROM=TO       rust: shows TO in place of FROM where a file name begins with FROM. May be given many times.
   --log                  rust: the code logs each result, by the crate log
+  --stubs                rust: prints stubs of what the code asks of the module above it (docs/RUST-CODE.md)
   --with-allows          rust: the code begins with attributes #![allow(..)], so it can be a file of its own
   --answers FILE         run, why: takes the answers to calls from a file, and runs called terms with rules (docs/RUNNING.md)
   --trace                run: shows each test that is made, and the rule of each return
@@ -40,8 +42,8 @@ Options:
   --allow NAME,..        check: the warnings of these names are not shown. May be given many times. --allow=NAME,.. is the
                          same. The names are never-run, priority, uncovered, recursion, constant, name, unused and literal
                          (docs/USING.md).
-  --all                  shows all errors. Otherwise only the first 20, and none that follows from another one. compare: the
-                         first line of each term that differs. Otherwise only the first line of all is shown.
+  --all                  shows all errors and warnings. Otherwise only the first 20, and no error that follows from another
+                         one. compare: the first line of each term that differs. Otherwise only the first line of all is shown.
   --format text          shows each error with its source lines. This is the default.
   --format line          shows each error on one line
   --format json          lower, check, stats: prints one JSON object, which has the errors too (docs/JSON.md)

@@ -36,14 +36,14 @@ pub fn read_files<R: std::rt::Files + AllocGlobal, I: Read + Drop>(
     input: I,
 ) -> Result<Files, Unread> {
     let alloc = rt.alloc();
-    let wants = asked.files.iter().any(|name| *name == "-");
+    let wants = asked.files.iter().any(|name| name.as_str() == "-");
     let standard = standard_text(alloc, wants, input)?;
     let mut files = Files {
         names: Vec::new(alloc),
         texts: Vec::new(alloc),
     };
     for name in &asked.files {
-        if *name == "-" {
+        if name.as_str() == "-" {
             files.names.push(String::from_str(alloc, "<stdin>")?)?;
             files.texts.push(standard.clone()?)?;
         } else {
@@ -110,8 +110,11 @@ fn text_at<R: std::rt::Files + AllocGlobal>(
     }
 }
 
-// Why files in a folder can't be read, where that is the folder.
-fn unread_folder<R: std::rt::Files + AllocGlobal>(rt: &R, folder: &str) -> Option<Unread> {
+/// Why files in a folder can't be read, where that is the folder.
+pub(crate) fn unread_folder<R: std::rt::Files + AllocGlobal>(
+    rt: &R,
+    folder: &str,
+) -> Option<Unread> {
     let alloc = rt.alloc();
     let why = match fs::metadata(rt, folder) {
         Ok(found) if found.is_dir() => return None,

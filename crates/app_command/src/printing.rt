@@ -102,9 +102,11 @@ fn report_of_unspelled(alloc: Global, place: Option<Pos>) -> Result<Report, Allo
     Ok(Report {
         level: Level::Error,
         kind: "print",
+        code: "print",
         message,
         labels,
         notes,
+        fixes: Vec::new(alloc),
     })
 }
 
@@ -142,7 +144,11 @@ fn notes_of(alloc: Global, place: Option<Pos>) -> Result<Vec<Note>, AllocError> 
 
 fn note_of(alloc: Global, word: &'static str, text: &str) -> Result<Note, AllocError> {
     let text = String::from_str(alloc, text)?;
-    Ok(Note { word, text })
+    Ok(Note {
+        word,
+        text,
+        has_more: false,
+    })
 }
 
 const NOT_KEPT: &str = "the reader keeps neither its list nor its place";

@@ -1,14 +1,15 @@
 //! What the command does.
 
-ghost use Rattle.std.specs.Prelude.{◌≡◌, ◌≢◌, ◌⊎◌, ◌≤◌, [], ◌∷◌, false, map, string_bytes, true, IfOk, MatchResult};
+ghost use Rattle.std.specs.Prelude.{◌≡◌, ◌≢◌, ◌⊎◌, ◌≤◌, [], ◌∷◌, false, map, string_bytes, true, IfErr, IfOk, MatchResult};
 ghost use Rattle.report_queries.specs.Samples.{names_sample};
 ghost use Rattle.app_command.specs.declared.words.Task.TheVariants.{Samples};
 ghost use Rattle.app_command.specs.Statuses.{IsStatusFor, IsStatusOfUnread, IsWritten};
 
 use crate::answers::{Answer, answer_to};
-use crate::formatting::run_formatting;
+use crate::formatting::{Formatting, run_formatting};
 use crate::help::{HELP, VERSION};
 use crate::inputs::{Unread, read_files};
+use crate::project::find_files;
 use crate::words::{Command, Request, Task, Unasked, asked_by};
 use cranelift_isle::syntax::Files;
 use report_queries::answers::{end, no_memory, write_text};
@@ -40,8 +41,8 @@ pub fn run<R: std::rt::Files + Env + AllocGlobal, I: Read + Drop, O: Write, E: W
     match asked_by(rt.alloc(), words, colors) {
         Ok(Command::Help) => write_text(HELP, out, err),
         Ok(Command::Version) => write_text(VERSION, out, err),
-        Ok(Command::Formatting(asked)) => run_formatting(rt, &asked, input, out, err),
-        Ok(Command::Request(asked)) => run_request(rt, &asked, input, terminal, out, err),
+        Ok(Command::Formatting(asked)) => format_asked(rt, asked, input, out, err),
+        Ok(Command::Request(asked)) => run_asked(rt, asked, input, terminal, out, err),
         Err(Unasked::Words(why)) => wrong_words(rt.alloc(), &why, err),
         Err(Unasked::Memory) => no_memory(err),
     }
@@ -58,12 +59,65 @@ fn has_variable(env: &impl Env, name: &str) -> bool {
 }
 
 // Says what is wrong with the words, and answers the status for it, or 3 where memory is refused.
-fn wrong_words<E: Write>(alloc: Global, why: &str, err: &mut E) -> u8
+pub(crate) fn wrong_words<E: Write>(alloc: Global, why: &str, err: &mut E) -> u8
     ensures { (result ≡ 2) ⊎ (result ≡ 3) }
 {
     match format!(in alloc; "isle: {why} (see isle --help)\n") {
         Ok(line) => end(err, &line, 2),
         Err(AllocError) => no_memory(err),
+    }
+}
+
+// Lays out the files that words name, or those of a project.
+fn format_asked<R: std::rt::Files + AllocGlobal, I: Read + Drop, O: Write, E: Write>(
+    rt: &R,
+    mut asked: Formatting<'_>,
+    input: I,
+    out: &mut O,
+    err: &mut E,
+) -> u8
+    ensures { result ≤ 4 }
+{
+    match find_files(rt, asked.folder, &mut asked.files, err) {
+        Ok(()) => run_formatting(rt, &asked, input, out, err),
+        Err(status) => status,
+    }
+}
+
+// Does what is asked of the files that words name, or of those of a project.
+fn run_asked<R: std::rt::Files + AllocGlobal, I: Read + Drop, O: Write, E: Write>(
+    rt: &R,
+    mut asked: Request<'_>,
+    input: I,
+    terminal: bool,
+    out: &mut O,
+    err: &mut E,
+) -> u8
+    ensures { result ≤ 4 }
+{
+    if asked.task.has_project() {
+        if let Err(status) = find_definitions(rt, &mut asked, err) {
+            return status;
+        }
+    }
+    run_request(rt, &asked, input, terminal, out, err)
+}
+
+// Finds the files with definitions. The one with answers stands behind them.
+fn find_definitions<R: std::rt::Files + AllocGlobal, E: Write>(
+    rt: &R,
+    asked: &mut Request<'_>,
+    err: &mut E,
+) -> Result<(), u8>
+    ensures { IfErr result (λ status. status ≤ 4) }
+{
+    if asked.answers.is_some() {
+        let _ = asked.files.pop();
+    }
+    find_files(rt, asked.folder, &mut asked.files, err)?;
+    match asked.add_answers(rt.alloc()) {
+        Ok(()) => Ok(()),
+        Err(AllocError) => Err(no_memory(err)),
     }
 }
 

@@ -29,8 +29,8 @@ pub(crate) fn refusal_of_texts(
     Ok(answer)
 }
 
-// A report for each mistake, at its place.
-fn reports_of_texts(
+/// A report for each mistake in the texts of files, at its place.
+pub fn reports_of_texts(
     alloc: Global,
     files: &Files,
     mistakes: &[TextError],

@@ -13,6 +13,7 @@ use crate::unread::refusal_of_texts;
 use crate::words::Request;
 use cranelift_isle::lower::lower;
 use cranelift_isle::syntax::{Def, Fault, Files};
+use report_print::lines::FileLines;
 use report_warnings::changes::changes;
 use report_warnings::versions::Version;
 use std::alloc::{AllocError, Global};
@@ -116,8 +117,9 @@ fn answer_to_old<E: Write>(
     teller.tell("lowering", "the old version");
     match lower(alloc, old.defs, asked.expand) {
         Ok(lowered) => {
+            let lines = FileLines::new(alloc, old.files)?;
             let old = Version {
-                files: old.files,
+                lines: &lines,
                 defs: old.defs,
                 lowered: &lowered,
             };
@@ -136,7 +138,7 @@ fn answer_to_old<E: Write>(
 fn answer_to_new_reading<E: Write>(
     alloc: Global,
     asked: &Request<'_>,
-    old: Version<'_>,
+    old: Version<'_, '_>,
     new: Read<'_>,
     teller: &mut Teller<'_, E>,
 ) -> Result<Answer, AllocError>
@@ -163,7 +165,7 @@ fn answer_to_new_reading<E: Write>(
 fn answer_to_new<E: Write>(
     alloc: Global,
     asked: &Request<'_>,
-    old: Version<'_>,
+    old: Version<'_, '_>,
     new: Defined<'_>,
     teller: &mut Teller<'_, E>,
 ) -> Result<Answer, AllocError>
@@ -173,8 +175,9 @@ fn answer_to_new<E: Write>(
     teller.tell("lowering", "the new version");
     match lower(alloc, new.defs, asked.expand) {
         Ok(lowered) => {
+            let lines = FileLines::new(alloc, new.files)?;
             let new = Version {
-                files: new.files,
+                lines: &lines,
                 defs: new.defs,
                 lowered: &lowered,
             };

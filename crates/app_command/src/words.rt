@@ -73,6 +73,25 @@ impl Task {
         self == Task::Run || self == Task::Why
     }
 
+    // Whether its files may be those of a project. Samples are no files, and two versions are two lists.
+    pub(crate) fn has_project(self) -> bool {
+        !matches!(self, Task::Samples | Task::Compare | Task::Diff)
+    }
+
+    // Whether it has an option, which may be joined to a value. It has every word that is none.
+    fn has_option(self, word: &str) -> bool {
+        let option = word.split_once('=').map_or(word, |(option, _)| option);
+        match option {
+            "--no-expand" => self != Task::Rust,
+            "--deny" | "--allow" => self == Task::Check,
+            "--with-allows" | "--log" | "--stubs" | "--prefix" => self == Task::Rust,
+            "--terms" => self == Task::Lower || self == Task::Compare,
+            "--trace" => self == Task::Run,
+            "--answers" => self.has_call(),
+            _ => true,
+        }
+    }
+
     fn of(word: &str) -> Option<Task> {
         for task in TASKS {
             if task.word() == word {
@@ -144,6 +163,8 @@ pub struct Request<'a> {
     pub rule: &'a str,
     /// How Rust code is written.
     pub code: CodegenOptions,
+    /// Whether stubs of what Rust code asks for are wanted in place of the code.
+    pub stubs: bool,
     /// Whether it is told what is being done.
     pub progress: bool,
     /// The file that has the answers to what a call calls, where there is one. It is the last of `files`.
@@ -151,7 +172,7 @@ pub struct Request<'a> {
     /// Whether the tests of a run are told.
     pub trace: bool,
     /// The files, where `-` is standard input, or the sample. The last one has printed trees where they are compared.
-    pub files: Vec<&'a str>,
+    pub files: Vec<String>,
     /// How many of the files are of the old version, where two versions are compared.
     pub old: usize,
     /// The words of the call.
@@ -173,6 +194,7 @@ impl<'a> Drop for Request<'a> {
             folder: _,
             rule: _,
             code: _,
+            stubs: _,
             progress: _,
             answers: _,
             trace: _,
@@ -217,16 +239,16 @@ impl<T: Drop> From<AllocFailed<T>> for Unasked {
     }
 }
 
-// That something is wrong with the words.
-fn wrong(why: Result<String, AllocError>) -> Unasked {
+/// That something is wrong with the words.
+pub fn wrong(why: Result<String, AllocError>) -> Unasked {
     match why {
         Ok(why) => Unasked::Words(why),
         Err(AllocError) => Unasked::Memory,
     }
 }
 
-// The same, with a fixed text.
-fn wrong_as(alloc: Global, why: &str) -> Unasked {
+/// The same, with a fixed text.
+pub fn wrong_as(alloc: Global, why: &str) -> Unasked {
     wrong(String::from_str(alloc, why))
 }
 
@@ -330,6 +352,7 @@ fn request_by<'a>(given: Given, words: &'a [String]) -> Result<Request<'a>, Unas
         folder: "",
         rule: "",
         code: CodegenOptions::included(given.alloc),
+        stubs: false,
         progress: false,
         answers: None,
         trace: false,
@@ -344,17 +367,17 @@ fn request_by<'a>(given: Given, words: &'a [String]) -> Result<Request<'a>, Unas
     match asked.missing(awaited) {
         Some(why) => Err(wrong_as(given.alloc, why)),
         None => {
-            asked.add_answers()?;
+            asked.add_answers(given.alloc)?;
             Ok(asked)
         }
     }
 }
 
 impl<'a> Request<'a> {
-    // The file with answers is read behind all others.
-    fn add_answers(&mut self) -> Result<(), AllocError> {
+    /// Adds the file with answers, where there is one: it is read behind all others.
+    pub(crate) fn add_answers(&mut self, alloc: Global) -> Result<(), AllocError> {
         if let Some(name) = self.answers {
-            self.files.push(name)?;
+            self.files.push(String::from_str(alloc, name)?)?;
         }
         Ok(())
     }
@@ -387,26 +410,18 @@ impl<'a> Request<'a> {
         }
     }
 
-    // What is wrong with how many files there are, where something is.
+    // What is wrong with how many files there are, where something is. A project may have those of other tasks.
     fn wrong_files(&self) -> Option<&'static str> {
         let count = self.files.len();
-        if self.task == Task::Samples {
-            return if count > 1 {
-                Some("more than one sample")
-            } else {
-                None
-            };
+        match self.task {
+            Task::Samples if count > 1 => Some("more than one sample"),
+            Task::Compare | Task::Diff if count == 0 => Some("no file"),
+            Task::Compare if count == 1 => Some("no trees to compare"),
+            Task::Diff if self.old == 0 || self.old == count => {
+                Some("no new version after the files, such as -- new.isle")
+            }
+            _ => None,
         }
-        if count == 0 {
-            return Some("no file");
-        }
-        if count == 1 && self.task == Task::Compare {
-            return Some("no trees to compare");
-        }
-        if self.task == Task::Diff && (self.old == 0 || self.old == count) {
-            return Some("no new version after the files, such as -- new.isle");
-        }
-        None
     }
 
     // What is missing where a call is wanted.
@@ -457,7 +472,10 @@ impl<'a> Request<'a> {
             Awaited::Format => self.read_format(given.alloc, word),
             Awaited::Color => self.read_color(given, word),
             Awaited::Prefix => self.read_prefix(given.alloc, word),
-            Awaited::Allowed => self.read_allowed(given.alloc, word),
+            Awaited::Allowed => {
+                push_kinds(given.alloc, &mut self.allowed, word)?;
+                Ok(Awaited::Any)
+            }
             Awaited::Any => self.read_any(given.alloc, word),
             Awaited::Rule => {
                 self.rule = word;
@@ -537,149 +555,41 @@ impl<'a> Request<'a> {
 
     // Reads an option or a file.
     fn read_any(&mut self, alloc: Global, word: &'a str) -> Result<Awaited, Unasked> {
+        if !self.task.has_option(word) {
+            let task = self.task.word();
+            return Err(wrong(format!(in alloc; "{task} has no option '{word}'")));
+        }
         match word {
-            "--no-expand" => self.read_no_expand(alloc),
-            "--deny" => self.read_deny(alloc),
-            "--allow" => self.begin_allowed(alloc),
-            "--all" => {
-                self.all = true;
-                Ok(Awaited::Any)
-            }
-            "--progress" => {
-                self.progress = true;
-                Ok(Awaited::Any)
-            }
-            "--with-allows" => self.read_with_allows(alloc),
-            "--log" => self.read_log(alloc),
-            "--prefix" => self.begin_prefix(alloc),
-            "--answers" => self.begin_answers(alloc),
-            "--trace" => self.read_trace(alloc),
-            "--" => self.begin_last(alloc),
-            "--terms" => self.begin_terms(alloc),
-            "--format" => Ok(Awaited::Format),
-            "--color" => Ok(Awaited::Color),
-            "-C" => Ok(Awaited::Folder),
-            _ => self.read_kinds_or_file(alloc, word),
+            "--no-expand" => self.expand = false,
+            "--deny" => self.deny = true,
+            "--all" => self.all = true,
+            "--progress" => self.progress = true,
+            "--with-allows" => self.code.exclude_global_allow_pragmas = false,
+            "--log" => self.code.emit_logging = true,
+            "--stubs" => self.stubs = true,
+            "--trace" => self.trace = true,
+            "--allow" => return Ok(Awaited::Allowed),
+            "--prefix" => return Ok(Awaited::Prefix),
+            "--answers" => return Ok(Awaited::Answers),
+            "--terms" => return Ok(Awaited::Terms),
+            "--format" => return Ok(Awaited::Format),
+            "--color" => return Ok(Awaited::Color),
+            "-C" => return Ok(Awaited::Folder),
+            "--" => return self.begin_last(alloc),
+            _ => self.read_kinds_or_file(alloc, word)?,
         }
-    }
-
-    // Rust code has no form for internal extractors.
-    fn read_no_expand(&mut self, alloc: Global) -> Result<Awaited, Unasked> {
-        if self.task == Task::Rust {
-            return Err(wrong_as(alloc, "rust always expands internal extractors"));
-        }
-        self.expand = false;
-        Ok(Awaited::Any)
-    }
-
-    // Code of a file of its own begins with attributes.
-    fn read_with_allows(&mut self, alloc: Global) -> Result<Awaited, Unasked> {
-        self.needs_code(alloc)?;
-        self.code.exclude_global_allow_pragmas = false;
-        Ok(Awaited::Any)
-    }
-
-    // Code may log each result.
-    fn read_log(&mut self, alloc: Global) -> Result<Awaited, Unasked> {
-        self.needs_code(alloc)?;
-        self.code.emit_logging = true;
-        Ok(Awaited::Any)
-    }
-
-    // Code names its files.
-    fn begin_prefix(&self, alloc: Global) -> Result<Awaited, Unasked> {
-        self.needs_code(alloc)?;
-        Ok(Awaited::Prefix)
-    }
-
-    // Only `rust` writes code.
-    fn needs_code(&self, alloc: Global) -> Result<(), Unasked> {
-        if self.task != Task::Rust {
-            let task = self.task.word();
-            return Err(wrong(format!(in alloc; "{task} writes no Rust code")));
-        }
-        Ok(())
-    }
-
-    // Only `check` has warnings.
-    fn needs_warnings(&self, alloc: Global) -> Result<(), Unasked> {
-        if self.task != Task::Check {
-            let task = self.task.word();
-            return Err(wrong(format!(in alloc; "{task} has no warnings")));
-        }
-        Ok(())
-    }
-
-    // All warnings count as errors.
-    fn read_deny(&mut self, alloc: Global) -> Result<Awaited, Unasked> {
-        self.needs_warnings(alloc)?;
-        self.deny = true;
-        Ok(Awaited::Any)
-    }
-
-    // The next word names terms whose trees are wanted.
-    fn begin_terms(&self, alloc: Global) -> Result<Awaited, Unasked> {
-        if self.task != Task::Lower && self.task != Task::Compare {
-            let task = self.task.word();
-            return Err(wrong(format!(in alloc; "{task} has no option '--terms'")));
-        }
-        Ok(Awaited::Terms)
-    }
-
-    // The next word names kinds of warnings.
-    fn begin_allowed(&self, alloc: Global) -> Result<Awaited, Unasked> {
-        self.needs_warnings(alloc)?;
-        Ok(Awaited::Allowed)
-    }
-
-    // Reads kinds of warnings that aren't looked for.
-    fn read_allowed(&mut self, alloc: Global, word: &str) -> Result<Awaited, Unasked> {
-        self.needs_warnings(alloc)?;
-        push_kinds(alloc, &mut self.allowed, word)?;
-        Ok(Awaited::Any)
-    }
-
-    // Reads kinds of warnings that count as errors.
-    fn read_denied(&mut self, alloc: Global, word: &str) -> Result<Awaited, Unasked> {
-        self.needs_warnings(alloc)?;
-        push_kinds(alloc, &mut self.denied, word)?;
         Ok(Awaited::Any)
     }
 
     // Reads an option that kinds of warnings are joined to, or a file.
-    fn read_kinds_or_file(&mut self, alloc: Global, word: &'a str) -> Result<Awaited, Unasked> {
+    fn read_kinds_or_file(&mut self, alloc: Global, word: &str) -> Result<(), Unasked> {
         if let Some(kinds) = word.strip_prefix("--deny=") {
-            return self.read_denied(alloc, kinds);
+            return push_kinds(alloc, &mut self.denied, kinds);
         }
         if let Some(kinds) = word.strip_prefix("--allow=") {
-            return self.read_allowed(alloc, kinds);
+            return push_kinds(alloc, &mut self.allowed, kinds);
         }
         self.read_file(alloc, word)
-    }
-
-    // Calls may have their answers from a file.
-    fn begin_answers(&mut self, alloc: Global) -> Result<Awaited, Unasked> {
-        self.needs_call(alloc)?;
-        Ok(Awaited::Answers)
-    }
-
-    // Only `run` tells its tests.
-    fn read_trace(&mut self, alloc: Global) -> Result<Awaited, Unasked> {
-        if self.task != Task::Run {
-            let task = self.task.word();
-            return Err(wrong(format!(in alloc; "{task} has no trace")));
-        }
-        self.trace = true;
-        Ok(Awaited::Any)
-    }
-
-    // Only some tasks are about a call.
-    fn needs_call(&self, alloc: Global) -> Result<(), Unasked> {
-        if !self.task.has_call() {
-            let task = self.task.word();
-            return Err(wrong(format!(in alloc; "{task} runs no call")));
-        }
-        Ok(())
     }
 
     // Only `run` and `why` have a call, and only `diff` has a new version.
@@ -687,7 +597,10 @@ impl<'a> Request<'a> {
         if self.task == Task::Diff {
             return self.begin_new(alloc);
         }
-        self.needs_call(alloc)?;
+        if !self.task.has_call() {
+            let task = self.task.word();
+            return Err(wrong(format!(in alloc; "{task} runs no call")));
+        }
         Ok(Awaited::Call)
     }
 
@@ -704,7 +617,7 @@ impl<'a> Request<'a> {
     }
 
     // Reads the name of a file, or of a sample.
-    fn read_file(&mut self, alloc: Global, word: &'a str) -> Result<Awaited, Unasked> {
+    fn read_file(&mut self, alloc: Global, word: &str) -> Result<(), Unasked> {
         if word.is_empty() {
             return Err(wrong_as(alloc, "a file without a name"));
         }
@@ -717,8 +630,8 @@ impl<'a> Request<'a> {
         if self.task != Task::Samples && self.has_file(word) {
             return Err(wrong(format!(in alloc; "the file '{word}' is given twice")));
         }
-        self.files.push(word)?;
-        Ok(Awaited::Any)
+        self.files.push(String::from_str(alloc, word)?)?;
+        Ok(())
     }
 
     // Whether a file was given, of the same version.
@@ -727,7 +640,7 @@ impl<'a> Request<'a> {
         self.files
             .iter()
             .skip(self.old)
-            .any(|file| plain(file) == path)
+            .any(|file| plain(file.as_str()) == path)
     }
 }
 
