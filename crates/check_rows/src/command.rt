@@ -1,6 +1,7 @@
 //! Rows that ask the command `isle`.
 
 use app_command::answers::answer_to;
+use app_command::project::Project;
 use app_command::words::{Command, Request, Unasked, asked_by};
 use cranelift_isle::syntax::Files;
 use std::alloc::{AllocError, Global};
@@ -18,6 +19,28 @@ pub fn push_command(
         Ok(Command::Formatting(_)) => out.push_str("fmt\n"),
         Ok(Command::Help) => out.push_str("help\n"),
         Ok(Command::Version) => out.push_str("version\n"),
+        Err(Unasked::Words(why)) => write!(out, "status 2\n{why}\n"),
+        Err(Unasked::Memory) => Err(AllocError),
+    }
+}
+
+/// Adds which files a project file has in the list that the row's second word names, or outside its lists; or why it has none.
+pub fn push_files(
+    alloc: Global,
+    words: &[String],
+    text: &str,
+    out: &mut String,
+) -> Result<(), AllocError> {
+    let project = Project {
+        above: String::new(alloc),
+        text: String::from_str(alloc, text)?,
+    };
+    let list = words.get(1).map_or("", |word| word.as_str());
+    match project.files(alloc, list) {
+        Ok(files) => {
+            let names = files.join(alloc, "\n")?;
+            write!(out, "status 0\n{names}\n")
+        }
         Err(Unasked::Words(why)) => write!(out, "status 2\n{why}\n"),
         Err(Unasked::Memory) => Err(AllocError),
     }

@@ -2,8 +2,11 @@
 
 use crate::asking::{Refused, asked_about};
 use crate::replies::push_reply;
+use cranelift_isle::syntax::Pos;
 use spec_formulas::faults::SpecError;
+use spec_questions::answers::answers_in;
 use spec_questions::questions::{Question, Questions, Without};
+use spec_questions::verdicts::verdict_of;
 use std::alloc::{AllocError, Global};
 
 /// Adds what is asked about the rules of a text: the text of each question whether a rule is wrong, below a line with the first line
@@ -23,6 +26,28 @@ pub fn push_questions(
         Err(Refused::Rules) => out.push_str("the rules are refused\n"),
         Err(Refused::Specs(errors)) => push_errors(text, &errors, out),
         Err(Refused::Memory) => Err(AllocError),
+    }
+}
+
+/// Adds what the answers of a file of records say of each rule of a text, each behind a word in a line.
+pub fn push_verdicts(
+    alloc: Global,
+    text: &str,
+    records: &str,
+    out: &mut String,
+) -> Result<(), AllocError> {
+    let answers = answers_in(alloc, records)?;
+    match asked_about(alloc, text, false) {
+        Ok(asked) => {
+            for rule in &asked.rules {
+                let verdict = verdict_of(&rule.questions, &rule.left_out, &answers);
+                let place = line_from(text, rule.pos.offset);
+                write!(out, "{} {place}\n", verdict.word())?;
+            }
+            Ok(())
+        }
+        Err(Refused::Memory) => Err(AllocError),
+        Err(_) => out.push_str("nothing is asked\n"),
     }
 }
 
@@ -69,7 +94,7 @@ fn line_from(text: &str, offset: usize) -> &str {
 fn push_errors(text: &str, errors: &[SpecError], out: &mut String) -> Result<(), AllocError> {
     for error in errors {
         let place = line_from(text, error.pos.offset);
-        write!(out, "error: {}: {place}\n", error.message)?;
+        write!(out, "error {}: {}: {place}\n", error.code, error.message)?;
     }
     Ok(())
 }
@@ -80,8 +105,10 @@ fn push_asked(
     asked: &Questions,
     out: &mut String,
 ) -> Result<(), AllocError> {
-    for question in &asked.questions {
-        push_question(words, text, question, out)?;
+    for rule in &asked.rules {
+        for question in &rule.questions {
+            push_question(words, text, rule.pos, question, out)?;
+        }
     }
     for rule in &asked.without {
         push_without(text, rule, out)?;
@@ -93,10 +120,11 @@ fn push_asked(
 fn push_question(
     words: &[String],
     text: &str,
+    pos: Pos,
     question: &Question,
     out: &mut String,
 ) -> Result<(), AllocError> {
-    let rule = line_from(text, question.pos.offset);
+    let rule = line_from(text, pos.offset);
     write!(out, "question {rule}\n")?;
     if has_word(words, "widths") {
         return push_widths(&question.widths, out);

@@ -1,8 +1,8 @@
 //! Rows: words that ask, and texts of files.
 
 use crate::code::push_code;
-use crate::command::push_command;
-use crate::questions::{push_answer, push_questions};
+use crate::command::{push_command, push_files};
+use crate::questions::{push_answer, push_questions, push_verdicts};
 use crate::texts::push_text;
 use cranelift_isle::syntax::Files;
 use std::alloc::{AllocError, Global};
@@ -23,9 +23,10 @@ impl<'a> Drop for Row<'a> {
 ///
 /// A row is a line that begins with `# `, behind it the row's name and its words, and the text of the file `a.isle` below it.
 /// A line that begins with `## ` and a name begins another file. What stands before the first row is passed over. The words
-/// are those of the command, or the first one is `code`, `tree`, `rules`, `shared`, `questions` or `reply`. For these but `code`
-/// only the first file is looked at. The text of a row `shared` has no answer, and stands before the text of each row `questions`
-/// behind it. The text of a row `reply` is what a solver wrote.
+/// are those of the command, or the first one is `code`, `files`, `tree`, `rules`, `shared`, `questions`, `verdicts` or `reply`. For
+/// these but `code` and `verdicts` only the first file is looked at. The text of a row `shared` has no answer, and stands before the
+/// text of each row `questions` or `verdicts` behind it. The last file of a row `verdicts` is a file of records. The text of a row
+/// `reply` is what a solver wrote, and that of a row `files` is a project file.
 pub fn answers(alloc: Global, text: &str) -> Result<String, AllocError> {
     let mut out = String::new(alloc);
     let mut shared = String::new(alloc);
@@ -90,7 +91,9 @@ fn push_row(
     match first_of(&words) {
         "shared" => shared.push_str(text),
         "questions" => push_behind(alloc, &words, shared, text, out),
+        "verdicts" => push_judged(alloc, shared, &row.files.texts, out),
         "reply" => push_answer(alloc, &words, text, out),
+        "files" => push_files(alloc, &words, text, out),
         "code" => push_code(alloc, &words, &row.files, out),
         "tree" | "rules" => push_text(alloc, &words, text, out),
         _ => push_command(alloc, &words, &row.files, out),
@@ -108,6 +111,21 @@ fn push_behind(
     let mut whole = String::from_str(alloc, shared)?;
     whole.push_str(text)?;
     push_questions(alloc, words, &whole, out)
+}
+
+// Adds what the answers of the last text say of the rules of the first one, which stands behind another.
+fn push_judged(
+    alloc: Global,
+    shared: &str,
+    texts: &[String],
+    out: &mut String,
+) -> Result<(), AllocError> {
+    let mut whole = String::from_str(alloc, shared)?;
+    whole.push_str(first_of(texts))?;
+    match texts.last() {
+        Some(records) => push_verdicts(alloc, &whole, records, out),
+        None => Ok(()),
+    }
 }
 
 // The first of some texts, or the empty one.
