@@ -200,8 +200,10 @@ fn report_of<'a>(value: &'a Value, code: &str) -> Option<&'a Value> {
 fn mended(alloc: Global, text: &str, report: &Value) -> Result<String, Fail> {
     let mut made = String::new(alloc);
     let mut at = 0usize;
-    let edits = report.pointer("/fixes/0/edits").and_then(Value::as_array);
-    for edit in edits.ok_or(Fail::from("no edits"))? {
+    let Some(edits) = report.pointer("/fixes/0/edits").and_then(Value::as_array) else {
+        return Err(Fail::from("no edits"));
+    };
+    for edit in edits {
         let (Some(offset), Some(end), Some(new)) = (
             number_at(edit, "/offset"),
             number_at(edit, "/end"),
@@ -223,7 +225,9 @@ fn fixes_mend(rt: HostRuntime) -> Result<(), Fail> {
     let alloc = rt.alloc();
     for (code, text) in TO_MEND {
         let value = document(&rt, alloc, "check --format json a.isle", text)?;
-        let report = report_of(&value, code).ok_or(Fail::from("no report"))?;
+        let Some(report) = report_of(&value, code) else {
+            return Err(Fail::from("no report"));
+        };
         let made = mended(alloc, text, report)?;
         let value = document(&rt, alloc, "check --format json a.isle", &made)?;
         assert!(&rt;
