@@ -3,10 +3,10 @@ use Rattle.std.proofs.Common.{◌≡◌, ℕ, zero, suc, ◌+◌, ◌≤◌, ◌
 use Rattle.std.proofs.lemmas.Option.{same_Some}
 use Rattle.model.specs.lists.Syntax.{Position}
 use Rattle.model.specs.lists.Setting.{Scope}
-use Rattle.model.specs.lists.Typings.{Typing, plain, made_into, joined_typing, followed, counted}
+use Rattle.model.specs.lists.Typings.{Typing, plain, made_into, scoped, joined_typing, followed, counted}
 use Rattle.model.specs.lists.Elaborated.{most_expansions}
 use Rattle.model.specs.claims.Refusals.{NamedLimit}
-use Rattle.laws_errors.specs.Steps.{Why, Wrong, Step, went_on, stopped, unless, here, nothing, noting, made_step, counted_step, joined_step, then_step}
+use Rattle.laws_errors.specs.Steps.{Why, Wrong, Step, went_on, stopped, unless, here, nothing, noting, made_step, counted_step, joined_step, then_step, after_made, last_made, then_made}
 use Rattle.laws_errors.specs.StepLaws.{IsPast, Agrees, is_read, is_wrong, is_stopped, is_stopped_later}
 
 -- something is made without an expansion
@@ -82,3 +82,40 @@ module _ {X Y Z : Type 0} (n : ℕ) (f : X → Y → Z) (g : Option X → Y → 
   in_order _ _ next rest (is_wrong m s k w ws) r = noted n w ws _
   in_order _ _ next rest (is_stopped l z o past) r = is_stopped l z _ (past_followed o rest past)
   in_order _ _ next rest (is_stopped_later l z w ws) r = is_stopped_later l z w ws
+
+-- what nothing can follow
+pub followed_none : {X Y Z : Type 0} (f : X → Y → Z) (o : Option (Typing X)) (rest : Typing X → Option (Typing Y)) → ((a : Typing X) → rest a ≡ None) → followed f o rest ≡ None
+followed_none f None rest h = refl
+followed_none f (Some a) rest h = rw (h a) refl
+
+-- where either way there is nothing
+pub noted_either : {X : Type 0} (b : Bool) (n : ℕ) (w : Wrong) (ws : List Wrong) (t : Step X) → Agrees n (noting (w ∷ ws) t) (cond b None None)
+noted_either true n w ws t = noted n w ws t
+noted_either false n w ws t = noted n w ws t
+
+-- what is made of both can be made by the second
+abbrev pub second : {X Y : Type 0} → X → Y → Y
+second x y = y
+
+module _ {X Y Z : Type 0} (f : X → Y → Z) (g : Scope → Scope) where
+  one_within : (a : Typing X) (o : Option (Typing Y)) → joined_typing f a o ≡ joined_typing second a (made_into (f a.made) o)
+  one_within a None = refl
+  one_within a (Some b) = refl
+
+  pub within : (o : Option (Typing X)) (rest : Typing X → Option (Typing Y)) → followed f o rest ≡ followed second o (λ a. made_into (f a.made) (rest a))
+  within None rest = refl
+  within (Some a) rest = one_within a (rest a)
+
+  one_scoped : (a : Typing X) (o : Option (Typing Y)) → scoped g (joined_typing f a o) ≡ joined_typing second a (made_into (f a.made) (scoped g o))
+  one_scoped a None = refl
+  one_scoped a (Some b) = refl
+
+  pub scoped_within : (o : Option (Typing X)) (rest : Typing X → Option (Typing Y)) → scoped g (followed f o rest) ≡ followed second o (λ a. made_into (f a.made) (scoped g (rest a)))
+  scoped_within None rest = refl
+  scoped_within (Some a) rest = one_scoped a (rest a)
+
+-- one step, and the next where something is made
+pub later_made : {X Y : Type 0} (n : ℕ) (t : Step X) (o : Option (Typing X)) (next : X → Scope → ℕ → Step Y) (rest : Typing X → Option (Typing Y)) → Agrees n t o
+    → ((a : Typing X) → o ≡ Some a → n + a.expansions ≤ most_expansions → Agrees (n + a.expansions) (next a.made a.scope a.expansions) (rest a))
+    → Agrees n (then_made t next) (followed second o rest)
+later_made n t o next rest h r = in_order n second last_made (λ x y. refl) t o (after_made next) rest h r

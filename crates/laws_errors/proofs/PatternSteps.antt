@@ -20,19 +20,10 @@ use Rattle.laws_errors.specs.Steps.{Why, rebound, no_integer, Wrong, Step, went_
 use Rattle.laws_errors.specs.PatternSteps.{var_step, bind_step, constant_step, with_part, template_step, pattern_step, found_step, converted_step, use_step, term_step, parts_step, each_step, deeper_step}
 use Rattle.laws_errors.specs.StepLaws.{IsPast, Agrees, TemplatesAreWhole, is_read, is_wrong, is_stopped, is_stopped_later, MadeAtTypes, PatternStepsAgree}
 use Rattle.laws_errors.proofs.TypesMade.{types_made}
-use Rattle.laws_errors.proofs.AgreeingSteps.{at_once, noted, none_noted, checked, made, one_more, too_many, in_order}
+use Rattle.laws_errors.proofs.AgreeingSteps.{at_once, noted, none_noted, checked, made, one_more, too_many, in_order, followed_none, noted_either}
 
 eqb-ne : (a b : ℕ) → eqb a b ≡ false → a ≡ b → ⊥
 eqb-ne a b h k = absurd (let j = (Decides-eqb a b).1 k in cc)
-
-followed_none : {X Y Z : Type 0} (f : X → Y → Z) (o : Option (Typing X)) (rest : Typing X → Option (Typing Y)) → ((a : Typing X) → rest a ≡ None) → followed f o rest ≡ None
-followed_none f None rest h = refl
-followed_none f (Some a) rest h = rw (h a) refl
-
--- where either way there is nothing
-noted_either : {X : Type 0} (b : Bool) (n : ℕ) (w : Wrong) (ws : List Wrong) (t : Step X) → Agrees n (noting (w ∷ ws) t) (cond b None None)
-noted_either true n w ws t = noted n w ws t
-noted_either false n w ws t = noted n w ws t
 
 -- a use of a bound name
 var_agrees : (n ty : ℕ) (x : List ℕ) (at : Position) (s : Scope) → n ≤ most_expansions → (o : Option TypedVar) → Agrees n (var_step ty x at s o) (var_pattern_at ty x s o)
