@@ -116,7 +116,7 @@ module _ (e : Setting) (flags : Flags) (d : ℕ)
   used_agrees name at ty n s few None = is_wrong None s 0 _ []
   used_agrees name at ty n s few (Some v) = expected_agrees e n v.ty ty at s _ _ _ _ _ (at_once n _ s few) (λ c. deeper (wrapped_expr s c at (var_expr name at)) ty n s few)
 
-  let_agrees : (x ty : List ℕ) (at : Position) (n : ℕ) (s : Scope) (value : ℕ → Step TypedExpr) (reading : ℕ → Option (Typing TypedExpr)) (o : Option ℕ) → ((own : ℕ) → Agrees n (value own) (reading own))
+  pub let_agrees : (x ty : List ℕ) (at : Position) (n : ℕ) (s : Scope) (value : ℕ → Step TypedExpr) (reading : ℕ → Option (Typing TypedExpr)) (o : Option ℕ) → ((own : ℕ) → Agrees n (value own) (reading own))
       → Agrees n (let_step x ty at s value o) (then_option o (λ own. bound_let x own (reading own)))
   let_agrees x ty at n s value reading None h = is_wrong None _ 0 _ []
   let_agrees x ty at n s value reading (Some own) h = def_agrees n own x _ _ (h own)

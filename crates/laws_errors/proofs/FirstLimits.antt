@@ -27,24 +27,24 @@ none_either : (b : Bool) (l : Option NamedLimit) → l ≡ None → l ≡ cond b
 none_either true l h = h
 none_either false l h = h
 
-first_noted : {X : Type 0} (w : Wrong) (ws : List Wrong) (t : Step X) → first_limit (noting (w ∷ ws) t) ≡ None
+pub first_noted : {X : Type 0} (w : Wrong) (ws : List Wrong) (t : Step X) → first_limit (noting (w ∷ ws) t) ≡ None
 first_noted w ws (went_on m s k es) = refl
 first_noted w ws (stopped l z es) = refl
 
-first_none : {X : Type 0} (t : Step X) → first_limit (noting [] t) ≡ first_limit t
+pub first_none : {X : Type 0} (t : Step X) → first_limit (noting [] t) ≡ first_limit t
 first_none (went_on m s k es) = refl
 first_none (stopped l z es) = refl
 
-first_checked : {X : Type 0} (b : Bool) (why : Why) (at : Position) (t : Step X) → first_limit (noting (unless b why at) t) ≡ cond b (first_limit t) None
+pub first_checked : {X : Type 0} (b : Bool) (why : Why) (at : Position) (t : Step X) → first_limit (noting (unless b why at) t) ≡ cond b (first_limit t) None
 first_checked true why at t = first_none t
 first_checked false why at t = first_noted _ [] t
 
-first_made : {X Y : Type 0} (f : X → Y) (t : Step X) → first_limit (made_step f t) ≡ first_limit t
+pub first_made : {X Y : Type 0} (f : X → Y) (t : Step X) → first_limit (made_step f t) ≡ first_limit t
 first_made f (went_on m s k es) = refl
 first_made f (stopped l z []) = refl
 first_made f (stopped l z (w ∷ ws)) = refl
 
-first_counted : {X : Type 0} (t : Step X) → first_limit (counted_step t) ≡ first_limit t
+pub first_counted : {X : Type 0} (t : Step X) → first_limit (counted_step t) ≡ first_limit t
 first_counted (went_on m s k es) = refl
 first_counted (stopped l z []) = refl
 first_counted (stopped l z (w ∷ ws)) = refl
@@ -62,7 +62,7 @@ first_joined g m k (stopped l z []) = refl
 first_joined g m k (stopped l z (w ∷ ws)) = refl
 
 -- one step, then the next
-first_in_order : {X Y Z : Type 0} (n : ℕ) (g : Option X → Y → Z) (t : Step X) (o : Option (Typing X)) (next : Option X → Scope → ℕ → Step Y) (rest : Typing X → Option NamedLimit) → Agrees n t o
+pub first_in_order : {X Y Z : Type 0} (n : ℕ) (g : Option X → Y → Z) (t : Step X) (o : Option (Typing X)) (next : Option X → Scope → ℕ → Step Y) (rest : Typing X → Option NamedLimit) → Agrees n t o
     → ((a : Typing X) → o ≡ Some a → n + a.expansions ≤ most_expansions → first_limit (next (Some a.made) a.scope a.expansions) ≡ rest a)
     → first_limit (then_step g t next) ≡ or_after (first_limit t) o rest
 first_in_order n g _ _ next rest (is_read x s k h) r = first_joined g (Some x) k _ ∙ r (record { made = x; scope = s; expansions = k }) refl h
@@ -71,7 +71,7 @@ first_in_order n g _ _ next rest (is_stopped l z o past) r = refl
 first_in_order n g _ _ next rest (is_stopped_later l z w ws) r = refl
 
 -- a test that holds either way, where nothing can stop
-leaf_first : {X : Type 0} (b : Bool) (why : Why) (at : Position) (m : Option X) (s : Scope) (k : ℕ) (es : List Wrong) → first_limit (noting (unless b why at) (went_on m s k es)) ≡ None
+pub leaf_first : {X : Type 0} (b : Bool) (why : Why) (at : Position) (m : Option X) (s : Scope) (k : ℕ) (es : List Wrong) → first_limit (noting (unless b why at) (went_on m s k es)) ≡ None
 leaf_first true why at m s k es = refl
 leaf_first false why at m s k es = refl
 
@@ -153,7 +153,7 @@ module _ (e : Setting) (multi : Bool) (templates : TemplatesAreWhole e) (typed :
     first (and_pattern parts at) ty n s few = first_made (match_and ty) _ ∙ first_each parts ty n s few
     first (macro_arg i at) ty n s few = refl
 
-    first_parts : (args : PatternTrees) (tys : List ℕ) (n : ℕ) (s : Scope) → n ≤ most_expansions → length (pattern_list args) ≡ length tys
+    pub first_parts : (args : PatternTrees) (tys : List ℕ) (n : ℕ) (s : Scope) → n ≤ most_expansions → length (pattern_list args) ≡ length tys
         → first_limit (parts_step e multi (deeper_step e multi d) args tys n s) ≡ parts_limit e multi (deeper_pattern e multi d) (deeper_pattern_limit e multi d) args tys n s
     first_parts no_pattern tys n s few h = refl
     first_parts (pattern_and p rest) [] n s few h = refl
@@ -169,7 +169,7 @@ module _ (e : Setting) (multi : Bool) (templates : TemplatesAreWhole e) (typed :
         ∙ ap (λ l. or_after l (pattern_with e multi (deeper_pattern e multi d) p ty s) (λ a. each_limit e multi (deeper_pattern e multi d) (deeper_pattern_limit e multi d) rest ty (n + a.expansions) a.scope)) (first p ty n s few)
 
 -- what expansions make
-deeper_first : (e : Setting) (multi : Bool) (templates : TemplatesAreWhole e) (typed : MadeAtTypes e multi) (d : ℕ) (p : PatternTree) (ty n : ℕ) (s : Scope) → n ≤ most_expansions
+pub deeper_first : (e : Setting) (multi : Bool) (templates : TemplatesAreWhole e) (typed : MadeAtTypes e multi) (d : ℕ) (p : PatternTree) (ty n : ℕ) (s : Scope) → n ≤ most_expansions
     → first_limit (deeper_step e multi d p ty n s) ≡ deeper_pattern_limit e multi d p ty n s
 deeper_first e multi templates typed zero p ty n s few = refl
 deeper_first e multi templates typed (suc d) p ty n s few = elim (nat_le most_expansions n) as (λ b. nat_le most_expansions n ≡ b → first_limit
