@@ -106,6 +106,15 @@ module _ {X Y Z : Type 0} (f : X → Y → Z) (g : Scope → Scope) where
   within None rest = refl
   within (Some a) rest = one_within a (rest a)
 
+  -- the same of what was made
+  pub both_made : {W : Type 0} (h : Z → W) (o : Option (Typing X)) (rest : Typing X → Option (Typing Y)) → made_into h (followed second o (λ a. made_into (f a.made) (rest a))) ≡ followed second o (λ a. made_into (λ y. h (f a.made y)) (rest a))
+  both_made h None rest = refl
+  both_made h (Some a) rest = one_made h a (rest a)
+    where
+      one_made : {W : Type 0} (h : Z → W) (a : Typing X) (o : Option (Typing Y)) → made_into h (joined_typing second a (made_into (f a.made) o)) ≡ joined_typing second a (made_into (λ y. h (f a.made y)) o)
+      one_made h a None = refl
+      one_made h a (Some b) = refl
+
   one_scoped : (a : Typing X) (o : Option (Typing Y)) → scoped g (joined_typing f a o) ≡ joined_typing second a (made_into (f a.made) (scoped g o))
   one_scoped a None = refl
   one_scoped a (Some b) = refl

@@ -73,7 +73,7 @@ module _ (e : Setting) (multi : Bool) (templates : TemplatesAreWhole e) (typed :
   template_agrees args at ty n s why template few true whole = none_noted n _ _ (substituted_agrees ty n s (substituted (pattern_list args) template) (whole refl) few)
 
   -- as many arguments as types, or nothing
-  parts_none : (args : PatternTrees) (tys : List ℕ) (s : Scope) → (length (pattern_list args) ≡ length tys → ⊥) → parts_with e multi (deeper_pattern e multi d) args tys s ≡ None
+  pub parts_none : (args : PatternTrees) (tys : List ℕ) (s : Scope) → (length (pattern_list args) ≡ length tys → ⊥) → parts_with e multi (deeper_pattern e multi d) args tys s ≡ None
   parts_none no_pattern [] s h = absurd (h refl)
   parts_none no_pattern (ty ∷ tys) s h = refl
   parts_none (pattern_and p rest) [] s h = refl
@@ -136,7 +136,7 @@ module _ (e : Setting) (multi : Bool) (templates : TemplatesAreWhole e) (typed :
     agrees (and_pattern parts at) ty n s few = made n (match_and ty) _ _ (each_agrees parts ty n s few)
     agrees (macro_arg i at) ty n s few = is_wrong None s 0 _ []
 
-    parts_agree : (args : PatternTrees) (tys : List ℕ) (n : ℕ) (s : Scope) → n ≤ most_expansions → length (pattern_list args) ≡ length tys
+    pub parts_agree : (args : PatternTrees) (tys : List ℕ) (n : ℕ) (s : Scope) → n ≤ most_expansions → length (pattern_list args) ≡ length tys
         → Agrees n (parts_step e multi (deeper_step e multi d) args tys n s) (parts_with e multi (deeper_pattern e multi d) args tys s)
     parts_agree no_pattern [] n s few h = at_once n _ _ few
     parts_agree no_pattern (ty ∷ tys) n s few h = absurd (omega (arith, h))
@@ -162,3 +162,11 @@ deeper_agrees e multi templates typed (suc d) p ty n s few = elim (nat_le most_e
 
 pub pattern_steps_agree_lem : PatternStepsAgree
 pattern_steps_agree_lem e multi templates d p ty n s few = agrees e multi templates (types_made e multi) d (deeper_agrees e multi templates (types_made e multi) d) p ty n s few
+
+-- patterns for arguments, as many as there are types, or not
+pub parts_steps_agree_lem : (e : Setting) (multi : Bool) (templates : TemplatesAreWhole e) (d : ℕ) (args : PatternTrees) (tys : List ℕ) (n : ℕ) (s : Scope) → n ≤ most_expansions → length (pattern_list args) ≡ length tys
+    → Agrees n (parts_step e multi (deeper_step e multi d) args tys n s) (parts_with e multi (deeper_pattern e multi d) args tys s)
+parts_steps_agree_lem e multi templates d args tys n s few h = parts_agree e multi templates (types_made e multi) d (deeper_agrees e multi templates (types_made e multi) d) args tys n s few h
+
+pub parts_none_lem : (e : Setting) (multi : Bool) (templates : TemplatesAreWhole e) (d : ℕ) (args : PatternTrees) (tys : List ℕ) (s : Scope) → (length (pattern_list args) ≡ length tys → ⊥) → parts_with e multi (deeper_pattern e multi d) args tys s ≡ None
+parts_none_lem e multi templates d args tys s h = parts_none e multi templates (types_made e multi) d (deeper_agrees e multi templates (types_made e multi) d) args tys s h

@@ -16,35 +16,35 @@ use Rattle.laws_errors.specs.PatternSteps.{var_step, bind_step, constant_step, w
 use Rattle.laws_errors.specs.PlaceLaws.{StandsAt, StandAt, AreAt, wrong_of, TemplatesStandAt, PatternErrorsArePlaced}
 
 module _ (P : Position → Type 0) where
-  both_at : (ws es : List Wrong) → AreAt P ws → AreAt P es → AreAt P (ws ++ es)
+  pub both_at : (ws es : List Wrong) → AreAt P ws → AreAt P es → AreAt P (ws ++ es)
   both_at [] es h k = k
   both_at (w ∷ ws) es h k = (h.0, both_at ws es h.1 k)
 
-  checked_at : (b : Bool) (why : Why) (at : Position) → P at → AreAt P (unless b why at)
+  pub checked_at : (b : Bool) (why : Why) (at : Position) → P at → AreAt P (unless b why at)
   checked_at true why at h = tt
   checked_at false why at h = (h, tt)
 
-  noting_at : {X : Type 0} (ws : List Wrong) (t : Step X) → AreAt P ws → AreAt P (wrong_of t) → AreAt P (wrong_of (noting ws t))
+  pub noting_at : {X : Type 0} (ws : List Wrong) (t : Step X) → AreAt P ws → AreAt P (wrong_of t) → AreAt P (wrong_of (noting ws t))
   noting_at ws (went_on m s k es) h i = both_at ws es h i
   noting_at ws (stopped l z es) h i = both_at ws es h i
 
-  checked_step_at : {X : Type 0} (b : Bool) (why : Why) (at : Position) (t : Step X) → P at → AreAt P (wrong_of t) → AreAt P (wrong_of (noting (unless b why at) t))
+  pub checked_step_at : {X : Type 0} (b : Bool) (why : Why) (at : Position) (t : Step X) → P at → AreAt P (wrong_of t) → AreAt P (wrong_of (noting (unless b why at) t))
   checked_step_at b why at t h i = noting_at (unless b why at) t (checked_at b why at h) i
 
-  made_at : {X Y : Type 0} (f : X → Y) (t : Step X) → AreAt P (wrong_of t) → AreAt P (wrong_of (made_step f t))
+  pub made_at : {X Y : Type 0} (f : X → Y) (t : Step X) → AreAt P (wrong_of t) → AreAt P (wrong_of (made_step f t))
   made_at f (went_on m s k es) h = h
   made_at f (stopped l z es) h = h
 
-  counted_at : {X : Type 0} (t : Step X) → AreAt P (wrong_of t) → AreAt P (wrong_of (counted_step t))
+  pub counted_at : {X : Type 0} (t : Step X) → AreAt P (wrong_of t) → AreAt P (wrong_of (counted_step t))
   counted_at (went_on m s k es) h = h
   counted_at (stopped l z es) h = h
 
-  joined_at : {X Y Z : Type 0} (g : Option X → Y → Z) (m : Option X) (k : ℕ) (t : Step Y) → AreAt P (wrong_of t) → AreAt P (wrong_of (joined_step g m k t))
+  pub joined_at : {X Y Z : Type 0} (g : Option X → Y → Z) (m : Option X) (k : ℕ) (t : Step Y) → AreAt P (wrong_of t) → AreAt P (wrong_of (joined_step g m k t))
   joined_at g m k (went_on None s j es) h = h
   joined_at g m k (went_on (Some y) s j es) h = h
   joined_at g m k (stopped l z es) h = h
 
-  in_order_at : {X Y Z : Type 0} (g : Option X → Y → Z) (t : Step X) (next : Option X → Scope → ℕ → Step Y) → AreAt P (wrong_of t)
+  pub in_order_at : {X Y Z : Type 0} (g : Option X → Y → Z) (t : Step X) (next : Option X → Scope → ℕ → Step Y) → AreAt P (wrong_of t)
       → ((m : Option X) (s : Scope) (k : ℕ) → AreAt P (wrong_of (next m s k))) → AreAt P (wrong_of (then_step g t next))
   in_order_at g (went_on m s k es) next h r = noting_at es (joined_step g m k (next m s k)) h (joined_at g m k (next m s k) (r m s k))
   in_order_at g (stopped l z es) next h r = h
@@ -153,7 +153,7 @@ module _ (P : Position → Type 0) where
       placed (and_pattern parts at) ty n s h = made_at (match_and ty) (each_step e multi (deeper_step e multi d) parts ty n s) (each_placed parts ty n s h.1)
       placed (macro_arg i at) ty n s h = (h, tt)
 
-      parts_placed : (args : PatternTrees) (tys : List ℕ) (n : ℕ) (s : Scope) → StandAt P args → AreAt P (wrong_of (parts_step e multi (deeper_step e multi d) args tys n s))
+      pub parts_placed : (args : PatternTrees) (tys : List ℕ) (n : ℕ) (s : Scope) → StandAt P args → AreAt P (wrong_of (parts_step e multi (deeper_step e multi d) args tys n s))
       parts_placed no_pattern tys n s h = tt
       parts_placed (pattern_and p rest) [] n s h = tt
       parts_placed (pattern_and p rest) (ty ∷ tys) n s h = in_order_at with_part (pattern_step e multi (deeper_step e multi d) p ty n s) (λ m t k. parts_step e multi (deeper_step e multi d) rest tys (n + k) t) (placed p ty n s h.0) (λ m t k. parts_placed rest tys (n + k) t h.1)
@@ -163,7 +163,7 @@ module _ (P : Position → Type 0) where
       each_placed (pattern_and p rest) ty n s h = in_order_at with_part (pattern_step e multi (deeper_step e multi d) p ty n s) (λ m t k. each_step e multi (deeper_step e multi d) rest ty (n + k) t) (placed p ty n s h.0) (λ m t k. each_placed rest ty (n + k) t h.1)
 
   -- what expansions make
-  deeper_placed : (e : Setting) (multi : Bool) (templates : TemplatesStandAt e P) (d : ℕ) (p : PatternTree) (ty n : ℕ) (s : Scope) → StandsAt P p → AreAt P (wrong_of (deeper_step e multi d p ty n s))
+  pub deeper_placed : (e : Setting) (multi : Bool) (templates : TemplatesStandAt e P) (d : ℕ) (p : PatternTree) (ty n : ℕ) (s : Scope) → StandsAt P p → AreAt P (wrong_of (deeper_step e multi d p ty n s))
   deeper_placed e multi templates zero p ty n s h = tt
   deeper_placed e multi templates (suc d) p ty n s h = elim (nat_le most_expansions n) as (λ b. AreAt P (wrong_of
       (cond b (stopped of_expansions s []) (counted_step (pattern_step e multi (deeper_step e multi d) p ty (suc n) s))))) [
