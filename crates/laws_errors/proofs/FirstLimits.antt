@@ -181,3 +181,8 @@ deeper_first e multi templates typed (suc d) p ty n s few = elim (nat_le most_ex
 
 pub pattern_limits_are_first_lem : PatternLimitsAreFirst
 pattern_limits_are_first_lem e multi templates d p ty n s few = first e multi templates (types_made e multi) d (deeper_first e multi templates (types_made e multi) d) p ty n s few
+
+-- patterns for arguments, as many as there are types
+pub parts_limits_are_first_lem : (e : Setting) (multi : Bool) (templates : TemplatesAreWhole e) (d : ℕ) (args : PatternTrees) (tys : List ℕ) (n : ℕ) (s : Scope) → n ≤ most_expansions → length (pattern_list args) ≡ length tys
+    → first_limit (parts_step e multi (deeper_step e multi d) args tys n s) ≡ parts_limit e multi (deeper_pattern e multi d) (deeper_pattern_limit e multi d) args tys n s
+parts_limits_are_first_lem e multi templates d args tys n s few h = first_parts e multi templates (types_made e multi) d (deeper_first e multi templates (types_made e multi) d) args tys n s few h

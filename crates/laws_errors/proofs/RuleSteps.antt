@@ -46,7 +46,7 @@ finished_agrees n id r t flags _ _ (is_stopped l z o past) = is_stopped l z _ (e
     either false o past = λ a h. absurd (cc)
 
 module _ (e : Setting) (templates : TemplatesAreWhole e) (flags : Flags) (d : ℕ) where
-  iflet_agrees : (i : IfLetTree) (n : ℕ) (s : Scope) → n ≤ most_expansions → Agrees n (iflet_step e flags d i n s) (iflet_reading e flags d i s)
+  pub iflet_agrees : (i : IfLetTree) (n : ℕ) (s : Scope) → n ≤ most_expansions → Agrees n (iflet_step e flags d i n s) (iflet_reading e flags d i s)
   iflet_agrees i n s few = rw (within typed_iflet (λ t. t) (elaborated_expr (all_made e) (on_lhs flags) d i.expr None s) (λ a. elaborated_pattern e flags.multi d i.pattern (expr_type a.made) a.scope))
       (later_made n _ _ _ _ (exprs.expr_steps_agree_lem e (on_lhs flags) d i.expr None n s few) (λ a h few. made (n + a.expansions) (typed_iflet a.made) _ _
         (patterns.pattern_steps_agree_lem e flags.multi templates d i.pattern (expr_type a.made) (n + a.expansions) a.scope few)))
