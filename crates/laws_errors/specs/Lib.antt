@@ -6,5 +6,6 @@ pub mod PatternSteps
 pub mod PlaceLaws
 pub mod ReachedLimits
 pub mod RuleSteps
+pub mod Samples
 pub mod StepLaws
 pub mod Steps
