@@ -11,7 +11,7 @@ use Rattle.laws_errors.specs.RuleSteps.{Told, is_wrong, passes, errors_of, rule_
 abbrev pub at : ℕ → Position
 at n = record { file = 0; offset = n }
 
--- names are of one byte. Those below 13 were met: bool, the types T, U and V; constants K of T and L of V; terms
+-- names are of one byte. Those below 14 were met: bool, the types T, U and V; constants K of T and L of V; terms
 abbrev pub bool_name : List ℕ
 bool_name = 0 ∷ []
 
@@ -51,8 +51,11 @@ to_u = 11 ∷ []
 abbrev pub variant : List ℕ
 variant = 12 ∷ []
 
+abbrev pub p : List ℕ
+p = 13 ∷ []
+
 abbrev pub met_names : List (List ℕ)
-met_names = bool_name ∷ t_name ∷ u_name ∷ v_name ∷ k ∷ l ∷ f ∷ g ∷ h ∷ twice ∷ to_t ∷ to_u ∷ variant ∷ []
+met_names = bool_name ∷ t_name ∷ u_name ∷ v_name ∷ k ∷ l ∷ f ∷ g ∷ h ∷ twice ∷ to_t ∷ to_u ∷ variant ∷ p ∷ []
 
 -- variables, and what nothing has the name of
 abbrev pub x : List ℕ
@@ -79,7 +82,7 @@ flags pure multi partial = record { pure = pure; multi = multi; partial = partia
 abbrev pub entry : ℕ → ℕ → List ℕ → ℕ → TermKindEntry → TermEntry
 entry id name arg_tys ret_ty kind = record { id = id; at = at 0; name = name; arg_tys = arg_tys; ret_ty = ret_ty; kind = kind }
 
--- f (T T) T, pure, with rules; g (T T) T, both ways; h (T) V, both ways, multi and partial; twice (T) T, the template (g 0 0);
+-- f (T T) T, pure, with rules; g (T T) T, both ways; h (T) V, both ways, multi; p (T) V, partial; twice (T) T, the template (g 0 0);
 -- to_t (U) T, both ways, and to_u (T) U, that only says it converts; a variant of U
 abbrev pub sample_setting : Setting
 sample_setting = record {
@@ -88,11 +91,12 @@ sample_setting = record {
   constants = (4, 1) ∷ (5, 3) ∷ [];
   terms = entry 0 6 (1 ∷ 1 ∷ []) 1 (declared_term (flags true false false) (Some internal_constructor) None)
       ∷ entry 1 7 (1 ∷ 1 ∷ []) 1 (declared_term (flags true false false) (Some (external_constructor 7)) (Some (external_extractor 7 true (at 0))))
-      ∷ entry 2 8 (1 ∷ []) 3 (declared_term (flags false true true) (Some internal_constructor) (Some (external_extractor 8 false (at 0))))
+      ∷ entry 2 8 (1 ∷ []) 3 (declared_term (flags false true false) (Some internal_constructor) (Some (external_extractor 8 false (at 0))))
       ∷ entry 3 9 (1 ∷ []) 1 (declared_term (flags true false false) None (Some (internal_extractor (term_pattern (named g) (pattern_and (macro_arg 0 (at 90)) (pattern_and (macro_arg 0 (at 91)) no_pattern)) (at 92)))))
       ∷ entry 4 10 (2 ∷ []) 1 (declared_term (flags true false false) (Some (external_constructor 10)) (Some (external_extractor 10 true (at 0))))
       ∷ entry 5 11 (1 ∷ []) 2 (declared_term (flags true false false) None None)
       ∷ entry 6 12 [] 2 (variant_term 0)
+      ∷ entry 7 13 (1 ∷ []) 3 (declared_term (flags false false true) (Some (external_constructor 13)) None)
       ∷ [];
   converters = ((2, 1), 4) ∷ ((1, 2), 5) ∷ [];
   expand = true;
@@ -168,9 +172,12 @@ uses_wrong = f_rule (two_of (term_pattern (named f) (two_of any (macro_arg 3 (at
 abbrev pub templates_wrong : RuleTree
 templates_wrong = f_rule (two_of (term_pattern (named twice) no_pattern (at 2)) (term_pattern (named twice) (one_of (term_pattern (named nope) no_pattern (at 4))) (at 3))) [] (one 9)
 
--- a call of another type that three flags forbid, with too many arguments, the second of which isn't read
+-- a call of another type that two flags forbid, with too many arguments, the second of which isn't read; and by the third flag
 abbrev pub calls_wrong : RuleTree
 calls_wrong = f_of (call h (args (bool_expr true (at 11)) (var lost 12)) 10)
+
+abbrev pub partial_call : RuleTree
+partial_call = f_of (call p no_expr 10)
 
 -- a let for whose body nothing is made leaves its scope open: x can be used
 abbrev pub open_let : RuleTree
@@ -225,7 +232,8 @@ PatternsAreTold =
 abbrev pub ExprsAreTold : Type 0
 ExprsAreTold =
     (said calls_wrong
-    ≡ wrong (constructor_type h (Some 1) 3) 10 ∷ wrong (impure_constructor h) 10 ∷ wrong (multi_constructor h) 10 ∷ wrong (partial_constructor h) 10 ∷ wrong (argument_count h 2 1) 10 ∷ wrong (no_truth (Some 1) true) 11 ∷ [])
+    ≡ wrong (constructor_type h (Some 1) 3) 10 ∷ wrong (impure_constructor h) 10 ∷ wrong (multi_constructor h) 10 ∷ wrong (argument_count h 2 1) 10 ∷ wrong (no_truth (Some 1) true) 11 ∷ [])
+    × (said partial_call ≡ wrong (constructor_type p (Some 1) 3) 10 ∷ wrong (impure_constructor p) 10 ∷ wrong (partial_constructor p) 10 ∷ wrong (argument_count p 0 1) 10 ∷ [])
     × (said open_let ≡ wrong (unknown_constructor nope false) 12 ∷ [])
     × (said let_around ≡ wrong (unknown_constructor nope false) 13 ∷ wrong (unknown_variable x) 19 ∷ [])
     × (said same_around ≡ wrong (unknown_constructor nope false) 13 ∷ wrong (unknown_variable x) 18 ∷ [])
