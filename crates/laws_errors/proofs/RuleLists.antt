@@ -16,14 +16,14 @@ use Rattle.laws_errors.specs.StepLaws.{IsPast, Agrees, is_read, is_wrong, is_sto
 use Rattle.laws_errors.proofs.RuleSteps.{rule_steps_agree_lem}
 
 -- what takes too many expansions isn't within the limits
-none_within : (o : Option (Typing TypedRule)) → IsPast 0 o → few_enough o ≡ None
+pub none_within : (o : Option (Typing TypedRule)) → IsPast 0 o → few_enough o ≡ None
 none_within None past = refl
 none_within (Some a) past = elim (nat_le a.expansions most_expansions) as (λ b. nat_le a.expansions most_expansions ≡ b → cond b (Some a) None ≡ None) [
   | true ↦ λ h. absurd (let p = past a refl in let q = leb-true a.expansions most_expansions h in omega (arith, p, q))
   | false ↦ λ h. refl
 ] refl
 
-few_made : (k : ℕ) → 0 + k ≤ most_expansions → nat_le k most_expansions ≡ true
+pub few_made : (k : ℕ) → 0 + k ≤ most_expansions → nat_le k most_expansions ≡ true
 few_made k h = le-leb k most_expansions (omega (arith, h))
 
 -- a rule that is read, before the rest of the list

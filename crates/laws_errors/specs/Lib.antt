@@ -9,3 +9,4 @@ pub mod RuleSteps
 pub mod Samples
 pub mod StepLaws
 pub mod Steps
+pub mod ToldLaws

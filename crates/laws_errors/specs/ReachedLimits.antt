@@ -7,10 +7,10 @@ use Rattle.model.specs.lists.Syntax.{PatternTree, var_pattern, bind_pattern, boo
 use Rattle.model.specs.lists.Tables.{Flags, TermEntry}
 use Rattle.model.specs.lists.TermTable.{root_name}
 use Rattle.model.specs.rules.Outcome.{then_option}
-use Rattle.model.specs.lists.Setting.{Setting, Scope, met, var_of, term_of, type_of_name, expr_type, on_lhs, declared_flags, is_callable, is_matchable, template_in, pattern_converter}
+use Rattle.model.specs.lists.Setting.{Setting, Scope, new_scope, met, var_of, term_of, type_of_name, expr_type, on_lhs, declared_flags, is_callable, is_matchable, template_in, pattern_converter}
 use Rattle.model.specs.lists.Expansions.{expanded, wrapped_pattern, wrapped_expr}
 use Rattle.model.specs.lists.Typings.{Typing}
-use Rattle.model.specs.lists.Elaborated.{PatternReading, ExprReading, or_expanded, as_expected, pattern_with, deeper_pattern, elaborated_pattern, elaborated_parts, expr_with, lets_with, bound_let, deeper_expr, elaborated_expr, root_parts, most_expansions}
+use Rattle.model.specs.lists.Elaborated.{PatternReading, ExprReading, or_expanded, as_expected, pattern_with, deeper_pattern, elaborated_pattern, elaborated_parts, expr_with, lets_with, bound_let, deeper_expr, elaborated_expr, root_parts, most_nested, most_expansions}
 use Rattle.model.specs.claims.Refusals.{NamedLimit, of_nesting, of_expansions}
 use Rattle.laws_errors.specs.AllMade.{all_made, iflet_reading, iflets_reading}
 use Rattle.laws_errors.specs.ExprSteps.{expr_list}
@@ -141,3 +141,7 @@ sides_limits e flags d r t n s =
 abbrev pub rule_limits : Setting → ℕ → RuleTree → ℕ → Scope → Option NamedLimit
 rule_limits e d r n s =
     then_option (root_name r.pattern) (λ x. then_option (term_of e s x.text) (λ t. then_option (declared_flags t.kind) (λ flags. sides_limits e flags d r t n s)))
+
+-- the limit that the reading of a rule comes to, from the names met before it, before anything in it is wrong
+abbrev pub reached_limit : Setting → RuleTree → List (List ℕ) → Option NamedLimit
+reached_limit e r names = rule_limits e most_nested r 0 (new_scope names)
