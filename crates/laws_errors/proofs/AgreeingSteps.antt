@@ -1,12 +1,12 @@
 -- Each way of going on keeps a step and the function of typing agreed: the calculus that a reading is proved by.
-use Rattle.std.proofs.Common.{◌≡◌, ℕ, zero, suc, ◌+◌, ◌≤◌, ◌<◌, Bool, true, false, cond, List, [], ◌∷◌, ◌++◌, Option, Some, None, subst, refl, sym, ap, ◌∙◌, arith}
+use Rattle.std.proofs.Common.{◌≡◌, ℕ, suc, ◌+◌, ◌≤◌, ◌<◌, Bool, true, false, cond, List, [], ◌∷◌, ◌++◌, Option, Some, None, subst, refl, arith}
 use Rattle.std.proofs.lemmas.Option.{same_Some}
 use Rattle.model.specs.lists.Syntax.{Position}
 use Rattle.model.specs.lists.Setting.{Scope}
 use Rattle.model.specs.lists.Typings.{Typing, plain, made_into, scoped, joined_typing, followed, counted}
 use Rattle.model.specs.lists.Elaborated.{most_expansions}
 use Rattle.model.specs.claims.Refusals.{NamedLimit}
-use Rattle.laws_errors.specs.Steps.{Why, Wrong, Step, went_on, stopped, unless, here, nothing, noting, made_step, counted_step, joined_step, then_step, after_made, last_made, then_made}
+use Rattle.laws_errors.specs.Steps.{Why, Wrong, Step, went_on, stopped, unless, here, noting, made_step, counted_step, joined_step, then_step, after_made, last_made, then_made}
 use Rattle.laws_errors.specs.StepLaws.{IsPast, Agrees, is_read, is_wrong, is_stopped, is_stopped_later}
 
 -- something is made without an expansion

@@ -1,5 +1,5 @@
 -- Where nothing is wrong, what can be used after a let is what could be used before it.
-use Rattle.std.proofs.Common.{◌≡◌, ℕ, eqb, List, [], ◌∷◌, length, Option, Some, None, slice_get, subst, refl, sym, ap, ◌∙◌}
+use Rattle.std.proofs.Common.{◌≡◌, ℕ, List, ◌∷◌, length, Option, Some, None, slice_get, subst, refl, ap, ◌∙◌}
 use Rattle.std.proofs.lemmas.Option.{same_Some}
 use Rattle.std.proofs.lemmas.Bool.Decides.{Decides-eqb}
 use Rattle.model.specs.lists.Syntax.{ExprTree, ExprTrees, LetTrees, no_let, let_and}

@@ -1,10 +1,10 @@
 -- Which limit stops a step of an expression first.
-use Rattle.std.proofs.Common.{◌≡◌, ℕ, zero, suc, ◌+◌, ◌≤◌, Bool, true, false, not, ◌&&◌, ◌||◌, cond, eqb, nat_le, List, [], ◌∷◌, ◌++◌, length, Option, Some, None, option_map, is_some, slice_get, subst, refl, sym, ap, ◌∙◌, arith}
+use Rattle.std.proofs.Common.{◌≡◌, ℕ, zero, suc, ◌+◌, ◌≤◌, Bool, true, false, not, ◌&&◌, ◌||◌, cond, eqb, nat_le, List, [], ◌∷◌, ◌++◌, length, Option, Some, None, option_map, slice_get, refl, ap, ◌∙◌, arith}
 use Rattle.std.proofs.lemmas.Bool.{leb-false}
 use Rattle.std.proofs.lemmas.Bool.Decides.{Decides-eqb}
 use Rattle.model.specs.lists.Syntax.{Position, Name, ExprTree, term_expr, var_expr, bool_expr, int_expr, prim_expr, let_expr, ExprTrees, no_expr, expr_and, LetTrees, no_let, let_and}
 use Rattle.model.specs.rules.Outcome.{then_option}
-use Rattle.model.specs.rules.Typed.{TypedExpr, make_term, make_var, make_bool, make_int, make_prim, TypedExprs, TypedLets, TypedVar}
+use Rattle.model.specs.rules.Typed.{TypedExpr, make_term, make_var, make_bool, make_int, make_prim, TypedLets, TypedVar}
 use Rattle.model.specs.lists.Tables.{Flags, TermKindEntry, variant_term, struct_term, declared_term, TermEntry}
 use Rattle.model.specs.lists.Names.{number}
 use Rattle.model.specs.lists.Ranges.{reduced}
@@ -13,15 +13,15 @@ use Rattle.model.specs.lists.Setting.{Setting, Scope, met, var_of, term_of, type
 use Rattle.model.specs.lists.Typings.{Typing}
 use Rattle.model.specs.lists.Expansions.{wrapped_expr}
 use Rattle.model.specs.lists.Elaborated.{as_expected, expr_with, lets_with, bound_let, deeper_expr, most_expansions}
-use Rattle.model.specs.claims.Refusals.{NamedLimit, of_nesting, of_expansions}
+use Rattle.model.specs.claims.Refusals.{NamedLimit, of_expansions}
 use Rattle.laws_errors.specs.AllMade.{made_kind, made_entry, all_made}
-use Rattle.laws_errors.specs.Steps.{Why, no_integer, no_truth, constant_type, variable_type, Wrong, Step, went_on, stopped, unless, here, nothing, noting, made_step, counted_step, then_step, after_made, last_made, then_made}
+use Rattle.laws_errors.specs.Steps.{Why, no_integer, no_truth, constant_type, variable_type, Step, went_on, stopped, unless, here, nothing, noting, made_step, counted_step, last_made}
 use Rattle.laws_errors.specs.ExprSteps.{expr_list, converted_or, expected_step, forbidden, called_step, used_step, made_constant_step, with_arg, with_def, def_step, let_step, ended_step, expr_step, args_step, lets_step, deeper_expr_step}
 use Rattle.laws_errors.specs.ReachedLimits.{or_after, where_counted, expr_limit, args_limit, lets_limit, deeper_expr_limit}
 use Rattle.laws_errors.specs.LimitLaws.{first_limit, ExprLimitsAreFirst}
 use Rattle.laws_errors.proofs.MadeSettings.{term_made, converter_made}
 use Rattle.laws_errors.proofs.ExprSteps.{let_agrees, agrees, lets_agree, deeper_agrees}
-use Rattle.laws_errors.proofs.FirstLimits.{first_noted, first_none, first_checked, first_made, first_counted, first_in_order, leaf_first}
+use Rattle.laws_errors.proofs.FirstLimits.{first_noted, first_none, first_made, first_counted, first_in_order, leaf_first}
 
 three_first : {X : Type 0} (a b c : Bool) (v w x : Why) (at : Position) (t : Step X) → first_limit (noting (unless a v at ++ (unless b w at ++ unless c x at)) t) ≡ cond (a && (b && c)) (first_limit t) None
 three_first true true true v w x at t = first_none t
@@ -41,9 +41,9 @@ expected_first e own None at s why t l convert limit h i = first_none t ∙ h
 expected_first e own (Some ty) at s why t l convert limit h i = elim (eqb own ty) as (λ b. first_limit
     (cond b (noting (unless b why at) t) (converted_or at s (noting (unless b why at) t) convert (expr_converter e own ty) (converter e own ty)))
     ≡ cond b l (then_option (expr_converter (all_made e) own ty) limit)) [
-  | true ↦ first_none t ∙ h
-  | false ↦ rw (converter_made e own ty (expr_converter e own ty) refl) (either (expr_converter e own ty) (converter e own ty))
-]
+      | true ↦ first_none t ∙ h
+      | false ↦ rw (converter_made e own ty (expr_converter e own ty) refl) (either (expr_converter e own ty) (converter e own ty))
+    ]
   where
     either : (by declared : Option TermEntry) → first_limit (converted_or at s (noting (unless false why at) t) convert by declared) ≡ then_option (option_map made_entry by) limit
     either (Some c) declared = i c
@@ -129,7 +129,7 @@ module _ (e : Setting) (flags : Flags) (d : ℕ)
     lets_first no_let at n s few = refl
     lets_first (let_and name ty value own_at rest) at n s few =
         first_in_order n with_def _ _ _ _ (let_agrees e flags d (deeper_agrees e flags d) name.text ty.text at n s _ (λ own. expr_with (all_made e) flags (deeper_expr (all_made e) flags d) value (Some own) (met s name.text)) (type_of_name e s ty.text) (λ own. agrees e flags d (deeper_agrees e flags d) value (Some own) n (met s name.text) few))
-          (λ a i few. lets_first rest at (n + a.expansions) a.scope few)
+        (λ a i few. lets_first rest at (n + a.expansions) a.scope few)
         ∙ let_first name.text ty.text at s _ (λ own. expr_with (all_made e) flags (deeper_expr (all_made e) flags d) value (Some own) (met s name.text)) (type_of_name e s ty.text) (λ a. lets_limit (all_made e) flags (deeper_expr (all_made e) flags d) (deeper_expr_limit (all_made e) flags d) rest (n + a.expansions) a.scope)
         ∙ same_then (type_of_name e s ty.text) _ _ (λ own. ap (λ l. or_after l (bound_let name.text own (expr_with (all_made e) flags (deeper_expr (all_made e) flags d) value (Some own) (met s name.text))) (λ a. lets_limit (all_made e) flags (deeper_expr (all_made e) flags d) (deeper_expr_limit (all_made e) flags d) rest (n + a.expansions) a.scope)) (first value (Some own) n (met s name.text) few))
 
@@ -140,9 +140,9 @@ deeper_first e flags zero x ty n s few = refl
 deeper_first e flags (suc d) x ty n s few = elim (nat_le most_expansions n) as (λ b. nat_le most_expansions n ≡ b → first_limit
     (cond b (stopped of_expansions s []) (counted_step (expr_step e flags (deeper_expr_step e flags d) x ty (suc n) s)))
     ≡ cond b (Some of_expansions) (expr_limit (all_made e) flags (deeper_expr (all_made e) flags d) (deeper_expr_limit (all_made e) flags d) x ty (suc n) s)) [
-  | true ↦ λ h. refl
-  | false ↦ λ h. first_counted _ ∙ first e flags d (deeper_first e flags d) x ty (suc n) s (leb-false most_expansions n h)
-] refl
+      | true ↦ λ h. refl
+      | false ↦ λ h. first_counted _ ∙ first e flags d (deeper_first e flags d) x ty (suc n) s (leb-false most_expansions n h)
+    ] refl
 
 pub expr_limits_are_first_lem : ExprLimitsAreFirst
 expr_limits_are_first_lem e flags d x ty n s few = first e flags d (deeper_first e flags d) x ty n s few

@@ -1,8 +1,8 @@
 -- Where what is wrong with an expression stands.
-use Rattle.std.proofs.Common.{◌≡◌, ℕ, zero, suc, ◌+◌, Bool, true, false, not, ◌||◌, cond, eqb, nat_le, List, [], ◌∷◌, ◌++◌, length, Option, Some, None, slice_get, refl}
+use Rattle.std.proofs.Common.{ℕ, zero, suc, ◌+◌, true, false, not, ◌||◌, cond, eqb, nat_le, List, [], ◌∷◌, ◌++◌, length, Option, Some, None, slice_get}
 use Rattle.std.specs.Prelude.{Contains}
 use Rattle.model.specs.lists.Syntax.{Position, Name, ExprTree, term_expr, var_expr, bool_expr, int_expr, prim_expr, let_expr, ExprTrees, no_expr, expr_and, LetTrees, no_let, let_and}
-use Rattle.model.specs.rules.Typed.{TypedExpr, make_term, make_var, make_bool, make_int, make_prim, TypedExprs, TypedLets, TypedVar}
+use Rattle.model.specs.rules.Typed.{TypedExpr, make_term, make_var, make_bool, make_int, make_prim, TypedLets, TypedVar}
 use Rattle.model.specs.lists.Tables.{Flags, TermKindEntry, variant_term, struct_term, declared_term, TermEntry}
 use Rattle.model.specs.lists.Names.{number}
 use Rattle.model.specs.lists.Ranges.{reduced}
@@ -11,7 +11,7 @@ use Rattle.model.specs.lists.Setting.{Setting, Scope, met, var_of, term_of, type
 use Rattle.model.specs.lists.Expansions.{wrapped_expr}
 use Rattle.model.specs.lists.Elaborated.{most_expansions}
 use Rattle.model.specs.claims.Refusals.{of_expansions}
-use Rattle.laws_errors.specs.Steps.{Why, no_integer, no_truth, constant_type, variable_type, constructor_type, argument_count, impure_constructor, multi_constructor, partial_constructor, Wrong, Step, went_on, stopped, unless, here, nothing, noting, made_step, counted_step, then_step, after_made, last_made, then_made}
+use Rattle.laws_errors.specs.Steps.{no_integer, no_truth, constant_type, variable_type, constructor_type, argument_count, impure_constructor, multi_constructor, partial_constructor, Step, went_on, stopped, unless, here, nothing, noting, made_step, counted_step, after_made, last_made, then_made}
 use Rattle.laws_errors.specs.ExprSteps.{expr_list, converted_or, expected_step, forbidden, call_step, called_step, used_step, made_constant_step, with_arg, with_def, def_step, let_step, ended_step, expr_step, args_step, lets_step, deeper_expr_step}
 use Rattle.laws_errors.specs.PlaceLaws.{ExprStandsAt, ExprsStandAt, LetsStandAt, AreAt, wrong_of, ExprErrorsArePlaced}
 use Rattle.laws_errors.proofs.PlacedErrors.{both_at, checked_at, noting_at, checked_step_at, made_at, counted_at, in_order_at}
@@ -112,9 +112,9 @@ module _ (P : Position → Type 0) where
   deeper_placed e flags zero x ty n s h = tt
   deeper_placed e flags (suc d) x ty n s h = elim (nat_le most_expansions n) as (λ b. AreAt P (wrong_of
       (cond b (stopped of_expansions s []) (counted_step (expr_step e flags (deeper_expr_step e flags d) x ty (suc n) s))))) [
-    | true ↦ tt
-    | false ↦ counted_at P (expr_step e flags (deeper_expr_step e flags d) x ty (suc n) s) (placed e flags d (deeper_placed e flags d) x ty (suc n) s h)
-  ]
+        | true ↦ tt
+        | false ↦ counted_at P (expr_step e flags (deeper_expr_step e flags d) x ty (suc n) s) (placed e flags d (deeper_placed e flags d) x ty (suc n) s h)
+      ]
 
 pub expr_errors_are_placed_lem : ExprErrorsArePlaced
 expr_errors_are_placed_lem ps e flags d x ty n s h = placed (Contains ps) e flags d (deeper_placed (Contains ps) e flags d) x ty n s h

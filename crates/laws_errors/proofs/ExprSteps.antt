@@ -1,27 +1,27 @@
 -- Expressions: the function of typing is what reading makes where nothing is wrong.
-use Rattle.std.proofs.Common.{◌≡◌, ℕ, zero, suc, ◌+◌, ◌≤◌, ◌<◌, Bool, true, false, not, ◌&&◌, ◌||◌, cond, eqb, nat_le, List, [], ◌∷◌, ◌++◌, length, Option, Some, None, option_map, is_some, slice_get, subst, refl, sym, ap, ◌∙◌, arith}
+use Rattle.std.proofs.Common.{◌≡◌, ℕ, zero, suc, ◌+◌, ◌≤◌, ◌<◌, Bool, true, false, not, ◌&&◌, ◌||◌, cond, eqb, nat_le, List, [], ◌∷◌, ◌++◌, length, Option, Some, None, option_map, slice_get, subst, refl, ap, arith}
 use Rattle.std.proofs.lemmas.Bool.{leb-true, leb-false}
 use Rattle.std.proofs.lemmas.Option.{same_Some}
 use Rattle.std.proofs.lemmas.Bool.Decides.{Decides-eqb}
 use Rattle.model.specs.lists.Syntax.{Position, Name, ExprTree, term_expr, var_expr, bool_expr, int_expr, prim_expr, let_expr, ExprTrees, no_expr, expr_and, LetTrees, no_let, let_and}
 use Rattle.model.specs.rules.Outcome.{then_option}
-use Rattle.model.specs.rules.Typed.{TypedExpr, make_term, make_var, make_bool, make_int, make_prim, TypedExprs, typed_expr_and, TypedLets, TypedVar}
+use Rattle.model.specs.rules.Typed.{TypedExpr, make_term, make_var, make_int, make_prim, typed_expr_and, TypedLets, TypedVar}
 use Rattle.model.specs.lists.Tables.{Flags, TermKindEntry, variant_term, struct_term, declared_term, TermEntry}
 use Rattle.model.specs.lists.Names.{number}
 use Rattle.model.specs.lists.Ranges.{reduced}
 use Rattle.model.specs.rules.Values.{is_atom_type}
 use Rattle.model.specs.lists.Setting.{Setting, Scope, met, after_let, var_of, term_of, type_of_name, type_of_constant, bool_type, is_expected, is_callable, converter, expr_converter}
-use Rattle.model.specs.lists.Typings.{Typing, plain, made_into, scoped, joined_typing, followed, counted}
+use Rattle.model.specs.lists.Typings.{Typing, plain, made_into, scoped, followed, counted}
 use Rattle.model.specs.lists.Expansions.{wrapped_expr}
 use Rattle.model.specs.lists.Elaborated.{as_expected, expr_with, args_with, lets_with, bound_let, before_rest, typed_let, deeper_expr, most_expansions}
 use Rattle.model.specs.claims.Refusals.{of_nesting, of_expansions}
 use Rattle.laws_errors.specs.AllMade.{made_kind, made_entry, all_made}
-use Rattle.laws_errors.specs.Steps.{Why, no_integer, constant_type, Wrong, Step, went_on, stopped, unless, here, nothing, noting, made_step, counted_step, then_step, after_made, last_made, then_made}
-use Rattle.laws_errors.specs.ExprSteps.{expr_list, converted_or, expected_step, forbidden, call_step, called_step, used_step, made_constant_step, with_arg, with_def, def_step, let_step, closed, ended_step, expr_step, args_step, lets_step, deeper_expr_step}
-use Rattle.laws_errors.specs.StepLaws.{IsPast, Agrees, is_read, is_wrong, is_stopped, is_stopped_later, ExprStepsAgree}
+use Rattle.laws_errors.specs.Steps.{Why, no_integer, constant_type, Step, stopped, unless, here, nothing, noting, made_step, counted_step}
+use Rattle.laws_errors.specs.ExprSteps.{expr_list, converted_or, expected_step, forbidden, called_step, used_step, made_constant_step, with_arg, with_def, def_step, let_step, closed, ended_step, expr_step, args_step, lets_step, deeper_expr_step}
+use Rattle.laws_errors.specs.StepLaws.{Agrees, is_read, is_wrong, is_stopped, is_stopped_later, ExprStepsAgree}
 use Rattle.laws_errors.proofs.MadeSettings.{term_made, converter_made}
 use Rattle.laws_errors.proofs.ClosedLets.{usable, lets_closed}
-use Rattle.laws_errors.proofs.AgreeingSteps.{at_once, noted, none_noted, checked, made, one_more, too_many, in_order, followed_none, noted_either, within, scoped_within, later_made}
+use Rattle.laws_errors.proofs.AgreeingSteps.{at_once, noted, none_noted, checked, made, one_more, too_many, in_order, followed_none, scoped_within, later_made}
 
 -- each flag that forbids a call
 three_checked : {X : Type 0} (n : ℕ) (a b c : Bool) (v w x : Why) (at : Position) (t : Step X) (o : Option (Typing X)) → (a && (b && c) ≡ true → Agrees n t o)
@@ -45,9 +45,9 @@ expected_agrees e n own None at s why t o convert conversion h i = none_noted n 
 expected_agrees e n own (Some ty) at s why t o convert conversion h i = elim (eqb own ty) as (λ b. Agrees n
     (cond b (noting (unless b why at) t) (converted_or at s (noting (unless b why at) t) convert (expr_converter e own ty) (converter e own ty)))
     (cond b o (then_option (expr_converter (all_made e) own ty) conversion))) [
-  | true ↦ none_noted n t o h
-  | false ↦ rw (converter_made e own ty (expr_converter e own ty) refl) (either (expr_converter e own ty) (converter e own ty))
-]
+      | true ↦ none_noted n t o h
+      | false ↦ rw (converter_made e own ty (expr_converter e own ty) refl) (either (expr_converter e own ty) (converter e own ty))
+    ]
   where
     either : (by declared : Option TermEntry)
         → Agrees n (converted_or at s (noting (unless false why at) t) convert by declared) (then_option (option_map made_entry by) conversion)
@@ -137,8 +137,8 @@ module _ (e : Setting) (flags : Flags) (d : ℕ)
     agrees (prim_expr name at) ty n s few = constant_agrees n ty name.text at s few (type_of_constant e s name.text)
     agrees (let_expr defs body at) ty n s few = rw (scoped_within typed_let (after_let s) (lets_with (all_made e) flags (deeper_expr (all_made e) flags d) defs s) (λ a. expr_with (all_made e) flags (deeper_expr (all_made e) flags d) body ty a.scope))
         (later_made n _ _ _ _ (lets_agree defs at n s few) (λ a h few. ended_agrees (n + a.expansions) (after_let s) a.made _ _
-          (λ b g. lets_closed (all_made e) flags d defs s a h b.scope (usable (all_made e) flags d body ty a.scope b g))
-          (agrees body ty (n + a.expansions) a.scope few)))
+        (λ b g. lets_closed (all_made e) flags d defs s a h b.scope (usable (all_made e) flags d body ty a.scope b g))
+        (agrees body ty (n + a.expansions) a.scope few)))
 
     pub args_agree : (args : ExprTrees) (tys : List ℕ) (n : ℕ) (s : Scope) → n ≤ most_expansions → length (expr_list args) ≡ length tys
         → Agrees n (args_step e flags (deeper_expr_step e flags d) args tys n s) (args_with (all_made e) flags (deeper_expr (all_made e) flags d) args tys s)
@@ -155,8 +155,8 @@ module _ (e : Setting) (flags : Flags) (d : ℕ)
         subst (λ o. Agrees n (lets_step e flags (deeper_expr_step e flags d) (let_and name ty value own_at rest) at n s) o)
         (then_followed before_rest (type_of_name e s ty.text) (λ own. bound_let name.text own (expr_with (all_made e) flags (deeper_expr (all_made e) flags d) value (Some own) (met s name.text))) (λ a. lets_with (all_made e) flags (deeper_expr (all_made e) flags d) rest a.scope))
         (in_order n before_rest with_def (λ x y. refl) _ _ _ _
-          (let_agrees name.text ty.text at n s _ (λ own. expr_with (all_made e) flags (deeper_expr (all_made e) flags d) value (Some own) (met s name.text)) (type_of_name e s ty.text) (λ own. agrees value (Some own) n (met s name.text) few))
-          (λ a i few. lets_agree rest at (n + a.expansions) a.scope few))
+        (let_agrees name.text ty.text at n s _ (λ own. expr_with (all_made e) flags (deeper_expr (all_made e) flags d) value (Some own) (met s name.text)) (type_of_name e s ty.text) (λ own. agrees value (Some own) n (met s name.text) few))
+        (λ a i few. lets_agree rest at (n + a.expansions) a.scope few))
 
 -- what expansions make
 pub deeper_agrees : (e : Setting) (flags : Flags) (d : ℕ) (x : ExprTree) (ty : Option ℕ) (n : ℕ) (s : Scope) → n ≤ most_expansions
@@ -164,9 +164,9 @@ pub deeper_agrees : (e : Setting) (flags : Flags) (d : ℕ) (x : ExprTree) (ty :
 deeper_agrees e flags zero x ty n s few = is_stopped of_nesting s None (λ a h. absurd (cc))
 deeper_agrees e flags (suc d) x ty n s few = elim (nat_le most_expansions n) as (λ b. nat_le most_expansions n ≡ b → Agrees n
     (cond b (stopped of_expansions s []) (counted_step (expr_step e flags (deeper_expr_step e flags d) x ty (suc n) s))) (counted (expr_with (all_made e) flags (deeper_expr (all_made e) flags d) x ty s))) [
-  | true ↦ λ h. too_many n of_expansions s _ (leb-true most_expansions n h)
-  | false ↦ λ h. one_more n _ _ (agrees e flags d (deeper_agrees e flags d) x ty (suc n) s (leb-false most_expansions n h))
-] refl
+      | true ↦ λ h. too_many n of_expansions s _ (leb-true most_expansions n h)
+      | false ↦ λ h. one_more n _ _ (agrees e flags d (deeper_agrees e flags d) x ty (suc n) s (leb-false most_expansions n h))
+    ] refl
 
 pub expr_steps_agree_lem : ExprStepsAgree
 expr_steps_agree_lem e flags d x ty n s few = agrees e flags d (deeper_agrees e flags d) x ty n s few

@@ -1,16 +1,16 @@
 -- Which limit stops a step first, by what it is made of.
-use Rattle.std.proofs.Common.{◌≡◌, ℕ, zero, suc, ◌+◌, ◌≤◌, Bool, true, false, not, cond, eqb, nat_le, List, [], ◌∷◌, ◌++◌, length, Option, Some, None, is_some, slice_get, subst, refl, sym, ap, ◌∙◌, arith}
+use Rattle.std.proofs.Common.{◌≡◌, ℕ, zero, suc, ◌+◌, ◌≤◌, Bool, true, false, cond, eqb, nat_le, List, [], ◌∷◌, length, Option, Some, None, slice_get, refl, ap, ◌∙◌, arith}
 use Rattle.std.proofs.lemmas.Bool.{leb-false}
 use Rattle.std.proofs.lemmas.Bool.Decides.{Decides-eqb}
 use Rattle.model.specs.lists.Syntax.{Position, Name, PatternTree, var_pattern, bind_pattern, bool_pattern, int_pattern, prim_pattern, term_pattern, wildcard_pattern, and_pattern, macro_arg, PatternTrees, no_pattern, pattern_and, pattern_list}
 use Rattle.model.specs.rules.Outcome.{then_option}
-use Rattle.model.specs.rules.Typed.{TypedPattern, match_var, match_bool, match_int, match_prim, match_and, match_term, TypedPatterns, typed_pattern_and, TypedVar}
+use Rattle.model.specs.rules.Typed.{TypedPattern, match_var, match_bool, match_int, match_prim, match_and, match_term, TypedVar}
 use Rattle.model.specs.lists.Tables.{TermEntry}
 use Rattle.model.specs.lists.Setting.{Setting, Scope, var_of, term_of, type_of_constant, bool_type, is_matchable, template_in, pattern_converter}
 use Rattle.model.specs.lists.Typings.{Typing}
 use Rattle.model.specs.lists.Expansions.{substituted, expanded, wrapped_pattern}
 use Rattle.model.specs.lists.Elaborated.{or_expanded, pattern_with, deeper_pattern, most_expansions}
-use Rattle.model.specs.claims.Refusals.{NamedLimit, of_nesting, of_expansions}
+use Rattle.model.specs.claims.Refusals.{NamedLimit, of_expansions}
 use Rattle.model.specs.lists.Names.{number}
 use Rattle.model.specs.lists.Ranges.{reduced}
 use Rattle.model.specs.rules.Values.{is_atom_type}
@@ -136,9 +136,9 @@ module _ (e : Setting) (multi : Bool) (templates : TemplatesAreWhole e) (typed :
       ≡ cond b (or_expanded (template_in e t.kind) (λ template. then_option (expanded t args template) (λ p. deeper_pattern_limit e multi d p ty n s))
       (cond (is_matchable multi t.kind) (where_counted (length (pattern_list args)) (length t.arg_tys) (parts_limit e multi (deeper_pattern e multi d) (deeper_pattern_limit e multi d) args t.arg_tys n s)) None))
       (then_option (pattern_converter e t.ret_ty ty) (λ c. deeper_pattern_limit e multi d (wrapped_pattern s c at (term_pattern name args at)) ty n s))) [
-    | true ↦ used_first name args at ty n s few parts t (template_in e t.kind)
-    | false ↦ converted_first name args at ty n s few parts t (pattern_converter e t.ret_ty ty)
-  ]
+        | true ↦ used_first name args at ty n s few parts t (template_in e t.kind)
+        | false ↦ converted_first name args at ty n s few parts t (pattern_converter e t.ret_ty ty)
+      ]
 
   mutual
     pub first : (p : PatternTree) (ty n : ℕ) (s : Scope) → n ≤ most_expansions
@@ -175,9 +175,9 @@ deeper_first e multi templates typed zero p ty n s few = refl
 deeper_first e multi templates typed (suc d) p ty n s few = elim (nat_le most_expansions n) as (λ b. nat_le most_expansions n ≡ b → first_limit
     (cond b (stopped of_expansions s []) (counted_step (pattern_step e multi (deeper_step e multi d) p ty (suc n) s)))
     ≡ cond b (Some of_expansions) (pattern_limit e multi (deeper_pattern e multi d) (deeper_pattern_limit e multi d) p ty (suc n) s)) [
-  | true ↦ λ h. refl
-  | false ↦ λ h. first_counted _ ∙ first e multi templates typed d (deeper_first e multi templates typed d) p ty (suc n) s (leb-false most_expansions n h)
-] refl
+      | true ↦ λ h. refl
+      | false ↦ λ h. first_counted _ ∙ first e multi templates typed d (deeper_first e multi templates typed d) p ty (suc n) s (leb-false most_expansions n h)
+    ] refl
 
 pub pattern_limits_are_first_lem : PatternLimitsAreFirst
 pattern_limits_are_first_lem e multi templates d p ty n s few = first e multi templates (types_made e multi) d (deeper_first e multi templates (types_made e multi) d) p ty n s few

@@ -1,22 +1,22 @@
 -- Patterns: the function of typing is what reading makes where nothing is wrong.
-use Rattle.std.proofs.Common.{◌≡◌, ℕ, zero, suc, ◌+◌, ◌≤◌, ◌<◌, Bool, true, false, not, cond, eqb, nat_le, List, [], ◌∷◌, ◌++◌, length, Option, Some, None, is_some, slice_get, subst, refl, sym, ap, ◌∙◌, arith}
+use Rattle.std.proofs.Common.{◌≡◌, ℕ, zero, suc, ◌+◌, ◌≤◌, ◌<◌, Bool, true, false, not, cond, eqb, nat_le, List, [], ◌∷◌, length, Option, Some, None, is_some, slice_get, subst, refl, sym, ap, arith}
 use Rattle.std.proofs.lemmas.Bool.{leb-true, leb-false}
 use Rattle.std.proofs.lemmas.Option.{same_Some}
 use Rattle.std.proofs.lemmas.Bool.Decides.{Decides-eqb}
 use Rattle.model.specs.lists.Syntax.{Position, Name, PatternTree, var_pattern, bind_pattern, bool_pattern, int_pattern, prim_pattern, term_pattern, wildcard_pattern, and_pattern, macro_arg, PatternTrees, no_pattern, pattern_and, pattern_list}
 use Rattle.model.specs.rules.Outcome.{then_option}
-use Rattle.model.specs.rules.Typed.{TypedPattern, match_bind, match_var, match_bool, match_int, match_prim, match_any, match_and, match_term, TypedPatterns, typed_pattern_and, TypedVar}
+use Rattle.model.specs.rules.Typed.{TypedPattern, match_bind, match_var, match_bool, match_int, match_prim, match_and, match_term, typed_pattern_and, TypedVar}
 use Rattle.model.specs.lists.Tables.{TermEntry}
 use Rattle.model.specs.lists.Names.{number}
 use Rattle.model.specs.lists.Ranges.{reduced}
 use Rattle.model.specs.rules.Values.{is_atom_type}
 use Rattle.model.specs.lists.Setting.{Setting, Scope, bound, var_of, term_of, type_of_constant, bool_type, is_matchable, template_in, pattern_converter}
-use Rattle.model.specs.lists.Typings.{Typing, plain, made_into, followed, counted}
-use Rattle.model.specs.lists.Expansions.{substituted, expanded, wrapped_pattern}
+use Rattle.model.specs.lists.Typings.{Typing, plain, made_into, counted}
+use Rattle.model.specs.lists.Expansions.{substituted, wrapped_pattern}
 use Rattle.model.specs.lists.Formed.{pattern_type}
 use Rattle.model.specs.lists.Elaborated.{var_pattern_at, bound_after, or_expanded, by_template, pattern_with, parts_with, each_with, deeper_pattern, most_expansions}
 use Rattle.model.specs.claims.Refusals.{of_nesting, of_expansions}
-use Rattle.laws_errors.specs.Steps.{Why, rebound, no_integer, Wrong, Step, went_on, stopped, unless, here, nothing, noting, made_step, counted_step, then_step}
+use Rattle.laws_errors.specs.Steps.{Why, rebound, no_integer, Step, went_on, stopped, unless, here, noting, made_step, counted_step}
 use Rattle.laws_errors.specs.PatternSteps.{var_step, bind_step, constant_step, with_part, template_step, pattern_step, found_step, converted_step, use_step, term_step, parts_step, each_step, deeper_step}
 use Rattle.laws_errors.specs.StepLaws.{IsPast, Agrees, TemplatesAreWhole, is_read, is_wrong, is_stopped, is_stopped_later, MadeAtTypes, PatternStepsAgree}
 use Rattle.laws_errors.proofs.TypesMade.{types_made}
@@ -120,9 +120,9 @@ module _ (e : Setting) (multi : Bool) (templates : TemplatesAreWhole e) (typed :
       (converted_step e multi (deeper_step e multi d) name args at ty n s t (λ tys. parts_step e multi (deeper_step e multi d) args tys n s) (pattern_converter e t.ret_ty ty)))
       (cond b (or_expanded (template_in e t.kind) (by_template (deeper_pattern e multi d) t args ty s) (cond (is_matchable multi t.kind) (made_into (match_term ty t.id) (parts_with e multi (deeper_pattern e multi d) args t.arg_tys s)) None))
       (then_option (pattern_converter e t.ret_ty ty) (λ c. counted (deeper_pattern e multi d (wrapped_pattern s c at (term_pattern name args at)) ty s))))) [
-    | true ↦ λ h. used_agrees name args at ty n s few parts t ((Decides-eqb t.ret_ty ty).0 h) (template_in e t.kind) (λ template given k. templates s name.text t template given found k)
-    | false ↦ λ h. converted_agrees name args at ty n s few parts t (pattern_converter e t.ret_ty ty)
-  ] refl
+        | true ↦ λ h. used_agrees name args at ty n s few parts t ((Decides-eqb t.ret_ty ty).0 h) (template_in e t.kind) (λ template given k. templates s name.text t template given found k)
+        | false ↦ λ h. converted_agrees name args at ty n s few parts t (pattern_converter e t.ret_ty ty)
+      ] refl
 
   mutual
     pub agrees : (p : PatternTree) (ty n : ℕ) (s : Scope) → n ≤ most_expansions → Agrees n (pattern_step e multi (deeper_step e multi d) p ty n s) (pattern_with e multi (deeper_pattern e multi d) p ty s)
@@ -156,9 +156,9 @@ pub deeper_agrees : (e : Setting) (multi : Bool) (templates : TemplatesAreWhole 
 deeper_agrees e multi templates typed zero p ty n s few = is_stopped of_nesting s None (λ a h. absurd (cc))
 deeper_agrees e multi templates typed (suc d) p ty n s few = elim (nat_le most_expansions n) as (λ b. nat_le most_expansions n ≡ b → Agrees n
     (cond b (stopped of_expansions s []) (counted_step (pattern_step e multi (deeper_step e multi d) p ty (suc n) s))) (counted (pattern_with e multi (deeper_pattern e multi d) p ty s))) [
-  | true ↦ λ h. too_many n of_expansions s _ (leb-true most_expansions n h)
-  | false ↦ λ h. one_more n _ _ (agrees e multi templates typed d (deeper_agrees e multi templates typed d) p ty (suc n) s (leb-false most_expansions n h))
-] refl
+      | true ↦ λ h. too_many n of_expansions s _ (leb-true most_expansions n h)
+      | false ↦ λ h. one_more n _ _ (agrees e multi templates typed d (deeper_agrees e multi templates typed d) p ty (suc n) s (leb-false most_expansions n h))
+    ] refl
 
 pub pattern_steps_agree_lem : PatternStepsAgree
 pattern_steps_agree_lem e multi templates d p ty n s few = agrees e multi templates (types_made e multi) d (deeper_agrees e multi templates (types_made e multi) d) p ty n s few

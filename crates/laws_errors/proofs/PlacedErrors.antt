@@ -1,18 +1,17 @@
 -- Where what is wrong stands, by what a step is made of.
-use Rattle.std.proofs.Common.{◌≡◌, ℕ, zero, suc, ◌+◌, Bool, true, false, not, cond, eqb, nat_le, List, [], ◌∷◌, ◌++◌, length, Option, Some, None, option_map, is_some, slice_get, subst, refl, sym, ap, ◌∙◌}
+use Rattle.std.proofs.Common.{◌≡◌, ℕ, zero, suc, ◌+◌, Bool, true, false, not, cond, eqb, nat_le, List, [], ◌∷◌, ◌++◌, length, Option, Some, None, option_map, is_some, slice_get, subst, refl}
 use Rattle.std.specs.Prelude.{Contains}
 use Rattle.std.proofs.lemmas.Option.{same_Some}
 use Rattle.model.specs.lists.Syntax.{Position, Name, PatternTree, var_pattern, bind_pattern, bool_pattern, int_pattern, prim_pattern, term_pattern, wildcard_pattern, and_pattern, macro_arg, PatternTrees, no_pattern, pattern_and, pattern_list}
-use Rattle.model.specs.rules.Typed.{TypedPattern, match_and, match_term, TypedPatterns, TypedVar}
+use Rattle.model.specs.rules.Typed.{TypedPattern, match_and, match_term, TypedVar}
 use Rattle.model.specs.lists.Tables.{TermEntry}
 use Rattle.model.specs.lists.Setting.{Setting, Scope, var_of, term_of, type_of_constant, bool_type, is_matchable, template_in, pattern_converter}
 use Rattle.model.specs.lists.Expansions.{with_pattern, substituted, all_substituted, wrapped_pattern}
 use Rattle.model.specs.lists.Elaborated.{most_expansions}
 use Rattle.model.specs.claims.Refusals.{of_expansions}
-use Rattle.model.proofs.Options.{then_some}
 use Rattle.model.specs.rules.Values.{is_atom_type}
 use Rattle.laws_errors.specs.Steps.{Why, rebound, bound_type, matched_constant_type, extractor_type, argument_count, no_truth, no_integer, Wrong, Step, went_on, stopped, unless, noting, made_step, counted_step, joined_step, then_step}
-use Rattle.laws_errors.specs.PatternSteps.{var_step, bind_step, constant_step, with_part, template_step, why_not_matched, term_step, use_step, converted_step, found_step, pattern_step, parts_step, each_step, deeper_step}
+use Rattle.laws_errors.specs.PatternSteps.{var_step, bind_step, constant_step, with_part, template_step, why_not_matched, use_step, converted_step, found_step, pattern_step, parts_step, each_step, deeper_step}
 use Rattle.laws_errors.specs.PlaceLaws.{StandsAt, StandAt, AreAt, wrong_of, TemplatesStandAt, PatternErrorsArePlaced}
 
 module _ (P : Position → Type 0) where
@@ -132,9 +131,9 @@ module _ (P : Position → Type 0) where
     found_at name args at ty n s here given parts (Some t) h = elim (eqb t.ret_ty ty) as (λ b. AreAt P (wrong_of
         (cond b (use_step multi (deeper_step e multi d) name args at ty n s t (λ tys. parts_step e multi (deeper_step e multi d) args tys n s) (template_in e t.kind))
         (converted_step e multi (deeper_step e multi d) name args at ty n s t (λ tys. parts_step e multi (deeper_step e multi d) args tys n s) (pattern_converter e t.ret_ty ty))))) [
-      | true ↦ used_at name args at ty n s t here given parts (template_in e t.kind) (λ template k. templates s name.text t template h k)
-      | false ↦ converted_at (pattern_converter e t.ret_ty ty)
-    ]
+          | true ↦ used_at name args at ty n s t here given parts (template_in e t.kind) (λ template k. templates s name.text t template h k)
+          | false ↦ converted_at (pattern_converter e t.ret_ty ty)
+        ]
       where
         converted_at : (o : Option TermEntry) → AreAt P (wrong_of (converted_step e multi (deeper_step e multi d) name args at ty n s t (λ tys. parts_step e multi (deeper_step e multi d) args tys n s) o))
         converted_at (Some c) = deeper (wrapped_pattern s c at (term_pattern name args at)) ty n s (here, ((here, given), tt))
@@ -167,9 +166,9 @@ module _ (P : Position → Type 0) where
   deeper_placed e multi templates zero p ty n s h = tt
   deeper_placed e multi templates (suc d) p ty n s h = elim (nat_le most_expansions n) as (λ b. AreAt P (wrong_of
       (cond b (stopped of_expansions s []) (counted_step (pattern_step e multi (deeper_step e multi d) p ty (suc n) s))))) [
-    | true ↦ tt
-    | false ↦ counted_at (pattern_step e multi (deeper_step e multi d) p ty (suc n) s) (placed e multi templates d (deeper_placed e multi templates d) p ty (suc n) s h)
-  ]
+        | true ↦ tt
+        | false ↦ counted_at (pattern_step e multi (deeper_step e multi d) p ty (suc n) s) (placed e multi templates d (deeper_placed e multi templates d) p ty (suc n) s h)
+      ]
 
 pub pattern_errors_are_placed_lem : PatternErrorsArePlaced
 pattern_errors_are_placed_lem ps e multi templates d p ty n s h = placed (Contains ps) e multi templates d (deeper_placed (Contains ps) e multi templates d) p ty n s h

@@ -1,20 +1,17 @@
 -- Which limit stops the steps of a rule first.
-use Rattle.std.proofs.Common.{◌≡◌, ℕ, ◌+◌, ◌≤◌, Bool, true, false, not, cond, eqb, List, [], ◌∷◌, ◌++◌, length, Option, Some, None, refl, sym, ap, ◌∙◌}
+use Rattle.std.proofs.Common.{◌≡◌, ℕ, ◌+◌, ◌≤◌, Bool, true, false, cond, eqb, List, [], ◌∷◌, length, Option, Some, None, refl, ap, ◌∙◌}
 use Rattle.std.proofs.lemmas.Bool.Decides.{Decides-eqb}
 use Rattle.model.specs.lists.Syntax.{Position, Name, PatternTrees, pattern_list, IfLetTree, RuleTree}
 use Rattle.model.specs.lists.Tables.{Flags, TermEntry}
 use Rattle.model.specs.lists.TermTable.{root_name}
 use Rattle.model.specs.rules.Outcome.{then_option}
-use Rattle.model.specs.rules.Typed.{TypedExpr}
 use Rattle.model.specs.lists.Setting.{Setting, Scope, term_of, declared_flags, on_lhs, expr_type}
-use Rattle.model.specs.lists.Typings.{Typing}
 use Rattle.model.specs.lists.Elaborated.{deeper_pattern, typed_iflet, root_parts, elaborated_parts, elaborated_expr, Sides, most_expansions}
-use Rattle.model.specs.claims.Refusals.{NamedLimit}
 use Rattle.laws_errors.specs.AllMade.{all_made, iflet_reading, iflets_reading}
-use Rattle.laws_errors.specs.Steps.{Why, Wrong, Step, went_on, stopped, unless, noting, last_made}
+use Rattle.laws_errors.specs.Steps.{Why, Step, went_on, stopped, unless, noting, last_made}
 use Rattle.laws_errors.specs.PatternSteps.{parts_step, deeper_step}
 use Rattle.laws_errors.specs.RuleSteps.{iflet_step, with_iflet, iflets_step, root_step, sides_step, finished_step, declared_step, of_term_step, rooted_step}
-use Rattle.laws_errors.specs.ReachedLimits.{or_after, where_counted, parts_limit, deeper_pattern_limit, pattern_limits, expr_limits, iflet_limits, iflets_limits, root_limits, ends_limits, sides_limits, rule_limits}
+use Rattle.laws_errors.specs.ReachedLimits.{or_after, parts_limit, deeper_pattern_limit, pattern_limits, expr_limits, iflet_limits, iflets_limits, root_limits, ends_limits, sides_limits}
 use Rattle.laws_errors.specs.StepLaws.{TemplatesAreWhole}
 use Rattle.laws_errors.specs.LimitLaws.{first_limit, RuleLimitsAreFirst}
 use Rattle.laws_errors.proofs.ExprSteps.{expr_steps_agree_lem}
@@ -32,9 +29,9 @@ module _ (e : Setting) (templates : TemplatesAreWhole e) (flags : Flags) (d : �
   iflet_first : (i : IfLetTree) (n : ℕ) (s : Scope) → n ≤ most_expansions → first_limit (iflet_step e flags d i n s) ≡ iflet_limits e flags d i n s
   iflet_first i n s few =
       first_in_order n last_made _ _ _ (λ a. pattern_limits e flags.multi d i.pattern (expr_type a.made) (n + a.expansions) a.scope) (expr_steps_agree_lem e (on_lhs flags) d i.expr None n s few)
-        (λ a h few. first_made (typed_iflet a.made) _ ∙ pattern_limits_are_first_lem e flags.multi templates d i.pattern (expr_type a.made) (n + a.expansions) a.scope few)
+      (λ a h few. first_made (typed_iflet a.made) _ ∙ pattern_limits_are_first_lem e flags.multi templates d i.pattern (expr_type a.made) (n + a.expansions) a.scope few)
       ∙ ap (λ l. or_after l (elaborated_expr (all_made e) (on_lhs flags) d i.expr None s) (λ a. pattern_limits e flags.multi d i.pattern (expr_type a.made) (n + a.expansions) a.scope))
-        (expr_limits_are_first_lem e (on_lhs flags) d i.expr None n s few)
+      (expr_limits_are_first_lem e (on_lhs flags) d i.expr None n s few)
 
   iflets_first : (is : List IfLetTree) (n : ℕ) (s : Scope) → n ≤ most_expansions → first_limit (iflets_step e flags d is n s) ≡ iflets_limits e flags d is n s
   iflets_first [] n s few = refl
@@ -60,9 +57,9 @@ module _ (e : Setting) (templates : TemplatesAreWhole e) (flags : Flags) (d : �
   sides_first : (r : RuleTree) (x : Name) (t : TermEntry) (n : ℕ) (s : Scope) → n ≤ most_expansions → first_limit (sides_step e flags d r x t n s) ≡ sides_limits e flags d r t n s
   sides_first r x t n s few =
       first_in_order n last_made _ _ _ (λ a. ends_limits e flags d r t (n + a.expansions) a.scope) (root_agrees e templates flags d r x t n s few) (λ a h few.
-        first_in_order (n + a.expansions) last_made _ _ _ (λ b. expr_limits e flags d r.expr (Some t.ret_ty) ((n + a.expansions) + b.expansions) b.scope) (iflets_agree e templates flags d r.iflets (n + a.expansions) a.scope few)
-          (λ b i few. first_made _ _ ∙ expr_limits_are_first_lem e flags d r.expr (Some t.ret_ty) ((n + a.expansions) + b.expansions) b.scope few)
-        ∙ ap (λ l. or_after l (iflets_reading e flags d r.iflets a.scope) (λ b. expr_limits e flags d r.expr (Some t.ret_ty) ((n + a.expansions) + b.expansions) b.scope)) (iflets_first r.iflets (n + a.expansions) a.scope few))
+      first_in_order (n + a.expansions) last_made _ _ _ (λ b. expr_limits e flags d r.expr (Some t.ret_ty) ((n + a.expansions) + b.expansions) b.scope) (iflets_agree e templates flags d r.iflets (n + a.expansions) a.scope few)
+      (λ b i few. first_made _ _ ∙ expr_limits_are_first_lem e flags d r.expr (Some t.ret_ty) ((n + a.expansions) + b.expansions) b.scope few)
+      ∙ ap (λ l. or_after l (iflets_reading e flags d r.iflets a.scope) (λ b. expr_limits e flags d r.expr (Some t.ret_ty) ((n + a.expansions) + b.expansions) b.scope)) (iflets_first r.iflets (n + a.expansions) a.scope few))
       ∙ ap (λ l. or_after l (elaborated_parts e flags.multi d (root_parts r.pattern) t.arg_tys s) (λ a. ends_limits e flags d r t (n + a.expansions) a.scope)) (root_first r x t n s few)
 
 module _ (e : Setting) (templates : TemplatesAreWhole e) (d id : ℕ) (r : RuleTree) (n : ℕ) (s : Scope) (few : n ≤ most_expansions) where

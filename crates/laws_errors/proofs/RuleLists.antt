@@ -1,18 +1,17 @@
 -- The errors of a list of rules.
-use Rattle.std.proofs.Common.{◌≡◌, ℕ, zero, suc, ◌+◌, ◌≤◌, ◌<◌, Bool, true, false, cond, nat_le, List, [], ◌∷◌, ◌++◌, length, map, Option, Some, None, subst, refl, sym, ap, ◌∙◌, arith}
-use Rattle.std.specs.Prelude.{◌≢◌}
+use Rattle.std.proofs.Common.{◌≡◌, ℕ, suc, ◌+◌, ◌≤◌, true, false, cond, nat_le, List, [], ◌∷◌, ◌++◌, length, map, Option, Some, None, subst, refl, ap, ◌∙◌, arith}
 use Rattle.std.proofs.lemmas.Bool.{leb-true, le-leb}
 use Rattle.model.specs.lists.Syntax.{Position, RuleTree}
 use Rattle.model.specs.rules.Outcome.{then_option}
 use Rattle.model.specs.rules.Typed.{TypedRule}
-use Rattle.model.specs.lists.Setting.{Setting, Scope, new_scope}
+use Rattle.model.specs.lists.Setting.{Setting, new_scope}
 use Rattle.model.specs.lists.Typings.{Typing}
 use Rattle.model.specs.lists.Elaborated.{few_enough, most_expansions, most_nested, TypedRules, with_typed}
 use Rattle.laws_errors.specs.AllMade.{rule_reading, rule_within, rules_within}
-use Rattle.laws_errors.specs.Steps.{Wrong, Step, went_on, stopped}
+use Rattle.laws_errors.specs.Steps.{Step, stopped}
 use Rattle.laws_errors.specs.RuleSteps as R
 use Rattle.laws_errors.specs.RuleSteps.{Told, passes, errors_of, step_of_rule, RulesStep, behind, with_rule, then_rules, rules_step}
-use Rattle.laws_errors.specs.StepLaws.{IsPast, Agrees, is_read, is_wrong, is_stopped, is_stopped_later, TemplatesAreWhole, ListAgrees, all_read, some_wrong, RulesStepsAgree, FirstErrorIsOf, FirstErrorIsTheBreach}
+use Rattle.laws_errors.specs.StepLaws.{IsPast, Agrees, is_read, is_wrong, is_stopped, is_stopped_later, ListAgrees, all_read, some_wrong, RulesStepsAgree, FirstErrorIsOf, FirstErrorIsTheBreach}
 use Rattle.laws_errors.proofs.RuleSteps.{rule_steps_agree_lem}
 
 -- what takes too many expansions isn't within the limits

@@ -1,10 +1,9 @@
 -- Where what is wrong with a rule stands.
-use Rattle.std.proofs.Common.{◌≡◌, ℕ, ◌+◌, Bool, not, eqb, List, [], ◌∷◌, ◌++◌, length, Option, Some, None, refl}
+use Rattle.std.proofs.Common.{ℕ, ◌+◌, eqb, List, [], ◌∷◌, length, Option, Some, None}
 use Rattle.std.specs.Prelude.{Contains}
-use Rattle.model.specs.lists.Syntax.{Position, Name, PatternTree, var_pattern, bind_pattern, bool_pattern, int_pattern, prim_pattern, term_pattern, wildcard_pattern, and_pattern, macro_arg, PatternTrees, pattern_list, IfLetTree, RuleTree}
+use Rattle.model.specs.lists.Syntax.{Position, Name, PatternTree, var_pattern, bind_pattern, bool_pattern, int_pattern, prim_pattern, term_pattern, wildcard_pattern, and_pattern, macro_arg, pattern_list, IfLetTree, RuleTree}
 use Rattle.model.specs.lists.Tables.{Flags, TermEntry}
 use Rattle.model.specs.lists.TermTable.{root_name}
-use Rattle.model.specs.rules.Typed.{TypedExpr, TypedPatterns, TypedIfLet}
 use Rattle.model.specs.lists.Setting.{Setting, Scope, term_of, declared_flags, on_lhs, expr_type}
 use Rattle.model.specs.lists.Elaborated.{typed_iflet, root_parts, Sides, may_have_priority}
 use Rattle.laws_errors.specs.Steps.{priority, argument_count, Step, went_on, stopped, unless, made_step, then_made}
@@ -41,7 +40,7 @@ module _ (P : Position → Type 0) (e : Setting) (templates : TemplatesStandAt e
         (λ x t k. made_step (typed_iflet x) (pattern_step e flags.multi (deeper_step e flags.multi d) i.pattern (expr_type x) (n + k) t))
         (expr_at (on_lhs flags) i.expr None n s h.1)
         (λ x t k. patterns.made_at P (typed_iflet x) (pattern_step e flags.multi (deeper_step e flags.multi d) i.pattern (expr_type x) (n + k) t)
-          (patterns.placed P e flags.multi templates d (patterns.deeper_placed P e flags.multi templates d) i.pattern (expr_type x) (n + k) t h.0))
+        (patterns.placed P e flags.multi templates d (patterns.deeper_placed P e flags.multi templates d) i.pattern (expr_type x) (n + k) t h.0))
 
     iflets_at : (is : List IfLetTree) (n : ℕ) (s : Scope) → IfLetsStandAt P is → AreAt P (wrong_of (iflets_step e flags d is n s))
     iflets_at [] n s h = tt
@@ -57,8 +56,8 @@ module _ (P : Position → Type 0) (e : Setting) (templates : TemplatesStandAt e
         (λ args u k. then_made (iflets_step e flags d r.iflets (n + k) u) (λ iflets v j. made_step (λ rhs. (args, (iflets, rhs))) (expr_step e flags (deeper_expr_step e flags d) r.expr (Some t.ret_ty) ((n + k) + j) v)))
         (root_at r x t n s h)
         (λ args u k. exprs.then_made_at P (iflets_step e flags d r.iflets (n + k) u) (λ iflets v j. made_step (λ rhs. (args, (iflets, rhs))) (expr_step e flags (deeper_expr_step e flags d) r.expr (Some t.ret_ty) ((n + k) + j) v))
-          (iflets_at r.iflets (n + k) u h.iflets)
-          (λ iflets v j. patterns.made_at P (λ rhs. (args, (iflets, rhs))) (expr_step e flags (deeper_expr_step e flags d) r.expr (Some t.ret_ty) ((n + k) + j) v) (expr_at flags r.expr (Some t.ret_ty) ((n + k) + j) v h.expr)))
+        (iflets_at r.iflets (n + k) u h.iflets)
+        (λ iflets v j. patterns.made_at P (λ rhs. (args, (iflets, rhs))) (expr_step e flags (deeper_expr_step e flags d) r.expr (Some t.ret_ty) ((n + k) + j) v) (expr_at flags r.expr (Some t.ret_ty) ((n + k) + j) v h.expr)))
 
   module _ (d id : ℕ) (r : RuleTree) (n : ℕ) (s : Scope) (h : RuleStandsAt P r) where
     of_flags : (x : Name) (t : TermEntry) (o : Option Flags) → AreAt P (wrong_of (declared_step e d id r x t n s o))

@@ -1,23 +1,19 @@
 -- Rules, and lists of them: the function of typing is what reading makes where nothing is wrong.
-use Rattle.std.proofs.Common.{◌≡◌, ℕ, zero, suc, ◌+◌, ◌≤◌, ◌<◌, Bool, true, false, not, cond, eqb, nat_le, List, [], ◌∷◌, ◌++◌, length, map, Option, Some, None, is_some, subst, refl, sym, ap, ◌∙◌, arith}
-use Rattle.std.specs.Prelude.{◌≢◌}
-use Rattle.std.proofs.lemmas.Bool.{leb-true, leb-false}
+use Rattle.std.proofs.Common.{◌≡◌, ℕ, ◌+◌, ◌≤◌, ◌<◌, Bool, true, false, cond, eqb, List, [], ◌∷◌, length, Option, Some, None, subst, refl}
 use Rattle.std.proofs.lemmas.Option.{same_Some}
 use Rattle.std.proofs.lemmas.Bool.Decides.{Decides-eqb}
 use Rattle.model.specs.lists.Syntax.{Position, Name, PatternTrees, pattern_list, IfLetTree, RuleTree}
 use Rattle.model.specs.lists.Tables.{Flags, TermEntry}
 use Rattle.model.specs.lists.TermTable.{root_name}
 use Rattle.model.specs.rules.Outcome.{then_option}
-use Rattle.model.specs.rules.Typed.{TypedPatterns, TypedIfLet, TypedExpr, TypedRule}
-use Rattle.model.specs.lists.Setting.{Setting, Scope, new_scope, term_of, declared_flags, on_lhs, expr_type}
-use Rattle.model.specs.lists.Typings.{Typing, plain, made_into, followed}
-use Rattle.model.specs.lists.Elaborated.{typed_iflet, root_parts, elaborated_pattern, elaborated_parts, elaborated_expr, Sides, sides_of, last_sides, finished_rule, rule_of_sides, with_own_name, may_have_priority, few_enough, most_expansions, most_nested, TypedRules, with_typed}
-use Rattle.laws_errors.specs.AllMade.{all_made, iflet_reading, iflets_reading, ends_reading, sides_reading, rule_reading, rule_within, rules_within}
-use Rattle.laws_errors.specs.Steps.{Why, priority, Wrong, Step, went_on, stopped, unless, noting, made_step}
+use Rattle.model.specs.lists.Setting.{Setting, Scope, term_of, declared_flags, on_lhs, expr_type}
+use Rattle.model.specs.lists.Typings.{Typing}
+use Rattle.model.specs.lists.Elaborated.{typed_iflet, root_parts, elaborated_pattern, elaborated_parts, elaborated_expr, Sides, sides_of, last_sides, finished_rule, rule_of_sides, with_own_name, may_have_priority, most_expansions}
+use Rattle.laws_errors.specs.AllMade.{all_made, iflet_reading, iflets_reading, ends_reading, sides_reading}
+use Rattle.laws_errors.specs.Steps.{Why, priority, Step, went_on, unless, noting}
 use Rattle.laws_errors.specs.PatternSteps.{parts_step, deeper_step}
-use Rattle.laws_errors.specs.RuleSteps.{iflet_step, with_iflet, iflets_step, root_step, sides_step, finished_step, declared_step, of_term_step, rooted_step, rule_step, step_of_rule}
+use Rattle.laws_errors.specs.RuleSteps.{iflet_step, with_iflet, iflets_step, root_step, sides_step, finished_step, declared_step, of_term_step, rooted_step}
 use Rattle.laws_errors.specs.StepLaws.{IsPast, Agrees, is_read, is_wrong, is_stopped, is_stopped_later, TemplatesAreWhole, RuleStepsAgree}
-use Rattle.laws_errors.proofs.TypesMade.{types_made}
 use Rattle.laws_errors.proofs.AgreeingSteps.{at_once, noted, none_noted, made, in_order, within, both_made, later_made}
 use Rattle.laws_errors.proofs.PatternSteps as patterns
 use Rattle.laws_errors.proofs.ExprSteps as exprs
@@ -32,9 +28,9 @@ finished_agrees : (n id : ℕ) (r : RuleTree) (t : TermEntry) (flags : Flags) (x
     → Agrees n (finished_step id r t flags x) (cond (may_have_priority flags r) (finished_rule id r t o) None)
 finished_agrees n id r t flags _ _ (is_read q s k h) = elim (may_have_priority flags r) as (λ b. Agrees n
     (went_on (Some (rule_of_sides id r t q s)) (with_own_name r.name s) k (unless b priority r.at)) (cond b (Some (record { made = rule_of_sides id r t q s; scope = with_own_name r.name s; expansions = k })) None)) [
-  | true ↦ is_read _ _ k h
-  | false ↦ is_wrong _ _ k _ []
-]
+      | true ↦ is_read _ _ k h
+      | false ↦ is_wrong _ _ k _ []
+    ]
 finished_agrees n id r t flags _ _ (is_wrong None s k w ws) = rw (neither (may_have_priority flags r)) (is_wrong None s k w ws)
 finished_agrees n id r t flags _ _ (is_wrong (Some q) s k w ws) = rw (neither (may_have_priority flags r)) (is_wrong _ _ k w _)
 finished_agrees n id r t flags _ _ (is_stopped_later l z w ws) = rw (neither (may_have_priority flags r)) (is_stopped_later l z w ws)
@@ -49,7 +45,7 @@ module _ (e : Setting) (templates : TemplatesAreWhole e) (flags : Flags) (d : �
   pub iflet_agrees : (i : IfLetTree) (n : ℕ) (s : Scope) → n ≤ most_expansions → Agrees n (iflet_step e flags d i n s) (iflet_reading e flags d i s)
   iflet_agrees i n s few = rw (within typed_iflet (λ t. t) (elaborated_expr (all_made e) (on_lhs flags) d i.expr None s) (λ a. elaborated_pattern e flags.multi d i.pattern (expr_type a.made) a.scope))
       (later_made n _ _ _ _ (exprs.expr_steps_agree_lem e (on_lhs flags) d i.expr None n s few) (λ a h few. made (n + a.expansions) (typed_iflet a.made) _ _
-        (patterns.pattern_steps_agree_lem e flags.multi templates d i.pattern (expr_type a.made) (n + a.expansions) a.scope few)))
+      (patterns.pattern_steps_agree_lem e flags.multi templates d i.pattern (expr_type a.made) (n + a.expansions) a.scope few)))
 
   pub iflets_agree : (is : List IfLetTree) (n : ℕ) (s : Scope) → n ≤ most_expansions → Agrees n (iflets_step e flags d is n s) (iflets_reading e flags d is s)
   iflets_agree [] n s few = at_once n _ _ few
@@ -67,9 +63,9 @@ module _ (e : Setting) (templates : TemplatesAreWhole e) (flags : Flags) (d : �
   sides_agree : (r : RuleTree) (x : Name) (t : TermEntry) (n : ℕ) (s : Scope) → n ≤ most_expansions → Agrees n (sides_step e flags d r x t n s) (sides_reading e flags d r t s)
   sides_agree r x t n s few = rw (within sides_of (λ t. t) (elaborated_parts e flags.multi d (root_parts r.pattern) t.arg_tys s) (λ a. ends_reading e flags d r t a.scope))
       (later_made n _ _ _ _ (root_agrees r x t n s few) (λ a h few.
-        rw (within last_sides (λ t. t) (iflets_reading e flags d r.iflets a.scope) (λ b. elaborated_expr (all_made e) flags d r.expr (Some t.ret_ty) b.scope), both_made last_sides (λ t. t) (sides_of a.made) (iflets_reading e flags d r.iflets a.scope) (λ b. elaborated_expr (all_made e) flags d r.expr (Some t.ret_ty) b.scope))
-        (later_made (n + a.expansions) _ _ _ _ (iflets_agree r.iflets (n + a.expansions) a.scope few) (λ b i few. made ((n + a.expansions) + b.expansions) _ _ _
-          (exprs.expr_steps_agree_lem e flags d r.expr (Some t.ret_ty) ((n + a.expansions) + b.expansions) b.scope few)))))
+      rw (within last_sides (λ t. t) (iflets_reading e flags d r.iflets a.scope) (λ b. elaborated_expr (all_made e) flags d r.expr (Some t.ret_ty) b.scope), both_made last_sides (λ t. t) (sides_of a.made) (iflets_reading e flags d r.iflets a.scope) (λ b. elaborated_expr (all_made e) flags d r.expr (Some t.ret_ty) b.scope))
+      (later_made (n + a.expansions) _ _ _ _ (iflets_agree r.iflets (n + a.expansions) a.scope few) (λ b i few. made ((n + a.expansions) + b.expansions) _ _ _
+      (exprs.expr_steps_agree_lem e flags d r.expr (Some t.ret_ty) ((n + a.expansions) + b.expansions) b.scope few)))))
 
 module _ (e : Setting) (templates : TemplatesAreWhole e) (d id : ℕ) (r : RuleTree) (n : ℕ) (s : Scope) (few : n ≤ most_expansions) where
   of_flags : (x : Name) (t : TermEntry) (o : Option Flags) → Agrees n (declared_step e d id r x t n s o) (then_option o (λ flags. cond (may_have_priority flags r) (finished_rule id r t (sides_reading e flags d r t s)) None))

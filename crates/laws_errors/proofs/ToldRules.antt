@@ -1,8 +1,8 @@
 -- What the errors of a list say, rule by rule.
-use Rattle.std.proofs.Common.{◌≡◌, ℕ, suc, ◌+◌, List, [], ◌∷◌, ◌++◌, map, Option, Some, None, subst, refl, sym, ap, ◌∙◌, inl, inr, arith}
+use Rattle.std.proofs.Common.{◌≡◌, ℕ, suc, List, [], ◌∷◌, map, Option, Some, None, subst, refl, sym, ap, ◌∙◌, inl, inr, arith}
 use Rattle.std.proofs.lemmas.List.{append-nil}
 use Rattle.model.specs.lists.Syntax.{RuleTree}
-use Rattle.model.specs.lists.Setting.{Setting, Scope, new_scope}
+use Rattle.model.specs.lists.Setting.{Setting, new_scope}
 use Rattle.model.specs.lists.Typings.{Typing}
 use Rattle.model.specs.lists.Elaborated.{few_enough, most_nested}
 use Rattle.model.specs.rules.Typed.{TypedRule}
@@ -12,7 +12,7 @@ use Rattle.laws_errors.specs.RuleSteps as R
 use Rattle.laws_errors.specs.RuleSteps.{Told, passes, errors_of, step_of_rule, then_rules, rules_step}
 use Rattle.laws_errors.specs.ReachedLimits.{reached_limit}
 use Rattle.laws_errors.specs.LimitLaws.{first_limit}
-use Rattle.laws_errors.specs.StepLaws.{Agrees, is_read, is_wrong, is_stopped, is_stopped_later, TemplatesAreWhole}
+use Rattle.laws_errors.specs.StepLaws.{Agrees, is_read, is_wrong, is_stopped, is_stopped_later}
 use Rattle.laws_errors.specs.ToldLaws.{TellsRule, is_typed, reaches_limit, is_wrong_first, TellsRules, no_rule, rule_first, ErrorsTellRules}
 use Rattle.laws_errors.proofs.RuleSteps.{rule_steps_agree_lem}
 use Rattle.laws_errors.proofs.RuleLimits.{rule_limits_are_first_lem}

@@ -1,4 +1,4 @@
--- Typing that answers what is wrong.
+-- Steps that say what is wrong with rules, and laws on them.
 pub mod AllMade
 pub mod ExprSteps
 pub mod LimitLaws

@@ -1,5 +1,5 @@
 -- The limit that a reading comes to before anything is wrong is the one that stops its steps with nothing wrong.
-use Rattle.std.specs.Prelude.{◌≡◌, ℕ, ◌≤◌, Bool, List, [], ◌∷◌, Option, Some, None}
+use Rattle.std.specs.Prelude.{◌≡◌, ℕ, ◌≤◌, Bool, [], ◌∷◌, Option, Some, None}
 use Rattle.model.specs.lists.Syntax.{PatternTree, ExprTree, RuleTree}
 use Rattle.model.specs.lists.Tables.{Flags}
 use Rattle.model.specs.lists.Setting.{Setting, Scope}

@@ -10,7 +10,7 @@ use Rattle.model.specs.rules.Outcome.{then_option}
 use Rattle.model.specs.lists.Setting.{Setting, Scope, new_scope, met, var_of, term_of, type_of_name, expr_type, on_lhs, declared_flags, is_callable, is_matchable, template_in, pattern_converter}
 use Rattle.model.specs.lists.Expansions.{expanded, wrapped_pattern, wrapped_expr}
 use Rattle.model.specs.lists.Typings.{Typing}
-use Rattle.model.specs.lists.Elaborated.{PatternReading, ExprReading, or_expanded, as_expected, pattern_with, deeper_pattern, elaborated_pattern, elaborated_parts, expr_with, lets_with, bound_let, deeper_expr, elaborated_expr, root_parts, most_nested, most_expansions}
+use Rattle.model.specs.lists.Elaborated.{PatternReading, ExprReading, or_expanded, as_expected, pattern_with, deeper_pattern, elaborated_parts, expr_with, lets_with, bound_let, deeper_expr, elaborated_expr, root_parts, most_nested, most_expansions}
 use Rattle.model.specs.claims.Refusals.{NamedLimit, of_nesting, of_expansions}
 use Rattle.laws_errors.specs.AllMade.{all_made, iflet_reading, iflets_reading}
 use Rattle.laws_errors.specs.ExprSteps.{expr_list}

@@ -1,7 +1,7 @@
 -- How rules are read, with all that is wrong in them: one rule, then the rules of a list.
 use Rattle.std.specs.Prelude.{ℕ, suc, ◌+◌, List, [], ◌∷◌, ◌++◌, length, map, Option, Some, None}
 use Rattle.std.specs.Bool.{◌==◌}
-use Rattle.model.specs.lists.Syntax.{Position, Name, IfLetTree, RuleTree, PatternTrees, pattern_list}
+use Rattle.model.specs.lists.Syntax.{Position, Name, IfLetTree, RuleTree, pattern_list}
 use Rattle.model.specs.lists.Tables.{Flags, TermEntry}
 use Rattle.model.specs.lists.TermTable.{root_name}
 use Rattle.model.specs.rules.Typed.{TypedPatterns, TypedIfLet, TypedRule}

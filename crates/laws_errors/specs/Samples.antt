@@ -1,7 +1,7 @@
 -- Rules with two or three mistakes each, and the errors that are said of them: what is wrong behind the first mistake, at which of the
 -- places of a part it is said, and in which order, the other laws leave open.
 use Rattle.std.specs.Prelude.{◌≡◌, ℕ, ℤ, pos, Bool, true, false, List, [], ◌∷◌, map, Option, Some, None}
-use Rattle.model.specs.lists.Syntax.{Position, Name, PatternTree, var_pattern, bind_pattern, bool_pattern, int_pattern, prim_pattern, term_pattern, wildcard_pattern, and_pattern, macro_arg, PatternTrees, no_pattern, pattern_and, ExprTree, term_expr, var_expr, bool_expr, int_expr, prim_expr, let_expr, ExprTrees, no_expr, expr_and, LetTrees, no_let, let_and, IfLetTree, RuleTree}
+use Rattle.model.specs.lists.Syntax.{Position, Name, PatternTree, var_pattern, bind_pattern, bool_pattern, prim_pattern, term_pattern, wildcard_pattern, and_pattern, macro_arg, PatternTrees, no_pattern, pattern_and, ExprTree, term_expr, var_expr, bool_expr, int_expr, prim_expr, let_expr, ExprTrees, no_expr, expr_and, no_let, let_and, IfLetTree, RuleTree}
 use Rattle.model.specs.lists.Tables.{builtin_type, primitive_type, enum_type, Flags, internal_constructor, external_constructor, internal_extractor, external_extractor, TermKindEntry, variant_term, declared_term, TermEntry}
 use Rattle.model.specs.lists.Setting.{Setting, new_scope}
 use Rattle.model.specs.claims.Refusals.{of_nesting}
@@ -161,8 +161,8 @@ said r = said_within 4 r
 -- an unknown constant is left out, and a name that is bound twice is bound; all parts of too many are read for which there are types
 abbrev pub patterns_wrong : RuleTree
 patterns_wrong = f_rule (two_of
-  (and_pattern (three_of (var_pattern (named x) (at 2)) (prim_pattern (named nope) (at 3)) (bind_pattern (named x) any (at 4))) (at 5))
-  (term_pattern (named g) (three_of (bool_pattern true (at 7)) any (macro_arg 0 (at 8))) (at 6))) [] (var x 9)
+    (and_pattern (three_of (var_pattern (named x) (at 2)) (prim_pattern (named nope) (at 3)) (bind_pattern (named x) any (at 4))) (at 5))
+    (term_pattern (named g) (three_of (bool_pattern true (at 7)) any (macro_arg 0 (at 8))) (at 6))) [] (var x 9)
 
 -- both types and uses of terms are wrong, and their parts are read all the same: y is bound
 abbrev pub uses_wrong : RuleTree
@@ -206,7 +206,7 @@ conversions_wrong = f_rule (two_of (var_pattern (named x) (at 2)) any) [] (call 
 -- an integer without a type: the pattern isn't read. A name that is bound is used at its own type. A variable in parentheses
 abbrev pub iflets_wrong : RuleTree
 iflets_wrong = f_rule (two_of (var_pattern (named x) (at 2)) any)
-  (iflet (macro_arg 0 (at 3)) (one 4) ∷ iflet (and_pattern (two_of (var_pattern (named x) (at 5)) (prim_pattern (named k) (at 6))) (at 7)) (prim_expr (named l) (at 8)) ∷ []) (call x no_expr 9)
+    (iflet (macro_arg 0 (at 3)) (one 4) ∷ iflet (and_pattern (two_of (var_pattern (named x) (at 5)) (prim_pattern (named k) (at 6))) (at 7)) (prim_expr (named l) (at 8)) ∷ []) (call x no_expr 9)
 
 -- the number of arguments of a root is said where the rule stands
 abbrev pub root_wrong : RuleTree
