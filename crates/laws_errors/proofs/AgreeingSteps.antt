@@ -6,15 +6,15 @@ use Rattle.model.specs.lists.Setting.{Scope}
 use Rattle.model.specs.lists.Typings.{Typing, plain, made_into, scoped, joined_typing, followed, counted}
 use Rattle.model.specs.lists.Elaborated.{most_expansions}
 use Rattle.model.specs.claims.Refusals.{NamedLimit}
-use Rattle.laws_errors.specs.Steps.{Why, Wrong, Step, went_on, stopped, unless, here, noting, made_step, counted_step, joined_step, then_step, after_made, last_made, then_made}
-use Rattle.laws_errors.specs.StepLaws.{IsPast, Agrees, is_read, is_wrong, is_stopped, is_stopped_later}
+use Rattle.laws_errors.specs.Steps.{Why, Mistake, Step, went_on, stopped, unless, here, noting, made_step, counted_step, joined_step, then_step, after_made, last_made, then_made}
+use Rattle.laws_errors.specs.StepLaws.{TakesTooMany, Agrees, is_read, is_wrong, is_stopped, is_stopped_later}
 
 -- something is made without an expansion
 pub at_once : {X : Type 0} (n : ℕ) (x : X) (s : Scope) → n ≤ most_expansions → Agrees n (here x s) (Some (plain x s))
 at_once n x s few = is_read x s 0 (omega (arith, few))
 
 -- what is wrong before a step
-pub noted : {X : Type 0} (n : ℕ) (w : Wrong) (ws : List Wrong) (t : Step X) → Agrees n (noting (w ∷ ws) t) None
+pub noted : {X : Type 0} (n : ℕ) (w : Mistake) (ws : List Mistake) (t : Step X) → Agrees n (noting (w ∷ ws) t) None
 noted n w ws (went_on m s k es) = is_wrong m s k w (ws ++ es)
 noted n w ws (stopped l z es) = is_stopped_later l z w (ws ++ es)
 
@@ -66,11 +66,11 @@ module _ {X Y Z : Type 0} (n : ℕ) (f : X → Y → Z) (g : Option X → Y → 
       is_stopped l z _ (λ c h. subst (λ (v : Typing _). most_expansions < n + v.expansions) (same_Some _ _ h) (let p = past b refl in omega (arith, p)))
 
   -- what takes too many takes too many with what comes behind it
-  past_followed : (o : Option (Typing X)) (rest : Typing X → Option (Typing Y)) → IsPast n o → IsPast n (followed f o rest)
+  past_followed : (o : Option (Typing X)) (rest : Typing X → Option (Typing Y)) → TakesTooMany n o → TakesTooMany n (followed f o rest)
   past_followed None rest past = λ a h. absurd (cc)
   past_followed (Some a) rest past = past_joined a (rest a) (past a refl)
     where
-      past_joined : (a : Typing X) (o : Option (Typing Y)) → most_expansions < n + a.expansions → IsPast n (joined_typing f a o)
+      past_joined : (a : Typing X) (o : Option (Typing Y)) → most_expansions < n + a.expansions → TakesTooMany n (joined_typing f a o)
       past_joined a None p = λ c h. absurd (cc)
       past_joined a (Some b) p = λ c h. subst (λ (v : Typing _). most_expansions < n + v.expansions) (same_Some _ _ h) (omega (arith, p))
 
@@ -89,7 +89,7 @@ followed_none f None rest h = refl
 followed_none f (Some a) rest h = rw (h a) refl
 
 -- where either way there is nothing
-pub noted_either : {X : Type 0} (b : Bool) (n : ℕ) (w : Wrong) (ws : List Wrong) (t : Step X) → Agrees n (noting (w ∷ ws) t) (cond b None None)
+pub noted_either : {X : Type 0} (b : Bool) (n : ℕ) (w : Mistake) (ws : List Mistake) (t : Step X) → Agrees n (noting (w ∷ ws) t) (cond b None None)
 noted_either true n w ws t = noted n w ws t
 noted_either false n w ws t = noted n w ws t
 

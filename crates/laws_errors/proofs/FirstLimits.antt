@@ -14,7 +14,7 @@ use Rattle.model.specs.claims.Refusals.{NamedLimit, of_expansions}
 use Rattle.model.specs.lists.Names.{number}
 use Rattle.model.specs.lists.Ranges.{reduced}
 use Rattle.model.specs.rules.Values.{is_atom_type}
-use Rattle.laws_errors.specs.Steps.{Why, bound_type, matched_constant_type, no_truth, no_integer, Wrong, Step, went_on, stopped, unless, noting, made_step, counted_step, joined_step, then_step}
+use Rattle.laws_errors.specs.Steps.{Why, bound_type, matched_constant_type, no_truth, no_integer, Mistake, Step, went_on, stopped, unless, noting, made_step, counted_step, joined_step, then_step}
 use Rattle.laws_errors.specs.PatternSteps.{var_step, bind_step, constant_step, with_part, template_step, term_step, use_step, converted_step, found_step, pattern_step, parts_step, each_step, deeper_step}
 use Rattle.laws_errors.specs.StepLaws.{TemplatesAreWhole, Agrees, is_read, is_wrong, is_stopped, is_stopped_later, MadeAtTypes}
 use Rattle.laws_errors.specs.ReachedLimits.{or_after, where_counted, pattern_limit, parts_limit, each_limit, deeper_pattern_limit}
@@ -27,7 +27,7 @@ none_either : (b : Bool) (l : Option NamedLimit) → l ≡ None → l ≡ cond b
 none_either true l h = h
 none_either false l h = h
 
-pub first_noted : {X : Type 0} (w : Wrong) (ws : List Wrong) (t : Step X) → first_limit (noting (w ∷ ws) t) ≡ None
+pub first_noted : {X : Type 0} (w : Mistake) (ws : List Mistake) (t : Step X) → first_limit (noting (w ∷ ws) t) ≡ None
 first_noted w ws (went_on m s k es) = refl
 first_noted w ws (stopped l z es) = refl
 
@@ -71,7 +71,7 @@ first_in_order n g _ _ next rest (is_stopped l z o past) r = refl
 first_in_order n g _ _ next rest (is_stopped_later l z w ws) r = refl
 
 -- a test that holds either way, where nothing can stop
-pub leaf_first : {X : Type 0} (b : Bool) (why : Why) (at : Position) (m : Option X) (s : Scope) (k : ℕ) (es : List Wrong) → first_limit (noting (unless b why at) (went_on m s k es)) ≡ None
+pub leaf_first : {X : Type 0} (b : Bool) (why : Why) (at : Position) (m : Option X) (s : Scope) (k : ℕ) (es : List Mistake) → first_limit (noting (unless b why at) (went_on m s k es)) ≡ None
 leaf_first true why at m s k es = refl
 leaf_first false why at m s k es = refl
 

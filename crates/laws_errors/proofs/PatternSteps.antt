@@ -18,7 +18,7 @@ use Rattle.model.specs.lists.Elaborated.{var_pattern_at, bound_after, or_expande
 use Rattle.model.specs.claims.Refusals.{of_nesting, of_expansions}
 use Rattle.laws_errors.specs.Steps.{Why, rebound, no_integer, Step, went_on, stopped, unless, here, noting, made_step, counted_step}
 use Rattle.laws_errors.specs.PatternSteps.{var_step, bind_step, constant_step, with_part, template_step, pattern_step, found_step, converted_step, use_step, term_step, parts_step, each_step, deeper_step}
-use Rattle.laws_errors.specs.StepLaws.{IsPast, Agrees, TemplatesAreWhole, is_read, is_wrong, is_stopped, is_stopped_later, MadeAtTypes, PatternStepsAgree}
+use Rattle.laws_errors.specs.StepLaws.{TakesTooMany, Agrees, TemplatesAreWhole, is_read, is_wrong, is_stopped, is_stopped_later, MadeAtTypes, PatternStepsAgree}
 use Rattle.laws_errors.proofs.TypesMade.{types_made}
 use Rattle.laws_errors.proofs.AgreeingSteps.{at_once, noted, none_noted, checked, made, one_more, too_many, in_order, followed_none, noted_either}
 
@@ -47,7 +47,7 @@ bind_agrees n ty x at _ _ typed (is_stopped_later l z w ws) = is_stopped_later l
 bind_agrees n ty x at _ _ typed (is_stopped l z None past) = is_stopped l z None (λ a h. absurd (cc))
 bind_agrees n ty x at _ _ typed (is_stopped l z (Some a) past) = is_stopped l z _ (at_name (var_of a.scope x))
   where
-    at_name : (v : Option TypedVar) → IsPast n (cond (is_some v) None (Some (record { made = match_bind ty (length a.scope.vars) a.made; scope = bound a.scope x ty; expansions = a.expansions })))
+    at_name : (v : Option TypedVar) → TakesTooMany n (cond (is_some v) None (Some (record { made = match_bind ty (length a.scope.vars) a.made; scope = bound a.scope x ty; expansions = a.expansions })))
     at_name None = λ b h. subst (λ (v : Typing _). most_expansions < n + v.expansions) (same_Some _ _ h) (past a refl)
     at_name (Some v) = λ b h. absurd (cc)
 

@@ -10,12 +10,12 @@ use Rattle.model.specs.lists.Expansions.{with_pattern, substituted, all_substitu
 use Rattle.model.specs.lists.Elaborated.{most_expansions}
 use Rattle.model.specs.claims.Refusals.{of_expansions}
 use Rattle.model.specs.rules.Values.{is_atom_type}
-use Rattle.laws_errors.specs.Steps.{Why, rebound, bound_type, matched_constant_type, extractor_type, argument_count, no_truth, no_integer, Wrong, Step, went_on, stopped, unless, noting, made_step, counted_step, joined_step, then_step}
+use Rattle.laws_errors.specs.Steps.{Why, rebound, bound_type, matched_constant_type, extractor_type, argument_count, no_truth, no_integer, Mistake, Step, went_on, stopped, unless, noting, made_step, counted_step, joined_step, then_step}
 use Rattle.laws_errors.specs.PatternSteps.{var_step, bind_step, constant_step, with_part, template_step, why_not_matched, use_step, converted_step, found_step, pattern_step, parts_step, each_step, deeper_step}
 use Rattle.laws_errors.specs.PlaceLaws.{StandsAt, StandAt, AreAt, wrong_of, TemplatesStandAt, PatternErrorsArePlaced}
 
 module _ (P : Position → Type 0) where
-  pub both_at : (ws es : List Wrong) → AreAt P ws → AreAt P es → AreAt P (ws ++ es)
+  pub both_at : (ws es : List Mistake) → AreAt P ws → AreAt P es → AreAt P (ws ++ es)
   both_at [] es h k = k
   both_at (w ∷ ws) es h k = (h.0, both_at ws es h.1 k)
 
@@ -23,7 +23,7 @@ module _ (P : Position → Type 0) where
   checked_at true why at h = tt
   checked_at false why at h = (h, tt)
 
-  pub noting_at : {X : Type 0} (ws : List Wrong) (t : Step X) → AreAt P ws → AreAt P (wrong_of t) → AreAt P (wrong_of (noting ws t))
+  pub noting_at : {X : Type 0} (ws : List Mistake) (t : Step X) → AreAt P ws → AreAt P (wrong_of t) → AreAt P (wrong_of (noting ws t))
   noting_at ws (went_on m s k es) h i = both_at ws es h i
   noting_at ws (stopped l z es) h i = both_at ws es h i
 

@@ -10,12 +10,12 @@ use Rattle.model.specs.lists.Elaborated.{few_enough, most_expansions, most_neste
 use Rattle.laws_errors.specs.AllMade.{rule_reading, rule_within, rules_within}
 use Rattle.laws_errors.specs.Steps.{Step, stopped}
 use Rattle.laws_errors.specs.RuleSteps as R
-use Rattle.laws_errors.specs.RuleSteps.{Told, passes, errors_of, step_of_rule, RulesStep, behind, with_rule, then_rules, rules_step}
-use Rattle.laws_errors.specs.StepLaws.{IsPast, Agrees, is_read, is_wrong, is_stopped, is_stopped_later, ListAgrees, all_read, some_wrong, RulesStepsAgree, FirstErrorIsOf, FirstErrorIsTheBreach}
+use Rattle.laws_errors.specs.RuleSteps.{RuleError, passes, errors_of, step_of_rule, RulesStep, behind, with_rule, then_rules, rules_step}
+use Rattle.laws_errors.specs.StepLaws.{TakesTooMany, Agrees, is_read, is_wrong, is_stopped, is_stopped_later, ListAgrees, all_read, some_wrong, RulesStepsAgree, FirstErrorIsOf, FirstErrorIsTheBreach}
 use Rattle.laws_errors.proofs.RuleSteps.{rule_steps_agree_lem}
 
 -- what takes too many expansions isn't within the limits
-pub none_within : (o : Option (Typing TypedRule)) → IsPast 0 o → few_enough o ≡ None
+pub none_within : (o : Option (Typing TypedRule)) → TakesTooMany 0 o → few_enough o ≡ None
 none_within None past = refl
 none_within (Some a) past = elim (nat_le a.expansions most_expansions) as (λ b. nat_le a.expansions most_expansions ≡ b → cond b (Some a) None ≡ None) [
   | true ↦ λ h. absurd (let p = past a refl in let q = leb-true a.expansions most_expansions h in omega (arith, p, q))
@@ -43,9 +43,9 @@ rules_steps_agree_lem e templates [] id names = all_read (record { rules = []; n
 rules_steps_agree_lem e templates (r ∷ rs) id names = then_agrees r.at id _ _ (rules_step e rs) (λ a. rules_within e (suc id) rs a.scope.names)
     (rule_steps_agree_lem e templates most_nested id r 0 (new_scope names) (omega (arith))) (λ a. rules_steps_agree_lem e templates rs (suc id) a.scope.names)
 
-module _ (e : Setting) (r : RuleTree) (rs : List RuleTree) (id : ℕ) (names : List (List ℕ)) (error : Told) (rest : List Told) where
+module _ (e : Setting) (r : RuleTree) (rs : List RuleTree) (id : ℕ) (names : List (List ℕ)) (error : RuleError) (rest : List RuleError) where
   -- the first rule has an error
-  of_first : (t : Step TypedRule) → step_of_rule e id r names ≡ t → rule_within e id r names ≡ None → (w : Told) (own later : List Told) → errors_of r.at t ≡ w ∷ own → w ∷ (own ++ later) ≡ error ∷ rest
+  of_first : (t : Step TypedRule) → step_of_rule e id r names ≡ t → rule_within e id r names ≡ None → (w : RuleError) (own later : List RuleError) → errors_of r.at t ≡ w ∷ own → w ∷ (own ++ later) ≡ error ∷ rest
       → FirstErrorIsOf e (r ∷ rs) id names error rest
   of_first t is h w own later said h' = record {
     before = [];

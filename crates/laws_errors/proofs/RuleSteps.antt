@@ -13,7 +13,7 @@ use Rattle.laws_errors.specs.AllMade.{all_made, iflet_reading, iflets_reading, e
 use Rattle.laws_errors.specs.Steps.{Why, priority, Step, went_on, unless, noting}
 use Rattle.laws_errors.specs.PatternSteps.{parts_step, deeper_step}
 use Rattle.laws_errors.specs.RuleSteps.{iflet_step, with_iflet, iflets_step, root_step, sides_step, finished_step, declared_step, of_term_step, rooted_step}
-use Rattle.laws_errors.specs.StepLaws.{IsPast, Agrees, is_read, is_wrong, is_stopped, is_stopped_later, TemplatesAreWhole, RuleStepsAgree}
+use Rattle.laws_errors.specs.StepLaws.{TakesTooMany, Agrees, is_read, is_wrong, is_stopped, is_stopped_later, TemplatesAreWhole, RuleStepsAgree}
 use Rattle.laws_errors.proofs.AgreeingSteps.{at_once, noted, none_noted, made, in_order, within, both_made, later_made}
 use Rattle.laws_errors.proofs.PatternSteps as patterns
 use Rattle.laws_errors.proofs.ExprSteps as exprs
@@ -36,7 +36,7 @@ finished_agrees n id r t flags _ _ (is_wrong (Some q) s k w ws) = rw (neither (m
 finished_agrees n id r t flags _ _ (is_stopped_later l z w ws) = rw (neither (may_have_priority flags r)) (is_stopped_later l z w ws)
 finished_agrees n id r t flags _ _ (is_stopped l z o past) = is_stopped l z _ (either (may_have_priority flags r) o past)
   where
-    either : (b : Bool) (o : Option (Typing Sides)) → IsPast n o → IsPast n (cond b (finished_rule id r t o) None)
+    either : (b : Bool) (o : Option (Typing Sides)) → TakesTooMany n o → TakesTooMany n (cond b (finished_rule id r t o) None)
     either true None past = λ a h. absurd (cc)
     either true (Some q) past = λ a h. subst (λ (v : Typing _). most_expansions < n + v.expansions) (same_Some _ _ h) (past q refl)
     either false o past = λ a h. absurd (cc)

@@ -7,13 +7,13 @@ use Rattle.model.specs.lists.Typings.{Typing}
 use Rattle.model.specs.lists.Elaborated.{few_enough, most_nested}
 use Rattle.model.specs.rules.Typed.{TypedRule}
 use Rattle.laws_errors.specs.AllMade.{rule_reading}
-use Rattle.laws_errors.specs.Steps.{Wrong, Step, went_on, stopped}
+use Rattle.laws_errors.specs.Steps.{Mistake, Step, went_on, stopped}
 use Rattle.laws_errors.specs.RuleSteps as R
-use Rattle.laws_errors.specs.RuleSteps.{Told, passes, errors_of, step_of_rule, then_rules, rules_step}
+use Rattle.laws_errors.specs.RuleSteps.{RuleError, passes, errors_of, step_of_rule, then_rules, rules_step}
 use Rattle.laws_errors.specs.ReachedLimits.{reached_limit}
 use Rattle.laws_errors.specs.LimitLaws.{first_limit}
 use Rattle.laws_errors.specs.StepLaws.{Agrees, is_read, is_wrong, is_stopped, is_stopped_later}
-use Rattle.laws_errors.specs.ToldLaws.{TellsRule, is_typed, reaches_limit, is_wrong_first, TellsRules, no_rule, rule_first, ErrorsTellRules}
+use Rattle.laws_errors.specs.ToldLaws.{SaysOfRule, is_typed, reaches_limit, is_wrong_first, SaysOfRules, no_rule, rule_first, ErrorsTellRules}
 use Rattle.laws_errors.proofs.RuleSteps.{rule_steps_agree_lem}
 use Rattle.laws_errors.proofs.RuleLimits.{rule_limits_are_first_lem}
 use Rattle.laws_errors.proofs.RuleLists.{few_made, none_within}
@@ -24,18 +24,18 @@ names_after (went_on m s k es) = s.names
 names_after (stopped l s es) = s.names
 
 module _ (e : Setting) (r : RuleTree) (id : ℕ) (names : List (List ℕ)) where
-  only_wrong : (w : Wrong) (ws : List Wrong) (after : List (List ℕ)) → few_enough (rule_reading e most_nested id r (new_scope names)) ≡ None → reached_limit e r names ≡ None → TellsRule e r names after (map R.is_wrong (w ∷ ws))
-  only_wrong w ws after h none = subst (TellsRule e r names after) (append-nil (map R.is_wrong (w ∷ ws))) (is_wrong_first id after w ws [] h none (inl refl))
+  only_wrong : (w : Mistake) (ws : List Mistake) (after : List (List ℕ)) → few_enough (rule_reading e most_nested id r (new_scope names)) ≡ None → reached_limit e r names ≡ None → SaysOfRule e r names after (map R.is_wrong (w ∷ ws))
+  only_wrong w ws after h none = subst (SaysOfRule e r names after) (append-nil (map R.is_wrong (w ∷ ws))) (is_wrong_first id after w ws [] h none (inl refl))
 
-  tells : (t : Step TypedRule) (o : Option (Typing TypedRule)) → rule_reading e most_nested id r (new_scope names) ≡ o → first_limit t ≡ reached_limit e r names → Agrees 0 t o → TellsRule e r names (names_after t) (errors_of r.at t)
+  tells : (t : Step TypedRule) (o : Option (Typing TypedRule)) → rule_reading e most_nested id r (new_scope names) ≡ o → first_limit t ≡ reached_limit e r names → Agrees 0 t o → SaysOfRule e r names (names_after t) (errors_of r.at t)
   tells _ _ reads first (is_read x s k few) = is_typed id (record { made = x; scope = s; expansions = k }) (ap few_enough reads ∙ rw (few_made k few) refl) (sym first)
   tells _ _ reads first (is_wrong m s k w ws) = only_wrong w ws s.names (ap few_enough reads) (sym first)
   tells _ _ reads first (is_stopped l z o past) = reaches_limit id z.names l (ap few_enough reads ∙ none_within o past) (sym first)
   tells _ _ reads first (is_stopped_later l z w ws) = is_wrong_first id z.names w ws (passes l r.at ∷ []) (ap few_enough reads) (sym first) (inr (l, refl))
 
-  then_tells : (rs : List RuleTree) (t : Step TypedRule) → TellsRule e r names (names_after t) (errors_of r.at t)
-      → ((j : ℕ) (ns : List (List ℕ)) → TellsRules e rs ns (rules_step e rs j ns).names (rules_step e rs j ns).errors)
-      → TellsRules e (r ∷ rs) names (then_rules r.at id t (rules_step e rs)).names (then_rules r.at id t (rules_step e rs)).errors
+  then_tells : (rs : List RuleTree) (t : Step TypedRule) → SaysOfRule e r names (names_after t) (errors_of r.at t)
+      → ((j : ℕ) (ns : List (List ℕ)) → SaysOfRules e rs ns (rules_step e rs j ns).names (rules_step e rs j ns).errors)
+      → SaysOfRules e (r ∷ rs) names (then_rules r.at id t (rules_step e rs)).names (then_rules r.at id t (rules_step e rs)).errors
   then_tells rs (went_on None s k es) h i = rule_first r rs names s.names _ _ _ h (i id s.names)
   then_tells rs (went_on (Some q) s k es) h i = rule_first r rs names s.names _ _ _ h (i (suc id) s.names)
   then_tells rs (stopped l s es) h i = rule_first r rs names s.names _ _ _ h (i id s.names)

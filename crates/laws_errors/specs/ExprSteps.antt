@@ -12,7 +12,7 @@ use Rattle.model.specs.lists.Setting.{Setting, Scope, met, bound, var_of, term_o
 use Rattle.model.specs.lists.Expansions.{term_name_at, wrapped_expr}
 use Rattle.model.specs.lists.Elaborated.{typed_let, most_expansions}
 use Rattle.model.specs.claims.Refusals.{of_nesting, of_expansions}
-use Rattle.laws_errors.specs.Steps.{unknown_constructor, unknown_variable, unknown_constant, unknown_let_type, variable_type, constructor_type, constant_type, no_truth, no_integer, untyped_integer, argument_count, no_constructor, impure_constructor, multi_constructor, partial_constructor, Wrong, Step, went_on, stopped, unless, here, nothing, noting, made_step, counted_step, then_step, then_made}
+use Rattle.laws_errors.specs.Steps.{unknown_constructor, unknown_variable, unknown_constant, unknown_let_type, variable_type, constructor_type, constant_type, no_truth, no_integer, untyped_integer, argument_count, no_constructor, impure_constructor, multi_constructor, partial_constructor, Mistake, Step, went_on, stopped, unless, here, nothing, noting, made_step, counted_step, then_step, then_made}
 
 -- how an expression is read where a type, or any type, is expected, behind so many expansions
 abbrev pub ExprStepping : Type 0
@@ -35,7 +35,7 @@ expected_step e own None at s itself convert = itself
 expected_step e own (Some ty) at s itself convert = if own == ty then itself else converted_or at s itself convert (expr_converter e own ty) (converter e own ty)
 
 -- each flag that forbids a call is an error
-abbrev pub forbidden : Flags → List ℕ → Position → TermKindEntry → List Wrong
+abbrev pub forbidden : Flags → List ℕ → Position → TermKindEntry → List Mistake
 forbidden flags x at (declared_term own constructor_kind extractor_kind) =
     unless (not flags.pure || own.pure) (impure_constructor x) at ++ (unless (flags.multi || not own.multi) (multi_constructor x) at ++ unless (flags.partial || not own.partial) (partial_constructor x) at)
 forbidden flags x at _ = []

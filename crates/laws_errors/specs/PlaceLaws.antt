@@ -3,7 +3,7 @@ use Rattle.std.specs.Prelude.{◌≡◌, ℕ, Bool, List, [], ◌∷◌, Option,
 use Rattle.model.specs.lists.Syntax.{Position, ExprTree, term_expr, var_expr, bool_expr, int_expr, prim_expr, let_expr, ExprTrees, no_expr, expr_and, LetTrees, no_let, let_and, IfLetTree, RuleTree, PatternTree, var_pattern, bind_pattern, bool_pattern, int_pattern, prim_pattern, term_pattern, wildcard_pattern, and_pattern, macro_arg, PatternTrees, no_pattern, pattern_and}
 use Rattle.model.specs.lists.Tables.{Flags, TermEntry}
 use Rattle.model.specs.lists.Setting.{Setting, Scope, term_of, template_in}
-use Rattle.laws_errors.specs.Steps.{Wrong, Step, went_on, stopped}
+use Rattle.laws_errors.specs.Steps.{Mistake, Step, went_on, stopped}
 use Rattle.laws_errors.specs.PatternSteps.{pattern_step, deeper_step}
 use Rattle.laws_errors.specs.ExprSteps.{expr_step, deeper_expr_step}
 use Rattle.laws_errors.specs.RuleSteps.{rule_step}
@@ -59,11 +59,11 @@ pub record RuleStandsAt (P : Position → Type 0) (r : RuleTree) : Type 0 where
   pub expr : ExprStandsAt P r.expr
 
 -- what is wrong stands at such positions
-abbrev pub AreAt : (Position → Type 0) → List Wrong → Type 0
+abbrev pub AreAt : (Position → Type 0) → List Mistake → Type 0
 AreAt P [] = ⊤
 AreAt P (w ∷ ws) = P w.at × AreAt P ws
 
-abbrev pub wrong_of : {X : Type 0} → Step X → List Wrong
+abbrev pub wrong_of : {X : Type 0} → Step X → List Mistake
 wrong_of (went_on m s k es) = es
 wrong_of (stopped l s es) = es
 

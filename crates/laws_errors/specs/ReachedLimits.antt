@@ -26,12 +26,12 @@ abbrev pub where_counted : ℕ → ℕ → Option NamedLimit → Option NamedLim
 where_counted has wants o = if has == wants then o else None
 
 -- which limit a pattern comes to at a type, where so many expansions were made
-abbrev pub PatternLimits : Type 0
-PatternLimits = PatternTree → ℕ → ℕ → Scope → Option NamedLimit
+abbrev pub LimitsOfPattern : Type 0
+LimitsOfPattern = PatternTree → ℕ → ℕ → Scope → Option NamedLimit
 
 abbrev mutual
   -- `deeper` translates what an expansion makes, and `limit` says which limit an expansion comes to
-  pub pattern_limit : Setting → Bool → PatternReading → PatternLimits → PatternLimits
+  pub pattern_limit : Setting → Bool → PatternReading → LimitsOfPattern → LimitsOfPattern
   pattern_limit e multi deeper limit (var_pattern name at) ty n s = None
   pattern_limit e multi deeper limit (bind_pattern name of at) ty n s = pattern_limit e multi deeper limit of ty n s
   pattern_limit e multi deeper limit (bool_pattern b at) ty n s = None
@@ -48,31 +48,31 @@ abbrev mutual
   pattern_limit e multi deeper limit (macro_arg i at) ty n s = None
 
   -- patterns, each at its own type
-  pub parts_limit : Setting → Bool → PatternReading → PatternLimits → PatternTrees → List ℕ → ℕ → Scope → Option NamedLimit
+  pub parts_limit : Setting → Bool → PatternReading → LimitsOfPattern → PatternTrees → List ℕ → ℕ → Scope → Option NamedLimit
   parts_limit e multi deeper limit no_pattern tys n s = None
   parts_limit e multi deeper limit (pattern_and p rest) [] n s = None
   parts_limit e multi deeper limit (pattern_and p rest) (ty ∷ tys) n s =
       or_after (pattern_limit e multi deeper limit p ty n s) (pattern_with e multi deeper p ty s) (λ a. parts_limit e multi deeper limit rest tys (n + a.expansions) a.scope)
 
   -- patterns of one value
-  pub each_limit : Setting → Bool → PatternReading → PatternLimits → PatternTrees → ℕ → ℕ → Scope → Option NamedLimit
+  pub each_limit : Setting → Bool → PatternReading → LimitsOfPattern → PatternTrees → ℕ → ℕ → Scope → Option NamedLimit
   each_limit e multi deeper limit no_pattern ty n s = None
   each_limit e multi deeper limit (pattern_and p rest) ty n s =
       or_after (pattern_limit e multi deeper limit p ty n s) (pattern_with e multi deeper p ty s) (λ a. each_limit e multi deeper limit rest ty (n + a.expansions) a.scope)
 
 -- an expansion, where so many may nest and so many were made before it
-abbrev pub deeper_pattern_limit : Setting → Bool → ℕ → PatternLimits
+abbrev pub deeper_pattern_limit : Setting → Bool → ℕ → LimitsOfPattern
 deeper_pattern_limit e multi zero p ty n s = Some of_nesting
 deeper_pattern_limit e multi (suc d) p ty n s =
     if nat_le most_expansions n then Some of_expansions else pattern_limit e multi (deeper_pattern e multi d) (deeper_pattern_limit e multi d) p ty (suc n) s
 
 -- which limit an expression comes to where a type, or any type, is expected, where so many expansions were made
-abbrev pub ExprLimits : Type 0
-ExprLimits = ExprTree → Option ℕ → ℕ → Scope → Option NamedLimit
+abbrev pub LimitsOfExpr : Type 0
+LimitsOfExpr = ExprTree → Option ℕ → ℕ → Scope → Option NamedLimit
 
 abbrev mutual
   -- an expression, under the flags in force
-  pub expr_limit : Setting → Flags → ExprReading → ExprLimits → ExprLimits
+  pub expr_limit : Setting → Flags → ExprReading → LimitsOfExpr → LimitsOfExpr
   expr_limit e flags deeper limit (term_expr name args at) ty n s =
       then_option (term_of e s name.text) (λ t. as_expected e t.ret_ty ty
       (if is_callable flags t.kind then where_counted (length (expr_list args)) (length t.arg_tys) (args_limit e flags deeper limit args t.arg_tys n s) else None)
@@ -85,14 +85,14 @@ abbrev mutual
       or_after (lets_limit e flags deeper limit defs n s) (lets_with e flags deeper defs s) (λ a. expr_limit e flags deeper limit body ty (n + a.expansions) a.scope)
 
   -- expressions, each at its own type
-  pub args_limit : Setting → Flags → ExprReading → ExprLimits → ExprTrees → List ℕ → ℕ → Scope → Option NamedLimit
+  pub args_limit : Setting → Flags → ExprReading → LimitsOfExpr → ExprTrees → List ℕ → ℕ → Scope → Option NamedLimit
   args_limit e flags deeper limit no_expr tys n s = None
   args_limit e flags deeper limit (expr_and x rest) [] n s = None
   args_limit e flags deeper limit (expr_and x rest) (ty ∷ tys) n s =
       or_after (expr_limit e flags deeper limit x (Some ty) n s) (expr_with e flags deeper x (Some ty) s) (λ a. args_limit e flags deeper limit rest tys (n + a.expansions) a.scope)
 
   -- each value at its name's type, where the earlier names are bound
-  pub lets_limit : Setting → Flags → ExprReading → ExprLimits → LetTrees → ℕ → Scope → Option NamedLimit
+  pub lets_limit : Setting → Flags → ExprReading → LimitsOfExpr → LetTrees → ℕ → Scope → Option NamedLimit
   lets_limit e flags deeper limit no_let n s = None
   lets_limit e flags deeper limit (let_and name ty value at rest) n s =
       then_option (type_of_name e s ty.text) (λ own.
@@ -100,16 +100,16 @@ abbrev mutual
       lets_limit e flags deeper limit rest (n + a.expansions) a.scope))
 
 -- an expansion of an expression, where so many may nest and so many were made before it
-abbrev pub deeper_expr_limit : Setting → Flags → ℕ → ExprLimits
+abbrev pub deeper_expr_limit : Setting → Flags → ℕ → LimitsOfExpr
 deeper_expr_limit e flags zero x ty n s = Some of_nesting
 deeper_expr_limit e flags (suc d) x ty n s =
     if nat_le most_expansions n then Some of_expansions else expr_limit e flags (deeper_expr e flags d) (deeper_expr_limit e flags d) x ty (suc n) s
 
 -- a pattern, and an expression as if each term had a constructor, where so many expansions may nest and so many were made
-abbrev pub pattern_limits : Setting → Bool → ℕ → PatternLimits
+abbrev pub pattern_limits : Setting → Bool → ℕ → LimitsOfPattern
 pattern_limits e multi d = pattern_limit e multi (deeper_pattern e multi d) (deeper_pattern_limit e multi d)
 
-abbrev pub expr_limits : Setting → Flags → ℕ → ExprLimits
+abbrev pub expr_limits : Setting → Flags → ℕ → LimitsOfExpr
 expr_limits e flags d = expr_limit (all_made e) flags (deeper_expr (all_made e) flags d) (deeper_expr_limit (all_made e) flags d)
 
 -- the expression of an if-let, then its pattern

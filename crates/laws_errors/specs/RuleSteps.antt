@@ -8,7 +8,7 @@ use Rattle.model.specs.rules.Typed.{TypedPatterns, TypedIfLet, TypedRule}
 use Rattle.model.specs.lists.Setting.{Setting, Scope, new_scope, term_of, declared_flags, on_lhs, expr_type}
 use Rattle.model.specs.lists.Elaborated.{typed_iflet, root_parts, Sides, rule_of_sides, with_own_name, may_have_priority, most_nested}
 use Rattle.model.specs.claims.Refusals.{NamedLimit, Refusal, ill_typed, past_limit}
-use Rattle.laws_errors.specs.Steps.{argument_count, no_root, unknown_root, undeclared_root, priority, Wrong, Step, went_on, stopped, unless, here, nothing, noting, made_step, then_step, then_made}
+use Rattle.laws_errors.specs.Steps.{argument_count, no_root, unknown_root, undeclared_root, priority, Mistake, Step, went_on, stopped, unless, here, nothing, noting, made_step, then_step, then_made}
 use Rattle.laws_errors.specs.PatternSteps.{pattern_step, parts_step, deeper_step}
 use Rattle.laws_errors.specs.ExprSteps.{expr_step, deeper_expr_step}
 
@@ -67,29 +67,29 @@ rule_step e d id r n s = rooted_step e d id r n s (root_name r.pattern)
 abbrev pub step_of_rule : Setting → ℕ → RuleTree → List (List ℕ) → Step TypedRule
 step_of_rule e id r names = rule_step e most_nested id r 0 (new_scope names)
 
--- an error that is said of a rule: what is wrong and where, or which limit the rule at a place passes
-pub data Told : Type 0 where
-  is_wrong : (w : Wrong) → Told
-  passes : (limit : NamedLimit) (at : Position) → Told
+-- an error of a rule: what is wrong and where, or which limit the rule at a place passes
+pub data RuleError : Type 0 where
+  is_wrong : (w : Mistake) → RuleError
+  passes : (limit : NamedLimit) (at : Position) → RuleError
 
 -- the errors of a step on a rule at a place: a limit comes last
-abbrev pub errors_of : {X : Type 0} → Position → Step X → List Told
+abbrev pub errors_of : {X : Type 0} → Position → Step X → List RuleError
 errors_of at (went_on m s k es) = map is_wrong es
 errors_of at (stopped l s es) = map is_wrong es ++ passes l at ∷ []
 
 -- what errors are answered as
-abbrev pub refusal_of_told : Told → Refusal
-refusal_of_told (is_wrong w) = ill_typed w.at
-refusal_of_told (passes limit at) = past_limit limit at
+abbrev pub refusal_of_error : RuleError → Refusal
+refusal_of_error (is_wrong w) = ill_typed w.at
+refusal_of_error (passes limit at) = past_limit limit at
 
 -- what the rules of a list come to: those that are made, also with something wrong, the names met, and all errors
 pub record RulesStep : Type 0 where
   pub rules : List TypedRule
   pub names : List (List ℕ)
-  pub errors : List Told
+  pub errors : List RuleError
 
 -- errors before those of the rules that follow
-abbrev pub behind : List Told → RulesStep → RulesStep
+abbrev pub behind : List RuleError → RulesStep → RulesStep
 behind es l = record l { errors = es ++ l.errors }
 
 abbrev pub with_rule : TypedRule → RulesStep → RulesStep

@@ -6,7 +6,7 @@ use Rattle.model.specs.lists.Tables.{builtin_type, primitive_type, enum_type, Fl
 use Rattle.model.specs.lists.Setting.{Setting, new_scope}
 use Rattle.model.specs.claims.Refusals.{of_nesting}
 use Rattle.laws_errors.specs.Steps.{Why, unknown_extractor, unknown_constructor, unknown_variable, unknown_constant, unknown_let_type, rebound, bound_type, extractor_type, matched_constant_type, variable_type, constructor_type, constant_type, no_integer, no_truth, untyped_integer, argument_count, no_extractor, multi_extractor, no_constructor, impure_constructor, multi_constructor, partial_constructor, macro_argument, no_root, unknown_root, undeclared_root, priority}
-use Rattle.laws_errors.specs.RuleSteps.{Told, is_wrong, passes, errors_of, rule_step, rules_step}
+use Rattle.laws_errors.specs.RuleSteps.{RuleError, is_wrong, passes, errors_of, rule_step, rules_step}
 
 abbrev pub at : ℕ → Position
 at n = record { file = 0; offset = n }
@@ -148,14 +148,14 @@ f_of e = f_rule (two_of any any) [] e
 abbrev pub iflet : PatternTree → ExprTree → IfLetTree
 iflet p e = record { pattern = p; expr = e; at = at 81 }
 
-abbrev pub wrong : Why → ℕ → Told
+abbrev pub wrong : Why → ℕ → RuleError
 wrong why n = is_wrong (record { why = why; at = at n })
 
 -- what is said of a rule, where so many expansions may nest
-abbrev pub said_within : ℕ → RuleTree → List Told
+abbrev pub said_within : ℕ → RuleTree → List RuleError
 said_within d r = errors_of r.at (rule_step sample_setting d 0 r 0 (new_scope met_names))
 
-abbrev pub said : RuleTree → List Told
+abbrev pub said : RuleTree → List RuleError
 said r = said_within 4 r
 
 -- an unknown constant is left out, and a name that is bound twice is bound; all parts of too many are read for which there are types

@@ -10,23 +10,23 @@ use Rattle.model.specs.rules.Typed.{TypedPattern}
 use Rattle.model.specs.lists.Elaborated.{elaborated_pattern, elaborated_expr, most_expansions, TypedRules}
 use Rattle.model.specs.claims.Refusals.{NamedLimit}
 use Rattle.laws_errors.specs.AllMade.{all_made, rule_reading, rule_within, rules_within}
-use Rattle.laws_errors.specs.Steps.{Wrong, Step, went_on, stopped}
+use Rattle.laws_errors.specs.Steps.{Mistake, Step, went_on, stopped}
 use Rattle.laws_errors.specs.PatternSteps.{pattern_step, deeper_step}
 use Rattle.laws_errors.specs.ExprSteps.{expr_step, deeper_expr_step}
-use Rattle.laws_errors.specs.RuleSteps.{Told, errors_of, rule_step, step_of_rule, RulesStep, rules_step}
+use Rattle.laws_errors.specs.RuleSteps.{RuleError, errors_of, rule_step, step_of_rule, RulesStep, rules_step}
 
 -- what takes more expansions than may be, behind so many
-abbrev pub IsPast : {X : Type 0} → ℕ → Option (Typing X) → Type 0
-IsPast {X} n o = (a : Typing X) → o ≡ Some a → most_expansions < n + a.expansions
+abbrev pub TakesTooMany : {X : Type 0} → ℕ → Option (Typing X) → Type 0
+TakesTooMany {X} n o = (a : Typing X) → o ≡ Some a → most_expansions < n + a.expansions
 
 -- behind so many expansions, a step and what the function of typing says of the same: the step goes on with nothing wrong, and makes
 -- this; something is wrong, and it says None, also where a limit stops the step later; or a limit stops it first, and there is none
 -- within the limits
 pub data Agrees {X : Type 0} (n : ℕ) : Step X → Option (Typing X) → Type 0 where
   is_read : (x : X) (s : Scope) (k : ℕ) → n + k ≤ most_expansions → Agrees n (went_on (Some x) s k []) (Some (record { made = x; scope = s; expansions = k }))
-  is_wrong : (m : Option X) (s : Scope) (k : ℕ) (w : Wrong) (ws : List Wrong) → Agrees n (went_on m s k (w ∷ ws)) None
-  is_stopped : (l : NamedLimit) (s : Scope) (o : Option (Typing X)) → IsPast n o → Agrees n (stopped l s []) o
-  is_stopped_later : (l : NamedLimit) (s : Scope) (w : Wrong) (ws : List Wrong) → Agrees n (stopped l s (w ∷ ws)) None
+  is_wrong : (m : Option X) (s : Scope) (k : ℕ) (w : Mistake) (ws : List Mistake) → Agrees n (went_on m s k (w ∷ ws)) None
+  is_stopped : (l : NamedLimit) (s : Scope) (o : Option (Typing X)) → TakesTooMany n o → Agrees n (stopped l s []) o
+  is_stopped_later : (l : NamedLimit) (s : Scope) (w : Mistake) (ws : List Mistake) → Agrees n (stopped l s (w ∷ ws)) None
 
 -- what the function makes is of the type asked for
 abbrev pub MadeAtTypes : Setting → Bool → Type 0
@@ -60,7 +60,7 @@ abbrev pub RulesStepsAgree : Type 0
 RulesStepsAgree = (e : Setting) → TemplatesAreWhole e → (rs : List RuleTree) (id : ℕ) (names : List (List ℕ)) → ListAgrees (rules_step e rs id names) (rules_within e id rs names)
 
 -- the first error is the first one of a rule that isn't typed within the limits, though the rules before it are
-pub record FirstErrorIsOf (e : Setting) (trees : List RuleTree) (id : ℕ) (names : List (List ℕ)) (error : Told) (rest : List Told) : Type 0 where
+pub record FirstErrorIsOf (e : Setting) (trees : List RuleTree) (id : ℕ) (names : List (List ℕ)) (error : RuleError) (rest : List RuleError) : Type 0 where
   pub before : List RuleTree
   pub rule : RuleTree
   pub after : List RuleTree
@@ -68,11 +68,11 @@ pub record FirstErrorIsOf (e : Setting) (trees : List RuleTree) (id : ℕ) (name
   pub read : TypedRules
   pub typed : rules_within e id before names ≡ Some read
   pub untyped : rule_within e (id + length before) rule read.names ≡ None
-  pub own : List Told
-  pub later : List Told
+  pub own : List RuleError
+  pub later : List RuleError
   pub said : errors_of rule.at (step_of_rule e (id + length before) rule read.names) ≡ error ∷ own
   pub others : rest ≡ own ++ later
 
 abbrev pub FirstErrorIsTheBreach : Type 0
 FirstErrorIsTheBreach =
-    (e : Setting) → TemplatesAreWhole e → (trees : List RuleTree) (id : ℕ) (names : List (List ℕ)) (error : Told) (rest : List Told) → (rules_step e trees id names).errors ≡ error ∷ rest → FirstErrorIsOf e trees id names error rest
+    (e : Setting) → TemplatesAreWhole e → (trees : List RuleTree) (id : ℕ) (names : List (List ℕ)) (error : RuleError) (rest : List RuleError) → (rules_step e trees id names).errors ≡ error ∷ rest → FirstErrorIsOf e trees id names error rest

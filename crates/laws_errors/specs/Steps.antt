@@ -42,18 +42,18 @@ pub data Why : Type 0 where
   priority : Why
 
 -- and where
-pub record Wrong : Type 0 where
+pub record Mistake : Type 0 where
   pub why : Why
   pub at : Position
 
 -- what a step comes to: what it made, if anything, the scope after it, its expansions, and what is wrong; or the limit that stops
 -- the work, the scope where it does, and what is wrong before it
 pub data Step (X : Type 0) : Type 0 where
-  went_on : (made : Option X) (scope : Scope) (expansions : ℕ) (wrong : List Wrong) → Step X
-  stopped : (limit : NamedLimit) (scope : Scope) (wrong : List Wrong) → Step X
+  went_on : (made : Option X) (scope : Scope) (expansions : ℕ) (wrong : List Mistake) → Step X
+  stopped : (limit : NamedLimit) (scope : Scope) (wrong : List Mistake) → Step X
 
 -- what is wrong unless a test holds
-abbrev pub unless : Bool → Why → Position → List Wrong
+abbrev pub unless : Bool → Why → Position → List Mistake
 unless true why at = []
 unless false why at = record { why = why; at = at } ∷ []
 
@@ -65,7 +65,7 @@ abbrev pub nothing : {X : Type 0} → Scope → Why → Position → Step X
 nothing s why at = went_on None s 0 (record { why = why; at = at } ∷ [])
 
 -- this is wrong before what a step finds
-abbrev pub noting : {X : Type 0} → List Wrong → Step X → Step X
+abbrev pub noting : {X : Type 0} → List Mistake → Step X → Step X
 noting ws (went_on m s k es) = went_on m s k (ws ++ es)
 noting ws (stopped l s es) = stopped l s (ws ++ es)
 
