@@ -9,7 +9,7 @@ pub exprs_are_told_lem : ExprsAreTold
 exprs_are_told_lem = (refl, refl, refl, refl, refl, refl, refl, refl)
 
 pub rules_are_told_lem : RulesAreTold
-rules_are_told_lem = (refl, refl, refl, refl, refl, refl, refl, refl)
+rules_are_told_lem = (refl, refl, refl, refl, refl, refl, refl, refl, refl)
 
 pub lists_are_told_lem : ListsAreTold
-lists_are_told_lem = (refl, refl)
+lists_are_told_lem = (refl, refl, refl, refl, refl)

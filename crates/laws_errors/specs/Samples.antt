@@ -1,6 +1,6 @@
 -- Rules with two or three mistakes each, and the errors that are said of them: what is wrong behind the first mistake, at which of the
 -- places of a part it is said, and in which order, the other laws leave open.
-use Rattle.std.specs.Prelude.{◌≡◌, ℕ, ℤ, pos, Bool, true, false, List, [], ◌∷◌, map, Option, Some, None}
+use Rattle.std.specs.Prelude.{◌≡◌, ℕ, ℤ, pos, Bool, true, false, List, [], ◌∷◌, ◌++◌, map, Option, Some, None}
 use Rattle.model.specs.lists.Syntax.{Position, Name, PatternTree, var_pattern, bind_pattern, bool_pattern, prim_pattern, term_pattern, wildcard_pattern, and_pattern, macro_arg, PatternTrees, no_pattern, pattern_and, ExprTree, term_expr, var_expr, bool_expr, int_expr, prim_expr, let_expr, ExprTrees, no_expr, expr_and, no_let, let_and, IfLetTree, RuleTree}
 use Rattle.model.specs.lists.Tables.{builtin_type, primitive_type, enum_type, Flags, internal_constructor, external_constructor, internal_extractor, external_extractor, TermKindEntry, variant_term, declared_term, TermEntry}
 use Rattle.model.specs.lists.Setting.{Setting, new_scope}
@@ -83,7 +83,8 @@ abbrev pub entry : ℕ → ℕ → List ℕ → ℕ → TermKindEntry → TermEn
 entry id name arg_tys ret_ty kind = record { id = id; at = at 0; name = name; arg_tys = arg_tys; ret_ty = ret_ty; kind = kind }
 
 -- f (T T) T, pure, with rules; g (T T) T, both ways; h (T) V, both ways, multi; p (T) V, partial; twice (T) T, the template (g 0 0);
--- to_t (U) T, both ways, and to_u (T) U, that only says it converts; a variant of U
+-- to_t (U) T, both ways, and to_u (T) U, that only says it converts; a variant of U. g is said to convert
+-- to V, and doesn't: conversions by it never end
 abbrev pub sample_setting : Setting
 sample_setting = record {
   types = builtin_type 0 ∷ primitive_type 1 1 (at 0) ∷ enum_type 2 2 false false [] (at 0) ∷ primitive_type 3 3 (at 0) ∷ [];
@@ -98,7 +99,7 @@ sample_setting = record {
       ∷ entry 6 12 [] 2 (variant_term 0)
       ∷ entry 7 13 (1 ∷ []) 3 (declared_term (flags false false true) (Some (external_constructor 13)) None)
       ∷ [];
-  converters = ((2, 1), 4) ∷ ((1, 2), 5) ∷ [];
+  converters = ((2, 1), 4) ∷ ((1, 2), 5) ∷ ((1, 3), 1) ∷ [];
   expand = true;
 }
 
@@ -208,6 +209,10 @@ abbrev pub iflets_wrong : RuleTree
 iflets_wrong = f_rule (two_of (var_pattern (named x) (at 2)) any)
     (iflet (macro_arg 0 (at 3)) (one 4) ∷ iflet (and_pattern (two_of (var_pattern (named x) (at 5)) (prim_pattern (named k) (at 6))) (at 7)) (prim_expr (named l) (at 8)) ∷ []) (call x no_expr 9)
 
+-- a name around a wrong one is bound at its type: z can be used as a T
+abbrev pub bound_around : RuleTree
+bound_around = f_rule (two_of (var_pattern (named x) (at 2)) any) (iflet (bind_pattern (named z) (var_pattern (named x) (at 5)) (at 4)) (prim_expr (named l) (at 8)) ∷ []) (var z 9)
+
 -- the number of arguments of a root is said where the rule stands
 abbrev pub root_wrong : RuleTree
 root_wrong = f_rule (one_of (term_pattern (named nope) no_pattern (at 2))) [] (var lost 9)
@@ -222,6 +227,10 @@ no_priority = rule_of (term_pattern (named h) (one_of (macro_arg 0 (at 2))) (at 
 -- a limit stops all behind it, and comes last
 abbrev pub limit_passed : RuleTree
 limit_passed = f_rule (two_of (term_pattern (named nope) no_pattern (at 2)) (term_pattern (named twice) (one_of any) (at 3))) [] (var lost 9)
+
+-- conversions that don't end, behind a variable
+abbrev pub never_ending : RuleTree
+never_ending = f_rule (two_of (var_pattern (named x) (at 2)) any) (iflet (term_pattern (named g) (two_of any any) (at 3)) (prim_expr (named l) (at 4)) ∷ []) (var lost 9)
 
 abbrev pub PatternsAreTold : Type 0
 PatternsAreTold =
@@ -244,6 +253,7 @@ ExprsAreTold =
 abbrev pub RulesAreTold : Type 0
 RulesAreTold =
     (said iflets_wrong ≡ wrong untyped_integer 4 ∷ wrong (bound_type x 3 1) 5 ∷ wrong (matched_constant_type k 3 1) 6 ∷ wrong (unknown_constructor x true) 9 ∷ [])
+    × (said bound_around ≡ wrong (bound_type x 3 1) 5 ∷ [])
     × (said root_wrong ≡ wrong (argument_count f 1 2) 100 ∷ wrong (unknown_extractor nope) 2 ∷ wrong (unknown_variable lost) 9 ∷ [])
     × (said priority_wrong ≡ wrong (macro_argument 0) 2 ∷ wrong priority 100 ∷ [])
     × (said no_priority ≡ wrong (macro_argument 0) 2 ∷ wrong (unknown_variable lost) 9 ∷ [])
@@ -252,9 +262,13 @@ RulesAreTold =
     × (said (rule_of (term_pattern (named variant) no_pattern (at 1)) [] (var lost 9) None) ≡ wrong (undeclared_root variant) 100 ∷ [])
     × (said_within 0 limit_passed ≡ wrong (unknown_extractor nope) 2 ∷ passes of_nesting (at 100) ∷ [])
 
--- a rule of which nothing is made takes no id, one that is made with something wrong does; the errors of each come in order
+-- a rule of which nothing is made takes no id, one that is made with something wrong does; the errors of each come in order. Names are
+-- met in wrong rules too: those of unknown constants, of lets of unknown types, and those before a limit, behind which the list goes on
 abbrev pub ListsAreTold : Type 0
 ListsAreTold =
     ((rules_step sample_setting (no_priority ∷ priority_wrong ∷ f_of (one 9) ∷ root_wrong ∷ []) 0 met_names).errors
     ≡ wrong (macro_argument 0) 2 ∷ wrong (unknown_variable lost) 9 ∷ wrong (macro_argument 0) 2 ∷ wrong priority 100 ∷ wrong (argument_count f 1 2) 100 ∷ wrong (unknown_extractor nope) 2 ∷ wrong (unknown_variable lost) 9 ∷ [])
     × (map {B = ℕ × ℕ} (λ q. (q.id, q.root_term)) (rules_step sample_setting (no_priority ∷ priority_wrong ∷ f_of (one 9) ∷ root_wrong ∷ []) 0 met_names).rules ≡ (0, 2) ∷ (1, 0) ∷ [])
+    × ((rules_step sample_setting (patterns_wrong ∷ let_types ∷ []) 0 met_names).names ≡ met_names ++ x ∷ nope ∷ y ∷ z ∷ [])
+    × ((rules_step sample_setting (never_ending ∷ f_of (var lost 9) ∷ []) 0 met_names).errors ≡ passes of_nesting (at 100) ∷ wrong (unknown_variable lost) 9 ∷ [])
+    × ((rules_step sample_setting (never_ending ∷ f_of (var lost 9) ∷ []) 0 met_names).names ≡ met_names ++ x ∷ [])
