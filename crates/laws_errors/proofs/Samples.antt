@@ -6,7 +6,7 @@ pub patterns_are_told_lem : PatternsAreTold
 patterns_are_told_lem = (refl, refl, refl)
 
 pub exprs_are_told_lem : ExprsAreTold
-exprs_are_told_lem = (refl, refl, refl, refl, refl, refl, refl, refl)
+exprs_are_told_lem = (refl, refl, refl, refl, refl, refl, refl, refl, refl)
 
 pub rules_are_told_lem : RulesAreTold
 rules_are_told_lem = (refl, refl, refl, refl, refl, refl, refl, refl, refl)

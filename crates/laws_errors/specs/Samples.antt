@@ -184,7 +184,11 @@ partial_call = f_of (call p no_expr 10)
 abbrev pub open_let : RuleTree
 open_let = f_of (call g (args (let_of x t_name (one 11) (call nope no_expr 12) 13) (var x 14)) 10)
 
--- one around it whose body is made puts back its own name alone: y can be used, x can't
+-- so does one whose body is a constant of another type, which isn't made
+abbrev pub constant_in_let : RuleTree
+constant_in_let = f_of (call g (args (let_of x t_name (one 11) (prim_expr (named l) (at 12)) 13) (var x 14)) 10)
+
+-- a let around one whose body is made puts back its own name alone: y can be used, x can't
 abbrev pub let_around : RuleTree
 let_around = f_of (call g (args (let_of x t_name (one 11) (call g (args (let_of y t_name (one 12) (call nope no_expr 13) 14) (var x 15)) 16) 17) (call g (args (var y 18) (var x 19)) 20)) 10)
 
@@ -244,6 +248,7 @@ ExprsAreTold =
     ≡ wrong (constructor_type h (Some 1) 3) 10 ∷ wrong (impure_constructor h) 10 ∷ wrong (multi_constructor h) 10 ∷ wrong (argument_count h 2 1) 10 ∷ wrong (no_truth (Some 1) true) 11 ∷ [])
     × (said partial_call ≡ wrong (constructor_type p (Some 1) 3) 10 ∷ wrong (impure_constructor p) 10 ∷ wrong (partial_constructor p) 10 ∷ wrong (argument_count p 0 1) 10 ∷ [])
     × (said open_let ≡ wrong (unknown_constructor nope false) 12 ∷ [])
+    × (said constant_in_let ≡ wrong (constant_type l (Some 1) 3) 12 ∷ [])
     × (said let_around ≡ wrong (unknown_constructor nope false) 13 ∷ wrong (unknown_variable x) 19 ∷ [])
     × (said same_around ≡ wrong (unknown_constructor nope false) 13 ∷ wrong (unknown_variable x) 18 ∷ [])
     × (said let_types ≡ wrong (unknown_let_type nope y) 13 ∷ wrong (unknown_variable y) 12 ∷ wrong (unknown_constructor nope false) 14 ∷ wrong (unknown_variable z) 15 ∷ [])
