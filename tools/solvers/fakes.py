@@ -8,30 +8,32 @@ import subprocess
 import sys
 import tempfile
 
-# A solver that does what stands behind its name in the text: answers so, says something else, dies, or hangs.
+# A solver that does what stands behind its name in each text: answers so, says something else, dies, or hangs. It tells where a text ends.
 SOLVER = """#!%(python)s
 import os, re, signal, sys, time
-text = sys.stdin.read()
 open(%(room)r + "/started", "a").write("%(name)s\\n")
-found = re.search("; %(name)s ([^(\\n]*)", text)
-what = found.group(1) if found else "unsat"
-if what == "die":
-    print("unsat", flush=True)
-    os.kill(os.getpid(), signal.SIGSEGV)
-if what == "fail":
-    print("unsat")
-    sys.exit(1)
-if what == "hang":
-    time.sleep(60)
-if what not in ("nothing", "hang"):
-    print(what)
+what = "unsat"
+for line in sys.stdin:
+    found = re.match("; %(name)s ([^(\\n]*)", line)
+    what = found.group(1) if found else what
+    end = re.match('\\\\(echo "(.*)"\\\\)$', line)
+    if end and what in ("die", "fail"):
+        print("unsat", flush=True)
+        os.kill(os.getpid(), signal.SIGSEGV) if what == "die" else sys.exit(1)
+    if end and what == "hang":
+        time.sleep(60)
+    if end:
+        sys.stdout.write(what + "\\n" if what != "nothing" else "")
+        print(end.group(1), flush=True)
+    if line == "(reset)\\n":
+        what = "unsat"
 """
 
 # Which texts lack an answer, and at last the records.
 ISLE = """#!%(python)s
 import json, re, sys
 words = sys.argv[1:]
-path, asked = words[words.index("--answers") + 1], words[-1]
+path, asked = words[words.index("--answers") + 1], next(word for word in words if word.rpartition("/")[2].startswith("asked"))
 if asked.rpartition(".")[2].isdigit():
     sys.exit(int(asked.rpartition(".")[2]))
 records, text, behind = {}, "", False
@@ -62,7 +64,7 @@ def text(what, number=0):
 ROWS = [
     ("unsat", ["unsat"], [], ["= z3 20", "< unsat"]),
     ("sat", ["sat"], [], ["= z3 20", "< sat"]),
-    ("dies", ["die"], [], ["= z3 20", "< nothing: it was ended by signal 11", "= cvc5 20", "< nothing: it was ended by signal 11"]),
+    ("dies", ["die"], [], ["= z3 20", "< nothing: it ended with the status -11", "= cvc5 20", "< nothing: it ended with the status -11"]),
     ("fails", ["fail"], [], ["= z3 20", "< nothing: it ended with the status 1", "= cvc5 20", "< nothing: it ended with the status 1"]),
     ("says nothing", ["nothing"], [], ["= z3 20", "= cvc5 20"]),
     ("nonsense", ["unsat unsat"], [], ["= z3 20", "< unsat unsat", "= cvc5 20", "< unsat unsat"]),
@@ -73,6 +75,7 @@ ROWS = [
     ("the second one isn't asked", [{"z3": "unknown", "cvc5": "unsat"}], ["--solver", "z3"], ["= z3 20", "< unknown"]),
     ("both are asked", [{"z3": "sat", "cvc5": "unsat"}], ["--solver", "both", "--jobs", "1"], ["= z3 20", "< sat", "= cvc5 20", "< unsat"]),
     ("one text twice", ["unsat", "unsat"], [], ["= z3 20", "< unsat"]),
+    ("dies, and starts again", ["die", "sat"], ["--solver", "z3", "--jobs", "1"], ["= z3 20", "< nothing: it ended with the status -11", "= z3 20", "< sat"]),
 ]
 
 
@@ -122,13 +125,16 @@ def main(script):
         check("more time asks again what isn't known", "= z3 30" in third[0] and len(open(started).read().split()) == 2, third)
         with open(kept, "a", encoding="utf-8") as file:
             file.write("> cut")
-        check("a file that is cut off", ask(script, room, texts + [text("sat", 2)], ["--answers", kept])[1] == 0, None)
-        found = ask(script, room, texts, ["--deny"])
-        check("--deny is isle's", found[1] == 1, found)
+        found = ask(script, room, texts + [text("sat", 2)], ["--answers", kept])
+        check("a file that is cut off", found[1] == 0 and found[0].count("> ; number 2") == 1 and "> cut" in found[0], found)
+        os.remove(started)
+        again = ask(script, room, texts + [text("sat", 2)], ["--answers", kept])
+        check("what is behind a text that was cut off is kept", again == found and not os.path.exists(started), again)
+        for word in ("--deny", "--ci"):
+            check("%s is isle's" % word, ask(script, room, texts, [word])[1] == 1, None)
         for status, wanted in ((1, 1), (2, 2), (3, 70), (70, 70)):
             found = run(script, room, [os.path.join(room, "asked.%d" % status)])
             check("isle ends with %d" % status, found[1] == wanted, found)
-        check("no file", run(script, room, [])[1] == 2, None)
         check("no seconds", run(script, room, ["--seconds", "0", "a"])[1] == 2, None)
         os.remove(os.path.join(room, "cvc5"))
         empty = os.path.join(room, "empty")

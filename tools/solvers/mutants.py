@@ -129,7 +129,8 @@ def forms_of(text):
 
 
 def told(files, answers, options, extra=()):
-    command = [sys.executable, SCRIPT, "--jobs", "1", "--seconds", str(options.seconds), "--answers", answers] + list(extra) + files
+    """The words that are told of rules, by their lines and terms, and all that is told."""
+    command = [sys.executable, SCRIPT, "--jobs", str(options.jobs), "--seconds", str(options.seconds), "--answers", answers] + list(extra) + files
     run = subprocess.run(command, stdout=subprocess.PIPE, stderr=subprocess.STDOUT)
     out = run.stdout.decode("utf-8")
     words = {}
@@ -236,6 +237,7 @@ def main(arguments):
     parser.add_argument("--seed", type=int, default=1)
     parser.add_argument("--per", type=int, default=80, metavar="N", help="mutants of each set (80)")
     parser.add_argument("--seconds", type=int, default=8, help="the time for each text (8)")
+    parser.add_argument("--jobs", type=int, default=1, help="how many texts at a time (1)")
     parser.add_argument("--answers", metavar="FILE", help="files of records, FILE.SET")
     parser.add_argument("sets", nargs="*", metavar="SET")
     options = parser.parse_args(arguments)
