@@ -64,6 +64,23 @@ def ring_of_terms(size):
     return (f"(decl f{i} (u8) u8) (rule (f{i} x) (f{(i + 1) % size} x))" for i in range(size))
 
 
+@text("terms that call the one behind", 18000)
+def calling_behind(size):
+    yield from (f"(decl f{i} (u8) u8) (rule (f{i} x) (f{i + 1} x))" for i in range(size))
+    yield f"(decl f{size} (u8) u8) (rule (f{size} x) x)"
+
+
+@text("a ring of terms with `rec`", 16000)
+def ring_with_rec(size):
+    return (f"(decl rec f{i} (u8) u8) (rule (f{i} x) (f{(i + 1) % size} x))" for i in range(size))
+
+
+@text("a term that calls all others", 14000)
+def calling_all(size):
+    yield "(decl partial f (u32) u8)"
+    yield from numbered("(decl g# (u8) u8) (rule (g# x) x) (rule (f #) (g# 1))", size)
+
+
 @text("constants", 15000)
 def constants(size):
     yield TERM
@@ -149,6 +166,12 @@ def shadowed(size):
     yield from numbered("(rule (f #) #)", size)
 
 
+@text("rules that all shadow one another", 1000, 2000, 30000)
+def shadowing(size):
+    yield TERM
+    yield from numbered("(rule # (f x) #)", size)
+
+
 @text("rules of one term, no key apart", 6000)
 def no_key(size):
     return [shapes.text("ints", size)]
@@ -209,6 +232,65 @@ def undefined(size):
     yield from numbered("(decl h# (u32) u32) (rule # (f x) (h# x))", size)
 
 
+@text("misspelled variants", 10000)
+def misspelled_variants(size):
+    yield "(type T (enum " + " ".join(f"(VariantOfNumber{i})" for i in range(size)) + "))"
+    yield "(decl f (T) u32)"
+    yield from numbered("(rule (f (T.VariantOfNubmer#)) #)", size)
+
+
+@text("misspelled types", 12000)
+def misspelled_types(size):
+    return numbered("(type TheType# (primitive T#)) (decl f# (TheTpye#) u32)", size)
+
+
+@text("misspelled constants", 12000)
+def misspelled_constants(size):
+    yield TERM
+    yield from numbered("(extern const $THE_NAME_# u32) (rule (f $THE_NAEM_#) #)", size)
+
+
+@text("one name for all terms", 30000)
+def one_term_name(size):
+    return numbered("(decl f (u32) u32) ; #", size)
+
+
+@text("too many arguments", 20000)
+def argument_counts(size):
+    yield WRITER
+    yield TERM
+    yield from numbered("(rule # (f x) (g x x # x))", size)
+
+
+@text("functions of terms that aren't declared", 15000)
+def undeclared(size):
+    return numbered("(extern constructor h# h#) (extern extractor h# h#)", size)
+
+
+@text("conversions twice", 15000)
+def conversions(size):
+    yield "(type A (primitive A)) (type B (primitive B))"
+    yield from numbered("(decl c# (A) B) (convert A B c#)", size)
+
+
+@text("conversions that are missing", 15000)
+def missing_conversions(size):
+    yield "(type A (primitive A)) (type B (primitive B)) (decl f (A) B)"
+    yield from numbered("(rule # (f x) x)", size)
+
+
+@text("literals of no integer type", 20000)
+def wrong_literals(size):
+    yield "(type A (primitive A)) (decl f (A) A)"
+    yield from numbered("(rule # (f #) #)", size)
+
+
+@text("variables bound twice", 14000)
+def bound_twice(size):
+    yield "(decl f (u32 u32) u32)"
+    yield from numbered("(rule # (f x x @ y) (let ((z# u32 x) (z# u32 q#)) z#))", size)
+
+
 @text("unreachable rules", 15000)
 def unreachable(size):
     yield "(type T (enum (A) (B)))"
@@ -234,6 +316,37 @@ def behind(size):
 def unclosed(size):
     yield TERM
     yield from numbered("(rule # (f x) (g x)", size)
+
+
+# ---- Half-written ----------------------------------------------------------------------------------------------------
+
+
+@text("a backend's rules, cut in the middle of", 7000)
+def cut(size):
+    written = shapes.text("backend", size)
+    return written[: len(written) // 2].encode("utf-8")
+
+
+@text("a backend's rules, a parenthesis missing in each of", 7000)
+def broken(size):
+    return (line.replace("))", ")", 1) for line in shapes.text("backend", size).splitlines())
+
+
+@text("rules that are begun", 100000)
+def begun(size):
+    yield TERM
+    yield from numbered("(rule (f", size)
+
+
+@text("rules without a right side", 50000)
+def without_right_side(size):
+    yield TERM
+    yield from numbered("(rule (f #))", size)
+
+
+@text("deep: a pattern that is begun,", 990)
+def begun_pattern(size):
+    return [EXTRACTOR, TERM + " (rule (f " + "(e " * size]
 
 
 # ---- One rule --------------------------------------------------------------------------------------------------------
@@ -367,6 +480,16 @@ def long_names(size):
 @text("an integer of digits", 1000000)
 def long_integer(size):
     return [f"{TERM}(rule (f {'1' * size}) 1)"]
+
+
+@text("bytes 0", 1000000)
+def zeros(size):
+    return b"\0" * size
+
+
+@text("line feeds behind carriage returns", 20000)
+def carriage_returns(size):
+    return "".join(f"(decl f{i} (u32) u32)\r\n(rule (f{i} y) x)\r\n" for i in range(size)).encode("ascii")
 
 
 @text("a comment", 1000000)
