@@ -171,7 +171,7 @@ matches_of cs r e (loop_test s) h = absurd h
 
 -- of numbers that ascend none behind one of them is below it
 behind_ascends : (cs : List (ℕ × WrittenConstraint)) (k : ℕ) (x c : ℕ × WrittenConstraint) → ascends (sites_of cs) ≡ true → k < length cs → x ≡ get_or cs k x → Contains (drop k cs) c → x.0 ≤ c.0
-behind_ascends [] k x c a l e m = absurd (nothing_in c m)
+behind_ascends [] k x c a l e m = omega (arith, l)
 behind_ascends (d ∷ ds) zero x c a l e m =
     elim (in_cases d c ds m) [
       | inl i ↦ let j : x.0 ≡ c.0 = ap (λ y. y.0) (e ∙ i) in omega (arith, j)
