@@ -1,5 +1,5 @@
 -- The search for the best open test: one test more, those of one more thing, and when all that may cover a rule are tried.
-use Rattle.std.proofs.Common.{◌≡◌, ℕ, ◌+◌, ◌<◌, Bool, true, false, not, ◌&&◌, ◌==◌, nat_lt, List, [], ◌∷◌, ◌++◌, map, option_map, take, drop, get_or, length, is_some, Option, Some, None, Contains, slice_get, refl, sym, ap, ◌∙◌, subst, inl, inr, ◌⊎◌, eqb-true, eq-eqb}
+use Rattle.std.proofs.Common.{◌≡◌, ℕ, ◌+◌, ◌<◌, Bool, true, false, not, ◌&&◌, ◌==◌, nat_lt, List, [], ◌∷◌, ◌++◌, map, option_map, take, drop, get_or, length, is_some, Option, Some, None, Contains, slice_get, refl, sym, ap, ◌∙◌, subst, inl, inr, ◌⊎◌, eqb-true, eq-eqb, arith, zero, suc, ◌≤◌}
 use Rattle.std.specs.Global.{Vec}
 use Rattle.std.specs.List.{filter, find, list_any}
 use Rattle.std.proofs.lemmas.Bool.{cases_Bool, cond-true, cond-false, and_from, and_parts, not-false, or_cases, false≢true}
@@ -10,8 +10,8 @@ use Rattle.model.specs.sites.Sites.{iterator_site, SetRule, Site, SiteSet}
 use Rattle.model.specs.trees.Places.{Around, is_in, class, joins, joins_in, constraint_at}
 use Rattle.model.specs.trees.Tests as Tests
 use Rattle.model.specs.trees.Tests.{match_test, equal_test, loop_test, needs, is_needed, needs_at, cover, IsOpen, is_at_hand}
-use Rattle.model.proofs.Members.{nothing_in, in_cases, in_head, in_tail, in_alone, from_map, one_passes, member_found, member_from_get, passes_any}
-use Rattle.core_rule_sets.specs.Listings.{class_lists}
+use Rattle.model.proofs.Members.{nothing_in, in_cases, in_head, in_map, in_tail, in_alone, from_map, one_passes, member_found, member_from_get, passes_any}
+use Rattle.core_rule_sets.specs.Listings.{ascends, class_lists, sites_of}
 use Rattle.core_rule_sets.specs.SiteViews.{constraint_views}
 use Rattle.core_rule_sets.specs.declared.trie_again.Constraint.{Constraint as WrittenConstraint}
 use Rattle.core_serialize.specs.declared.open_tests.BestSearch.{BestSearch}
@@ -22,7 +22,8 @@ use Rattle.core_serialize.specs.Bars.{reaches}
 use Rattle.core_serialize.specs.FieldTests.{is_iterator_of}
 use Rattle.core_serialize.specs.Growing.{CanGrow}
 use Rattle.core_serialize.specs.NeededTests.{EmittedAreJoined, IsBestSearch, SearchesMore, OfSome, IsTest, IsMatch, IsMatchOf, IsEqualOf, IsPairOf, IsPairWith, IsWanted, IsLoopBy, IsLoopOf}
-use Rattle.core_serialize.specs.TestViews.{test_view, greater_test, IsBestOpen, IsNoBetter, IsOpenScored, IsScored}
+use Rattle.core_serialize.specs.TestViews.{test_view, greater_test, IsBestOpen, IsFrom, IsNoBetter, IsOpenScored, IsScored}
+use Rattle.core_serialize.proofs.Ascents.{ascends_head, ascends_tail}
 use Rattle.core_serialize.proofs.BarSteps.{highest_need}
 use Rattle.core_serialize.proofs.FieldSteps.{picks_call}
 use Rattle.core_serialize.proofs.TestSteps.{greater_open, no_better_itself, no_better_kept}
@@ -89,6 +90,24 @@ module _ (set : SiteSet) (ar : Around) (here : List ℕ) where
   pub one_below : (t : Test) (search : BestSearch) → IsNoBetter set ar here search.best (test_view t) → IsBestSearch set ar here search → SearchesMore set ar here (IsTest t) search search
   one_below t search n h = record { now = h; kept = λ u l. l; tried = λ u o i. subst (IsNoBetter set ar here search.best) i n }
 
+  -- the match of a site that is a source around isn't open
+  pub one_closed : (s : ℕ) (search : BestSearch) → is_in s (Tests.sources_around ar) ≡ true → IsBestSearch set ar here search → SearchesMore set ar here (IsMatch s) search search
+  one_closed s search l h = record {
+    now = h;
+    kept = λ u n. n;
+    tried = λ u o i. absurd (false≢true (ap not (sym l) ∙ (and_parts (is_at_hand set ar s) (not (is_in s (Tests.sources_around ar))) (subst (IsOpen set ar) (sym i) o)).1));
+  }
+
+  -- no equality is better
+  pub equalities_below : (r : SetRule) (least : ℕ) (search : BestSearch) → least ≡ 0 → ((u : Tests.Test) → IsFrom 1 least u → IsNoBetter set ar here search.best u)
+      → IsBestSearch set ar here search → SearchesMore set ar here (IsEqualOf r) search search
+  equalities_below r least search z f h = record { now = h; kept = λ u l. l; tried = below }
+    where
+      below : (u : Tests.Test) → IsOpen set ar u → IsEqualOf r u → IsNoBetter set ar here search.best u
+      below (match_test s) o k = absurd k
+      below (equal_test a b) o k = f (equal_test a b) (refl, omega (arith, z))
+      below (loop_test s) o k = absurd k
+
   -- where all emitted sites are joined, no open equality has two of them
   pub none_both : (sites : List ℕ) (a b : ℕ) → EmittedAreJoined ar sites → Contains sites a → Contains sites b → IsOpen set ar (equal_test a b) → (is_in a ar.emitted && is_in b ar.emitted) ≡ false
   none_both sites a b j c d o =
@@ -149,6 +168,34 @@ pub matches_of : (cs : List (ℕ × WrittenConstraint)) (r : SetRule) → r.cons
 matches_of cs r e (match_test s) h = let k = asked_one cs s (sym (ap (λ l. is_some (constraint_at l s)) e) ∙ h) in (k.0, k.1, ap match_test k.2)
 matches_of cs r e (equal_test a b) h = absurd h
 matches_of cs r e (loop_test s) h = absurd h
+
+-- of numbers that ascend none behind one of them is below it
+behind_ascends : (cs : List (ℕ × WrittenConstraint)) (k : ℕ) (x c : ℕ × WrittenConstraint) → ascends (sites_of cs) ≡ true → k < length cs → x ≡ get_or cs k x → Contains (drop k cs) c → x.0 ≤ c.0
+behind_ascends [] k x c a l e m = omega (arith, l)
+behind_ascends (d ∷ ds) zero x c a l e m =
+    elim (in_cases d c ds m) [
+      | inl i ↦ let j : x.0 ≡ c.0 = ap (λ y. y.0) (e ∙ i) in omega (arith, j)
+      | inr n ↦
+          let g = ascends_head d.0 (sites_of ds) a c.0 (in_map (λ y. y.0) ds c n) in
+          let j : x.0 ≡ d.0 = ap (λ y. y.0) e in
+          omega (arith, g, j)
+    ]
+behind_ascends (d ∷ ds) (suc k) x c a l e m = behind_ascends ds k x c (ascends_tail d.0 (sites_of ds) a) (omega (arith, l)) e m
+
+-- where no match of a site or a later one is better, the matches before that site are all that a rule needs
+pub matches_below : (set : SiteSet) (ar : Around) (here : List ℕ) (cs : List (ℕ × WrittenConstraint)) (r : SetRule) (k : ℕ) (x : ℕ × WrittenConstraint) (old new : BestSearch) → r.constraints ≡ constraint_views cs
+    → ascends (sites_of cs) ≡ true → k < length cs → x ≡ get_or cs k x → SearchesMore set ar here (OfSome (λ c. IsMatch c.0) (take k cs)) old new
+    → ((u : Tests.Test) → IsFrom 0 x.0 u → IsNoBetter set ar here new.best u) → SearchesMore set ar here (IsMatchOf r) old new
+matches_below set ar here cs r k x old new e a l i h f = record {
+  now = h.now;
+  kept = h.kept;
+  tried = λ u o m.
+      let w = matches_of cs r e u m in
+      elim (Contains-append_cases (take k cs) (drop k cs) w.0 (subst (λ y. Contains y w.0) (sym (take-append-drop k cs)) w.1)) [
+        | inl b ↦ h.tried u o (w.0, b, w.2)
+        | inr b ↦ subst (IsNoBetter set ar here new.best) w.2 (f (match_test w.0.0) (refl, behind_ascends cs k x w.0 a l i b))
+      ];
+}
 
 joined_one : (cs : List (Vec ℕ)) (a b : ℕ) → joins_in (class_lists cs) a b ≡ true → (c : Vec ℕ) × Contains cs c × (Contains c.items a × Contains c.items b)
 joined_one [] a b h = absurd (false≢true h)

@@ -12,7 +12,7 @@ use Rattle.model.proofs.Members.{in_head, in_tail}
 use Rattle.laws_trees.proofs.Scores.{scores_are_ordered_lem}
 use Rattle.core_serialize.specs.declared.tests.Test.{Test}
 use Rattle.core_serialize.specs.declared.tests.Scored.{Scored}
-use Rattle.core_serialize.specs.TestViews.{test_view, beats, counted_score, greater_test, IsNoBetter, IsOpenScored, IsScored}
+use Rattle.core_serialize.specs.TestViews.{test_view, beats, counted_score, greater_test, IsFrom, IsNoBetter, IsOpenScored, IsScored}
 
 -- 1. filters
 module _ {X : Type 0} where
@@ -128,3 +128,49 @@ pair_below set ar here a b are_joined y none h =
           | inl t ↦ let k = ltb-true n m t in let g = ltb-false 0 m h in absurd (omega (arith, k, g))
           | inr f ↦ f
         ]
+
+-- a test of a form, of this site or a later one, where the best such test that covers all and has emitted sites isn't greater
+module _ (set : SiteSet) (ar : Around) (here : List ℕ) (form site : ℕ) (y : Tests.Score) where
+  -- a lesser number counts for more
+  later_site : (s : ℕ) (last other : Bool) → site ≤ s → (last ≡ false → other ≡ false) → or_later (nat_lt site y.site) (site == y.site) last ≡ false → or_later (nat_lt s y.site) (s == y.site) other ≡ false
+  later_site s last other l up h =
+      let p = or_parts (nat_lt site y.site) ((site == y.site) && last) h in
+      let k = ltb-false site y.site p.0 in
+      elim (cases_Bool (nat_lt s y.site)) [
+        | inl t ↦ let q = ltb-true s y.site t in absurd (omega (arith, q, l, k))
+        | inr f ↦
+            ap (λ b. b || ((s == y.site) && other)) f
+            ∙ elim (cases_Bool (s == y.site)) [
+              | inl t ↦
+                  let e = eqb-true s y.site t in
+                  let same : site ≡ y.site = omega (arith, e, l, k) in
+                  ap (λ b. b && other) t ∙ up (sym (ap (λ b. b && last) (eq-eqb site y.site same)) ∙ p.1)
+              | inr g ↦ ap (λ b. b && other) g
+            ]
+      ]
+
+  no_later : (n : ℕ) → nat_lt 0 y.other ≡ false → nat_lt n y.other ≡ false
+  no_later n h =
+      elim (cases_Bool (nat_lt n y.other)) [
+        | inl t ↦ let k = ltb-true n y.other t in let g = ltb-false 0 y.other h in absurd (omega (arith, k, g))
+        | inr f ↦ f
+      ]
+
+  as_most : (b : Bool) → as_number b ≤ 1
+  as_most true = omega arith
+  as_most false = omega arith
+
+  bounded : (u : Tests.Test) (s other : ℕ) (emitted : Bool) → site ≤ s → is_greater (record { count = length here; emitted = 1; form = form; site = site; other = 0 }) y ≡ false
+      → is_greater (record { count = length (cover set.rules here u); emitted = as_number emitted; form = form; site = s; other = other }) y ≡ false
+  bounded u s other emitted l h =
+      let both = length-filter_both (is_covered set.rules here u) (λ i. not (is_covered set.rules here u i)) (λ i. refl) here in
+      let count = length (cover set.rules here u) in
+      let most : count ≤ length here = omega (arith, both) in
+      fewer (length here) count y.count _ _ most
+      (fewer 1 (as_number emitted) y.emitted _ _ (as_most emitted)
+      (behind_same (nat_lt form y.form) (form == y.form) _ _ (later_site s (nat_lt 0 y.other) (nat_lt other y.other) l (no_later other)))) h
+
+  pub from_below : (u : Tests.Test) → IsFrom form site u → is_greater (record { count = length here; emitted = 1; form = form; site = site; other = 0 }) y ≡ false → is_greater (score set ar here u) y ≡ false
+  from_below (match_test s) f h = subst (λ n. is_greater (record { count = length (cover set.rules here (match_test s)); emitted = as_number (is_in s ar.emitted); form = n; site = s; other = 0 }) y ≡ false) f.0 (bounded (match_test s) s 0 (is_in s ar.emitted) f.1 h)
+  from_below (equal_test a b) f h = subst (λ n. is_greater (record { count = length (cover set.rules here (equal_test a b)); emitted = as_number (is_in a ar.emitted && is_in b ar.emitted); form = n; site = a; other = b }) y ≡ false) f.0 (bounded (equal_test a b) a b (is_in a ar.emitted && is_in b ar.emitted) f.1 h)
+  from_below (loop_test s) f h = subst (λ n. is_greater (record { count = length (cover set.rules here (loop_test s)); emitted = as_number (is_in s ar.emitted); form = n; site = s; other = 0 }) y ≡ false) f.0 (bounded (loop_test s) s 0 (is_in s ar.emitted) f.1 h)

@@ -1,5 +1,5 @@
 -- Tests and scores, sites by their numbers.
-use Rattle.std.specs.Prelude.{◌≡◌, ◌≢◌, ◌⊎◌, ◌&&◌, ℕ, Bool, false, List, [], Option, Some, None, if◌then◌else◌}
+use Rattle.std.specs.Prelude.{◌≡◌, ◌≢◌, ◌≤◌, ◌⊎◌, ◌&&◌, ℕ, Bool, false, List, [], Option, Some, None, if◌then◌else◌}
 use Rattle.model.specs.sites.Sites.{SiteSet}
 use Rattle.model.specs.trees.Places.{Around, is_in}
 use Rattle.model.specs.trees.Sound.{as_number}
@@ -52,6 +52,12 @@ IsOpenScored set ar here (Some s) = IsOpen set ar (test_view s.test) × IsScored
 abbrev pub IsNoBetter : SiteSet → Around → List ℕ → Option Scored → Tests.Test → Type 0
 IsNoBetter set ar here None u = ⊥
 IsNoBetter set ar here (Some s) u = is_greater (score set ar here u) (score_view s.score) ≡ false
+
+-- a test of a form: of this site, or a later one
+abbrev pub IsFrom : ℕ → ℕ → Tests.Test → Type 0
+IsFrom form site (match_test s) = (form ≡ 0) × (site ≤ s)
+IsFrom form site (equal_test a b) = (form ≡ 1) × (site ≤ a)
+IsFrom form site (loop_test s) = (form ≡ 2) × (site ≤ s)
 
 -- an open test with its score, where each open test that is better covers no rule
 pub record IsBestOpen (set : SiteSet) (ar : Around) (here : List ℕ) (best : Option Scored) : Type 0 where

@@ -6,14 +6,14 @@ ghost use Rattle.model.specs.trees.Places.{available, is_in, joins, waits};
 ghost use Rattle.model.specs.trees.Tests as Tests;
 ghost use Rattle.core_rule_sets.specs.SiteViews.{set_rule_view, set_view, site_view};
 ghost use Rattle.core_serialize.specs.PlaceViews.{around_at, here_at, set_at};
-ghost use Rattle.core_serialize.specs.NeededTests.{AreFoundAt, EmittedAreJoined, IsSearchAt, SearchesAt, IsEqualOf, IsLoopBy, IsLoopOf, IsMatchOf, IsPairOf, IsPairWith, IsTest, IsWanted, OfSome};
+ghost use Rattle.core_serialize.specs.NeededTests.{AreFoundAt, EmittedAreJoined, IsSearchAt, SearchesAt, IsEqualOf, IsLoopBy, IsLoopOf, IsMatch, IsMatchOf, IsPairOf, IsPairWith, IsTest, IsWanted, OfSome};
 ghost use Rattle.core_serialize.specs.TestViews.{test_view, IsBestOpen};
 
 use crate::around::{are_joined, is_brought, is_emitted, is_source, must_wait, number_of};
 use crate::binds::sources_of;
 use crate::place::Place;
 use crate::tests::{
-    Scored, Test, greater_of, needs_at, pairs_stay_below, reach_count, stays_below,
+    Scored, Test, all_stay_below, greater_of, needs_at, pairs_stay_below, reach_count, stays_below,
 };
 use core_containers::stacks::Stack;
 use core_rule_sets::trie_again::{Binding, BindingId, Rule, RuleSet};
@@ -200,7 +200,24 @@ fn try_test(
     Ok(())
 }
 
-// Tries the matches of the sites of which a rule asks something.
+// Tries the match of a site. Most are left out at once, since an arm around has the site as its source.
+fn try_match(
+    place: &Place<'_>,
+    search: &mut BestSearch,
+    site: BindingId,
+    earlier: usize,
+) -> Result<(), AllocError>
+    requires { IsSearchAt place.now search.old }
+    ensures { OnOk result (SearchesAt place.now (IsMatch site) search.old search.new) }
+{
+    if is_source(place, site) {
+        return Ok(());
+    }
+    try_test(place, search, earlier, Test::Match { source: site })
+}
+
+// Tries the matches of the sites of which a rule asks something, by ascending sites: those behind a site are left out where the best
+// test so far is better than any match of that site or a later one.
 fn try_matches(
     place: &Place<'_>,
     search: &mut BestSearch,
@@ -211,8 +228,10 @@ fn try_matches(
     ensures { OnOk result (SearchesAt place.now (IsMatchOf (set_rule_view rule.now)) search.old search.new) }
 {
     for asked in rule.constraints() {
-        let test = Test::Match { source: asked.0 };
-        try_test(place, search, earlier, test)?;
+        if all_stay_below(place, search.best, 0, asked.0) {
+            return Ok(());
+        }
+        try_match(place, search, asked.0, earlier)?;
     }
     Ok(())
 }
@@ -309,6 +328,9 @@ fn try_equalities(
     requires { IsSearchAt place.now search.old }
     ensures { OnOk result (SearchesAt place.now (IsEqualOf (set_rule_view rule.now)) search.old search.new) }
 {
+    if all_stay_below(place, search.best, 1, BindingId::from(0)) {
+        return Ok(());
+    }
     for class in rule.classes() {
         try_pairs(place, search, class, earlier)?;
     }

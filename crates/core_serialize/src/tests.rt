@@ -11,7 +11,7 @@ ghost use Rattle.core_rule_sets.specs.SiteViews.{set_rule_view, set_view};
 ghost use Rattle.core_serialize.specs.Bars as Bars;
 ghost use Rattle.core_serialize.specs.Bars.{reaches};
 ghost use Rattle.core_serialize.specs.PlaceViews.{around_at, here_at, set_at};
-ghost use Rattle.core_serialize.specs.TestViews.{test_view, counted_score, score_view, greater_test, IsNoBetter, IsScored};
+ghost use Rattle.core_serialize.specs.TestViews.{test_view, counted_score, score_view, greater_test, IsFrom, IsNoBetter, IsScored};
 
 use crate::around::is_emitted;
 use crate::parts::part;
@@ -302,6 +302,30 @@ pub fn stays_below(place: &Place<'_>, best: Option<Scored>, test: &Test) -> bool
 {
     match best {
         Some(best) => !is_greater(score_by(place, test, place.here.len()), best.score),
+        None => false,
+    }
+}
+
+// A score that no test of a form, of this site or a later one, exceeds: it covers all rules of the place, and its sites are emitted.
+fn most_from(place: &Place<'_>, form: u8, site: BindingId) -> Score
+    ensures { score_view result ≡ record { count = length (here_at place.now); emitted = 1; form = form; site = site; other = 0 } }
+{
+    Score {
+        count: place.here.len(),
+        is_emitted: true,
+        form,
+        site,
+        other: BindingId::from(0),
+    }
+}
+
+/// Whether no test of a form, of this site or a later one, can be better than the best so far. Neither the test's own sites nor its
+/// rules are looked at.
+pub fn all_stay_below(place: &Place<'_>, best: Option<Scored>, form: u8, site: BindingId) -> bool
+    ensures { result ≡ true → (u : Tests.Test) → IsFrom form site u → IsNoBetter (set_at place.now) (around_at place.now) (here_at place.now) best u }
+{
+    match best {
+        Some(best) => !is_greater(most_from(place, form, site), best.score),
         None => false,
     }
 }

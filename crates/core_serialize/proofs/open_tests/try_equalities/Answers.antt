@@ -2,7 +2,7 @@ use Rattle.std.proofs.Common.{sym, subst, take}
 use Rattle.core_rule_sets.specs.SiteViews.{set_rule_view}
 use Rattle.core_serialize.specs.NeededTests.{SearchesMore, IsEqualOf, IsPairOf, OfSome}
 use Rattle.core_serialize.specs.PlaceViews.{around_at, here_at, set_at}
-use Rattle.core_serialize.proofs.BestSearches.{searches_as, searches_more, searches_none, equalities_of}
+use Rattle.core_serialize.proofs.BestSearches.{equalities_below, searches_as, searches_more, searches_none, equalities_of}
 use Rattle.core_serialize.proofs.open_tests.try_equalities.Goals as goal
 use Rattle.std.proofs.lemmas.List.{take_all}
 
@@ -28,3 +28,8 @@ returns c =
     let r = set_rule_view c.args.rule.now in
     searches_as set ar here (OfSome (λ d. IsPairOf d.items) (take k items)) (IsEqualOf r) c.args.search.now c.loop-class.search
     (λ u n. subst (λ l. OfSome (λ d. IsPairOf d.items) l u) (sym (take_all k items c.loop-class-test.false)) (equalities_of items r c.classes-class-items.ensures.joined u n)) c.loop-class.invariant
+
+pub returns-then-all_stay_below : goal.returns-then-all_stay_below
+returns-then-all_stay_below c =
+    equalities_below (set_at c.args.place.now) (around_at c.args.place.now) (here_at c.args.place.now) (set_rule_view c.args.rule.now) c.from.result c.args.search.now c.from.ensures
+    (c.all_stay_below.ensures c.if-all_stay_below.true) c.requires
