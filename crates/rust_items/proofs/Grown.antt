@@ -76,9 +76,9 @@ module _ (p : NamedProgram) (k0 k1 k2 k3 k4 k5 k6 inside : List Namespace) (ts f
   all_kinds t i f c r w e0 e1 e2 e3 e4 e5 e6 =
       let after : List Namespace = kind_as (codes "the functions") (codes "function") no_own fs ∷ (kind_as (codes "the constants") (codes "constant") is_own_value cs ∷ (kind_as (codes "the terms") (codes "term") no_own rs ∷ (kind_as (codes "the paths") (codes "path") no_own ps ∷ []))) in
       let all : k6 ≡ kind_as (codes "the types") (codes "type") is_own_type ts ∷ (inside ++ after) =
-          e6 ∙ behind _ _ _ _ e5 ∙ behind _ _ _ _ e4 ∙ behind _ _ _ _ e3 ∙ ap (λ k. k ++ after) (e2 ∙ ap (λ k. k ++ inside) (e1 ∙ ap (λ k. k ++ kind_as (codes "the types") (codes "type") is_own_type ts ∷ []) e0)) in
+      e6 ∙ behind _ _ _ _ e5 ∙ behind _ _ _ _ e4 ∙ behind _ _ _ _ e3 ∙ ap (λ k. k ++ after) (e2 ∙ ap (λ k. k ++ inside) (e1 ∙ ap (λ k. k ++ kind_as (codes "the types") (codes "type") is_own_type ts ∷ []) e0)) in
       let paths : ps ≡ paths_among p.names p.types (map (constant_claim p.names) p.constants) (flat_map (functions_of p.names) p.terms) =
-          w ∙ ap₂ (λ x y. paths_among p.names p.types x y) c f in
+      w ∙ ap₂ (λ x y. paths_among p.names p.types x y) c f in
       all ∙ ap (λ x. kind_as (codes "the types") (codes "type") is_own_type x ∷ (inside ++ after)) t
       ∙ ap (λ x. types_kind p ∷ (x ++ after)) i
       ∙ ap (λ x. types_kind p ∷ (flat_map (kinds_inside p.names) p.types ++ kind_as (codes "the functions") (codes "function") no_own x ∷ (kind_as (codes "the constants") (codes "constant") is_own_value cs ∷ (kind_as (codes "the terms") (codes "term") no_own rs ∷ (kind_as (codes "the paths") (codes "path") no_own ps ∷ []))))) f

@@ -1,5 +1,5 @@
 -- Texts that grow while another one is gone through.
-use Rattle.std.proofs.Common.{◌≡◌, ℕ, zero, suc, ◌+◌, ◌<◌, ◌≤◌, Bool, true, false, cond, List, [], ◌∷◌, ◌++◌, length, get_or, drop, map, slice_get, refl, sym, ap, ◌∙◌, arith, chars, encode_utf8, IsUtf8}
+use Rattle.std.proofs.Common.{◌≡◌, ℕ, suc, ◌+◌, ◌<◌, ◌≤◌, Bool, true, false, cond, List, [], ◌∷◌, ◌++◌, length, get_or, drop, map, slice_get, refl, sym, ap, ◌∙◌, arith, chars, encode_utf8, IsUtf8}
 use Rattle.std.specs.Char.{is_ascii_alphanumeric}
 use Rattle.std.proofs.lemmas.List.{append_assoc, append-nil, at_drop_all, at_drop_more, nil_from_length}
 use Rattle.std.proofs.lemmas.Bool.Decides.{nat_tests}

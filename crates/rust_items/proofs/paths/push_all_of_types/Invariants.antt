@@ -1,4 +1,4 @@
-use Rattle.std.proofs.Common.{◌≡◌, ◌++◌, take, map}
+use Rattle.std.proofs.Common.{◌≡◌, ◌++◌, take}
 use Rattle.std.specs.List.{flat_map}
 use Rattle.cranelift_isle.specs.Envs.{names_of}
 use Rattle.cranelift_isle.specs.TypeViews.{type_views}
