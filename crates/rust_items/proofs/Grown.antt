@@ -1,5 +1,5 @@
 -- Lists that grow, turn by turn of a loop over another list, by what each element gives.
-use Rattle.std.proofs.Common.{◌≡◌, ℕ, ◌+◌, ◌<◌, ◌≤◌, List, [], ◌∷◌, ◌++◌, length, get_or, take, map, codes, refl, sym, ap, ◌∙◌, arith}
+use Rattle.std.proofs.Common.{◌≡◌, ℕ, ◌+◌, ◌<◌, ◌≤◌, List, [], ◌∷◌, ◌++◌, length, get_or, take, map, codes, refl, sym, ap, ap₂, ◌∙◌, arith}
 use Rattle.std.specs.Prelude.{string_bytes}
 use Rattle.std.specs.List.{flat_map, range_with_len}
 use Rattle.std.proofs.lemmas.Grind.{flat_map-append}
@@ -10,7 +10,7 @@ use Rattle.rust_items.specs.declared.claims.Namespace as K
 use Rattle.rust_items.specs.Claims.{Claim, Namespace}
 use Rattle.rust_items.specs.ClaimViews.{claim_view, claim_views, kind_view, kind_views}
 use Rattle.rust_items.specs.OwnNames.{is_own_type, is_own_value}
-use Rattle.rust_items.specs.NamedPrograms.{NamedProgram, claim, constant_claim, constants_kind, functions_kind, functions_of, kind_as, kinds, kinds_inside, no_own, term_claim, terms_kind, type_claim, types_kind}
+use Rattle.rust_items.specs.NamedPrograms.{NamedProgram, claim, constant_claim, constants_kind, functions_kind, functions_of, kind_as, kinds, kinds_inside, no_own, term_claim, paths_among, terms_kind, type_claim, types_kind}
 
 taken_more : {X Y : Type 0} (v : X → Y) (xs : List X) (i : ℕ) (x : X) → i < length xs → x ≡ get_or xs i x → map v (take (i + 1) xs) ≡ map v (take i xs) ++ v x ∷ []
 taken_more v xs i x h e = ap (map v) (take_more xs i x h) ∙ map-append v (take i xs) (get_or xs i x ∷ []) ∙ ap (λ y. map v (take i xs) ++ v y ∷ []) (sym e)
@@ -56,21 +56,32 @@ pushed_claim old new x written owner e w o =
 pub pushed_kind : (old new : List K.Namespace) (x : K.Namespace) (kind : Namespace) → new ≡ old ++ x ∷ [] → kind_view x ≡ kind → kind_views new ≡ kind_views old ++ kind ∷ []
 pushed_kind old new x kind e k = ap kind_views e ∙ map-append kind_view old (x ∷ []) ∙ ap (λ y. kind_views old ++ y ∷ []) k
 
+-- what is put behind, before what follows
+behind : {X : Type 0} (old new more : List X) (x : X) → new ≡ old ++ x ∷ [] → new ++ more ≡ old ++ x ∷ more
+behind old new more x e = ap (λ k. k ++ more) e ∙ append_assoc old (x ∷ []) more
+
 -- the kinds of a program, one after another
-module _ (p : NamedProgram) (k0 k1 k2 k3 k4 k5 inside : List Namespace) (ts fs cs rs : List Claim) where
+module _ (p : NamedProgram) (k0 k1 k2 k3 k4 k5 k6 inside : List Namespace) (ts fs cs rs ps : List Claim) where
   pub all_kinds : ts ≡ flat_map (type_claim p.names) p.types → inside ≡ flat_map (kinds_inside p.names) p.types
       → fs ≡ flat_map (functions_of p.names) p.terms → cs ≡ map (constant_claim p.names) p.constants → rs ≡ flat_map (term_claim p.names p.terms) p.with_rules
+      → ps ≡ paths_among p.names p.types cs fs
       → k0 ≡ []
       → k1 ≡ k0 ++ kind_as (codes "the types") (codes "type") is_own_type ts ∷ []
       → k2 ≡ k1 ++ inside
       → k3 ≡ k2 ++ kind_as (codes "the functions") (codes "function") no_own fs ∷ []
       → k4 ≡ k3 ++ kind_as (codes "the constants") (codes "constant") is_own_value cs ∷ []
       → k5 ≡ k4 ++ kind_as (codes "the terms") (codes "term") no_own rs ∷ []
-      → k5 ≡ kinds p
-  all_kinds t i f c r e0 e1 e2 e3 e4 e5 =
-      let one : k1 ≡ types_kind p ∷ [] = e1 ∙ ap (λ k. k ++ kind_as (codes "the types") (codes "type") is_own_type ts ∷ []) e0 ∙ ap (λ x. kind_as (codes "the types") (codes "type") is_own_type x ∷ []) t in
-      let two : k2 ≡ types_kind p ∷ flat_map (kinds_inside p.names) p.types = e2 ∙ ap (λ k. k ++ inside) one ∙ ap (λ x. types_kind p ∷ x) i in
-      let three : k3 ≡ (types_kind p ∷ flat_map (kinds_inside p.names) p.types) ++ functions_kind p ∷ [] = e3 ∙ ap (λ k. k ++ kind_as (codes "the functions") (codes "function") no_own fs ∷ []) two ∙ ap (λ x. (types_kind p ∷ flat_map (kinds_inside p.names) p.types) ++ kind_as (codes "the functions") (codes "function") no_own x ∷ []) f in
-      let four : k4 ≡ ((types_kind p ∷ flat_map (kinds_inside p.names) p.types) ++ functions_kind p ∷ []) ++ constants_kind p ∷ [] = e4 ∙ ap (λ k. k ++ kind_as (codes "the constants") (codes "constant") is_own_value cs ∷ []) three ∙ ap (λ x. ((types_kind p ∷ flat_map (kinds_inside p.names) p.types) ++ functions_kind p ∷ []) ++ kind_as (codes "the constants") (codes "constant") is_own_value x ∷ []) c in
-      e5 ∙ ap (λ k. k ++ kind_as (codes "the terms") (codes "term") no_own rs ∷ []) four ∙ ap (λ x. (((types_kind p ∷ flat_map (kinds_inside p.names) p.types) ++ functions_kind p ∷ []) ++ constants_kind p ∷ []) ++ kind_as (codes "the terms") (codes "term") no_own x ∷ []) r
-      ∙ ap (λ k. types_kind p ∷ k) (ap (λ k. k ++ terms_kind p ∷ []) (append_assoc (flat_map (kinds_inside p.names) p.types) (functions_kind p ∷ []) (constants_kind p ∷ [])) ∙ append_assoc (flat_map (kinds_inside p.names) p.types) (functions_kind p ∷ (constants_kind p ∷ [])) (terms_kind p ∷ []))
+      → k6 ≡ k5 ++ kind_as (codes "the paths") (codes "path") no_own ps ∷ []
+      → k6 ≡ kinds p
+  all_kinds t i f c r w e0 e1 e2 e3 e4 e5 e6 =
+      let after : List Namespace = kind_as (codes "the functions") (codes "function") no_own fs ∷ (kind_as (codes "the constants") (codes "constant") is_own_value cs ∷ (kind_as (codes "the terms") (codes "term") no_own rs ∷ (kind_as (codes "the paths") (codes "path") no_own ps ∷ []))) in
+      let all : k6 ≡ kind_as (codes "the types") (codes "type") is_own_type ts ∷ (inside ++ after) =
+      e6 ∙ behind _ _ _ _ e5 ∙ behind _ _ _ _ e4 ∙ behind _ _ _ _ e3 ∙ ap (λ k. k ++ after) (e2 ∙ ap (λ k. k ++ inside) (e1 ∙ ap (λ k. k ++ kind_as (codes "the types") (codes "type") is_own_type ts ∷ []) e0)) in
+      let paths : ps ≡ paths_among p.names p.types (map (constant_claim p.names) p.constants) (flat_map (functions_of p.names) p.terms) =
+      w ∙ ap₂ (λ x y. paths_among p.names p.types x y) c f in
+      all ∙ ap (λ x. kind_as (codes "the types") (codes "type") is_own_type x ∷ (inside ++ after)) t
+      ∙ ap (λ x. types_kind p ∷ (x ++ after)) i
+      ∙ ap (λ x. types_kind p ∷ (flat_map (kinds_inside p.names) p.types ++ kind_as (codes "the functions") (codes "function") no_own x ∷ (kind_as (codes "the constants") (codes "constant") is_own_value cs ∷ (kind_as (codes "the terms") (codes "term") no_own rs ∷ (kind_as (codes "the paths") (codes "path") no_own ps ∷ []))))) f
+      ∙ ap (λ x. types_kind p ∷ (flat_map (kinds_inside p.names) p.types ++ functions_kind p ∷ (kind_as (codes "the constants") (codes "constant") is_own_value x ∷ (kind_as (codes "the terms") (codes "term") no_own rs ∷ (kind_as (codes "the paths") (codes "path") no_own ps ∷ []))))) c
+      ∙ ap (λ x. types_kind p ∷ (flat_map (kinds_inside p.names) p.types ++ functions_kind p ∷ (constants_kind p ∷ (kind_as (codes "the terms") (codes "term") no_own x ∷ (kind_as (codes "the paths") (codes "path") no_own ps ∷ []))))) r
+      ∙ ap (λ x. types_kind p ∷ (flat_map (kinds_inside p.names) p.types ++ functions_kind p ∷ (constants_kind p ∷ (terms_kind p ∷ (kind_as (codes "the paths") (codes "path") no_own x ∷ []))))) paths

@@ -1,5 +1,5 @@
 -- The names of a program's things in Rust, kind by kind.
-use Rattle.std.specs.Prelude.{ℕ, Bool, false, List, [], ◌∷◌, ◌++◌, Option, Some, None, codes, map, slice_get}
+use Rattle.std.specs.Prelude.{ℕ, Bool, true, false, List, [], ◌∷◌, ◌++◌, Option, Some, None, codes, map, slice_get}
 use Rattle.std.specs.List.{flat_map}
 use Rattle.model.specs.lists.Signatures.{text_of}
 use Rattle.cranelift_isle.specs.Tables.{FieldEntry, FieldEntries, unit_entries, struct_entries, tuple_entries, VariantEntry, TypeEntry, builtin_type, primitive_type, enum_type, struct_type, ConstructorEntry, internal_constructor, external_constructor, ExtractorEntry, internal_extractor, external_extractor, TermKindEntry, variant_term, struct_term, declared_term, TermEntry}
@@ -67,21 +67,29 @@ kinds_inside names (primitive_type id name at) = []
 kinds_inside names (enum_type name id is_extern is_nodebug variants at) = variant_kind names variants ∷ map (variant_fields names) variants
 kinds_inside names (struct_type name id is_extern is_nodebug fields at) = field_kind names fields ∷ []
 
-abbrev pub constructor_claim : List (List ℕ) → Option ConstructorEntry → List Claim
-constructor_claim names None = []
-constructor_claim names (Some internal_constructor) = []
-constructor_claim names (Some (external_constructor name)) = identified names name ∷ []
+-- functions are told apart also by whether they are pure
+abbrev pub purely : (is_pure : Bool) → List ℕ → List ℕ
+purely true name = codes "pure " ++ name
+purely false name = name
+
+abbrev pub function_claim : List (List ℕ) → (is_pure : Bool) → ℕ → Claim
+function_claim names is_pure name = claim (spelled (text_of names name)) (purely is_pure (text_of names name))
+
+abbrev pub constructor_claim : List (List ℕ) → (is_pure : Bool) → Option ConstructorEntry → List Claim
+constructor_claim names is_pure None = []
+constructor_claim names is_pure (Some internal_constructor) = []
+constructor_claim names is_pure (Some (external_constructor name)) = function_claim names is_pure name ∷ []
 
 abbrev pub extractor_claim : List (List ℕ) → Option ExtractorEntry → List Claim
 extractor_claim names None = []
 extractor_claim names (Some (internal_extractor template)) = []
-extractor_claim names (Some (external_extractor name infallible at)) = identified names name ∷ []
+extractor_claim names (Some (external_extractor name infallible at)) = function_claim names true name ∷ []
 
--- the functions from outside of a term
+-- the functions from outside of a term: an extractor is pure
 abbrev pub functions_of_kind : List (List ℕ) → TermKindEntry → List Claim
 functions_of_kind names (variant_term variant) = []
 functions_of_kind names struct_term = []
-functions_of_kind names (declared_term flags made taken) = extractor_claim names taken ++ constructor_claim names made
+functions_of_kind names (declared_term flags made taken) = extractor_claim names taken ++ constructor_claim names flags.pure made
 
 abbrev pub functions_of : List (List ℕ) → TermEntry → List Claim
 functions_of names t = functions_of_kind names t.kind
@@ -112,6 +120,45 @@ constants_kind p = kind_as (codes "the constants") (codes "constant") is_own_val
 abbrev pub terms_kind : NamedProgram → Namespace
 terms_kind p = kind_as (codes "the terms") (codes "term") no_own (flat_map (term_claim p.names p.terms) p.with_rules)
 
+-- what is written as a path of one kind, with a word for the kind: `C::f` of a function, and constants
+abbrev pub path_behind : (front word : List ℕ) → Claim → Claim
+path_behind front word c = claim (front ++ c.written) (word ++ c.owner)
+
+-- a struct without fields, and the variants without fields of an enum, are values of their paths
+abbrev pub struct_path_of : List (List ℕ) → ℕ → Claim
+struct_path_of names name = claim (spelled (text_of names name)) (codes "struct " ++ text_of names name)
+
+abbrev pub struct_path : List (List ℕ) → ℕ → FieldEntries → List Claim
+struct_path names name unit_entries = struct_path_of names name ∷ []
+struct_path names name (struct_entries fields) = []
+struct_path names name (tuple_entries fields) = []
+
+abbrev pub variant_path_of : List (List ℕ) → (ty variant : ℕ) → Claim
+variant_path_of names ty variant = claim (spelled (text_of names ty) ++ (codes "::" ++ spelled (text_of names variant))) (codes "variant " ++ (text_of names ty ++ (codes "." ++ text_of names variant)))
+
+abbrev pub variant_path_if : List (List ℕ) → (ty variant : ℕ) → FieldEntries → List Claim
+variant_path_if names ty variant unit_entries = variant_path_of names ty variant ∷ []
+variant_path_if names ty variant (struct_entries fields) = []
+variant_path_if names ty variant (tuple_entries fields) = []
+
+abbrev pub variant_path : List (List ℕ) → (ty : ℕ) → VariantEntry → List Claim
+variant_path names ty v = variant_path_if names ty v.name v.fields
+
+abbrev pub type_paths : List (List ℕ) → TypeEntry → List Claim
+type_paths names (builtin_type place) = []
+type_paths names (primitive_type id name at) = []
+type_paths names (enum_type name id is_extern is_nodebug variants at) = flat_map (variant_path names name) variants
+type_paths names (struct_type name id is_extern is_nodebug fields at) = struct_path names name fields
+
+abbrev pub paths_among : List (List ℕ) → List TypeEntry → (constants functions : List Claim) → List Claim
+paths_among names types constants functions =
+    map (path_behind [] (codes "constant ")) constants
+    ++ (flat_map (type_paths names) types ++ map (path_behind (codes "C::") (codes "function ")) functions)
+
+abbrev pub paths_kind : NamedProgram → Namespace
+paths_kind p = kind_as (codes "the paths") (codes "path") no_own
+    (paths_among p.names p.types (map (constant_claim p.names) p.constants) (flat_map (functions_of p.names) p.terms))
+
 -- all kinds
 abbrev pub kinds : NamedProgram → List Namespace
-kinds p = types_kind p ∷ (flat_map (kinds_inside p.names) p.types ++ functions_kind p ∷ (constants_kind p ∷ (terms_kind p ∷ [])))
+kinds p = types_kind p ∷ (flat_map (kinds_inside p.names) p.types ++ functions_kind p ∷ (constants_kind p ∷ (terms_kind p ∷ (paths_kind p ∷ []))))

@@ -12,6 +12,7 @@ pub mod lines;
 pub mod names;
 pub mod options;
 pub mod own;
+mod paths;
 pub mod program;
 pub mod stubs;
 pub mod taken;

@@ -1,5 +1,7 @@
 //! How code is written, and why a program has none.
 
+ghost use Rattle.std.specs.Prelude.{◌≡◌, [], false};
+
 pub use crate::faults::CodeError;
 use std::alloc::Global;
 
@@ -39,7 +41,10 @@ impl Drop for Prefix {
 
 impl CodegenOptions {
     /// The options for code that `include!` takes in: no attributes of the file, whole file names, and no logging.
-    pub fn included(alloc: Global) -> CodegenOptions {
+    pub fn included(alloc: Global) -> CodegenOptions
+        ensures prefixes { result.prefixes.items ≡ [] }
+        ensures emit_logging { result.emit_logging ≡ false }
+    {
         CodegenOptions {
             exclude_global_allow_pragmas: true,
             prefixes: Vec::new(alloc),

@@ -1,6 +1,6 @@
 //! What the code of a program is made of.
 
-ghost use Rattle.std.specs.Prelude.{◌≡◌, ◌++◌, OnOk, slice_get, string_bytes};
+ghost use Rattle.std.specs.Prelude.{◌≡◌, ◌++◌, OnOk, map, slice_get, string_bytes};
 ghost use Rattle.cranelift_isle.specs.Envs.{names_of};
 ghost use Rattle.cranelift_isle.specs.SyntaxViews.{position};
 ghost use Rattle.cranelift_isle.specs.TypeViews.{type_views};
@@ -8,7 +8,7 @@ ghost use Rattle.cranelift_isle.specs.Values.{is_composed_type};
 ghost use Rattle.rust_items.specs.RustNames.{quoted};
 ghost use Rattle.rust_items.specs.FilePlaces.{place_written};
 ghost use Rattle.rust_items.specs.LineViews.{lines_view};
-ghost use Rattle.rust_items.specs.WrittenTypes.{type_written};
+ghost use Rattle.rust_items.specs.WrittenTypes.{lead, listed_type, listed_types, outputs_written, parameter_written, parameters_written, reference, type_written};
 
 use crate::lines::Lines;
 use crate::names::{push_name, push_path, push_quoted};
@@ -28,6 +28,13 @@ pub struct Program<'a> {
 
 /// The attribute that keeps lints from an item.
 pub const ALLOWED: &str = "#[allow(warnings)]\n";
+
+/// Adds what stands before the first of several things, or a comma before another one.
+pub(crate) fn push_lead(out: &mut String, first: &str, i: usize) -> Result<(), AllocError>
+    ensures { OnOk result (string_bytes out.new ≡ string_bytes out.old ++ lead first.now i) }
+{
+    out.push_str(if i == 0 { first } else { ", " })
+}
 
 impl<'a> Program<'a> {
     /// Whether the values of a type are composed: those of enums and structs. Only these are passed by reference.
@@ -56,26 +63,64 @@ impl<'a> Program<'a> {
     }
 
     /// Adds the type of a function that gives values of these types: `()` for none, the type of one, a tuple of several.
-    pub fn push_outputs(self, out: &mut String, types: &[TypeId]) -> Result<(), AllocError> {
+    pub fn push_outputs(self, out: &mut String, types: &[TypeId]) -> Result<(), AllocError>
+        ensures { OnOk result (string_bytes out.new ≡ string_bytes out.old
+            ++ outputs_written (names_of self.entry.tyenv.now) (type_views self.entry.tyenv.now.types.items) (map (λ t. t.0) types.now)) }
+    {
         if let [ty] = types {
             return self.push_type(out, *ty);
         }
         out.push('(')?;
-        for (i, ty) in types.iter().enumerate() {
-            out.push_str(if i == 0 { "" } else { ", " })?;
-            self.push_type(out, *ty)?;
-        }
+        self.push_listed(out, types)?;
         out.push(')')
     }
 
-    /// Adds a function's parameters, each after a comma: `arg0`, `arg1` and so on, of these types, composed ones by reference.
-    pub fn push_parameters(self, out: &mut String, types: &[TypeId]) -> Result<(), AllocError> {
+    // Adds types, with commas between them.
+    fn push_listed(self, out: &mut String, types: &[TypeId]) -> Result<(), AllocError>
+        ensures { OnOk result (string_bytes out.new ≡ string_bytes out.old
+            ++ listed_types (names_of self.entry.tyenv.now) (type_views self.entry.tyenv.now.types.items) 0 (map (λ t. t.0) types.now)) }
+    {
         for (i, ty) in types.iter().enumerate() {
-            write!(out, ", arg{i}: ")?;
-            out.push_str(if self.is_composed(*ty) { "&" } else { "" })?;
-            self.push_type(out, *ty)?;
+            self.push_at(out, i, *ty)?;
         }
         Ok(())
+    }
+
+    // Adds one of these types, by its place.
+    fn push_at(self, out: &mut String, i: usize, ty: TypeId) -> Result<(), AllocError>
+        ensures { OnOk result (string_bytes out.new ≡ string_bytes out.old
+            ++ listed_type (names_of self.entry.tyenv.now) (type_views self.entry.tyenv.now.types.items) i ty.0) }
+    {
+        push_lead(out, "", i)?;
+        self.push_type(out, ty)
+    }
+
+    /// Adds a function's parameters, each after a comma: `arg0`, `arg1` and so on, of these types, composed ones by reference.
+    pub fn push_parameters(self, out: &mut String, types: &[TypeId]) -> Result<(), AllocError>
+        ensures { OnOk result (string_bytes out.new ≡ string_bytes out.old
+            ++ parameters_written (names_of self.entry.tyenv.now) (type_views self.entry.tyenv.now.types.items) 0 (map (λ t. t.0) types.now)) }
+    {
+        for (i, ty) in types.iter().enumerate() {
+            self.push_parameter(out, i, *ty)?;
+        }
+        Ok(())
+    }
+
+    // Adds a parameter, by its number.
+    fn push_parameter(self, out: &mut String, i: usize, ty: TypeId) -> Result<(), AllocError>
+        ensures { OnOk result (string_bytes out.new ≡ string_bytes out.old
+            ++ parameter_written (names_of self.entry.tyenv.now) (type_views self.entry.tyenv.now.types.items) i ty.0) }
+    {
+        write!(out, ", arg{i}: ")?;
+        self.push_reference(out, ty)?;
+        self.push_type(out, ty)
+    }
+
+    // Adds what stands before the type of a parameter that is a reference.
+    fn push_reference(self, out: &mut String, ty: TypeId) -> Result<(), AllocError>
+        ensures { OnOk result (string_bytes out.new ≡ string_bytes out.old ++ reference (slice_get (type_views self.entry.tyenv.now.types.items) ty.0)) }
+    {
+        out.push_str(if self.is_composed(ty) { "&" } else { "" })
     }
 
     /// Adds a place as a text within quotes.

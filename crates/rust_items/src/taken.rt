@@ -5,7 +5,7 @@ ghost use Rattle.std.specs.List.{flat_map};
 ghost use Rattle.cranelift_isle.specs.TermViews.{constructor_view, extractor_view, kind_view as term_kind_view, term_view, term_views};
 ghost use Rattle.cranelift_isle.specs.Envs.{names_of};
 ghost use Rattle.cranelift_isle.specs.TypeViews.{field_view, fields_view, type_view, type_views, variant_view};
-ghost use Rattle.rust_items.specs.NamedPrograms.{claim, constant_claim, constructor_claim, constructor_named, constructors_of, extractor_claim, field_claim, field_claims, field_kind, functions_of, functions_of_kind, identified, kind_as, kinds, kinds_inside, primitive, term_claim, type_claim, variant_claim, variant_fields, variant_kind};
+ghost use Rattle.rust_items.specs.NamedPrograms.{claim, constant_claim, constructor_claim, constructor_named, constructors_of, extractor_claim, field_claim, field_claims, field_kind, function_claim, functions_of, functions_of_kind, identified, kind_as, kinds, kinds_inside, primitive, purely, term_claim, type_claim, variant_claim, variant_fields, variant_kind};
 ghost use Rattle.rust_items.specs.ProgramViews.{constant_or_none, constants_of, named_program};
 ghost use Rattle.rust_items.specs.ClaimViews.{claim_views, is_own, kind_views};
 ghost use Rattle.rust_items.specs.Claims.{IsWellNamed, TellsFirst};
@@ -14,6 +14,7 @@ ghost use Rattle.rust_items.specs.Faults.{TellsOf};
 use crate::claims::{Claim, Namespace, Own, check_kinds};
 use crate::names::{push_constant, push_name, push_part, push_path};
 use crate::options::CodeError;
+use crate::paths::path_claims;
 use crate::program::Program;
 use cranelift_isle::lower::LoweredTerm;
 use cranelift_isle::sema::{
@@ -27,7 +28,9 @@ use std::alloc::{AllocError, Global};
 /// # Errors
 ///
 /// `Names` for the first thing of the first kind that can't have its name. The kinds are the types, the variants of each enum, the
-/// fields of each variant and struct, the functions of `Context`, the constants, and the terms with rules.
+/// fields of each variant and struct, the functions of `Context`, the constants, the terms with rules, and the paths: constants,
+/// structs and variants without fields, and functions of `Context`. A function of `Context` is pure for each term that it is
+/// called for, or for none.
 pub fn check_names(program: Program<'_>, terms: &[LoweredTerm]) -> Result<(), CodeError>
     ensures good { OnOk result (All IsWellNamed (kinds (named_program program.entry.tyenv.now program.entry.terms.now terms.now))) }
     ensures wrong { IfErr result (λ e. TellsOf e (TellsFirst (kinds (named_program program.entry.tyenv.now program.entry.terms.now terms.now)))) }
@@ -51,6 +54,7 @@ fn kinds_of(program: Program<'_>, lowered: &[LoweredTerm]) -> Result<Vec<Namespa
     let functions = function_claims(alloc, tyenv, terms)?;
     let constants = constant_claims(alloc, tyenv)?;
     let with_rules = term_claims(alloc, tyenv, terms, lowered)?;
+    let paths = path_claims(alloc, tyenv, types, &constants, &functions)?;
     let mut kinds = Vec::new(alloc);
     push_kind(&mut kinds, "the types", "type", Own::Types, of_types)?;
     push_insides(alloc, tyenv, &mut kinds, types)?;
@@ -69,6 +73,7 @@ fn kinds_of(program: Program<'_>, lowered: &[LoweredTerm]) -> Result<Vec<Namespa
         constants,
     )?;
     push_kind(&mut kinds, "the terms", "term", Own::Nothing, with_rules)?;
+    push_kind(&mut kinds, "the paths", "path", Own::Nothing, paths)?;
     Ok(kinds)
 }
 
@@ -136,8 +141,13 @@ fn push_identified(tyenv: &TypeEnv, claims: &mut Vec<Claim>, name: Sym) -> Resul
     push_claim(claims, written, name)
 }
 
+/// Adds what is written so.
 #[tactic(auto, using(crate::proofs::Grown::pushed_claim))]
-fn push_claim(claims: &mut Vec<Claim>, written: String, owner: &str) -> Result<(), AllocError>
+pub(crate) fn push_claim(
+    claims: &mut Vec<Claim>,
+    written: String,
+    owner: &str,
+) -> Result<(), AllocError>
     ensures { OnOk result (claim_views claims.new.items ≡ claim_views claims.old.items ++ claim (string_bytes written) owner.now ∷ []) }
 {
     let owner = String::from_str(*claims.allocator(), owner)?;
@@ -278,12 +288,12 @@ fn push_functions(
         TermKind::EnumVariant { .. } => Ok(()),
         TermKind::Struct => Ok(()),
         TermKind::Decl {
+            flags,
             constructor_kind,
             extractor_kind,
-            ..
         } => {
             push_extractor(tyenv, claims, extractor_kind)?;
-            push_constructor(tyenv, claims, constructor_kind)
+            push_constructor(tyenv, claims, flags.pure, constructor_kind)
         }
     }
 }
@@ -297,9 +307,9 @@ fn push_extractor(
     ensures { OnOk result (claim_views claims.new.items ≡ claim_views claims.old.items ++ extractor_claim (names_of tyenv.now) (option_map extractor_view kind.now)) }
 {
     match kind {
-        Some(ExtractorKind::ExternalExtractor { name, .. }) => push_identified(
-            tyenv, claims, *name,
-        ),
+        Some(ExtractorKind::ExternalExtractor { name, .. }) => {
+            push_function(tyenv, claims, true, *name)
+        }
         Some(ExtractorKind::InternalExtractor { .. }) => Ok(()),
         None => Ok(()),
     }
@@ -309,17 +319,45 @@ fn push_extractor(
 fn push_constructor(
     tyenv: &TypeEnv,
     claims: &mut Vec<Claim>,
+    is_pure: bool,
     kind: &Option<ConstructorKind>,
 ) -> Result<(), AllocError>
-    ensures { OnOk result (claim_views claims.new.items ≡ claim_views claims.old.items ++ constructor_claim (names_of tyenv.now) (option_map constructor_view kind.now)) }
+    ensures { OnOk result (claim_views claims.new.items ≡ claim_views claims.old.items ++ constructor_claim (names_of tyenv.now) is_pure (option_map constructor_view kind.now)) }
 {
     match kind {
-        Some(ConstructorKind::ExternalConstructor { name }) => push_identified(
-            tyenv, claims, *name,
-        ),
+        Some(ConstructorKind::ExternalConstructor { name }) => {
+            push_function(tyenv, claims, is_pure, *name)
+        }
         Some(ConstructorKind::InternalConstructor) => Ok(()),
         None => Ok(()),
     }
+}
+
+// Adds a function from outside.
+fn push_function(
+    tyenv: &TypeEnv,
+    claims: &mut Vec<Claim>,
+    is_pure: bool,
+    name: Sym,
+) -> Result<(), AllocError>
+    ensures { OnOk result (claim_views claims.new.items ≡ claim_views claims.old.items ++ function_claim (names_of tyenv.now) is_pure name.0 ∷ []) }
+{
+    let alloc = *claims.allocator();
+    let name = tyenv.text_of(name);
+    let mut written = String::new(alloc);
+    push_name(&mut written, name)?;
+    let owner = purely(alloc, is_pure, name)?;
+    push_claim(claims, written, &owner)
+}
+
+// How a function is told: a pure one as pure.
+fn purely(alloc: Global, is_pure: bool, name: &str) -> Result<String, AllocError>
+    ensures { IfOk result (λ text. string_bytes text ≡ purely is_pure name.now) }
+{
+    if is_pure {
+        return format!(in alloc; "pure {name}");
+    }
+    String::from_str(alloc, name)
 }
 
 fn constant_claims(alloc: Global, tyenv: &TypeEnv) -> Result<Vec<Claim>, AllocError>
