@@ -99,10 +99,13 @@ def try_programs(trial, root):
     trial.works("isle by a link", f"{trial.room}/link", "check", f"{root}/examples/add.isle")
     wrong = trial.run(isle, "check", "-", input=b"(decl f (u8) u8)\n(rule (f x) y)\n")
     trial.check("an error", wrong.returncode == 1 and b"y" in wrong.stderr)
-    with open(f"{trial.room}/isle.files", "w") as project:
+    # A project file serves its folder and those below, so it stands apart.
+    lists = f"{trial.room}/lists"
+    os.mkdir(lists)
+    with open(f"{lists}/isle.files", "w") as project:
         project.write(f"[add]\n{root}/examples/add.isle\n")
-    trial.works("isle by a list", isle, "lower", "add", says=b"term add\n")
-    trial.works("isle rust --stubs", isle, "rust", "--stubs", "add", says=b"pub struct Stubs;\n")
+    trial.works("isle by a list", isle, "lower", "add", says=b"term add\n", cwd=lists)
+    trial.works("isle rust --stubs", isle, "rust", "--stubs", "add", says=b"pub struct Stubs;\n", cwd=lists)
     # templates in one another, which take stack
     deep = "(decl f (u8) u8) (decl e0 (u8) u8) (extern extractor e0 e0)\n"
     deep += "".join(f"(decl e{i} (u8) u8) (extractor (e{i} x) (e{i - 1} x))\n" for i in range(1, 200)) + "(rule (f (e199 x)) x)\n"
