@@ -62,6 +62,135 @@ fn has_rules(termenv: &TermEnv, number: usize) -> bool {
     }
 }
 
+/// Keeps of these calls the ones from which some way of calls leads back: those of terms that call one another.
+pub(crate) fn keep_cycles(alloc: Global, calls: &mut Vec<Vec<usize>>) -> Result<(), AllocError> {
+    let groups = groups_of(alloc, calls)?;
+    for (number, called) in calls.iter_mut().enumerate() {
+        let group = groups.get(number);
+        called.retain(|term| groups.get(*term) == group);
+    }
+    Ok(())
+}
+
+// The group of each term: terms that call one another are of one, and any other term of its own.
+fn groups_of(alloc: Global, calls: &[Vec<usize>]) -> Result<Vec<Option<usize>>, AllocError> {
+    let order = last_first(alloc, calls)?;
+    let callers = callers_of(alloc, calls)?;
+    let mut groups = Vec::new(alloc);
+    for _ in calls {
+        groups.push(None)?;
+    }
+    for start in order {
+        let mut reached = Vec::new(alloc);
+        join(&mut groups, &mut reached, start, start)?;
+        for place in 0..calls.len() {
+            let Some(term) = reached.get(place).copied() else {
+                break;
+            };
+            join_each(&mut groups, &mut reached, callers.get(term), start)?;
+        }
+    }
+    Ok(groups)
+}
+
+// Adds a term to a group, if it has none.
+fn join(
+    groups: &mut Vec<Option<usize>>,
+    reached: &mut Vec<usize>,
+    term: usize,
+    group: usize,
+) -> Result<(), AllocError> {
+    if let Some(place) = groups.get_mut(term) {
+        if place.is_none() {
+            *place = Some(group);
+            reached.push(term)?;
+        }
+    }
+    Ok(())
+}
+
+fn join_each(
+    groups: &mut Vec<Option<usize>>,
+    reached: &mut Vec<usize>,
+    terms: Option<&Vec<usize>>,
+    group: usize,
+) -> Result<(), AllocError> {
+    let Some(terms) = terms else {
+        return Ok(());
+    };
+    for term in terms {
+        join(groups, reached, *term, group)?;
+    }
+    Ok(())
+}
+
+// The terms that call each term.
+fn callers_of(alloc: Global, calls: &[Vec<usize>]) -> Result<Vec<Vec<usize>>, AllocError> {
+    let mut callers = Vec::new(alloc);
+    for _ in calls {
+        callers.push(Vec::new(alloc))?;
+    }
+    for (caller, called) in calls.iter().enumerate() {
+        for term in called {
+            if let Some(callers) = callers.get_mut(*term) {
+                callers.push(caller)?;
+            }
+        }
+    }
+    Ok(callers)
+}
+
+// All terms, each before those that a walk along calls leaves earlier.
+fn last_first(alloc: Global, calls: &[Vec<usize>]) -> Result<Vec<usize>, AllocError> {
+    let mut order = Vec::new(alloc);
+    // Of each term how many calls are followed, once it is reached.
+    let mut followed: Vec<Option<usize>> = Vec::new(alloc);
+    for _ in calls {
+        followed.push(None)?;
+    }
+    for start in 0..calls.len() {
+        let mut path = Vec::new(alloc);
+        enter(&mut followed, &mut path, start)?;
+        for _ in 0..u64::MAX {
+            let Some(term) = path.last().copied() else {
+                break;
+            };
+            match follow(calls, &mut followed, term) {
+                Some(called) => enter(&mut followed, &mut path, called)?,
+                None => {
+                    let _ = path.pop();
+                    order.push(term)?;
+                }
+            }
+        }
+    }
+    order.reverse();
+    Ok(order)
+}
+
+// Goes on to a term, if it wasn't reached.
+fn enter(
+    followed: &mut Vec<Option<usize>>,
+    path: &mut Vec<usize>,
+    term: usize,
+) -> Result<(), AllocError> {
+    if let Some(place) = followed.get_mut(term) {
+        if place.is_none() {
+            *place = Some(0);
+            path.push(term)?;
+        }
+    }
+    Ok(())
+}
+
+// The next call of a term, if one is left.
+fn follow(calls: &[Vec<usize>], followed: &mut Vec<Option<usize>>, term: usize) -> Option<usize> {
+    let count = followed.get_mut(term)?.as_mut()?;
+    let called = calls.get(term)?.get(*count).copied();
+    *count = count.saturating_add(1);
+    called
+}
+
 /// The shortest way by which a term calls itself: the terms in the order in which they are called, and this one first. None if
 /// it doesn't.
 pub(crate) fn cycle_of(
@@ -88,8 +217,8 @@ pub(crate) fn cycle_of(
     Ok(None)
 }
 
-// Whether a term calls no term with rules.
-fn calls_none(calls: &[Vec<usize>], term: usize) -> bool {
+/// Whether no call of a term is among these.
+pub(crate) fn calls_none(calls: &[Vec<usize>], term: usize) -> bool {
     match calls.get(term) {
         Some(called) => called.is_empty(),
         None => true,

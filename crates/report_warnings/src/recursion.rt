@@ -1,11 +1,11 @@
 //! Terms that call themselves.
 
-use crate::calls::{calls_of, cycle_of};
+use crate::calls::{calls_none, calls_of, cycle_of, keep_cycles};
 use crate::kinds::{Warning, add_place, begun};
+use crate::uncovered::declaration_of;
 use cranelift_isle::lower::Lowered;
 use cranelift_isle::sema::Term;
 use cranelift_isle::syntax::Def;
-use report_errors::definitions::declaration_of;
 use report_errors::diagnosis::add_help;
 use report_print::report::{Edit, Fix, Place, Report, Word};
 use std::alloc::{AllocError, Global};
@@ -20,37 +20,24 @@ pub(crate) fn add_recursion(
     lowered: &Lowered,
 ) -> Result<(), AllocError> {
     let mut calls = calls_of(alloc, &lowered.termenv)?;
+    keep_cycles(alloc, &mut calls)?;
     // The terms of the cycles that are reported.
     let mut told: BTreeSet<usize> = BTreeSet::new(alloc);
     for (number, term) in lowered.termenv.terms.iter().enumerate() {
-        if told.contains(&number) && !term.is_recursive() {
-            continue;
-        }
-        match cycle_of(alloc, &calls, number)? {
-            Some(cycle) => {
-                if !term.is_recursive() {
-                    reports.push(recursive(alloc, defs, lowered, term, &cycle)?)?;
-                    for member in cycle {
-                        told.insert(member)?;
-                    }
-                }
+        if term.is_recursive() {
+            if calls_none(&calls, number) {
+                reports.push(needless(alloc, defs, lowered, term)?)?;
             }
-            None => {
-                forget(&mut calls, number);
-                if term.is_recursive() {
-                    reports.push(needless(alloc, defs, lowered, term)?)?;
+        } else if !told.contains(&number) {
+            if let Some(cycle) = cycle_of(alloc, &calls, number)? {
+                reports.push(recursive(alloc, defs, lowered, term, &cycle)?)?;
+                for member in cycle {
+                    told.insert(member)?;
                 }
             }
         }
     }
     Ok(())
-}
-
-// Forgets what a term calls that doesn't call itself: no cycle goes by way of it.
-fn forget(calls: &mut Vec<Vec<usize>>, number: usize) {
-    if let Some(called) = calls.get_mut(number) {
-        called.clear();
-    }
 }
 
 // The warning of a term that calls itself by way of these terms.
@@ -101,7 +88,7 @@ fn add_term(
 ) -> Result<(), AllocError> {
     match lowered.termenv.terms.get(number) {
         Some(term) if !term.is_recursive() => {
-            if let Some(decl) = declaration_of(defs, lowered.tyenv.text_of(term.name)) {
+            if let Some(decl) = declaration_of(defs, term) {
                 let place = Place::Before(decl.term.1);
                 let text = String::from_str(alloc, "rec ")?;
                 edits.push(Edit { place, text })?;
@@ -124,7 +111,7 @@ fn needless(
     let mut report = begun(alloc, Warning::Recursion, message);
     add_place(alloc, &mut report, term.decl_pos, "declared with rec")?;
     add_help(alloc, &mut report, "remove rec")?;
-    if let Some(decl) = declaration_of(defs, name) {
+    if let Some(decl) = declaration_of(defs, term) {
         let title = String::from_str(alloc, "Remove `rec`")?;
         let place = Place::Between(decl.pos, decl.term.1, Word::Rec);
         report.add_fix(title, place, String::new(alloc))?;

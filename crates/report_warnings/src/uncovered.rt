@@ -5,8 +5,8 @@ use crate::passing::{Fact, passing};
 use crate::untaken::push_untaken;
 use cranelift_isle::lower::{Lowered, LoweredTerm};
 use cranelift_isle::sema::Term;
-use cranelift_isle::syntax::Def;
-use report_errors::definitions::declaration_of;
+use cranelift_isle::syntax::{Decl, Def};
+use report_errors::definitions::definition_around;
 use report_errors::diagnosis::add_help;
 use report_print::report::{Place, Report};
 use std::alloc::{AllocError, Global};
@@ -59,11 +59,19 @@ fn uncovered(
         &mut report,
         "add a rule that takes it, or declare the term partial",
     )?;
-    if let Some(decl) = declaration_of(defs, lowered.tyenv.text_of(term.name)) {
+    if let Some(decl) = declaration_of(defs, term) {
         let name = &decl.term.0;
         let title = format!(in alloc; "Declare `{name}` partial")?;
         let place = Place::Before(decl.term.1);
         report.add_fix(title, place, String::from_str(alloc, "partial ")?)?;
     }
     Ok(report)
+}
+
+/// The declaration of a term.
+pub(crate) fn declaration_of<'a>(defs: &'a [Def], term: &Term) -> Option<&'a Decl> {
+    match definition_around(defs, term.decl_pos) {
+        Some(Def::Decl(decl)) => Some(decl),
+        _ => None,
+    }
 }
