@@ -69,7 +69,21 @@ pub fn answer_to<E: Write>(
 ) -> Result<Answer, AllocError>
     ensures { IfOk result (IsAnswerToTexts asked.now (map string_bytes files.now.texts.items)) }
 {
-    let mut teller = Teller::new(asked.progress, terminal, err);
+    answer_within(alloc, asked, files, usize::MAX, terminal, err)
+}
+
+/// The same with so many bytes of stack: they are memory, and where a rule takes more of them, this is told on `err`.
+pub fn answer_within<E: Write>(
+    alloc: Global,
+    asked: &Request<'_>,
+    files: &Files,
+    stack: usize,
+    terminal: bool,
+    err: &mut E,
+) -> Result<Answer, AllocError>
+    ensures { IfOk result (IsAnswerToTexts asked.now (map string_bytes files.now.texts.items)) }
+{
+    let mut teller = Teller::within(stack, asked.progress, terminal, err);
     let answer = answer_to_files(alloc, asked, files, &mut teller);
     teller.end();
     answer
@@ -184,6 +198,9 @@ fn answer_to_defs<E: Write>(
     ensures { IfOk result (IsAnswerToDefinitions (definition_views defs.now) asked.now) }
 {
     teller.tell("lowering", "all terms");
+    if teller.refuses(alloc, asked, files, defs)? {
+        return Err(AllocError);
+    }
     match lower(alloc, defs, asked.expand) {
         Ok(lowered) => answer_to_lowered(alloc, asked, files, defs, &lowered, teller),
         Err(Fault::Errors(errors)) => refused(alloc, asked, files, defs, &errors, teller),

@@ -1,5 +1,10 @@
 //! What is being done, told while it is done.
 
+use crate::words::Request;
+use cranelift_isle::syntax::{Def, Files};
+use report_print::layout::push_reports;
+use report_stack::deep_rule;
+use std::alloc::{AllocError, Global};
 use std::io::Write;
 
 // How it is told what is being done.
@@ -13,21 +18,32 @@ enum Form {
     OneLine,
 }
 
-/// Tells on a writer what is being done. A failure of the writer changes nothing.
+/// Tells on a writer what is being done, and why it can't be. A failure of the writer changes nothing.
 pub struct Teller<'a, E> {
     form: Form,
+    // The bytes of stack that there are.
+    stack: usize,
     err: &'a mut E,
 }
 
 impl<'a, E> Drop for Teller<'a, E> {
     fn drop(self) {
-        let Self { form: _, err: _ } = self;
+        let Self {
+            form: _,
+            stack: _,
+            err: _,
+        } = self;
     }
 }
 
 impl<'a, E: Write> Teller<'a, E> {
-    /// Tells in lines where that is asked for, else on a terminal alone.
+    /// Tells in lines where that is asked for, else on a terminal alone. No rule takes too much stack.
     pub fn new(asked: bool, terminal: bool, err: &'a mut E) -> Teller<'a, E> {
+        Teller::within(usize::MAX, asked, terminal, err)
+    }
+
+    /// The same, where there are so many bytes of stack.
+    pub fn within(stack: usize, asked: bool, terminal: bool, err: &'a mut E) -> Teller<'a, E> {
         let form = if asked {
             Form::Lines
         } else if terminal {
@@ -35,7 +51,25 @@ impl<'a, E: Write> Teller<'a, E> {
         } else {
             Form::Silent
         };
-        Teller { form, err }
+        Teller { form, stack, err }
+    }
+
+    /// Whether a rule takes more stack than there is. Then this is told.
+    pub fn refuses(
+        &mut self,
+        alloc: Global,
+        asked: &Request<'_>,
+        files: &Files,
+        defs: &[Def],
+    ) -> Result<bool, AllocError> {
+        let Some(report) = deep_rule(alloc, defs, asked.expand, self.stack)? else {
+            return Ok(false);
+        };
+        let mut text = String::new(alloc);
+        push_reports(&mut text, files, &[report], asked.layout())?;
+        self.end();
+        let _ = self.err.write_all(text.as_bytes());
+        Ok(true)
     }
 
     /// Tells what is done from now on, and to what.

@@ -5,7 +5,7 @@ ghost use Rattle.report_queries.specs.Samples.{names_sample};
 ghost use Rattle.app_command.specs.declared.words.Task.TheVariants.{Samples};
 ghost use Rattle.app_command.specs.Statuses.{IsStatusFor, IsStatusOfUnread, IsWritten};
 
-use crate::answers::{Answer, answer_to};
+use crate::answers::{Answer, answer_within};
 use crate::formatting::{Formatting, run_formatting};
 use crate::help::{HELP, VERSION};
 use crate::inputs::{Unread, read_files};
@@ -15,6 +15,7 @@ use cranelift_isle::syntax::Files;
 use report_queries::answers::{end, no_memory, write_text};
 use report_queries::sample_run::run_sample;
 use report_queries::samples::sample_names;
+use report_stack::size_of_stack;
 use std::alloc::{AllocError, Global};
 use std::env::{Env, FillError};
 use std::io::{Read, Write};
@@ -24,8 +25,9 @@ use std::io::{Read, Write};
 /// has no `NO_COLOR`.
 ///
 /// 0: what is asked is on `out`. 1: what is wrong with the files is on `err`, or on `out` as JSON; or `err` says what there
-/// isn't; or two versions differ, as `out` says. 2: the words ask nothing, and `err` says why. 3: memory was refused. 4: a file
-/// can't be read, or `out` can't be written. Neither a failure of `err` nor an `out` that nobody reads changes a status.
+/// isn't; or two versions differ, as `out` says. 2: the words ask nothing, and `err` says why. 3: memory was refused, or a rule
+/// takes more stack than there is. 4: a file can't be read, or `out` can't be written. Neither a failure of `err` nor an `out` that
+/// nobody reads changes a status.
 pub fn run<R: std::rt::Files + Env + AllocGlobal, I: Read + Drop, O: Write, E: Write>(
     rt: &R,
     words: &[String],
@@ -137,7 +139,10 @@ fn run_request<R: std::rt::Files + AllocGlobal, I: Read + Drop, O: Write, E: Wri
         return run_samples(rt.alloc(), asked, out, err);
     }
     match read_files(rt, asked, input) {
-        Ok(files) => run_files(rt.alloc(), asked, &files, terminal, out, err),
+        Ok(files) => {
+            let stack = size_of_stack(rt);
+            run_files(rt.alloc(), asked, &files, stack, terminal, out, err)
+        }
         Err(why) => cannot_read(rt.alloc(), why, err),
     }
 }
@@ -147,6 +152,7 @@ fn run_files<O: Write, E: Write>(
     alloc: Global,
     asked: &Request<'_>,
     files: &Files,
+    stack: usize,
     terminal: bool,
     out: &mut O,
     err: &mut E,
@@ -155,7 +161,7 @@ fn run_files<O: Write, E: Write>(
     ensures known { result ≤ 4 }
     ensures used { result ≢ 2 }
 {
-    let answer = answer_to(alloc, asked, files, terminal, err);
+    let answer = answer_within(alloc, asked, files, stack, terminal, err);
     write_answer(answer, out, err)
 }
 

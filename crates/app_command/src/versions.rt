@@ -115,6 +115,9 @@ fn answer_to_old<E: Write>(
         (IsAcceptedReading asked.now.expand new.entry.reading.now) asked.now) }
 {
     teller.tell("lowering", "the old version");
+    if teller.refuses(alloc, asked, old.files, old.defs)? {
+        return Err(AllocError);
+    }
     match lower(alloc, old.defs, asked.expand) {
         Ok(lowered) => {
             let lines = FileLines::new(alloc, old.files)?;
@@ -173,6 +176,9 @@ fn answer_to_new<E: Write>(
         (AreAccepted (definition_views new.entry.defs.now) asked.now.expand) asked.now) }
 {
     teller.tell("lowering", "the new version");
+    if teller.refuses(alloc, asked, new.files, new.defs)? {
+        return Err(AllocError);
+    }
     match lower(alloc, new.defs, asked.expand) {
         Ok(lowered) => {
             let lines = FileLines::new(alloc, new.files)?;
