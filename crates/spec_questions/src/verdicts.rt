@@ -1,10 +1,9 @@
 //! What solvers' answers say of a rule.
 
-ghost use Rattle.std.specs.Prelude.{◌≡◌, ◌<◌, ◌&&◌, length, true, Some};
+ghost use Rattle.std.specs.Prelude.{◌≡◌, IsTrue};
 ghost use Rattle.std.specs.List.{list_all, list_any};
 ghost use Rattle.spec_questions.specs.Refuting as Refuting;
-ghost use Rattle.spec_questions.specs.Refuting.{is_possible_by, is_refuted_by, is_right_by, is_taken_by, says_sat, says_unsat};
-ghost use Rattle.spec_questions.specs.declared.verdicts.Verdict.TheVariants as V;
+ghost use Rattle.spec_questions.specs.Refuting.{is_possible_by, is_refuted_by, is_right_by, is_shown, is_taken_by, is_untaken_by, is_wrong_by, says_sat, says_unsat};
 
 use crate::answers::Answer;
 use crate::questions::{LeftOut, Question};
@@ -15,9 +14,9 @@ use crate::replies::Reply;
 pub enum Verdict {
     /// At each choice of widths at which a call may take it, it is as specs say.
     Right,
-    /// The same at the choices that are asked; others are left out.
+    /// At each choice that is asked it is as specs say; others are left out at which a call may take it.
     Partly,
-    /// No call takes it, by the specs.
+    /// At no choice of widths a call takes it, by the specs.
     Idle,
     /// At a choice of widths it may be taken, and something that specs say isn't so.
     Wrong,
@@ -40,81 +39,72 @@ impl Verdict {
 
 /// What answers say of a rule, by its questions and by the choices of widths at which it isn't asked.
 pub fn verdict_of(questions: &[Question], left_out: &[LeftOut], answers: &[Answer]) -> Verdict
-    // each question is refuted, by an answer to its own text
-    ensures refuted { result ≡ V.Right → list_all (is_right_by answers.now) questions.now ≡ true }
-    // and there is one
-    ensures asked { result ≡ V.Right → 0 < length questions.now }
-    // at the widths of one a call may take the rule
-    ensures taken { result ≡ V.Right → list_any (is_taken_by answers.now) questions.now ≡ true }
-    // at any other widths no call takes the rule
-    ensures whole { result ≡ V.Right → list_all Refuting.is_never_taken left_out.now ≡ true }
+    // what the verdict says is so
+    ensures shown { IsTrue (is_shown answers.now questions.now left_out.now result) }
 {
-    if questions
+    if is_wrong(questions, answers) {
+        Verdict::Wrong
+    } else if !are_answered(questions, answers) {
+        Verdict::Unknown
+    } else if !are_never_taken(left_out) {
+        Verdict::Partly
+    } else if is_taken(questions, answers) {
+        Verdict::Right
+    } else {
+        Verdict::Idle
+    }
+}
+
+// Whether a rule is wrong at one of these choices of widths.
+fn is_wrong(questions: &[Question], answers: &[Answer]) -> bool
+    ensures { result ≡ list_any (is_wrong_by answers.now) questions.now }
+{
+    questions
         .iter()
         .any(|question| is_possible(answers, &question.wrong))
-    {
-        return Verdict::Wrong;
-    }
-    if questions.is_empty() || !are_right(questions, answers) {
-        return Verdict::Unknown;
-    }
-    match are_taken(questions, answers) {
-        Some(true) if are_never_taken(left_out) => Verdict::Right,
-        Some(true) => Verdict::Partly,
-        Some(false) => Verdict::Idle,
-        None => Verdict::Unknown,
-    }
+}
+
+// Whether a rule is as specs say at each of these choices of widths, and answers tell whether a call takes it.
+fn are_answered(questions: &[Question], answers: &[Answer]) -> bool
+    ensures { result ≡ Refuting.are_answered answers.now questions.now }
+{
+    !questions.is_empty()
+        && are_right(questions, answers)
+        && (is_taken(questions, answers) || is_untaken(questions, answers))
 }
 
 // Whether answers refute that a rule is wrong at each of these choices of widths.
 fn are_right(questions: &[Question], answers: &[Answer]) -> bool
     ensures { result ≡ list_all (is_right_by answers.now) questions.now }
 {
-    questions.iter().all(|question| is_right(answers, question))
+    questions
+        .iter()
+        .all(|question| is_refuted(answers, &question.wrong))
 }
 
-// Whether no call takes a rule at these widths.
-fn is_never_taken(choice: &LeftOut) -> bool
-    ensures { result ≡ Refuting.is_never_taken choice.now }
+// Whether a call may take a rule at one of these choices of widths.
+fn is_taken(questions: &[Question], answers: &[Answer]) -> bool
+    ensures { result ≡ list_any (is_taken_by answers.now) questions.now }
 {
-    choice.reason.is_none()
+    questions
+        .iter()
+        .any(|question| is_possible(answers, &question.taken))
 }
 
-// Whether no call takes a rule at the widths at which it isn't asked.
+// Whether no call takes a rule at these choices of widths.
+fn is_untaken(questions: &[Question], answers: &[Answer]) -> bool
+    ensures { result ≡ list_all (is_untaken_by answers.now) questions.now }
+{
+    questions
+        .iter()
+        .all(|question| is_refuted(answers, &question.taken))
+}
+
+// Whether no call takes a rule at the choices of widths at which it isn't asked.
 fn are_never_taken(left_out: &[LeftOut]) -> bool
     ensures { result ≡ list_all Refuting.is_never_taken left_out.now }
 {
-    left_out.iter().all(|choice| is_never_taken(choice))
-}
-
-// Whether a call may take the rule at one of these choices of widths, if answers tell.
-fn are_taken(questions: &[Question], answers: &[Answer]) -> Option<bool>
-    ensures { result ≡ Some true → list_any (is_taken_by answers.now) questions.now ≡ true }
-{
-    if questions.iter().any(|question| is_taken(answers, question)) {
-        Some(true)
-    } else if questions
-        .iter()
-        .all(|question| is_refuted(answers, &question.taken))
-    {
-        Some(false)
-    } else {
-        None
-    }
-}
-
-// Whether answers refute that a rule is wrong at a choice of widths.
-fn is_right(answers: &[Answer], question: &Question) -> bool
-    ensures { result ≡ is_right_by answers.now question.now }
-{
-    is_refuted(answers, &question.wrong)
-}
-
-// Whether a call may take a rule at a choice of widths, if answers say so.
-fn is_taken(answers: &[Answer], question: &Question) -> bool
-    ensures { result ≡ is_taken_by answers.now question.now }
-{
-    is_possible(answers, &question.taken)
+    left_out.iter().all(|choice| choice.reason.is_none())
 }
 
 /// Whether a solver said `unsat` to a text, and none `sat`.
