@@ -17,7 +17,7 @@ use spec_formulas::faults::{NoCondition, SpecError};
 use spec_formulas::terms::{NodeId, Terms, Unknown};
 use spec_formulas::text::{question, shown_in, unknowns_in};
 use spec_values::checks::check_names;
-use spec_values::specs::Specs;
+use spec_tables::specs::Specs;
 use std::alloc::{AllocError, Global};
 use std::{mem, slice};
 use text_reader::syntax::VerificationForm;

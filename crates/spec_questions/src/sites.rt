@@ -7,7 +7,7 @@ use report_queries::names::{sym_name, term_name};
 use spec_formulas::faults::{NoCondition, missing};
 use spec_formulas::terms::NodeId;
 use spec_values::builder::{Builder, DEEPEST, DEEPEST_VALUE};
-use spec_values::models::ValueModel;
+use spec_tables::models::ValueModel;
 use spec_values::values::{SymbolicValue, ValueId, copied};
 use std::alloc::{AllocError, Global};
 use std::slice;

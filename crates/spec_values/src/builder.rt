@@ -1,8 +1,8 @@
 //! A condition that is being built: its formulas and values.
 
 use crate::expressions::pos_of;
-use crate::models::{ValueModel, without_model};
-use crate::specs::Specs;
+use spec_tables::models::{ValueModel, without_model};
+use spec_tables::specs::Specs;
 use crate::values::{SymbolicValue, ValueId, ValueShape, copied};
 use cranelift_isle::lower::Lowered;
 use cranelift_isle::sema::{Fields, TermId, Type, TypeId, Variant, VariantId};

@@ -1,8 +1,8 @@
 //! Names in specs that stand for nothing.
 
 use crate::expressions::pos_of;
-use crate::models::ValueModel;
-use crate::specs::{ConstantModel, Specs};
+use spec_tables::models::ValueModel;
+use spec_tables::specs::{ConstantModel, Specs};
 use core_syntax::syntax::{Ident, Pos};
 use cranelift_isle::lower::Lowered;
 use spec_formulas::faults::SpecError;

@@ -2,7 +2,7 @@
 
 use crate::builder::{Builder, DEEPEST_VALUE};
 use crate::checks::is_other;
-use crate::models::{ValueModel, said_model};
+use spec_tables::models::{ValueModel, said_model};
 use crate::values::{SymbolicValue, ValueId, ValueShape};
 use core_syntax::syntax::{Ident, Pos};
 use cranelift_isle::sema::{Fields, Term, TermId, TermKind, Type, TypeId, VariantId};

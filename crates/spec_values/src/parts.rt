@@ -1,7 +1,7 @@
 //! Parts of values, and what is known of a value that meets what a rule asks.
 
 use crate::builder::{Builder, DEEPEST_VALUE};
-use crate::models::ValueModel;
+use spec_tables::models::ValueModel;
 use crate::values::{SymbolicValue, ValueId};
 use cranelift_isle::sema::{TypeId, VariantId};
 use spec_formulas::faults::{NoCondition, missing};
