@@ -2,6 +2,7 @@ mod FileLines
 mod Grown
 mod GrownTexts
 mod HeldNames
+mod PureFunctions
 mod Segments
 mod Spellings
 mod Turns

@@ -1,6 +1,10 @@
 -- What written names are like.
 use Rattle.std.specs.Prelude.{◌≡◌, ◌≢◌, ◌⊎◌, ◌<◌, ◌^◌, ℕ, Bool, true, false, ◌&&◌, List, ◌++◌, IsUtf8, codes, not}
+use Rattle.model.specs.rules.Program.{Program}
 use Rattle.model_code.specs.PrintedNames.{PrintedName, number_in, printed_name}
+use Rattle.model_code.specs.PureAlike.{ArePureAlike}
+use Rattle.rust_items.specs.Claims.{IsWellNamed}
+use Rattle.rust_items.specs.NamedPrograms.{NamedProgram, functions_kind}
 use Rattle.rust_items.specs.OwnNames.{is_variable}
 use Rattle.rust_items.specs.RustNames.{is_among, is_identifier, part, path_keywords, raw_keywords, spelled}
 
@@ -26,3 +30,7 @@ pub record VariablesArePlain : Type 0 where
   pub plain : (v : PrintedName) → number_in v < 2 ^ 64 → is_plain (printed_name v) ≡ true
   pub told : (v : PrintedName) → number_in v < 2 ^ 64 → is_variable (printed_name v) ≡ true
   pub no_function : (v : PrintedName) (name : List ℕ) → printed_name v ≢ codes "constructor_" ++ part name
+
+-- where functions are told apart, what is one function from outside is pure alike
+abbrev pub FunctionsApartArePureAlike : Type 0
+FunctionsApartArePureAlike = (n : NamedProgram) (p : Program) → p.terms ≡ n.terms → IsWellNamed (functions_kind n) → ArePureAlike p

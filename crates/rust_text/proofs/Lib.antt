@@ -11,5 +11,6 @@ mod PieceTexts
 mod PrintedTexts
 mod ProgramSteps
 mod WholeNames
+mod WrittenFunctions
 mod WrittenSteps
 pub mod ClosedNames

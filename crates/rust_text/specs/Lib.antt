@@ -12,3 +12,4 @@ pub mod TokenViews
 pub mod WholeNames
 pub mod Writers
 pub mod WrittenBodies
+pub mod WrittenFunctions
