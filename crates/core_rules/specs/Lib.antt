@@ -19,3 +19,4 @@ pub mod ShownEnvs
 pub mod TermEnvs
 pub mod Translating
 pub mod UseLimits
+pub mod Takes

@@ -11,6 +11,8 @@ ghost use Rattle.core_rules.specs.Progress.{newest, Remains};
 ghost use Rattle.core_rules.specs.LimitStops.{NotLimited};
 ghost use Rattle.core_rules.specs.Translating.{standing, Keeps, MayTranslate};
 ghost use Rattle.core_syntax.specs.Positions.{NotesAt};
+ghost use Rattle.core_rules.specs.Takes.{Takes};
+ghost use Rattle.laws_errors.specs.Steps.{nothing, macro_argument};
 ghost use Rattle.core_rules.specs.RulePositions.{StaysPlaced};
 
 use crate::term_env::TermEnv;
@@ -153,6 +155,8 @@ impl TermEnv {
             (pattern_reading multi (macro_arg index (position pos)) expected_ty.0) pattern_view result }
         ensures places { StaysPlaced (position pos ∷ []) work.old.errors.items work.new.errors.items result }
         ensures unlimited { NotLimited result }
+        ensures reads { Takes self.now (standing tyenv.now work.old) (standing tyenv.now work.new)
+            (λ e n s. nothing s (macro_argument index) (position pos)) pattern_view result }
     {
         report(
             &mut work.errors,
