@@ -1,3 +1,4 @@
+pub mod BindingHashes
 pub mod Closings
 pub mod Endings
 pub mod FieldParts
