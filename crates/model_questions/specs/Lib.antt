@@ -1,0 +1,3 @@
+pub mod Evaluated
+pub mod Forms
+pub mod Formulas
