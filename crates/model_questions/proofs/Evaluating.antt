@@ -1,0 +1,270 @@
+-- What an expression comes to by formulas is what it says of values.
+use Rattle.std.proofs.Common.{◌≡◌, ◌⊎◌, ℕ, zero, suc, Bool, true, false, not, ◌&&◌, List, [], ◌∷◌, ◌++◌, Option, Some, None, cond, slice_get, refl, sym, ap, ◌∙◌, subst, inl, inr}
+use Rattle.std.specs.Bool.{◌==◌}
+use Rattle.std.proofs.lemmas.Bool.{and_parts, false≢true}
+use Rattle.model.specs.lists.Tables.{TypeEntry}
+use Rattle.model.specs.rules.Outcome.{then_option}
+use Rattle.model.proofs.Elements.{In, or_split, some_is, none_some}
+use Rattle.laws_specs.specs.Words.{Denoted, a_truth, an_integer, a_word, variant_of, struct_of, DenotedList, no_denoted, denoted_and, denoted_list, same_sort, denoted_eq, Operator, equals, field, applied_to}
+use Rattle.laws_specs.specs.Specs.{on_variant, on_struct, SpecExpr, its_argument, its_result, variable, the_same, operation, unknown, let_in, switch_on, match_on, SpecExprs, no_spec_expr, spec_expr_and, SpecCases, no_case, case_and, SpecArms, no_spec_arm, spec_arm_and, struct_arm, arm_else, Specs, Unknowns, says, says_each, says_case, says_arm}
+use Rattle.model_questions.specs.Formulas.{Place, Operands, no_operand, fact_and, integer_and, word_and, Fact, known, Model, number_in, integer_in, truth_in, is_so, operands_in, both_of, one_of, none_of}
+use Rattle.model_questions.specs.Forms.{Form, a_fact, an_integer_by, a_word_by, variant_by, struct_by, any_of, some_at, Forms, no_form, form_and, form_list, form_of, Case, Cases, nothing_said, one_case, anything, under, joined_cases, or_nothing, then_cases, truth_of, is_true, surely, perhaps}
+use Rattle.model_questions.specs.Evaluated.{Known, Result, no_result, truth_result, integer_result, word_result, unknown_result, result, came_to, literals, literal_case, folded, operands, by_operands, fitted, by_fact, opened, opened_each, evaluated, evaluated_each, evaluated_case, evaluated_arm}
+use Rattle.model_questions.proofs.FactsSo.{one_so, both_from, both_parts, one_left, one_right}
+use Rattle.model_questions.proofs.Described.{Describes, IsTaken, nothing_described, anything_described, one_described, then_described, choice_described}
+use Rattle.model_questions.proofs.Merging.{merged_described}
+use Rattle.model_questions.proofs.Opening.{opened_described, opened_each_described}
+use Rattle.model_questions.proofs.Results.{ComesTo, result_comes, fact_from_so, integer_from_is, literals_are}
+use Rattle.model_questions.proofs.Standing.{model_of, IsCoherent, AreKnown, stands, stand_each, written_stands, Fits, AllFit, written_fits, AreDescribed, forms_described, more_described}
+
+-- by a truth; of anything else nothing is said
+abbrev on_truth : (Bool → Option Denoted) → Denoted → Option Denoted
+on_truth q (a_truth b) = q b
+on_truth q _ = None
+
+chosen : (a b : Bool) (q : Bool → Option Denoted) → then_option (cond a (Some (a_truth b)) None) (on_truth q) ≡ cond a (cond b (q true) (q false)) None
+chosen true true q = refl
+chosen true false q = refl
+chosen false b q = refl
+
+abbrev either_said : Option Denoted → Option Denoted → Bool → Option Denoted
+either_said x y true = x
+either_said x y false = y
+
+operand_after : (f : Operands → Operands) (o : Option Operands) (of : Operands) → then_option o (λ ys. Some (f ys)) ≡ Some of → (ys : Operands) × (o ≡ Some ys) × (f ys ≡ of)
+operand_after f None of e = absurd (none_some of e)
+operand_after f (Some ys) of e = (ys, refl, some_is (f ys) of e)
+
+module _ (types : List TypeEntry) (specs : Specs) (vs : Place → Denoted) (u : Unknowns) where
+  abbrev m : Model
+  m = model_of vs u
+
+  abbrev pub Describe : Cases Form → Option Denoted → Type 0
+  Describe cs o = Describes m Form Denoted (stands vs u) (Fits types specs vs) cs o
+
+  abbrev DescribeEach : Cases Forms → Option DenotedList → Type 0
+  DescribeEach cs o = Describes m Forms DenotedList (stand_each vs u) (AllFit types specs vs) cs o
+
+  nothing_is : Describe nothing_said None
+  nothing_is = nothing_described m Form Denoted (stands vs u) (Fits types specs vs)
+
+  any_is : (o : Option Denoted) → Describe anything o
+  any_is o = anything_described m Form Denoted (stands vs u) (Fits types specs vs) o
+
+  one_is : (f : Form) (x : Denoted) → stands vs u f ≡ x → Fits types specs vs f → Describe (one_case f) (Some x)
+  one_is f x e fits = one_described m Form Denoted (stands vs u) (Fits types specs vs) f x e fits
+
+  written_is : (x : Denoted) → Describe (one_case (form_of x)) (Some x)
+  written_is x = one_is (form_of x) x (written_stands vs u x) (written_fits types specs vs x)
+
+  -- 1. operators
+  operands_stand : (fs : Forms) (of : Operands) → operands fs ≡ Some of → operands_in m of ≡ stand_each vs u fs
+  operands_stand no_form of e = ap (operands_in m) (sym (some_is no_operand of e))
+  operands_stand (form_and (a_fact f) rest) of e =
+      let r = operand_after (fact_and f) (operands rest) of e in ap (operands_in m) (sym r.2) ∙ ap (denoted_and (stands vs u (a_fact f))) (operands_stand rest r.0 r.1)
+  operands_stand (form_and (an_integer_by z) rest) of e =
+      let r = operand_after (integer_and z) (operands rest) of e in ap (operands_in m) (sym r.2) ∙ ap (denoted_and (stands vs u (an_integer_by z))) (operands_stand rest r.0 r.1)
+  operands_stand (form_and (a_word_by w t) rest) of e =
+      let r = operand_after (word_and w t) (operands rest) of e in ap (operands_in m) (sym r.2) ∙ ap (denoted_and (stands vs u (a_word_by w t))) (operands_stand rest r.0 r.1)
+  operands_stand (form_and (variant_by ty i fs) rest) of e = absurd (none_some of e)
+  operands_stand (form_and (struct_by ty fs) rest) of e = absurd (none_some of e)
+  operands_stand (form_and (any_of ty at) rest) of e = absurd (none_some of e)
+  operands_stand (form_and (some_at at) rest) of e = absurd (none_some of e)
+
+  came_described : (o : Operator) (of : Operands) (r : Result) → ComesTo r (applied_to o (operands_in m of)) → Describe (came_to o of r) (applied_to o (operands_in m of))
+  came_described o of no_result c = subst (Describe nothing_said) (sym c) nothing_is
+  came_described o of truth_result c =
+      subst (Describe (came_to o of truth_result)) (sym c) (one_is _ (a_truth (truth_in (applied_to o (operands_in m of)))) (ap a_truth (fact_from_so m o of)) tt)
+  came_described o of integer_result c =
+      subst (Describe (came_to o of integer_result)) (sym c) (one_is _ (an_integer (integer_in (applied_to o (operands_in m of)))) (ap an_integer (integer_from_is m o of)) tt)
+  came_described o of (word_result w) c =
+      subst (Describe (came_to o of (word_result w))) (sym c) (one_is _ (a_word w (number_in (applied_to o (operands_in m of)))) refl tt)
+  came_described o of unknown_result c = any_is (applied_to o (operands_in m of))
+
+  literal_described : (o : Option Denoted) → Describe (literal_case o) o
+  literal_described None = nothing_is
+  literal_described (Some x) = written_is x
+
+  folded_described : (o : Operator) (of : Operands) (l : Option DenotedList) → literals of ≡ l → Describe (folded o of l) (applied_to o (operands_in m of))
+  folded_described o of None e = came_described o of (result o of) (result_comes m o of)
+  folded_described o of (Some xs) e = subst (λ ys. Describe (literal_case (applied_to o xs)) (applied_to o ys)) (sym (literals_are m of xs e)) (literal_described (applied_to o xs))
+
+  operands_described : (o : Operator) (fs : Forms) (l : Option Operands) → operands fs ≡ l → Describe (by_operands o l) (applied_to o (stand_each vs u fs))
+  operands_described o fs None e = any_is (applied_to o (stand_each vs u fs))
+  operands_described o fs (Some of) e = subst (λ ys. Describe (folded o of (literals of)) (applied_to o ys)) (operands_stand fs of e) (folded_described o of (literals of) refl)
+
+  got_described : (fs : List Form) (xs : List Denoted) → AreDescribed types specs vs u fs xs → (i : ℕ) → Describe (or_nothing (slice_get fs i)) (slice_get xs i)
+  got_described [] [] d i = nothing_is
+  got_described (f ∷ fs) (x ∷ xs) d zero = one_is f x d.0 d.1
+  got_described (f ∷ fs) (x ∷ xs) d (suc i) = got_described fs xs d.2 i
+  got_described [] (x ∷ xs) d i = absurd d
+  got_described (f ∷ fs) [] d i = absurd d
+
+  fitted_described : (o : Operator) (fs : Forms) → AllFit types specs vs fs → Describe (fitted o fs) (applied_to o (stand_each vs u fs))
+  fitted_described (field i) (form_and (struct_by ty fields) no_form) fits = got_described (form_list fields) (denoted_list (stand_each vs u fields)) (forms_described types specs vs u fields fits.0) i
+  fitted_described o fs fits = operands_described o fs (operands fs) refl
+
+  -- 2. a choice
+  by_fact_described : (x y : Cases Form) (a b : Option Denoted) → Describe x a → Describe y b → (f : Form) → Describe (by_fact x y f) (on_truth (either_said a b) (stands vs u f))
+  by_fact_described x y a b dx dy (a_fact f) = choice_described m Form Denoted (stands vs u) (Fits types specs vs) x y (either_said a b) dx dy f
+  by_fact_described x y a b dx dy f = any_is (on_truth (either_said a b) (stands vs u f))
+
+  bind : (cs : Cases Form) (o : Option Denoted) (k : Form → Cases Form) (h : Denoted → Option Denoted) → Describe cs o → ((f : Form) → Fits types specs vs f → Describe (k f) (h (stands vs u f)))
+      → Describe (then_cases cs k) (then_option o h)
+  bind cs o k h d dk = then_described m Form Denoted Form Denoted (stands vs u) (Fits types specs vs) (stands vs u) (Fits types specs vs) h k dk cs o d
+
+  bind_each : (cs : Cases Forms) (o : Option DenotedList) (k : Forms → Cases Form) (h : DenotedList → Option Denoted) → DescribeEach cs o
+      → ((fs : Forms) → AllFit types specs vs fs → Describe (k fs) (h (stand_each vs u fs))) → Describe (then_cases cs k) (then_option o h)
+  bind_each cs o k h d dk = then_described m Forms DenotedList Form Denoted (stand_each vs u) (AllFit types specs vs) (stands vs u) (Fits types specs vs) h k dk cs o d
+
+  -- 3. an expression
+  abbrev stands_if : Option Form → Option Denoted
+  stands_if None = None
+  stands_if (Some f) = Some (stands vs u f)
+
+  abbrev FitsIf : Option Form → Type 0
+  FitsIf None = Unit {0}
+  FitsIf (Some f) = Fits types specs vs f
+
+  module _ (coherent : IsCoherent vs) (k : Known) (told : AreKnown m k) (args : Forms) (result : Option Form) (fits : AllFit types specs vs args) (result_fits : FitsIf result) where
+    abbrev of_expr : SpecExpr → List Form → Cases Form
+    of_expr e bound = evaluated types specs k args result e bound
+
+    abbrev said : SpecExpr → List Denoted → Option Denoted
+    said e bound = says u (stand_each vs u args) (stands_if result) e bound
+
+    result_described : (o : Option Form) → FitsIf o → Describe (or_nothing o) (stands_if o)
+    result_described None f = nothing_is
+    result_described (Some f) g = one_is f (stands vs u f) refl g
+
+    struct_described : (t ty : ℕ) (cs : Cases Form) (o : Option Denoted) → Describe cs o → Describe (cond (t == ty) cs nothing_said) (cond (t == ty) o None)
+    struct_described t ty cs o d = by (t == ty)
+      where
+        by : (b : Bool) → Describe (cond b cs nothing_said) (cond b o None)
+        by true = d
+        by false = nothing_is
+
+    variant_described : (t ty i variant : ℕ) (cs ds : Cases Form) (o q : Option Denoted) → Describe cs o → Describe ds q
+        → Describe (cond (t == ty) (cond (i == variant) cs ds) nothing_said) (cond (t == ty) (cond (i == variant) o q) None)
+    variant_described t ty i variant cs ds o q d e = struct_described t ty (cond (i == variant) cs ds) (cond (i == variant) o q) (by (i == variant))
+      where
+        by : (b : Bool) → Describe (cond b cs ds) (cond b o q)
+        by true = d
+        by false = e
+
+    case_described : (y x : Form) → Fits types specs vs y → Fits types specs vs x → (cs ds : Cases Form) (a b : Option Denoted) → Describe cs a → Describe ds b
+        → Describe (then_cases (then_cases (opened_each types specs k (form_and y (form_and x no_form))) (fitted equals)) (by_fact cs ds))
+        (cond (same_sort (stands vs u y) (stands vs u x)) (cond (denoted_eq (stands vs u y) (stands vs u x)) a b) None)
+    case_described y x fy fx cs ds a b da db =
+        subst (Describe (then_cases (then_cases (opened_each types specs k (form_and y (form_and x no_form))) (fitted equals)) (by_fact cs ds)))
+        (chosen (same_sort (stands vs u y) (stands vs u x)) (denoted_eq (stands vs u y) (stands vs u x)) (either_said a b))
+        (bind (then_cases (opened_each types specs k (form_and y (form_and x no_form))) (fitted equals)) (applied_to equals (denoted_and (stands vs u y) (denoted_and (stands vs u x) no_denoted)))
+        (by_fact cs ds) (on_truth (either_said a b))
+        (bind_each (opened_each types specs k (form_and y (form_and x no_form))) (Some (denoted_and (stands vs u y) (denoted_and (stands vs u x) no_denoted))) (fitted equals) (applied_to equals)
+        (opened_each_described types specs vs u coherent k told (form_and y (form_and x no_form)) (fy, (fx, tt))) (fitted_described equals))
+        (λ f ff. by_fact_described cs ds a b da db f))
+
+    mutual
+      pub evaluated_described : (e : SpecExpr) (bf : List Form) (bx : List Denoted) → AreDescribed types specs vs u bf bx → Describe (of_expr e bf) (said e bx)
+      evaluated_described (its_argument i) bf bx d = got_described (form_list args) (denoted_list (stand_each vs u args)) (forms_described types specs vs u args fits) i
+      evaluated_described its_result bf bx d = result_described result result_fits
+      evaluated_described (variable i) bf bx d = got_described bf bx d i
+      evaluated_described (the_same x) bf bx d = written_is x
+      evaluated_described (operation o of) bf bx d =
+          bind_each (evaluated_each types specs k args result of bf) (says_each u (stand_each vs u args) (stands_if result) of bx) (λ fs. then_cases (opened_each types specs k fs) (fitted o)) (applied_to o)
+          (each_described of bf bx d)
+          (λ fs ffs. bind_each (opened_each types specs k fs) (Some (stand_each vs u fs)) (fitted o) (applied_to o) (opened_each_described types specs vs u coherent k told fs ffs) (fitted_described o))
+      evaluated_described (unknown f of) bf bx d = any_is (said (unknown f of) bx)
+      evaluated_described (let_in e body) bf bx d =
+          bind (of_expr e bf) (said e bx) (λ x. of_expr body (x ∷ bf)) (λ x. said body (x ∷ bx)) (evaluated_described e bf bx d)
+          (λ f ff. evaluated_described body (f ∷ bf) (stands vs u f ∷ bx) (refl, ff, d))
+      evaluated_described (switch_on e cases) bf bx d =
+          bind (of_expr e bf) (said e bx) (λ x. evaluated_case types specs k args result cases x bf) (λ x. says_case u (stand_each vs u args) (stands_if result) cases x bx) (evaluated_described e bf bx d)
+          (λ f ff. cases_described cases f ff bf bx d)
+      evaluated_described (match_on e arms) bf bx d =
+          bind (of_expr e bf) (said e bx) (λ x. then_cases (opened types specs k x) (λ y. evaluated_arm types specs k args result arms y bf)) (λ x. says_arm u (stand_each vs u args) (stands_if result) arms x bx)
+          (evaluated_described e bf bx d)
+          (λ f ff. bind (opened types specs k f) (Some (stands vs u f)) (λ y. evaluated_arm types specs k args result arms y bf) (λ x. says_arm u (stand_each vs u args) (stands_if result) arms x bx)
+          (opened_described types specs vs u coherent k told f ff) (λ g fg. arms_described arms g fg bf bx d))
+
+      each_described : (es : SpecExprs) (bf : List Form) (bx : List Denoted) → AreDescribed types specs vs u bf bx
+          → DescribeEach (evaluated_each types specs k args result es bf) (says_each u (stand_each vs u args) (stands_if result) es bx)
+      each_described no_spec_expr bf bx d = one_described m Forms DenotedList (stand_each vs u) (AllFit types specs vs) no_form no_denoted refl tt
+      each_described (spec_expr_and e rest) bf bx d =
+          then_described m Form Denoted Forms DenotedList (stands vs u) (Fits types specs vs) (stand_each vs u) (AllFit types specs vs)
+          (λ x. then_option (says_each u (stand_each vs u args) (stands_if result) rest bx) (λ xs. Some (denoted_and x xs)))
+          (λ x. then_cases (evaluated_each types specs k args result rest bf) (λ xs. one_case (form_and x xs)))
+          (λ f ff. then_described m Forms DenotedList Forms DenotedList (stand_each vs u) (AllFit types specs vs) (stand_each vs u) (AllFit types specs vs)
+          (λ xs. Some (denoted_and (stands vs u f) xs)) (λ xs. one_case (form_and f xs))
+          (λ fs ffs. one_described m Forms DenotedList (stand_each vs u) (AllFit types specs vs) (form_and f fs) (denoted_and (stands vs u f) (stand_each vs u fs)) refl (ff, ffs))
+          (evaluated_each types specs k args result rest bf) (says_each u (stand_each vs u args) (stands_if result) rest bx) (each_described rest bf bx d))
+          (of_expr e bf) (said e bx) (evaluated_described e bf bx d)
+
+      cases_described : (cases : SpecCases) (x : Form) → Fits types specs vs x → (bf : List Form) (bx : List Denoted) → AreDescribed types specs vs u bf bx
+          → Describe (evaluated_case types specs k args result cases x bf) (says_case u (stand_each vs u args) (stands_if result) cases (stands vs u x) bx)
+      cases_described no_case x fx bf bx d = nothing_is
+      cases_described (case_and key e rest) x fx bf bx d =
+          bind (of_expr key bf) (said key bx) _
+          (λ y. cond (same_sort y (stands vs u x)) (cond (denoted_eq y (stands vs u x)) (said e bx) (says_case u (stand_each vs u args) (stands_if result) rest (stands vs u x) bx)) None)
+          (evaluated_described key bf bx d)
+          (λ y fy. merged_described types specs vs u _ _
+          (case_described y x fy fx (of_expr e bf) (evaluated_case types specs k args result rest x bf) (said e bx) (says_case u (stand_each vs u args) (stands_if result) rest (stands vs u x) bx)
+          (evaluated_described e bf bx d) (cases_described rest x fx bf bx d)))
+
+      arms_described : (arms : SpecArms) (x : Form) → Fits types specs vs x → (bf : List Form) (bx : List Denoted) → AreDescribed types specs vs u bf bx
+          → Describe (evaluated_arm types specs k args result arms x bf) (says_arm u (stand_each vs u args) (stands_if result) arms (stands vs u x) bx)
+      arms_described (arm_else body) x fx bf bx d = evaluated_described body (x ∷ bf) (stands vs u x ∷ bx) (refl, fx, d)
+      arms_described no_spec_arm x fx bf bx d = nothing_is
+      arms_described (struct_arm ty body) (struct_by t fields) fx bf bx d =
+          struct_described t ty (of_expr body (form_list fields ++ bf)) (said body (denoted_list (stand_each vs u fields) ++ bx))
+          (evaluated_described body (form_list fields ++ bf) (denoted_list (stand_each vs u fields) ++ bx)
+          (more_described types specs vs u (form_list fields) bf (denoted_list (stand_each vs u fields)) bx (forms_described types specs vs u fields fx) d))
+      arms_described (spec_arm_and ty variant body rest) (variant_by t i fields) fx bf bx d =
+          variant_described t ty i variant (of_expr body (form_list fields ++ bf)) (evaluated_arm types specs k args result rest (variant_by t i fields) bf)
+          (said body (denoted_list (stand_each vs u fields) ++ bx)) (says_arm u (stand_each vs u args) (stands_if result) rest (variant_of t i (stand_each vs u fields)) bx)
+          (evaluated_described body (form_list fields ++ bf) (denoted_list (stand_each vs u fields) ++ bx)
+          (more_described types specs vs u (form_list fields) bf (denoted_list (stand_each vs u fields)) bx (forms_described types specs vs u fields fx) d))
+          (arms_described rest (variant_by t i fields) fx bf bx d)
+      arms_described (struct_arm ty body) (a_fact f) fx bf bx d = nothing_is
+      arms_described (struct_arm ty body) (an_integer_by z) fx bf bx d = nothing_is
+      arms_described (struct_arm ty body) (a_word_by w t) fx bf bx d = nothing_is
+      arms_described (struct_arm ty body) (variant_by t i fields) fx bf bx d = any_is None
+      arms_described (struct_arm ty body) (any_of t at) fx bf bx d = any_is _
+      arms_described (struct_arm ty body) (some_at at) fx bf bx d = any_is _
+      arms_described (spec_arm_and ty variant body rest) (a_fact f) fx bf bx d = nothing_is
+      arms_described (spec_arm_and ty variant body rest) (an_integer_by z) fx bf bx d = nothing_is
+      arms_described (spec_arm_and ty variant body rest) (a_word_by w t) fx bf bx d = nothing_is
+      arms_described (spec_arm_and ty variant body rest) (struct_by t fields) fx bf bx d = any_is None
+      arms_described (spec_arm_and ty variant body rest) (any_of t at) fx bf bx d = any_is _
+      arms_described (spec_arm_and ty variant body rest) (some_at at) fx bf bx d = any_is _
+
+  -- 4. that something is true
+  true_in : (cs : List (Case Form)) (c : Case Form) → In cs c → is_so m c.guard ≡ true → is_so m (truth_of c.gives) ≡ true → is_so m (is_true cs) ≡ true
+  true_in (d ∷ cs) c (inl q) g t =
+      one_left m (both_of d.guard (truth_of d.gives)) (is_true cs)
+      (ap (λ (w : Case Form). is_so m (both_of w.guard (truth_of w.gives))) q ∙ both_from m c.guard (truth_of c.gives) g t)
+  true_in (d ∷ cs) c (inr i) g t = one_right m (both_of d.guard (truth_of d.gives)) (is_true cs) (true_in cs c i g t)
+  true_in [] c i g t = absurd i
+
+  true_from : (cs : List (Case Form)) → is_so m (is_true cs) ≡ true → (c : Case Form) × In cs c × (is_so m c.guard ≡ true) × (is_so m (truth_of c.gives) ≡ true)
+  true_from [] e = absurd (false≢true e)
+  true_from (c ∷ cs) e = by (or_split (is_so m (both_of c.guard (truth_of c.gives))) (is_so m (is_true cs)) (sym (one_so m (both_of c.guard (truth_of c.gives)) (is_true cs)) ∙ e)) (true_from cs)
+    where
+      by : (is_so m (both_of c.guard (truth_of c.gives)) ≡ true) ⊎ (is_so m (is_true cs) ≡ true)
+          → (is_so m (is_true cs) ≡ true → (d : Case Form) × In cs d × (is_so m d.guard ≡ true) × (is_so m (truth_of d.gives) ≡ true))
+          → (d : Case Form) × In (c ∷ cs) d × (is_so m d.guard ≡ true) × (is_so m (truth_of d.gives) ≡ true)
+      by (inl h) more = let k = both_parts m c.guard (truth_of c.gives) h in (c, inl refl, k.0, k.1)
+      by (inr h) more = let k = more h in (k.0, inr k.1, k.2, k.3)
+
+  truth_back : (f : Form) → is_so m (truth_of f) ≡ true → stands vs u f ≡ a_truth true
+  truth_back (a_fact f) e = ap a_truth e
+  truth_back (an_integer_by z) e = absurd (false≢true e)
+  truth_back (a_word_by w t) e = absurd (false≢true e)
+  truth_back (variant_by ty i fs) e = absurd (false≢true e)
+  truth_back (struct_by ty fs) e = absurd (false≢true e)
+  truth_back (any_of ty at) e = absurd (false≢true e)
+  truth_back (some_at at) e = absurd (false≢true e)
+
+  -- what is surely true is said to be
+  pub surely_said : (cs : Cases Form) (o : Option Denoted) → Describe cs o → is_so m (surely cs) ≡ true → o ≡ Some (a_truth true)
+  surely_said cs o d e = let k = true_from cs.cases e in (d.sound k.0 k.1 k.2).0 ∙ ap Some (truth_back k.0.gives k.3)

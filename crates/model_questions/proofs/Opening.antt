@@ -1,0 +1,406 @@
+-- A place whose type is known, opened by one layer, has the value that stands there.
+use Rattle.std.proofs.Common.{◌≡◌, ◌⊎◌, ◌+◌, ℕ, ℤ, zero, suc, Bool, true, false, not, ◌&&◌, ◌||◌, List, [], ◌∷◌, Option, Some, None, cond, slice_get, refl, sym, ap, ◌∙◌, subst, inl, inr, arith, eq-eqb}
+use Rattle.std.specs.Bool.{◌==◌}
+use Rattle.std.specs.List.{list_any}
+use Rattle.std.proofs.lemmas.Bool.{and_parts, and_from, false≢true, eqb-true, cond-true}
+use Rattle.model.specs.lists.Tables.{VariantEntry, TypeEntry, builtin_type, primitive_type, enum_type, struct_type}
+use Rattle.model.specs.rules.Values.{is_truth_type, has_atoms, variant_types, struct_types, field_types}
+use Rattle.model.specs.sites.Serves.{is_type_with_parts}
+use Rattle.model.proofs.Elements.{In, or_split, some_is, none_some}
+use Rattle.laws_specs.specs.Words.{Denoted, a_truth, an_integer, a_word, variant_of, struct_of, DenotedList, no_denoted, denoted_and, denoted_list, is_plain}
+use Rattle.laws_specs.specs.Specs.{Sort, truths, integers, words, words_among, is_of_sort, Specs, sort_of, Unknowns}
+use Rattle.laws_specs.specs.Conditions.{is_modelled_as, is_atom_as, is_of_type, are_of_types}
+use Rattle.model_questions.specs.Formulas.{Place, variant_field_at, struct_field_at, word_at, integer_at, written_integer, Fact, known, truth_at, as_wide, is_kind, Model, is_so, both_of, none_of}
+use Rattle.model_questions.specs.Forms.{Form, a_fact, an_integer_by, a_word_by, variant_by, struct_by, any_of, some_at, Forms, no_form, form_and, Case, Cases, one_case, anything, then_cases}
+use Rattle.model_questions.specs.Evaluated.{Known, found, fields_at, wide_case, at_each, at_widths, integer_known, at_sort, variant_at, each_variant, is_no_variant, one_variant, variant_known, at_variants, at_enum, at_type, opened, opened_each}
+use Rattle.model_questions.proofs.FactsSo.{none_so, both_so, both_from, both_parts, none_from}
+use Rattle.model_questions.proofs.Described.{Describes, IsTaken, nothing_described, anything_described, one_described, then_described}
+use Rattle.model_questions.proofs.Standing.{model_of, number_if, width_in, kind_in, IsCoherent, AreKnown, stands, stand_each, Fits, AllFit}
+
+pub same_is : (n : ℕ) → (n == n) ≡ true
+same_is n = eq-eqb n n refl
+
+at_next : (i k : ℕ) → suc i + k ≡ i + suc k
+at_next i k = omega arith
+
+at_first : (i : ℕ) → i ≡ i + 0
+at_first i = omega arith
+
+and_last_false : (a b : Bool) → (a && (b && false)) ≡ true → ⊥
+and_last_false true true e = false≢true e
+and_last_false true false e = false≢true e
+and_last_false false b e = false≢true e
+
+listed_width : (w : ℕ) (ws : List ℕ) → list_any (λ v. w == v) ws ≡ true → In ws w
+listed_width w [] e = absurd (false≢true e)
+listed_width w (v ∷ ws) e = elim (or_split (w == v) (list_any (λ u. w == u) ws) e) [ inl q ↦ inl (sym (eqb-true w v q)) | inr r ↦ inr (listed_width w ws r) ]
+
+not_is : (b : Bool) → not b ≡ true → b ≡ true → ⊥
+not_is true e f = false≢true e
+not_is false e f = false≢true f
+
+-- what a type says of a value, by its entry
+abbrev IsMadeOf : List TypeEntry → Specs → ℕ → Option TypeEntry → Denoted → Type 0
+IsMadeOf types specs ty o (variant_of s i xs) = (s ≡ ty) × (are_of_types types specs (variant_types o i) xs ≡ true)
+IsMadeOf types specs ty o (struct_of s xs) = (s ≡ ty) × (are_of_types types specs (struct_types o) xs ≡ true)
+IsMadeOf types specs ty o _ = ⊥
+
+abbrev is_atom_of : Specs → ℕ → Option TypeEntry → Denoted → Bool
+is_atom_of specs ty o x = (is_truth_type o && is_of_sort truths x) || (has_atoms o && is_atom_as o (sort_of specs ty) x)
+
+abbrev IsOf : List TypeEntry → Specs → ℕ → Option TypeEntry → Denoted → Type 0
+IsOf types specs ty o x = (is_atom_of specs ty o x ≡ true) ⊎ IsMadeOf types specs ty o x
+
+type_says : (types : List TypeEntry) (specs : Specs) (ty : ℕ) (x : Denoted) → is_of_type types specs ty x ≡ true → IsOf types specs ty (slice_get types ty) x
+type_says types specs ty (a_truth b) e = inl e
+type_says types specs ty (an_integer z) e = inl e
+type_says types specs ty (a_word w n) e = inl e
+type_says types specs ty (variant_of s i xs) e =
+    elim (or_split (is_atom_of specs ty (slice_get types ty) (variant_of s i xs)) ((s == ty) && are_of_types types specs (variant_types (slice_get types ty) i) xs) e) [
+      | inl a ↦ inl a
+      | inr b ↦ let p = and_parts (s == ty) (are_of_types types specs (variant_types (slice_get types ty) i) xs) b in inr (eqb-true s ty p.0, p.1)
+    ]
+type_says types specs ty (struct_of s xs) e =
+    elim (or_split (is_atom_of specs ty (slice_get types ty) (struct_of s xs)) ((s == ty) && are_of_types types specs (struct_types (slice_get types ty)) xs) e) [
+      | inl a ↦ inl a
+      | inr b ↦ let p = and_parts (s == ty) (are_of_types types specs (struct_types (slice_get types ty)) xs) b in inr (eqb-true s ty p.0, p.1)
+    ]
+
+none_of_types : (types : List TypeEntry) (specs : Specs) (xs : DenotedList) → are_of_types types specs None xs ≡ true → ⊥
+none_of_types types specs no_denoted e = false≢true e
+none_of_types types specs (denoted_and x xs) e = false≢true e
+
+nothing_made : (types : List TypeEntry) (specs : Specs) (ty : ℕ) (o : Option TypeEntry) (x : Denoted) → ((i : ℕ) → variant_types o i ≡ None) → struct_types o ≡ None → IsMadeOf types specs ty o x → ⊥
+nothing_made types specs ty o (variant_of s i xs) v t h = none_of_types types specs xs (subst (λ tys. are_of_types types specs tys xs ≡ true) (v i) h.1)
+nothing_made types specs ty o (struct_of s xs) v t h = none_of_types types specs xs (subst (λ tys. are_of_types types specs tys xs ≡ true) t h.1)
+nothing_made types specs ty o (a_truth b) v t h = h
+nothing_made types specs ty o (an_integer z) v t h = h
+nothing_made types specs ty o (a_word w n) v t h = h
+
+plain_has_no_kind : (x : Denoted) → is_plain x ≡ true → kind_in x ≡ 0
+plain_has_no_kind (a_truth b) e = refl
+plain_has_no_kind (an_integer z) e = refl
+plain_has_no_kind (a_word w n) e = refl
+plain_has_no_kind (variant_of s i xs) e = absurd (false≢true e)
+plain_has_no_kind (struct_of s xs) e = absurd (false≢true e)
+
+variant_there : (types : List TypeEntry) (specs : Specs) (o : Option VariantEntry) (xs : DenotedList) → are_of_types types specs (elim o [ None ↦ None | Some v ↦ Some (field_types v.fields) ]) xs ≡ true
+    → (v : VariantEntry) × (o ≡ Some v) × (are_of_types types specs (Some (field_types v.fields)) xs ≡ true)
+variant_there types specs None xs e = absurd (none_of_types types specs xs e)
+variant_there types specs (Some v) xs e = (v, refl, e)
+
+zero_apart : (j : ℕ) → (0 == suc j) ≡ false
+zero_apart j = by (0 == suc j) refl
+  where
+    apart : 0 ≡ suc j → ⊥
+    apart e = omega arith
+
+    by : (b : Bool) → (0 == suc j) ≡ b → (0 == suc j) ≡ false
+    by true e = absurd (apart (eqb-true 0 (suc j) e))
+    by false e = e
+
+module _ (types : List TypeEntry) (specs : Specs) (vs : Place → Denoted) (u : Unknowns) where
+  abbrev m : Model
+  m = model_of vs u
+
+  abbrev pub Describe : Cases Form → Option Denoted → Type 0
+  Describe cs o = Describes m Form Denoted (stands vs u) (Fits types specs vs) cs o
+
+  abbrev pub Gives : Option Denoted → Form → Type 0
+  Gives o f = (o ≡ Some (stands vs u f)) × Fits types specs vs f
+
+  one_is : (f : Form) (x : Denoted) → stands vs u f ≡ x → Fits types specs vs f → Describe (one_case f) (Some x)
+  one_is f x e fits = one_described m Form Denoted (stands vs u) (Fits types specs vs) f x e fits
+
+  any_is : (o : Option Denoted) → Describe anything o
+  any_is o = anything_described m Form Denoted (stands vs u) (Fits types specs vs) o
+
+  at_case : (o : Option Denoted) (a b : Case Form) → a ≡ b → Gives o a.gives → Gives o b.gives
+  at_case o a b e h = subst (λ (c : Case Form). Gives o c.gives) e h
+
+  -- 1. sorts
+  truth_described : (at : Place) (x : Denoted) → vs at ≡ x → is_of_sort truths x ≡ true → Describe (one_case (a_fact (truth_at at))) (Some x)
+  truth_described at (a_truth b) e h = one_is (a_fact (truth_at at)) (a_truth b) (ap (λ y. stands (λ p. y) u (a_fact (truth_at at))) e) tt
+  truth_described at (an_integer z) e h = absurd (false≢true h)
+  truth_described at (a_word w n) e h = absurd (false≢true h)
+  truth_described at (variant_of s i xs) e h = absurd (false≢true h)
+  truth_described at (struct_of s xs) e h = absurd (false≢true h)
+
+  wide_stands : (at : Place) (w n v : ℕ) → vs at ≡ a_word w n → w ≡ v → stands vs u (a_word_by v (word_at at v)) ≡ a_word w n
+  wide_stands at w n v e q =
+      ap (λ y. a_word v (number_if y v)) e
+      ∙ ap (λ z. a_word z (number_if (a_word w n) z)) (sym q)
+      ∙ ap (a_word w) (cond-true (w == w) n 0 (same_is w))
+
+  wide_gives : (at : Place) (w n v : ℕ) → vs at ≡ a_word w n → w ≡ v → Gives (Some (a_word w n)) (a_word_by v (word_at at v))
+  wide_gives at w n v e q = (ap Some (sym (wide_stands at w n v e q)), tt)
+
+  is_as_wide : (at : Place) (w n v : ℕ) → vs at ≡ a_word w n → is_so m (as_wide at v) ≡ true → w ≡ v
+  is_as_wide at w n v e h = eqb-true w v (ap (λ y. width_in y == v) (sym e) ∙ h)
+
+  each_width_sound : (at : Place) (w n : ℕ) → vs at ≡ a_word w n → (g : Fact) (ws : List ℕ) → (is_so m g ≡ true → In ws w) → (c : Case Form) → In (at_each g ws at) c → is_so m c.guard ≡ true
+      → Gives (Some (a_word w n)) c.gives
+  each_width_sound at w n e g [] there c i h = absurd i
+  each_width_sound at w n e g (v ∷ []) there c (inl q) h =
+      at_case (Some (a_word w n)) (wide_case g at v) c q
+      (wide_gives at w n v e (elim (there (ap (λ (d : Case Form). is_so m d.guard) q ∙ h)) [ inl s ↦ sym s | inr s ↦ absurd s ]))
+  each_width_sound at w n e g (v ∷ []) there c (inr i) h = absurd i
+  each_width_sound at w n e g (v ∷ (v' ∷ ws)) there c (inl q) h =
+      at_case (Some (a_word w n)) (wide_case (both_of g (as_wide at v)) at v) c q
+      (wide_gives at w n v e (is_as_wide at w n v e (both_parts m g (as_wide at v) (ap (λ (d : Case Form). is_so m d.guard) q ∙ h)).1))
+  each_width_sound at w n e g (v ∷ (v' ∷ ws)) there c (inr i) h =
+      each_width_sound at w n e (both_of g (none_of (as_wide at v))) (v' ∷ ws)
+      (λ s. let p = both_parts m g (none_of (as_wide at v)) s in
+      elim (there p.0) [
+        | inl q ↦ absurd (not_is (is_so m (as_wide at v)) (sym (none_so m (as_wide at v)) ∙ p.1) (ap (λ y. width_in y == v) e ∙ ap (λ z. z == v) (sym q) ∙ same_is v))
+        | inr r ↦ r
+      ]) c i h
+
+  each_width_full : (at : Place) (w n : ℕ) → vs at ≡ a_word w n → (g : Fact) (ws : List ℕ) → is_so m g ≡ true → In ws w → IsTaken m (at_each g ws at)
+  each_width_full at w n e g [] s i = absurd i
+  each_width_full at w n e g (v ∷ []) s i = (wide_case g at v, inl refl, s)
+  each_width_full at w n e g (v ∷ (v' ∷ ws)) s i = by (is_so m (as_wide at v)) refl (λ q j. each_width_full at w n e (both_of g (none_of (as_wide at v))) (v' ∷ ws) q j)
+    where
+      by : (b : Bool) → is_so m (as_wide at v) ≡ b
+          → (is_so m (both_of g (none_of (as_wide at v))) ≡ true → In (v' ∷ ws) w → IsTaken m (at_each (both_of g (none_of (as_wide at v))) (v' ∷ ws) at))
+          → IsTaken m (at_each g (v ∷ (v' ∷ ws)) at)
+      by true q more = (wide_case (both_of g (as_wide at v)) at v, inl refl, both_from m g (as_wide at v) s q)
+      by false q more =
+          elim i [
+            | inl r ↦ absurd (false≢true (sym q ∙ ap (λ y. width_in y == v) e ∙ ap (λ z. z == v) (sym r) ∙ same_is v))
+            | inr j ↦ let t = more (both_from m g (none_of (as_wide at v)) s (none_from m (as_wide at v) q)) j in (t.0, inr t.1, t.2)
+          ]
+
+  module _ (k : Known) (told : AreKnown m k) where
+    widths_described : (at : Place) (ws : List ℕ) (x : Denoted) → vs at ≡ x → is_of_sort (words_among ws) x ≡ true → (o : Option ℕ) → ((v : ℕ) → o ≡ Some v → m.widths at ≡ v)
+        → Describe (at_widths ws at o) (Some x)
+    widths_described at ws (a_word w n) e h None q =
+        let i = listed_width w ws h in
+        record { sound = each_width_sound at w n e (known true) ws (λ s. i); full = λ y r. inl (each_width_full at w n e (known true) ws refl i) }
+    widths_described at ws (a_word w n) e h (Some v) q = one_is (a_word_by v (word_at at v)) (a_word w n) (wide_stands at w n v e (ap width_in (sym e) ∙ q v refl)) tt
+    widths_described at ws (a_truth b) e h o q = absurd (false≢true h)
+    widths_described at ws (an_integer z) e h o q = absurd (false≢true h)
+    widths_described at ws (variant_of s i xs) e h o q = absurd (false≢true h)
+    widths_described at ws (struct_of s xs) e h o q = absurd (false≢true h)
+
+    word_described : (at : Place) (v : ℕ) (x : Denoted) → vs at ≡ x → is_of_sort (words v) x ≡ true → Describe (one_case (a_word_by v (word_at at v))) (Some x)
+    word_described at v (a_word w n) e h = one_is (a_word_by v (word_at at v)) (a_word w n) (wide_stands at w n v e (eqb-true w v h)) tt
+    word_described at v (a_truth b) e h = absurd (false≢true h)
+    word_described at v (an_integer z) e h = absurd (false≢true h)
+    word_described at v (variant_of s i xs) e h = absurd (false≢true h)
+    word_described at v (struct_of s xs) e h = absurd (false≢true h)
+
+    integer_described : (at : Place) (x : Denoted) → vs at ≡ x → is_of_sort integers x ≡ true → (o : Option ℤ) → ((z : ℤ) → o ≡ Some z → m.integers at ≡ z) → Describe (integer_known at o) (Some x)
+    integer_described at (an_integer z) e h None q = one_is (an_integer_by (integer_at at)) (an_integer z) (ap (λ y. stands (λ p. y) u (an_integer_by (integer_at at))) e) tt
+    integer_described at (an_integer z) e h (Some y) q =
+        one_is (an_integer_by (written_integer y)) (an_integer z) (ap an_integer (sym (q y refl)) ∙ ap (λ w. stands (λ p. w) u (an_integer_by (integer_at at))) e) tt
+    integer_described at (a_truth b) e h o q = absurd (false≢true h)
+    integer_described at (a_word w n) e h o q = absurd (false≢true h)
+    integer_described at (variant_of s i xs) e h o q = absurd (false≢true h)
+    integer_described at (struct_of s xs) e h o q = absurd (false≢true h)
+
+    sort_described : (at : Place) (x : Denoted) → vs at ≡ x → (s : Option Sort) → is_modelled_as s x ≡ true → Describe (at_sort k at s) (Some x)
+    sort_described at x e None h = any_is (Some x)
+    sort_described at x e (Some truths) h = truth_described at x e h
+    sort_described at x e (Some integers) h = integer_described at x e h (found k.integers at) (told.integers at)
+    sort_described at x e (Some (words v)) h = word_described at v x e h
+    sort_described at x e (Some (words_among ws)) h = widths_described at ws x e h (found k.widths at) (told.widths at)
+
+  -- 2. fields
+  fields_stand : (p : ℕ → Place) (j : ℕ) (tys : List ℕ) (xs : DenotedList) → ((n : ℕ) (y : Denoted) → slice_get (denoted_list xs) n ≡ Some y → vs (p (j + n)) ≡ y)
+      → are_of_types types specs (Some tys) xs ≡ true → (stand_each vs u (fields_at p j tys) ≡ xs) × AllFit types specs vs (fields_at p j tys)
+  fields_stand p j [] no_denoted h a = (refl, tt)
+  fields_stand p j (ty ∷ tys) (denoted_and x xs) h a =
+      let s = and_parts (is_of_type types specs ty x) (are_of_types types specs (Some tys) xs) a in
+      let here : vs (p j) ≡ x = ap (λ i. vs (p i)) (at_first j) ∙ h 0 x refl in
+      let rest = fields_stand p (suc j) tys xs (λ n y q. ap (λ i. vs (p i)) (at_next j n) ∙ h (suc n) y q) s.1 in
+      (ap (λ y. denoted_and y (stand_each vs u (fields_at p (suc j) tys))) here ∙ ap (denoted_and x) rest.0, (subst (λ y. is_of_type types specs ty y ≡ true) (sym here) s.0, rest.1))
+  fields_stand p j [] (denoted_and x xs) h a = absurd (false≢true a)
+  fields_stand p j (ty ∷ tys) no_denoted h a = absurd (false≢true a)
+
+  module _ (coherent : IsCoherent vs) where
+    variant_gives : (ty : ℕ) (at : Place) (s i j : ℕ) (v : VariantEntry) (xs : DenotedList) → vs at ≡ variant_of s i xs → s ≡ ty → i ≡ j → are_of_types types specs (Some (field_types v.fields)) xs ≡ true
+        → Gives (Some (variant_of s i xs)) (variant_at ty at j v)
+    variant_gives ty at s i j v xs e q r a =
+        let same : variant_of s i xs ≡ variant_of ty j xs = ap (λ t. variant_of t i xs) q ∙ ap (λ n. variant_of ty n xs) r in
+        let f = fields_stand (variant_field_at at ty j) 0 (field_types v.fields) xs (λ n y t. ap (λ l. vs (variant_field_at at ty j l)) (let z : 0 + n ≡ n = omega arith in z) ∙ coherent.variants at ty j xs n y (e ∙ same) t) a in
+        (ap Some (same ∙ ap (variant_of ty j) (sym f.0)), f.1)
+
+    struct_gives : (ty : ℕ) (at : Place) (s : ℕ) (tys : List ℕ) (xs : DenotedList) → vs at ≡ struct_of s xs → s ≡ ty → are_of_types types specs (Some tys) xs ≡ true
+        → Gives (Some (struct_of s xs)) (struct_by ty (fields_at (struct_field_at at ty) 0 tys))
+    struct_gives ty at s tys xs e q a =
+        let same : struct_of s xs ≡ struct_of ty xs = ap (λ t. struct_of t xs) q in
+        let f = fields_stand (struct_field_at at ty) 0 tys xs (λ n y t. ap (λ l. vs (struct_field_at at ty l)) (let z : 0 + n ≡ n = omega arith in z) ∙ coherent.structs at ty xs n y (e ∙ same) t) a in
+        (ap Some (same ∙ ap (struct_of ty) (sym f.0)), f.1)
+
+    -- 3. variants
+    module _ (ty : ℕ) (at : Place) (s i : ℕ) (xs : DenotedList) (e : vs at ≡ variant_of s i xs) (q : s ≡ ty) where
+      abbrev x : Denoted
+      x = variant_of s i xs
+
+      is_kind_here : (j : ℕ) → is_so m (is_kind at j) ≡ true → i ≡ j
+      is_kind_here j h = let r : suc i ≡ suc j = eqb-true (suc i) (suc j) (ap (λ y. kind_in y == suc j) (sym e) ∙ h) in omega arith
+
+      is_kind_from : (j : ℕ) → i ≡ j → is_so m (is_kind at j) ≡ true
+      is_kind_from j r = ap (λ y. kind_in y == suc j) e ∙ ap (λ n. suc n == suc j) r ∙ same_is (suc j)
+
+      -- entries that stand from a number on: where the value's is there, its fields are of its types
+      abbrev AreTyped : ℕ → List VariantEntry → Type 0
+      AreTyped j ws = (d : ℕ) (v : VariantEntry) → i ≡ j + d → slice_get ws d ≡ Some v → are_of_types types specs (Some (field_types v.fields)) xs ≡ true
+
+      abbrev IsThere : ℕ → List VariantEntry → Type 0
+      IsThere j ws = (d : ℕ) × (v : VariantEntry) × (i ≡ j + d) × (slice_get ws d ≡ Some v)
+
+      typed_rest : (j : ℕ) (w : VariantEntry) (ws : List VariantEntry) → AreTyped j (w ∷ ws) → AreTyped (suc j) ws
+      typed_rest j w ws h d v r t = h (suc d) v (r ∙ at_next j d) t
+
+      each_sound : (j : ℕ) (ws : List VariantEntry) → AreTyped j ws → (c : Case Form) → In (each_variant ty at j ws) c → is_so m c.guard ≡ true → Gives (Some x) c.gives
+      each_sound j [] h c n g = absurd n
+      each_sound j (w ∷ ws) h c (inl r) g =
+          let here = is_kind_here j (ap (λ (d : Case Form). is_so m d.guard) r ∙ g) in
+          at_case (Some x) (record { guard = is_kind at j; gives = variant_at ty at j w }) c r (variant_gives ty at s i j w xs e q here (h 0 w (here ∙ at_first j) refl))
+      each_sound j (w ∷ ws) h c (inr n) g = each_sound (suc j) ws (typed_rest j w ws h) c n g
+
+      each_full : (j : ℕ) (ws : List VariantEntry) (d : ℕ) (v : VariantEntry) → i ≡ j + d → slice_get ws d ≡ Some v → IsTaken m (each_variant ty at j ws)
+      each_full j [] d v r t = absurd (none_some v t)
+      each_full j (w ∷ ws) zero v r t = (record { guard = is_kind at j; gives = variant_at ty at j w }, inl refl, is_kind_from j (r ∙ sym (at_first j)))
+      each_full j (w ∷ ws) (suc d) v r t = let n = each_full (suc j) ws d v (r ∙ sym (at_next j d)) t in (n.0, inr n.1, n.2)
+
+      one_sound : (j : ℕ) (g : Fact) (ws : List VariantEntry) → AreTyped j ws → (is_so m g ≡ true → IsThere j ws) → (c : Case Form) → In (one_variant g ty at j ws) c → is_so m c.guard ≡ true → Gives (Some x) c.gives
+      one_sound j g [] h there c n k = absurd n
+      one_sound j g (w ∷ []) h there c (inl r) k =
+          at_case (Some x) (record { guard = g; gives = variant_at ty at j w }) c r (by (there (ap (λ (d : Case Form). is_so m d.guard) r ∙ k)))
+        where
+          by : IsThere j (w ∷ []) → Gives (Some x) (variant_at ty at j w)
+          by (zero, v, p, t) = let here : i ≡ j = p ∙ sym (at_first j) in variant_gives ty at s i j w xs e q here (h 0 w p refl)
+          by (suc d, v, p, t) = absurd (none_some v t)
+      one_sound j g (w ∷ []) h there c (inr n) k = absurd n
+      one_sound j g (w ∷ (w' ∷ ws)) h there c (inl r) k =
+          let here = is_kind_here j (both_parts m g (is_kind at j) (ap (λ (d : Case Form). is_so m d.guard) r ∙ k)).1 in
+          at_case (Some x) (record { guard = both_of g (is_kind at j); gives = variant_at ty at j w }) c r (variant_gives ty at s i j w xs e q here (h 0 w (here ∙ at_first j) refl))
+      one_sound j g (w ∷ (w' ∷ ws)) h there c (inr n) k =
+          one_sound (suc j) (both_of g (none_of (is_kind at j))) (w' ∷ ws) (typed_rest j w (w' ∷ ws) h)
+          (λ z. let p = both_parts m g (none_of (is_kind at j)) z in by p.1 (there p.0)) c n k
+        where
+          by : is_so m (none_of (is_kind at j)) ≡ true → IsThere j (w ∷ (w' ∷ ws)) → IsThere (suc j) (w' ∷ ws)
+          by z (zero, v, p, t) = absurd (not_is (is_so m (is_kind at j)) (sym (none_so m (is_kind at j)) ∙ z) (is_kind_from j (p ∙ sym (at_first j))))
+          by z (suc d, v, p, t) = (d, v, p ∙ sym (at_next j d), t)
+
+      one_full : (j : ℕ) (g : Fact) (ws : List VariantEntry) → is_so m g ≡ true → IsThere j ws → IsTaken m (one_variant g ty at j ws)
+      one_full j g [] z (d, v, p, t) = absurd (none_some v t)
+      one_full j g (w ∷ []) z there = (record { guard = g; gives = variant_at ty at j w }, inl refl, z)
+      one_full j g (w ∷ (w' ∷ ws)) z there = by (is_so m (is_kind at j)) refl (λ y t. one_full (suc j) (both_of g (none_of (is_kind at j))) (w' ∷ ws) y t) there
+        where
+          by : (b : Bool) → is_so m (is_kind at j) ≡ b
+              → (is_so m (both_of g (none_of (is_kind at j))) ≡ true → IsThere (suc j) (w' ∷ ws) → IsTaken m (one_variant (both_of g (none_of (is_kind at j))) ty at (suc j) (w' ∷ ws)))
+              → IsThere j (w ∷ (w' ∷ ws)) → IsTaken m (one_variant g ty at j (w ∷ (w' ∷ ws)))
+          by true y more t = (record { guard = both_of g (is_kind at j); gives = variant_at ty at j w }, inl refl, both_from m g (is_kind at j) z y)
+          by false y more (zero, v, p, t) = absurd (false≢true (sym y ∙ is_kind_from j (p ∙ sym (at_first j))))
+          by false y more (suc d, v, p, t) = let r = more (both_from m g (none_of (is_kind at j)) z (none_from m (is_kind at j) y)) (d, v, p ∙ sym (at_next j d), t) in (r.0, inr r.1, r.2)
+
+      variants_described : (is_extern : Bool) (ws : List VariantEntry) (v : VariantEntry) → slice_get ws i ≡ Some v → are_of_types types specs (Some (field_types v.fields)) xs ≡ true
+          → (o : Option ℕ) → ((j : ℕ) → o ≡ Some j → m.kinds at ≡ suc j) → Describe (at_variants is_extern ty at ws o) (Some x)
+      variants_described is_extern ws v t a None k = by is_extern
+        where
+          there : (d : ℕ) → i ≡ 0 + d → i ≡ d
+          there d p = omega arith
+
+          typed : AreTyped 0 ws
+          typed d w p z = subst (λ y. are_of_types types specs (Some (field_types y.fields)) xs ≡ true) (some_is v w (sym t ∙ ap (slice_get ws) (there d p) ∙ z)) a
+
+          start : i ≡ 0 + i
+          start = omega arith
+
+          by : (b : Bool) → Describe (at_variants b ty at ws None) (Some x)
+          by true = record { sound = each_sound 0 ws typed; full = λ y r. inl (each_full 0 ws i v start t) }
+          by false = record { sound = one_sound 0 (known true) ws typed (λ z. (i, v, start, t)); full = λ y r. inl (one_full 0 (known true) ws refl (i, v, start, t)) }
+      variants_described is_extern ws v t a (Some j) k =
+          let here : suc i ≡ suc j = ap kind_in (sym e) ∙ k j refl in
+          let same : i ≡ j = omega arith in
+          subst (λ o. Describe (variant_known ty at j o) (Some x)) (sym t ∙ ap (slice_get ws) same)
+          (let r = variant_gives ty at s i j v xs e q same a in one_is (variant_at ty at j v) x (sym (some_is x (stands vs u (variant_at ty at j v)) r.0)) r.1)
+
+    -- of an extern enum something else may stand there
+    no_kind_so : (at : Place) → kind_in (vs at) ≡ 0 → (j : ℕ) (ws : List VariantEntry) → is_so m (is_no_variant at j ws) ≡ true
+    no_kind_so at e j [] = refl
+    no_kind_so at e j (w ∷ ws) = both_from m (none_of (is_kind at j)) (is_no_variant at (suc j) ws) (none_from m (is_kind at j) (ap (λ n. n == suc j) e ∙ zero_apart j)) (no_kind_so at e (suc j) ws)
+
+    no_kind_taken : (ty : ℕ) (at : Place) (o : Option Denoted) → kind_in (vs at) ≡ 0 → (j : ℕ) (ws : List VariantEntry) (c : Case Form) → In (each_variant ty at j ws) c → is_so m c.guard ≡ true → Gives o c.gives
+    no_kind_taken ty at o e j [] c i g = absurd i
+    no_kind_taken ty at o e j (w ∷ ws) c (inl r) g = absurd (false≢true (sym (zero_apart j) ∙ ap (λ n. n == suc j) (sym e) ∙ ap (λ (d : Case Form). is_so m d.guard) r ∙ g))
+    no_kind_taken ty at o e j (w ∷ ws) c (inr i) g = no_kind_taken ty at o e (suc j) ws c i g
+
+    others_described : (ty : ℕ) (at : Place) (x : Denoted) → vs at ≡ x → is_plain x ≡ true → (ws : List VariantEntry) (o : Option ℕ) → ((j : ℕ) → o ≡ Some j → m.kinds at ≡ suc j) → Describe (at_variants true ty at ws o) (Some x)
+    others_described ty at x e plain ws None k =
+        let none : kind_in (vs at) ≡ 0 = ap kind_in e ∙ plain_has_no_kind x plain in
+        record { sound = no_kind_taken ty at (Some x) none 0 ws; full = λ y r. inr (no_kind_so at none 0 ws) }
+    others_described ty at x e plain ws (Some j) k = let none : kind_in (vs at) ≡ 0 = ap kind_in e ∙ plain_has_no_kind x plain in absurd (apart (sym none ∙ k j refl))
+      where
+        apart : 0 ≡ suc j → ⊥
+        apart z = omega arith
+
+    -- 4. a type
+    module _ (k : Known) (told : AreKnown m k) where
+      enum_described : (ty : ℕ) (at : Place) (name id : ℕ) (is_extern is_nodebug : Bool) (ws : List VariantEntry) (place : _) (x : Denoted) → vs at ≡ x
+          → IsOf types specs ty (Some (enum_type name id is_extern is_nodebug ws place)) x → Describe (at_enum specs k is_extern ty at ws) (Some x)
+      enum_described ty at name id is_extern is_nodebug [] place x e (inl h) =
+          sort_described k told at x e (sort_of specs ty) (and_parts (is_modelled_as (sort_of specs ty) x) true (and_parts is_extern (is_modelled_as (sort_of specs ty) x && true) h).1).0
+      enum_described ty at name id is_extern is_nodebug [] place x e (inr h) =
+          absurd (nothing_made types specs ty (Some (enum_type name id is_extern is_nodebug [] place)) x (λ i. refl) refl h)
+      enum_described ty at name id true is_nodebug (w ∷ ws) place x e (inl h) =
+          others_described ty at x e (and_parts (is_modelled_as (sort_of specs ty) x) (is_plain x) h).1 (w ∷ ws) (found k.kinds at) (told.kinds at)
+      enum_described ty at name id false is_nodebug (w ∷ ws) place x e (inl h) = absurd (false≢true h)
+      enum_described ty at name id is_extern is_nodebug (w ∷ ws) place (variant_of s i xs) e (inr h) =
+          let v = variant_there types specs (slice_get (w ∷ ws) i) xs h.1 in
+          variants_described ty at s i xs e h.0 is_extern (w ∷ ws) v.0 v.1 v.2 (found k.kinds at) (told.kinds at)
+      enum_described ty at name id is_extern is_nodebug (w ∷ ws) place (struct_of s xs) e (inr h) = absurd (none_of_types types specs xs h.1)
+      enum_described ty at name id is_extern is_nodebug (w ∷ ws) place (a_truth b) e (inr h) = absurd h
+      enum_described ty at name id is_extern is_nodebug (w ∷ ws) place (an_integer z) e (inr h) = absurd h
+      enum_described ty at name id is_extern is_nodebug (w ∷ ws) place (a_word v n) e (inr h) = absurd h
+
+      type_described : (ty : ℕ) (at : Place) (x : Denoted) → vs at ≡ x → (o : Option TypeEntry) → IsOf types specs ty o x → Describe (at_type specs k ty at o) (Some x)
+      type_described ty at x e None h = any_is (Some x)
+      type_described ty at x e (Some (builtin_type zero)) (inl h) = by (is_of_sort truths x) refl h
+        where
+          by : (b : Bool) → is_of_sort truths x ≡ b → (b || false) ≡ true → Describe (one_case (a_fact (truth_at at))) (Some x)
+          by true q r = truth_described at x e q
+          by false q r = absurd (false≢true r)
+      type_described ty at x e (Some (builtin_type zero)) (inr h) = absurd (nothing_made types specs ty (Some (builtin_type zero)) x (λ i. refl) refl h)
+      type_described ty at x e (Some (builtin_type (suc n))) (inl h) = sort_described k told at x e (sort_of specs ty) (and_parts (is_modelled_as (sort_of specs ty) x) true h).0
+      type_described ty at x e (Some (builtin_type (suc n))) (inr h) = absurd (nothing_made types specs ty (Some (builtin_type (suc n))) x (λ i. refl) refl h)
+      type_described ty at x e (Some (primitive_type id name place)) (inl h) = sort_described k told at x e (sort_of specs ty) (and_parts (is_modelled_as (sort_of specs ty) x) true h).0
+      type_described ty at x e (Some (primitive_type id name place)) (inr h) = absurd (nothing_made types specs ty (Some (primitive_type id name place)) x (λ i. refl) refl h)
+      type_described ty at x e (Some (enum_type name id is_extern is_nodebug ws place)) h = enum_described ty at name id is_extern is_nodebug ws place x e h
+      type_described ty at x e (Some (struct_type name id is_extern is_nodebug fields place)) (inl h) = absurd (false≢true h)
+      type_described ty at (struct_of s xs) e (Some (struct_type name id is_extern is_nodebug fields place)) (inr h) =
+          let r = struct_gives ty at s (field_types fields) xs e h.0 h.1 in
+          one_is (struct_by ty (fields_at (struct_field_at at ty) 0 (field_types fields))) (struct_of s xs)
+          (sym (some_is (struct_of s xs) (stands vs u (struct_by ty (fields_at (struct_field_at at ty) 0 (field_types fields)))) r.0)) r.1
+      type_described ty at (variant_of s i xs) e (Some (struct_type name id is_extern is_nodebug fields place)) (inr h) = absurd (none_of_types types specs xs h.1)
+      type_described ty at (a_truth b) e (Some (struct_type name id is_extern is_nodebug fields place)) (inr h) = absurd h
+      type_described ty at (an_integer z) e (Some (struct_type name id is_extern is_nodebug fields place)) (inr h) = absurd h
+      type_described ty at (a_word w n) e (Some (struct_type name id is_extern is_nodebug fields place)) (inr h) = absurd h
+
+      -- a form, and each of several
+      pub opened_described : (f : Form) → Fits types specs vs f → Describe (opened types specs k f) (Some (stands vs u f))
+      opened_described (any_of ty at) fits = type_described ty at (vs at) refl (slice_get types ty) (type_says types specs ty (vs at) fits)
+      opened_described (some_at at) fits = any_is (Some (vs at))
+      opened_described (a_fact f) fits = one_is (a_fact f) (stands vs u (a_fact f)) refl tt
+      opened_described (an_integer_by z) fits = one_is (an_integer_by z) (stands vs u (an_integer_by z)) refl tt
+      opened_described (a_word_by w t) fits = one_is (a_word_by w t) (stands vs u (a_word_by w t)) refl tt
+      opened_described (variant_by ty i fs) fits = one_is (variant_by ty i fs) (stands vs u (variant_by ty i fs)) refl fits
+      opened_described (struct_by ty fs) fits = one_is (struct_by ty fs) (stands vs u (struct_by ty fs)) refl fits
+
+      abbrev pub DescribeEach : Cases Forms → Option DenotedList → Type 0
+      DescribeEach cs o = Describes m Forms DenotedList (stand_each vs u) (AllFit types specs vs) cs o
+
+      pub opened_each_described : (fs : Forms) → AllFit types specs vs fs → DescribeEach (opened_each types specs k fs) (Some (stand_each vs u fs))
+      opened_each_described no_form fits = one_described m Forms DenotedList (stand_each vs u) (AllFit types specs vs) no_form no_denoted refl tt
+      opened_each_described (form_and f rest) fits =
+          then_described m Form Denoted Forms DenotedList (stands vs u) (Fits types specs vs) (stand_each vs u) (AllFit types specs vs)
+          (λ x. Some (denoted_and x (stand_each vs u rest))) (λ g. then_cases (opened_each types specs k rest) (λ gs. one_case (form_and g gs)))
+          (λ g fg. then_described m Forms DenotedList Forms DenotedList (stand_each vs u) (AllFit types specs vs) (stand_each vs u) (AllFit types specs vs)
+          (λ xs. Some (denoted_and (stands vs u g) xs)) (λ gs. one_case (form_and g gs))
+          (λ gs fgs. one_described m Forms DenotedList (stand_each vs u) (AllFit types specs vs) (form_and g gs) (denoted_and (stands vs u g) (stand_each vs u gs)) refl (fg, fgs))
+          (opened_each types specs k rest) (Some (stand_each vs u rest)) (opened_each_described rest fits.1))
+          (opened types specs k f) (Some (stands vs u f)) (opened_described f fits.0)
