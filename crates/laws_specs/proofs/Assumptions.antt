@@ -21,7 +21,7 @@ use Rattle.laws_specs.specs.Specs.{IsRequired}
 use Rattle.laws_specs.specs.Conditions.{ToldContent, told, told_parts, told_nothing, told_just, told_many, told_outputs, answered_as, as_denoted, result_as, is_of_type, are_of_entries, IsTypedAs, IsMetAs, IsExtractedAsSaid, IsConstructedAsSaid, IsAnsweredAsSaid, is_impure_call, condition, IsAssumed}
 use Rattle.laws_specs.specs.Meets.{Atoms, stands_for, stand_for, content_as, answers_in}
 use Rattle.laws_specs.proofs.PlainOutcomes.{Served}
-use Rattle.laws_specs.proofs.Valuations.{Called, content, values, sites_as, args_as, each_told, told_site, told_there, told_same, is_value, values_there, value_held, value_there, site_held, site_formed, value_typed, values_typed}
+use Rattle.laws_specs.proofs.Valuations.{Called, content, values, sites_as, args_as, each_told, told_site, told_there, told_same, is_value, values_there, value_held, value_there, site_held, site_formed, value_typed, values_formed, values_typed}
 
 module _ (k : Called) where
   abbrev d : Atoms
@@ -312,6 +312,7 @@ module _ (k : Called) where
       → DemandsHold k.meaning k.args k.pick (demands_of k.program r) → IsAssumed k.program k.specs (condition k.program r) (args_as k) (sites_as k)
   assumed r a typed required h = record {
     arguments = values_typed k (Some (arg_types k.program r.root_term)) (of_list k.args) typed;
+    formed_args = values_formed k (of_list k.args);
     required = required;
     unknowns = k.denotes.unknowns;
     held = site_held k;

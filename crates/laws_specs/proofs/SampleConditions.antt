@@ -132,6 +132,7 @@ argument_assumed provided =
     let specs = specs_with provided [] [] in
     record {
       arguments = refl;
+      formed_args = refl;
       required = All-nil (IsSaid no_unknown one_argument None);
       unknowns = λ g s xs e sorted formed. absurd (none_some s e);
       held = alone_held specs;
@@ -180,6 +181,7 @@ call_typed h e = subst (IsTypedAs (program_with (adding x x)) failing sum_call) 
 call_assumed : Assumed (adding x x) failing one_argument called
 call_assumed = record {
   arguments = refl;
+  formed_args = refl;
   required = All-nil (IsSaid no_unknown one_argument None);
   unknowns = λ g s xs e sorted formed. absurd (none_some s e);
   held = each_held (IsHeldAs failing one_argument called) with_call (record { part = byte 1; there = refl; held = refl }, ((two (byte 1) (byte 1), refl), tt));
@@ -229,6 +231,7 @@ noted = specs_with [] [] (below_itself ∷ [])
 note_assumed : Assumed (noting x) noted one_argument alone
 note_assumed = record {
   arguments = refl;
+  formed_args = refl;
   required = All-nil (IsSaid no_unknown one_argument None);
   unknowns = λ g s xs e sorted formed. absurd (none_some s e);
   held = alone_held noted;

@@ -62,6 +62,7 @@ like_right (denoted_and b (denoted_and c rest)) f a = absurd (false≢true (and_
 alone_assumed : IsAssumed (lists_with x) list_specs (condition (lists_with x) (rule_of x)) one_argument alone
 alone_assumed = record {
   arguments = refl;
+  formed_args = refl;
   required = All-nil (IsSaid no_unknown one_argument None);
   unknowns = λ g s xs e sorted formed. absurd (none_some s e);
   held = alone_held list_specs;

@@ -29,6 +29,7 @@ literal_is n y e = ap told (some_is (byte n) y e)
 wrong_assumed : IsAssumed codes code_specs (condition codes for_others) argument_a wrong
 wrong_assumed = record {
   arguments = refl;
+  formed_args = refl;
   required = All-nil (IsSaid no_unknown argument_a None);
   unknowns = λ g s xs e sorted formed. absurd (none_some s e);
   held = each_held (IsHeldAs code_specs argument_a wrong) wrong_sites (record { part = letter 0; there = refl; held = refl }, ((λ y e. literal_is 20 y e), tt));

@@ -22,6 +22,7 @@ fewer_made : (p : Program) (specs : Specs) (c b : Condition) → c.term ≡ b.te
     → (args : DenotedList) (f : Valuation) → IsAssumed p specs c args f → IsAssumed p specs b args f
 fewer_made p specs c b term constraints equalities made args f a = record {
   arguments = subst (λ t. IsTrue (are_of_types p.types specs (Some (arg_types p t)) args)) term a.arguments;
+  formed_args = a.formed_args;
   required = subst (λ t. IsRequired specs t args) term a.required;
   unknowns = a.unknowns;
   held = a.held;

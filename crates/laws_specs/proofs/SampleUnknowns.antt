@@ -51,6 +51,7 @@ unsorted_assumed =
     let specs = by_unknown no_unknown [] in
     record {
       arguments = refl;
+      formed_args = refl;
       required = All-nil (IsSaid no_unknown one_argument None);
       unknowns = λ g s xs e sorted formed. absurd (none_some s e);
       held = alone_held specs;

@@ -26,6 +26,7 @@ no_result h y e q = none_some y (ap result_as (some_is told_nothing h e) ∙ q)
 unused_assumed : IsAssumed maybes maybe_specs (condition maybes unused_rule) one_argument f
 unused_assumed = record {
   arguments = refl;
+  formed_args = refl;
   required = All-nil (IsSaid no_unknown one_argument None);
   unknowns = λ g s xs e sorted formed. absurd (none_some s e);
   held = each_held (IsHeldAs maybe_specs one_argument f) sites (record { part = byte 1; there = refl; held = refl }, ((denoted_and (byte 1) no_denoted, refl), tt));

@@ -59,6 +59,7 @@ wide_assumed =
     let specs = among (8 ∷ (16 ∷ [])) in
     record {
       arguments = refl;
+      formed_args = refl;
       required = All-nil (IsSaid no_unknown wide_argument None);
       unknowns = λ g s xs e sorted formed. absurd (none_some s e);
       held = each_held (IsHeldAs specs wide_argument wide) wide_sites (record { part = a_wide_one; there = refl; held = refl }, tt);

@@ -233,7 +233,7 @@ module _ (k : Called) where
     value_formed (of_variant ty variant vs) = values_formed vs
     value_formed (of_struct ty vs) = values_formed vs
 
-    values_formed : (vs : Values) → are_formed (stand_for d vs) ≡ true
+    pub values_formed : (vs : Values) → are_formed (stand_for d vs) ≡ true
     values_formed no_value = refl
     values_formed (value_and v vs) = ap (λ b. b && are_formed (stand_for d vs)) (value_formed v) ∙ values_formed vs
 

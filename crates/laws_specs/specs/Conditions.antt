@@ -174,6 +174,7 @@ condition p r = record {
 -- functions answer is of their sorts
 pub record IsAssumed (p : Program) (specs : Specs) (c : Condition) (args : DenotedList) (f : Valuation) : Type 0 where
   pub arguments : IsTrue (are_of_types p.types specs (Some (arg_types p c.term)) args)
+  pub formed_args : IsTrue (are_formed args)
   pub required : IsRequired specs c.term args
   pub unknowns : AreUnknownsSorted specs
   pub held : (s : SiteTerm) (h : ToldContent) → f s ≡ Some h → IsHeldAs specs args f s h

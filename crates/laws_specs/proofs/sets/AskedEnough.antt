@@ -218,6 +218,7 @@ module _ (p : Program) (t : ℕ) (set : SiteSet) (built : IsBuilt p t set) (b : 
     set_assumed : IsAssumed p specs c args (completed f)
     set_assumed = record {
       arguments = subst (λ n. IsTrue (are_of_types p.types specs (Some (arg_types p n)) args)) root a.arguments;
+      formed_args = a.formed_args;
       required = subst (λ n. IsRequired specs n args) root a.required;
       unknowns = a.unknowns;
       held = completed_held specs args f a.held;
