@@ -8,7 +8,7 @@ use Rattle.model.proofs.Elements.{In, or_split, some_is, none_some}
 use Rattle.laws_specs.specs.Words.{Denoted, a_truth, an_integer, a_word, variant_of, struct_of, DenotedList, no_denoted, denoted_and, denoted_list, same_sort, denoted_eq, Operator, equals, field, applied_to}
 use Rattle.laws_specs.specs.Specs.{on_variant, on_struct, SpecExpr, its_argument, its_result, variable, the_same, operation, unknown, let_in, switch_on, match_on, SpecExprs, no_spec_expr, spec_expr_and, SpecCases, no_case, case_and, SpecArms, no_spec_arm, spec_arm_and, struct_arm, arm_else, Specs, Unknowns, says, says_each, says_case, says_arm}
 use Rattle.model_questions.specs.Formulas.{Place, Operands, no_operand, fact_and, integer_and, word_and, Fact, known, Model, number_in, integer_in, truth_in, is_so, operands_in, both_of, one_of, none_of}
-use Rattle.model_questions.specs.Forms.{Form, a_fact, an_integer_by, a_word_by, variant_by, struct_by, any_of, some_at, Forms, no_form, form_and, form_list, form_of, Case, Cases, nothing_said, one_case, anything, under, joined_cases, or_nothing, then_cases, truth_of, is_true, surely, perhaps}
+use Rattle.model_questions.specs.Forms.{Form, a_fact, an_integer_by, a_word_by, variant_by, struct_by, any_of, some_at, Forms, no_form, form_and, form_list, form_of, Case, Cases, nothing_said, one_case, anything, under, joined_cases, or_nothing, then_cases, truth_of, is_true, surely, possible_truth, may_be_true, perhaps}
 use Rattle.model_questions.specs.Evaluated.{Known, Result, no_result, truth_result, integer_result, word_result, unknown_result, result, came_to, literals, literal_case, folded, operands, by_operands, fitted, by_fact, opened, opened_each, evaluated, evaluated_each, evaluated_case, evaluated_arm}
 use Rattle.model_questions.proofs.FactsSo.{one_so, both_from, both_parts, one_left, one_right}
 use Rattle.model_questions.proofs.Described.{Describes, IsTaken, nothing_described, anything_described, one_described, then_described, choice_described}
@@ -268,3 +268,29 @@ module _ (types : List TypeEntry) (specs : Specs) (vs : Place → Denoted) (u : 
   -- what is surely true is said to be
   pub surely_said : (cs : Cases Form) (o : Option Denoted) → Describe cs o → is_so m (surely cs) ≡ true → o ≡ Some (a_truth true)
   surely_said cs o d e = let k = true_from cs.cases e in (d.sound k.0 k.1 k.2).0 ∙ ap Some (truth_back k.0.gives k.3)
+
+  possible_in : (cs : List (Case Form)) (c : Case Form) → In cs c → is_so m c.guard ≡ true → is_so m (possible_truth c.gives) ≡ true → is_so m (may_be_true cs) ≡ true
+  possible_in (d ∷ cs) c (inl q) g t =
+      one_left m (both_of d.guard (possible_truth d.gives)) (may_be_true cs)
+      (ap (λ (w : Case Form). is_so m (both_of w.guard (possible_truth w.gives))) q ∙ both_from m c.guard (possible_truth c.gives) g t)
+  possible_in (d ∷ cs) c (inr i) g t = one_right m (both_of d.guard (possible_truth d.gives)) (may_be_true cs) (possible_in cs c i g t)
+  possible_in [] c i g t = absurd i
+
+  truth_stands : (f : Form) → stands vs u f ≡ a_truth true → is_so m (possible_truth f) ≡ true
+  truth_stands (a_fact f) e = cc
+  truth_stands (an_integer_by z) e = absurd (cc)
+  truth_stands (a_word_by w t) e = absurd (cc)
+  truth_stands (variant_by ty i fs) e = absurd (cc)
+  truth_stands (struct_by ty fs) e = absurd (cc)
+  truth_stands (any_of ty at) e = refl
+  truth_stands (some_at at) e = refl
+
+  -- what is said to be true perhaps is
+  pub perhaps_so : (cs : Cases Form) (o : Option Denoted) → Describe cs o → o ≡ Some (a_truth true) → is_so m (perhaps cs) ≡ true
+  perhaps_so cs o d e = by (d.full (a_truth true) e)
+    where
+      by : IsTaken m cs.cases ⊎ (is_so m cs.rest ≡ true) → is_so m (perhaps cs) ≡ true
+      by (inl k) =
+          one_left m (may_be_true cs.cases) cs.rest
+          (possible_in cs.cases k.0 k.1 k.2 (truth_stands k.0.gives (some_is (stands vs u k.0.gives) (a_truth true) (sym (d.sound k.0 k.1 k.2).0 ∙ e))))
+      by (inr h) = one_right m (may_be_true cs.cases) cs.rest h

@@ -104,7 +104,7 @@ merged_all (c ∷ cs) = merged_in c (merged_all cs)
 abbrev pub merged : Cases Form → Cases Form
 merged cs = record { cases = merged_all cs.cases; rest = cs.rest }
 
--- a case gives true; or anything may come of it
+-- a case surely gives true; or one may give it, or anything may come of it
 abbrev pub truth_of : Form → Fact
 truth_of (a_fact f) = f
 truth_of _ = known false
@@ -116,5 +116,15 @@ is_true (c ∷ cs) = one_of (both_of c.guard (truth_of c.gives)) (is_true cs)
 abbrev pub surely : Cases Form → Fact
 surely cs = is_true cs.cases
 
+abbrev pub possible_truth : Form → Fact
+possible_truth (a_fact f) = f
+possible_truth (any_of ty at) = known true
+possible_truth (some_at at) = known true
+possible_truth _ = known false
+
+abbrev pub may_be_true : List (Case Form) → Fact
+may_be_true [] = known false
+may_be_true (c ∷ cs) = one_of (both_of c.guard (possible_truth c.gives)) (may_be_true cs)
+
 abbrev pub perhaps : Cases Form → Fact
-perhaps cs = one_of (is_true cs.cases) cs.rest
+perhaps cs = one_of (may_be_true cs.cases) cs.rest

@@ -1,3 +1,5 @@
 pub mod Evaluated
-pub mod Forms
 pub mod Formulas
+pub mod Forms
+pub mod Questions
+pub mod Steps
