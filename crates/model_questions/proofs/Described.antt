@@ -1,5 +1,5 @@
 -- Cases that describe what is said: each that is taken gives it, and one is taken where something is said, or the rest is so.
-use Rattle.std.proofs.Common.{◌≡◌, ◌⊎◌, Bool, true, false, not, List, [], ◌∷◌, ◌++◌, Option, Some, None, refl, sym, ap, ◌∙◌, subst, inl, inr}
+use Rattle.std.proofs.Common.{◌≡◌, ◌⊎◌, Bool, true, false, not, List, [], ◌∷◌, Option, Some, None, refl, sym, ap, ◌∙◌, subst, inl, inr}
 use Rattle.std.proofs.lemmas.Bool.{false≢true}
 use Rattle.model.specs.rules.Outcome.{then_option}
 use Rattle.model.proofs.Elements.{In, in_left, in_right, in_either, some_is, none_some}
@@ -122,7 +122,7 @@ not_true true e = absurd (false≢true e)
 
 -- a choice between two by a fact
 module _ (m : Model) (X Y : Type 0) (stands : X → Y) (Fits : X → Type 0) (xs ys : Cases X) (q : Bool → Option Y)
-    (dx : Describes m X Y stands Fits xs (q true)) (dy : Describes m X Y stands Fits ys (q false)) (f : Fact) where
+    (f : Fact) (dx : is_so m f ≡ true → Describes m X Y stands Fits xs (q true)) (dy : is_so m f ≡ false → Describes m X Y stands Fits ys (q false)) where
   abbrev both_ways : Cases X
   both_ways = joined_cases (under f xs) (under (none_of f) ys)
 
@@ -133,16 +133,16 @@ module _ (m : Model) (X Y : Type 0) (stands : X → Y) (Fits : X → Type 0) (xs
       at b u e same r = let s = same_gives m X Y stands Fits (q b) u.gives c.gives same r in (ap q e ∙ s.0, s.1)
 
       by : In (each_under f xs.cases) c ⊎ In (each_under (none_of f) ys.cases) c → (q (is_so m f) ≡ Some (stands c.gives)) × Fits c.gives
-      by (inl j) = let u = under_sound m X Y stands Fits f xs.cases c j h in at true u.1 u.0 u.4 (dx.sound u.1 u.2 u.3)
-      by (inr j) = let u = under_sound m X Y stands Fits (none_of f) ys.cases c j h in at false u.1 (not_true (is_so m f) (sym (none_so m f) ∙ u.0)) u.4 (dy.sound u.1 u.2 u.3)
+      by (inl j) = let u = under_sound m X Y stands Fits f xs.cases c j h in at true u.1 u.0 u.4 ((dx u.0).sound u.1 u.2 u.3)
+      by (inr j) = let u = under_sound m X Y stands Fits (none_of f) ys.cases c j h in let n = not_true (is_so m f) (sym (none_so m f) ∙ u.0) in at false u.1 n u.4 ((dy n).sound u.1 u.2 u.3)
 
   choice_full : (b : Bool) → is_so m f ≡ b → (z : Y) → q b ≡ Some z → IsTaken m both_ways.cases ⊎ (is_so m both_ways.rest ≡ true)
-  choice_full true e z h = by (dx.full z h)
+  choice_full true e z h = by ((dx e).full z h)
     where
       by : IsTaken m xs.cases ⊎ (is_so m xs.rest ≡ true) → IsTaken m both_ways.cases ⊎ (is_so m both_ways.rest ≡ true)
       by (inl t) = let u = taken_under m X Y stands Fits f xs.cases e t in inl (u.0, in_left (each_under f xs.cases) (each_under (none_of f) ys.cases) u.0 u.1, u.2)
       by (inr s) = inr (one_left m (both_of f xs.rest) (both_of (none_of f) ys.rest) (both_from m f xs.rest e s))
-  choice_full false e z h = by (dy.full z h)
+  choice_full false e z h = by ((dy e).full z h)
     where
       by : IsTaken m ys.cases ⊎ (is_so m ys.rest ≡ true) → IsTaken m both_ways.cases ⊎ (is_so m both_ways.rest ≡ true)
       by (inl t) =

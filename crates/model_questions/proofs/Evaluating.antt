@@ -1,21 +1,23 @@
 -- What an expression comes to by formulas is what it says of values.
-use Rattle.std.proofs.Common.{◌≡◌, ◌⊎◌, ℕ, zero, suc, Bool, true, false, not, ◌&&◌, List, [], ◌∷◌, ◌++◌, Option, Some, None, cond, slice_get, refl, sym, ap, ◌∙◌, subst, inl, inr}
+use Rattle.std.proofs.Common.{◌≡◌, ◌⊎◌, ◌^◌, ℕ, ℤ, pos, zero, suc, Bool, true, false, ◌&&◌, List, [], ◌∷◌, ◌++◌, Option, Some, None, cond, slice_get, refl, sym, ap, ◌∙◌, subst, inl, inr, lt-ltb}
 use Rattle.std.specs.Bool.{◌==◌}
-use Rattle.std.proofs.lemmas.Bool.{and_parts, false≢true}
+use Rattle.std.proofs.lemmas.Bool.Decides.{Decides-int_eq}
+use Rattle.std.proofs.lemmas.Bool.{and_parts, and_from, false≢true, eqb-true}
 use Rattle.model.specs.lists.Tables.{TypeEntry}
+use Rattle.model.specs.rules.Meaning.{look}
 use Rattle.model.specs.rules.Outcome.{then_option}
 use Rattle.model.proofs.Elements.{In, or_split, some_is, none_some}
-use Rattle.laws_specs.specs.Words.{Denoted, a_truth, an_integer, a_word, variant_of, struct_of, DenotedList, no_denoted, denoted_and, denoted_list, same_sort, denoted_eq, Operator, equals, field, applied_to}
-use Rattle.laws_specs.specs.Specs.{on_variant, on_struct, SpecExpr, its_argument, its_result, variable, the_same, operation, unknown, let_in, switch_on, match_on, SpecExprs, no_spec_expr, spec_expr_and, SpecCases, no_case, case_and, SpecArms, no_spec_arm, spec_arm_and, struct_arm, arm_else, Specs, Unknowns, says, says_each, says_case, says_arm}
-use Rattle.model_questions.specs.Formulas.{Place, Operands, no_operand, fact_and, integer_and, word_and, Fact, known, Model, number_in, integer_in, truth_in, is_so, operands_in, both_of, one_of, none_of}
-use Rattle.model_questions.specs.Forms.{Form, a_fact, an_integer_by, a_word_by, variant_by, struct_by, any_of, some_at, Forms, no_form, form_and, form_list, form_of, Case, Cases, nothing_said, one_case, anything, under, joined_cases, or_nothing, then_cases, truth_of, is_true, surely, possible_truth, may_be_true, perhaps}
-use Rattle.model_questions.specs.Evaluated.{Known, Result, no_result, truth_result, integer_result, word_result, unknown_result, result, came_to, literals, literal_case, folded, operands, by_operands, fitted, by_fact, opened, opened_each, evaluated, evaluated_each, evaluated_case, evaluated_arm}
+use Rattle.laws_specs.specs.Words.{Denoted, a_truth, an_integer, a_word, variant_of, struct_of, DenotedList, no_denoted, denoted_and, denoted_list, same_sort, denoted_eq, is_formed, are_formed, Operator, equals, as_word, widened, widened_signed, field, applied_to}
+use Rattle.laws_specs.specs.Specs.{SpecExpr, its_argument, its_result, variable, the_same, operation, unknown, let_in, switch_on, match_on, SpecExprs, no_spec_expr, spec_expr_and, SpecCases, no_case, case_and, SpecArms, no_spec_arm, spec_arm_and, struct_arm, arm_else, Sort, truths, integers, words, words_among, is_of_sort, are_of_sorts, UnknownSort, AreUnknownsSorted, Specs, Unknowns, says, says_each, says_case, says_arm}
+use Rattle.model_questions.specs.Formulas.{Place, Word, written, word_at, word_by, word_answered, either_word, number_of, integer_answered, fact_answered, Integer, written_integer, integer_of, Operands, no_operand, fact_and, integer_and, word_and, Model, number_in, integer_in, truth_in, is_so, operands_in, both_of}
+use Rattle.model_questions.specs.Forms.{Form, a_fact, an_integer_by, a_word_by, variant_by, struct_by, any_of, some_at, Forms, no_form, form_and, form_list, form_of, Case, Cases, nothing_said, one_case, anything, or_nothing, then_cases, truth_of, is_true, surely, possible_truth, may_be_true, perhaps}
+use Rattle.model_questions.specs.Evaluated.{Known, Result, no_result, truth_result, integer_result, word_result, unknown_result, result, came_to, widths_of, is_size, each_size, by_size, followed, literals, literal_case, folded, operands, is_operand_of, is_surely_formed, are_operands_of, answer_of_sort, answered_as_sorted, answered_of, by_operands, fitted, by_fact, opened, opened_each, evaluated, evaluated_each, evaluated_case, evaluated_arm}
 use Rattle.model_questions.proofs.FactsSo.{one_so, both_from, both_parts, one_left, one_right}
 use Rattle.model_questions.proofs.Described.{Describes, IsTaken, nothing_described, anything_described, one_described, then_described, choice_described}
 use Rattle.model_questions.proofs.Merging.{merged_described}
 use Rattle.model_questions.proofs.Opening.{opened_described, opened_each_described}
 use Rattle.model_questions.proofs.Results.{ComesTo, result_comes, fact_from_so, integer_from_is, literals_are}
-use Rattle.model_questions.proofs.Standing.{model_of, IsCoherent, AreKnown, stands, stand_each, written_stands, Fits, AllFit, written_fits, AreDescribed, forms_described, more_described}
+use Rattle.model_questions.proofs.Standing.{model_of, IsCoherent, AreKnown, stands, stand_each, written_stands, Fits, AllFit, written_fits, number_formed, AreDescribed, forms_described, more_described}
 
 -- by a truth; of anything else nothing is said
 abbrev on_truth : (Bool → Option Denoted) → Denoted → Option Denoted
@@ -81,17 +83,41 @@ module _ (types : List TypeEntry) (specs : Specs) (vs : Place → Denoted) (u : 
       subst (Describe (came_to o of (word_result w))) (sym c) (one_is _ (a_word w (number_in (applied_to o (operands_in m of)))) refl tt)
   came_described o of unknown_result c = any_is (applied_to o (operands_in m of))
 
+  -- a width that isn't known is each of those that are listed
+  sized_described : (ws : List ℕ) (o : Operator) (z : Integer) (rest : Operands) → Describe (each_size ws o z rest) (applied_to o (operands_in m (integer_and z rest)))
+  sized_described [] o z rest = any_is (applied_to o (operands_in m (integer_and z rest)))
+  sized_described (w ∷ ws) o z rest =
+      choice_described m Form Denoted (stands vs u) (Fits types specs vs) (came_to o (integer_and (written_integer (pos w)) rest) (result o (integer_and (written_integer (pos w)) rest))) (each_size ws o z rest)
+      (λ b. applied_to o (operands_in m (integer_and z rest))) (is_size z w)
+      (λ e. subst (λ y. Describe (came_to o (integer_and (written_integer (pos w)) rest) (result o (integer_and (written_integer (pos w)) rest))) (applied_to o (denoted_and (an_integer y) (operands_in m rest))))
+      (sym ((Decides-int_eq (integer_of m z) (pos w)).0 e))
+      (came_described o (integer_and (written_integer (pos w)) rest) (result o (integer_and (written_integer (pos w)) rest)) (result_comes m o (integer_and (written_integer (pos w)) rest))))
+      (λ e. sized_described ws o z rest)
+
+  by_size_described : (o : Operator) (of : Operands) → Describe (by_size (widths_of specs) o of) (applied_to o (operands_in m of))
+  by_size_described as_word (integer_and z (integer_and y no_operand)) = sized_described (widths_of specs) as_word z (integer_and y no_operand)
+  by_size_described widened (integer_and z (word_and w t no_operand)) = sized_described (widths_of specs) widened z (word_and w t no_operand)
+  by_size_described widened_signed (integer_and z (word_and w t no_operand)) = sized_described (widths_of specs) widened_signed z (word_and w t no_operand)
+  by_size_described o of = any_is (applied_to o (operands_in m of))
+
+  followed_described : (o : Operator) (of : Operands) (r : Result) → result o of ≡ r → Describe (followed (widths_of specs) o of r) (applied_to o (operands_in m of))
+  followed_described o of unknown_result e = by_size_described o of
+  followed_described o of no_result e = came_described o of no_result (subst (λ r. ComesTo r (applied_to o (operands_in m of))) e (result_comes m o of))
+  followed_described o of truth_result e = came_described o of truth_result (subst (λ r. ComesTo r (applied_to o (operands_in m of))) e (result_comes m o of))
+  followed_described o of integer_result e = came_described o of integer_result (subst (λ r. ComesTo r (applied_to o (operands_in m of))) e (result_comes m o of))
+  followed_described o of (word_result w) e = came_described o of (word_result w) (subst (λ r. ComesTo r (applied_to o (operands_in m of))) e (result_comes m o of))
+
   literal_described : (o : Option Denoted) → Describe (literal_case o) o
   literal_described None = nothing_is
   literal_described (Some x) = written_is x
 
-  folded_described : (o : Operator) (of : Operands) (l : Option DenotedList) → literals of ≡ l → Describe (folded o of l) (applied_to o (operands_in m of))
-  folded_described o of None e = came_described o of (result o of) (result_comes m o of)
+  folded_described : (o : Operator) (of : Operands) (l : Option DenotedList) → literals of ≡ l → Describe (folded (widths_of specs) o of l) (applied_to o (operands_in m of))
+  folded_described o of None e = followed_described o of (result o of) refl
   folded_described o of (Some xs) e = subst (λ ys. Describe (literal_case (applied_to o xs)) (applied_to o ys)) (sym (literals_are m of xs e)) (literal_described (applied_to o xs))
 
-  operands_described : (o : Operator) (fs : Forms) (l : Option Operands) → operands fs ≡ l → Describe (by_operands o l) (applied_to o (stand_each vs u fs))
+  operands_described : (o : Operator) (fs : Forms) (l : Option Operands) → operands fs ≡ l → Describe (by_operands (widths_of specs) o l) (applied_to o (stand_each vs u fs))
   operands_described o fs None e = any_is (applied_to o (stand_each vs u fs))
-  operands_described o fs (Some of) e = subst (λ ys. Describe (folded o of (literals of)) (applied_to o ys)) (operands_stand fs of e) (folded_described o of (literals of) refl)
+  operands_described o fs (Some of) e = subst (λ ys. Describe (folded (widths_of specs) o of (literals of)) (applied_to o ys)) (operands_stand fs of e) (folded_described o of (literals of) refl)
 
   got_described : (fs : List Form) (xs : List Denoted) → AreDescribed types specs vs u fs xs → (i : ℕ) → Describe (or_nothing (slice_get fs i)) (slice_get xs i)
   got_described [] [] d i = nothing_is
@@ -100,13 +126,103 @@ module _ (types : List TypeEntry) (specs : Specs) (vs : Place → Denoted) (u : 
   got_described [] (x ∷ xs) d i = absurd d
   got_described (f ∷ fs) [] d i = absurd d
 
-  fitted_described : (o : Operator) (fs : Forms) → AllFit types specs vs fs → Describe (fitted o fs) (applied_to o (stand_each vs u fs))
+  fitted_described : (o : Operator) (fs : Forms) → AllFit types specs vs fs → Describe (fitted (widths_of specs) o fs) (applied_to o (stand_each vs u fs))
   fitted_described (field i) (form_and (struct_by ty fields) no_form) fits = got_described (form_list fields) (denoted_list (stand_each vs u fields)) (forms_described types specs vs u fields fits.0) i
   fitted_described o fs fits = operands_described o fs (operands fs) refl
 
-  -- 2. a choice
+  -- 2. unknown functions
+  truth_sorted : (s : Sort) → is_operand_of s truths ≡ true → (b : Bool) → is_of_sort s (a_truth b) ≡ true
+  truth_sorted truths e b = refl
+  truth_sorted integers e b = absurd (false≢true e)
+  truth_sorted (words w) e b = absurd (false≢true e)
+  truth_sorted (words_among ws) e b = absurd (false≢true e)
+
+  integer_sorted : (s : Sort) → is_operand_of s integers ≡ true → (z : ℤ) → is_of_sort s (an_integer z) ≡ true
+  integer_sorted integers e z = refl
+  integer_sorted truths e z = absurd (false≢true e)
+  integer_sorted (words w) e z = absurd (false≢true e)
+  integer_sorted (words_among ws) e z = absurd (false≢true e)
+
+  word_sorted : (s : Sort) (w : ℕ) → is_operand_of s (words w) ≡ true → (n : ℕ) → is_of_sort s (a_word w n) ≡ true
+  word_sorted (words v) w e n = e
+  word_sorted (words_among ws) w e n = e
+  word_sorted truths w e n = absurd (false≢true e)
+  word_sorted integers w e n = absurd (false≢true e)
+
+  truth_is : (x : Denoted) → is_of_sort truths x ≡ true → a_truth (truth_in (Some x)) ≡ x
+  truth_is (a_truth b) e = refl
+  truth_is (an_integer z) e = absurd (false≢true e)
+  truth_is (a_word w n) e = absurd (false≢true e)
+  truth_is (variant_of s i xs) e = absurd (false≢true e)
+  truth_is (struct_of s xs) e = absurd (false≢true e)
+
+  integer_is : (x : Denoted) → is_of_sort integers x ≡ true → an_integer (integer_in (Some x)) ≡ x
+  integer_is (an_integer z) e = refl
+  integer_is (a_truth b) e = absurd (false≢true e)
+  integer_is (a_word w n) e = absurd (false≢true e)
+  integer_is (variant_of s i xs) e = absurd (false≢true e)
+  integer_is (struct_of s xs) e = absurd (false≢true e)
+
+  word_is : (v : ℕ) (x : Denoted) → is_of_sort (words v) x ≡ true → a_word v (number_in (Some x)) ≡ x
+  word_is v (a_word w n) e = ap (λ y. a_word y n) (sym (eqb-true w v e))
+  word_is v (a_truth b) e = absurd (false≢true e)
+  word_is v (an_integer z) e = absurd (false≢true e)
+  word_is v (variant_of s i xs) e = absurd (false≢true e)
+  word_is v (struct_of s xs) e = absurd (false≢true e)
+
+  module _ (formed : (at : Place) → is_formed (vs at) ≡ true) (answers : AreUnknownsSorted (record specs { unknowns = u })) where
+    word_formed : (w : ℕ) (t : Word) → is_surely_formed w t ≡ true → is_formed (a_word w (number_of m t)) ≡ true
+    word_formed w (word_at at v) e =
+        subst (λ y. is_formed (a_word y (number_of m (word_at at v))) ≡ true) (eqb-true v w e) (lt-ltb (number_of m (word_at at v)) (2 ^ v) (number_formed (vs at) v (formed at)))
+    word_formed w (written n) e = e
+    word_formed w (word_by o of) e = absurd (false≢true e)
+    word_formed w (word_answered f of) e = absurd (false≢true e)
+    word_formed w (either_word f a b) e = absurd (false≢true e)
+
+    operands_sorted : (sorts : List Sort) (of : Operands) → are_operands_of sorts of ≡ true → (are_of_sorts sorts (operands_in m of) ≡ true) × (are_formed (operands_in m of) ≡ true)
+    operands_sorted [] no_operand e = (refl, refl)
+    operands_sorted (s ∷ sorts) (fact_and f rest) e =
+        let p = and_parts (is_operand_of s truths) (are_operands_of sorts rest) e in
+        let r = operands_sorted sorts rest p.1 in
+        (and_from (is_of_sort s (a_truth (is_so m f))) (are_of_sorts sorts (operands_in m rest)) (truth_sorted s p.0 (is_so m f)) r.0, r.1)
+    operands_sorted (s ∷ sorts) (integer_and z rest) e =
+        let p = and_parts (is_operand_of s integers) (are_operands_of sorts rest) e in
+        let r = operands_sorted sorts rest p.1 in
+        (and_from (is_of_sort s (an_integer (integer_of m z))) (are_of_sorts sorts (operands_in m rest)) (integer_sorted s p.0 (integer_of m z)) r.0, r.1)
+    operands_sorted (s ∷ sorts) (word_and w t rest) e =
+        let p = and_parts (is_operand_of s (words w)) (is_surely_formed w t && are_operands_of sorts rest) e in
+        let q = and_parts (is_surely_formed w t) (are_operands_of sorts rest) p.1 in
+        let r = operands_sorted sorts rest q.1 in (
+          and_from (is_of_sort s (a_word w (number_of m t))) (are_of_sorts sorts (operands_in m rest)) (word_sorted s w p.0 (number_of m t)) r.0,
+          and_from (is_formed (a_word w (number_of m t))) (are_formed (operands_in m rest)) (word_formed w t q.0) r.1,
+        )
+    operands_sorted [] (fact_and f rest) e = absurd (false≢true e)
+    operands_sorted [] (integer_and z rest) e = absurd (false≢true e)
+    operands_sorted [] (word_and w t rest) e = absurd (false≢true e)
+    operands_sorted (s ∷ sorts) no_operand e = absurd (false≢true e)
+
+    of_sort_described : (f : ℕ) (of : Operands) (s : Sort) → is_of_sort s (u f (operands_in m of)) ≡ true → Describe (answer_of_sort f of s) (Some (u f (operands_in m of)))
+    of_sort_described f of truths e = one_is (a_fact (fact_answered f of)) (u f (operands_in m of)) (truth_is (u f (operands_in m of)) e) tt
+    of_sort_described f of integers e = one_is (an_integer_by (integer_answered f of)) (u f (operands_in m of)) (integer_is (u f (operands_in m of)) e) tt
+    of_sort_described f of (words w) e = one_is (a_word_by w (word_answered f of)) (u f (operands_in m of)) (word_is w (u f (operands_in m of)) e) tt
+    of_sort_described f of (words_among ws) e = any_is (Some (u f (operands_in m of)))
+
+    sorted_described : (f : ℕ) (of : Operands) (o : Option UnknownSort) → look (λ n. n == f) specs.unknown_sorts ≡ o → Describe (answered_as_sorted f of o) (Some (u f (operands_in m of)))
+    sorted_described f of None e = any_is (Some (u f (operands_in m of)))
+    sorted_described f of (Some s) e = by (are_operands_of s.takes of) refl
+      where
+        by : (b : Bool) → are_operands_of s.takes of ≡ b → Describe (cond b (answer_of_sort f of s.gives) anything) (Some (u f (operands_in m of)))
+        by true q = let r = operands_sorted s.takes of q in of_sort_described f of s.gives (answers f s (operands_in m of) e r.0 r.1).0
+        by false q = any_is (Some (u f (operands_in m of)))
+
+    answered_described : (f : ℕ) (gs : Forms) (l : Option Operands) → operands gs ≡ l → Describe (answered_of f (look (λ n. n == f) specs.unknown_sorts) l) (Some (u f (stand_each vs u gs)))
+    answered_described f gs None e = any_is (Some (u f (stand_each vs u gs)))
+    answered_described f gs (Some of) e =
+        subst (λ ys. Describe (answered_as_sorted f of (look (λ n. n == f) specs.unknown_sorts)) (Some (u f ys))) (operands_stand gs of e) (sorted_described f of (look (λ n. n == f) specs.unknown_sorts) refl)
+
+  -- 3. a choice
   by_fact_described : (x y : Cases Form) (a b : Option Denoted) → Describe x a → Describe y b → (f : Form) → Describe (by_fact x y f) (on_truth (either_said a b) (stands vs u f))
-  by_fact_described x y a b dx dy (a_fact f) = choice_described m Form Denoted (stands vs u) (Fits types specs vs) x y (either_said a b) dx dy f
+  by_fact_described x y a b dx dy (a_fact f) = choice_described m Form Denoted (stands vs u) (Fits types specs vs) x y (either_said a b) f (λ e. dx) (λ e. dy)
   by_fact_described x y a b dx dy f = any_is (on_truth (either_said a b) (stands vs u f))
 
   bind : (cs : Cases Form) (o : Option Denoted) (k : Form → Cases Form) (h : Denoted → Option Denoted) → Describe cs o → ((f : Form) → Fits types specs vs f → Describe (k f) (h (stands vs u f)))
@@ -117,16 +233,16 @@ module _ (types : List TypeEntry) (specs : Specs) (vs : Place → Denoted) (u : 
       → ((fs : Forms) → AllFit types specs vs fs → Describe (k fs) (h (stand_each vs u fs))) → Describe (then_cases cs k) (then_option o h)
   bind_each cs o k h d dk = then_described m Forms DenotedList Form Denoted (stand_each vs u) (AllFit types specs vs) (stands vs u) (Fits types specs vs) h k dk cs o d
 
-  -- 3. an expression
-  abbrev stands_if : Option Form → Option Denoted
+  -- 4. an expression
+  abbrev pub stands_if : Option Form → Option Denoted
   stands_if None = None
   stands_if (Some f) = Some (stands vs u f)
 
-  abbrev FitsIf : Option Form → Type 0
+  abbrev pub FitsIf : Option Form → Type 0
   FitsIf None = Unit {0}
   FitsIf (Some f) = Fits types specs vs f
 
-  module _ (coherent : IsCoherent vs) (k : Known) (told : AreKnown m k) (args : Forms) (result : Option Form) (fits : AllFit types specs vs args) (result_fits : FitsIf result) where
+  module _ (coherent : IsCoherent vs) (formed : (at : Place) → is_formed (vs at) ≡ true) (answers : AreUnknownsSorted (record specs { unknowns = u })) (k : Known) (told : AreKnown m k) (args : Forms) (result : Option Form) (fits : AllFit types specs vs args) (result_fits : FitsIf result) where
     abbrev of_expr : SpecExpr → List Form → Cases Form
     of_expr e bound = evaluated types specs k args result e bound
 
@@ -153,16 +269,31 @@ module _ (types : List TypeEntry) (specs : Specs) (vs : Place → Denoted) (u : 
         by false = e
 
     case_described : (y x : Form) → Fits types specs vs y → Fits types specs vs x → (cs ds : Cases Form) (a b : Option Denoted) → Describe cs a → Describe ds b
-        → Describe (then_cases (then_cases (opened_each types specs k (form_and y (form_and x no_form))) (fitted equals)) (by_fact cs ds))
+        → Describe (then_cases (then_cases (opened_each types specs k (form_and y (form_and x no_form))) (fitted (widths_of specs) equals)) (by_fact cs ds))
         (cond (same_sort (stands vs u y) (stands vs u x)) (cond (denoted_eq (stands vs u y) (stands vs u x)) a b) None)
     case_described y x fy fx cs ds a b da db =
-        subst (Describe (then_cases (then_cases (opened_each types specs k (form_and y (form_and x no_form))) (fitted equals)) (by_fact cs ds)))
+        subst (Describe (then_cases (then_cases (opened_each types specs k (form_and y (form_and x no_form))) (fitted (widths_of specs) equals)) (by_fact cs ds)))
         (chosen (same_sort (stands vs u y) (stands vs u x)) (denoted_eq (stands vs u y) (stands vs u x)) (either_said a b))
-        (bind (then_cases (opened_each types specs k (form_and y (form_and x no_form))) (fitted equals)) (applied_to equals (denoted_and (stands vs u y) (denoted_and (stands vs u x) no_denoted)))
+        (bind (then_cases (opened_each types specs k (form_and y (form_and x no_form))) (fitted (widths_of specs) equals)) (applied_to equals (denoted_and (stands vs u y) (denoted_and (stands vs u x) no_denoted)))
         (by_fact cs ds) (on_truth (either_said a b))
-        (bind_each (opened_each types specs k (form_and y (form_and x no_form))) (Some (denoted_and (stands vs u y) (denoted_and (stands vs u x) no_denoted))) (fitted equals) (applied_to equals)
+        (bind_each (opened_each types specs k (form_and y (form_and x no_form))) (Some (denoted_and (stands vs u y) (denoted_and (stands vs u x) no_denoted))) (fitted (widths_of specs) equals) (applied_to equals)
         (opened_each_described types specs vs u coherent k told (form_and y (form_and x no_form)) (fy, (fx, tt))) (fitted_described equals))
         (λ f ff. by_fact_described cs ds a b da db f))
+
+    -- an operator on forms that are opened
+    pub opened_fitted_described : (o : Operator) (fs : Forms) → AllFit types specs vs fs → Describe (then_cases (opened_each types specs k fs) (fitted (widths_of specs) o)) (applied_to o (stand_each vs u fs))
+    opened_fitted_described o fs ffs = bind_each (opened_each types specs k fs) (Some (stand_each vs u fs)) (fitted (widths_of specs) o) (applied_to o) (opened_each_described types specs vs u coherent k told fs ffs) (fitted_described o)
+
+    -- what is said, opened
+    abbrev said_here : SpecExpr → Option Denoted
+    said_here e = says u (stand_each vs u args) (stands_if result) e []
+
+    opened_said : (o : Option Denoted) (cs : Cases Form) → Describe cs o → Describe (then_cases cs (opened types specs k)) o
+    opened_said o cs d = subst (Describe (then_cases cs (opened types specs k))) (same o) (bind cs o (opened types specs k) (λ x. Some x) d (λ f ff. opened_described types specs vs u coherent k told f ff))
+      where
+        same : (q : Option Denoted) → then_option q (λ x. Some x) ≡ q
+        same None = refl
+        same (Some x) = refl
 
     mutual
       pub evaluated_described : (e : SpecExpr) (bf : List Form) (bx : List Denoted) → AreDescribed types specs vs u bf bx → Describe (of_expr e bf) (said e bx)
@@ -171,10 +302,14 @@ module _ (types : List TypeEntry) (specs : Specs) (vs : Place → Denoted) (u : 
       evaluated_described (variable i) bf bx d = got_described bf bx d i
       evaluated_described (the_same x) bf bx d = written_is x
       evaluated_described (operation o of) bf bx d =
-          bind_each (evaluated_each types specs k args result of bf) (says_each u (stand_each vs u args) (stands_if result) of bx) (λ fs. then_cases (opened_each types specs k fs) (fitted o)) (applied_to o)
+          bind_each (evaluated_each types specs k args result of bf) (says_each u (stand_each vs u args) (stands_if result) of bx) (λ fs. then_cases (opened_each types specs k fs) (fitted (widths_of specs) o)) (applied_to o)
           (each_described of bf bx d)
-          (λ fs ffs. bind_each (opened_each types specs k fs) (Some (stand_each vs u fs)) (fitted o) (applied_to o) (opened_each_described types specs vs u coherent k told fs ffs) (fitted_described o))
-      evaluated_described (unknown f of) bf bx d = any_is (said (unknown f of) bx)
+          (λ fs ffs. bind_each (opened_each types specs k fs) (Some (stand_each vs u fs)) (fitted (widths_of specs) o) (applied_to o) (opened_each_described types specs vs u coherent k told fs ffs) (fitted_described o))
+      evaluated_described (unknown f of) bf bx d =
+          bind_each (evaluated_each types specs k args result of bf) (says_each u (stand_each vs u args) (stands_if result) of bx)
+          (λ fs. then_cases (opened_each types specs k fs) (λ gs. answered_of f (look (λ n. n == f) specs.unknown_sorts) (operands gs))) (λ xs. Some (u f xs)) (each_described of bf bx d)
+          (λ fs ffs. bind_each (opened_each types specs k fs) (Some (stand_each vs u fs)) (λ gs. answered_of f (look (λ n. n == f) specs.unknown_sorts) (operands gs)) (λ xs. Some (u f xs))
+          (opened_each_described types specs vs u coherent k told fs ffs) (λ gs fgs. answered_described formed answers f gs (operands gs) refl))
       evaluated_described (let_in e body) bf bx d =
           bind (of_expr e bf) (said e bx) (λ x. of_expr body (x ∷ bf)) (λ x. said body (x ∷ bx)) (evaluated_described e bf bx d)
           (λ f ff. evaluated_described body (f ∷ bf) (stands vs u f ∷ bx) (refl, ff, d))
@@ -238,7 +373,10 @@ module _ (types : List TypeEntry) (specs : Specs) (vs : Place → Denoted) (u : 
       arms_described (spec_arm_and ty variant body rest) (any_of t at) fx bf bx d = any_is _
       arms_described (spec_arm_and ty variant body rest) (some_at at) fx bf bx d = any_is _
 
-  -- 4. that something is true
+    pub come_described : (e : SpecExpr) → Describe (then_cases (evaluated types specs k args result e []) (opened types specs k)) (said_here e)
+    come_described e = opened_said (said_here e) (evaluated types specs k args result e []) (evaluated_described e [] [] tt)
+
+  -- 5. that something is true
   true_in : (cs : List (Case Form)) (c : Case Form) → In cs c → is_so m c.guard ≡ true → is_so m (truth_of c.gives) ≡ true → is_so m (is_true cs) ≡ true
   true_in (d ∷ cs) c (inl q) g t =
       one_left m (both_of d.guard (truth_of d.gives)) (is_true cs)

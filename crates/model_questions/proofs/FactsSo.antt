@@ -1,5 +1,5 @@
 -- Facts without what changes nothing are so exactly where the facts are.
-use Rattle.std.proofs.Common.{◌≡◌, ◌⊎◌, Bool, true, false, not, ◌&&◌, ◌||◌, refl, sym, ap, ◌∙◌}
+use Rattle.std.proofs.Common.{◌≡◌, Bool, true, false, not, ◌&&◌, ◌||◌, refl, sym, ap, ◌∙◌}
 use Rattle.std.proofs.lemmas.Bool.{and_parts, and_from}
 use Rattle.model.proofs.Elements.{or_left, or_right}
 use Rattle.model_questions.specs.Formulas.{Fact, known, Model, is_so, and_last, both_of, or_last, one_of, none_of}

@@ -4,4 +4,5 @@ pub mod FactsSo
 pub mod Merging
 pub mod Opening
 pub mod Results
+pub mod Shown
 pub mod Standing

@@ -1,5 +1,5 @@
 -- Cases of one sort as one describe the same.
-use Rattle.std.proofs.Common.{◌≡◌, ◌⊎◌, ℕ, Bool, true, false, not, ◌&&◌, ◌||◌, List, [], ◌∷◌, Option, Some, None, cond, refl, sym, ap, ◌∙◌, subst, inl, inr}
+use Rattle.std.proofs.Common.{◌≡◌, ◌⊎◌, Bool, true, false, not, ◌&&◌, ◌||◌, List, [], ◌∷◌, Option, Some, None, cond, refl, sym, ap, ◌∙◌, subst, inl, inr}
 use Rattle.std.proofs.lemmas.Bool.{false≢true, eqb-true}
 use Rattle.std.specs.Bool.{◌==◌}
 use Rattle.model.specs.lists.Tables.{TypeEntry}
@@ -7,7 +7,7 @@ use Rattle.model.proofs.Elements.{In, or_split, some_is, none_some}
 use Rattle.laws_specs.specs.Words.{Denoted, a_truth, an_integer, a_word}
 use Rattle.laws_specs.specs.Specs.{Specs, Unknowns}
 use Rattle.model_questions.specs.Formulas.{Place, either_word, either_integer, Fact, Model, number_of, integer_of, is_so, both_of, one_of, none_of}
-use Rattle.model_questions.specs.Forms.{Form, a_fact, an_integer_by, a_word_by, variant_by, struct_by, any_of, some_at, Case, Cases, either_of, merged_or, merged_in, merged_all, merged}
+use Rattle.model_questions.specs.Forms.{Form, a_fact, an_integer_by, a_word_by, Case, Cases, either_of, merged_or, merged_in, merged_all, merged}
 use Rattle.model_questions.proofs.FactsSo.{or_false, none_so, both_so, one_so, one_left, one_right}
 use Rattle.model_questions.proofs.Described.{Describes, IsTaken}
 use Rattle.model_questions.proofs.Standing.{model_of, stands, Fits}

@@ -2,10 +2,9 @@
 use Rattle.std.proofs.Common.{◌≡◌, ◌⊎◌, ◌+◌, ℕ, ℤ, zero, suc, Bool, true, false, not, ◌&&◌, ◌||◌, List, [], ◌∷◌, Option, Some, None, cond, slice_get, refl, sym, ap, ◌∙◌, subst, inl, inr, arith, eq-eqb}
 use Rattle.std.specs.Bool.{◌==◌}
 use Rattle.std.specs.List.{list_any}
-use Rattle.std.proofs.lemmas.Bool.{and_parts, and_from, false≢true, eqb-true, cond-true}
+use Rattle.std.proofs.lemmas.Bool.{and_parts, false≢true, eqb-true, cond-true}
 use Rattle.model.specs.lists.Tables.{VariantEntry, TypeEntry, builtin_type, primitive_type, enum_type, struct_type}
 use Rattle.model.specs.rules.Values.{is_truth_type, has_atoms, variant_types, struct_types, field_types}
-use Rattle.model.specs.sites.Serves.{is_type_with_parts}
 use Rattle.model.proofs.Elements.{In, or_split, some_is, none_some}
 use Rattle.laws_specs.specs.Words.{Denoted, a_truth, an_integer, a_word, variant_of, struct_of, DenotedList, no_denoted, denoted_and, denoted_list, is_plain}
 use Rattle.laws_specs.specs.Specs.{Sort, truths, integers, words, words_among, is_of_sort, Specs, sort_of, Unknowns}
@@ -13,8 +12,8 @@ use Rattle.laws_specs.specs.Conditions.{is_modelled_as, is_atom_as, is_of_type, 
 use Rattle.model_questions.specs.Formulas.{Place, variant_field_at, struct_field_at, word_at, integer_at, written_integer, Fact, known, truth_at, as_wide, is_kind, Model, is_so, both_of, none_of}
 use Rattle.model_questions.specs.Forms.{Form, a_fact, an_integer_by, a_word_by, variant_by, struct_by, any_of, some_at, Forms, no_form, form_and, Case, Cases, one_case, anything, then_cases}
 use Rattle.model_questions.specs.Evaluated.{Known, found, fields_at, wide_case, at_each, at_widths, integer_known, at_sort, variant_at, each_variant, is_no_variant, one_variant, variant_known, at_variants, at_enum, at_type, opened, opened_each}
-use Rattle.model_questions.proofs.FactsSo.{none_so, both_so, both_from, both_parts, none_from}
-use Rattle.model_questions.proofs.Described.{Describes, IsTaken, nothing_described, anything_described, one_described, then_described}
+use Rattle.model_questions.proofs.FactsSo.{none_so, both_from, both_parts, none_from}
+use Rattle.model_questions.proofs.Described.{Describes, IsTaken, anything_described, one_described, then_described}
 use Rattle.model_questions.proofs.Standing.{model_of, number_if, width_in, kind_in, IsCoherent, AreKnown, stands, stand_each, Fits, AllFit}
 
 pub same_is : (n : ℕ) → (n == n) ≡ true
@@ -26,12 +25,12 @@ at_next i k = omega arith
 at_first : (i : ℕ) → i ≡ i + 0
 at_first i = omega arith
 
-and_last_false : (a b : Bool) → (a && (b && false)) ≡ true → ⊥
+pub and_last_false : (a b : Bool) → (a && (b && false)) ≡ true → ⊥
 and_last_false true true e = false≢true e
 and_last_false true false e = false≢true e
 and_last_false false b e = false≢true e
 
-listed_width : (w : ℕ) (ws : List ℕ) → list_any (λ v. w == v) ws ≡ true → In ws w
+pub listed_width : (w : ℕ) (ws : List ℕ) → list_any (λ v. w == v) ws ≡ true → In ws w
 listed_width w [] e = absurd (false≢true e)
 listed_width w (v ∷ ws) e = elim (or_split (w == v) (list_any (λ u. w == u) ws) e) [ inl q ↦ inl (sym (eqb-true w v q)) | inr r ↦ inr (listed_width w ws r) ]
 
@@ -40,18 +39,18 @@ not_is true e f = false≢true e
 not_is false e f = false≢true f
 
 -- what a type says of a value, by its entry
-abbrev IsMadeOf : List TypeEntry → Specs → ℕ → Option TypeEntry → Denoted → Type 0
+abbrev pub IsMadeOf : List TypeEntry → Specs → ℕ → Option TypeEntry → Denoted → Type 0
 IsMadeOf types specs ty o (variant_of s i xs) = (s ≡ ty) × (are_of_types types specs (variant_types o i) xs ≡ true)
 IsMadeOf types specs ty o (struct_of s xs) = (s ≡ ty) × (are_of_types types specs (struct_types o) xs ≡ true)
 IsMadeOf types specs ty o _ = ⊥
 
-abbrev is_atom_of : Specs → ℕ → Option TypeEntry → Denoted → Bool
+abbrev pub is_atom_of : Specs → ℕ → Option TypeEntry → Denoted → Bool
 is_atom_of specs ty o x = (is_truth_type o && is_of_sort truths x) || (has_atoms o && is_atom_as o (sort_of specs ty) x)
 
-abbrev IsOf : List TypeEntry → Specs → ℕ → Option TypeEntry → Denoted → Type 0
+abbrev pub IsOf : List TypeEntry → Specs → ℕ → Option TypeEntry → Denoted → Type 0
 IsOf types specs ty o x = (is_atom_of specs ty o x ≡ true) ⊎ IsMadeOf types specs ty o x
 
-type_says : (types : List TypeEntry) (specs : Specs) (ty : ℕ) (x : Denoted) → is_of_type types specs ty x ≡ true → IsOf types specs ty (slice_get types ty) x
+pub type_says : (types : List TypeEntry) (specs : Specs) (ty : ℕ) (x : Denoted) → is_of_type types specs ty x ≡ true → IsOf types specs ty (slice_get types ty) x
 type_says types specs ty (a_truth b) e = inl e
 type_says types specs ty (an_integer z) e = inl e
 type_says types specs ty (a_word w n) e = inl e
@@ -66,11 +65,11 @@ type_says types specs ty (struct_of s xs) e =
       | inr b ↦ let p = and_parts (s == ty) (are_of_types types specs (struct_types (slice_get types ty)) xs) b in inr (eqb-true s ty p.0, p.1)
     ]
 
-none_of_types : (types : List TypeEntry) (specs : Specs) (xs : DenotedList) → are_of_types types specs None xs ≡ true → ⊥
+pub none_of_types : (types : List TypeEntry) (specs : Specs) (xs : DenotedList) → are_of_types types specs None xs ≡ true → ⊥
 none_of_types types specs no_denoted e = false≢true e
 none_of_types types specs (denoted_and x xs) e = false≢true e
 
-nothing_made : (types : List TypeEntry) (specs : Specs) (ty : ℕ) (o : Option TypeEntry) (x : Denoted) → ((i : ℕ) → variant_types o i ≡ None) → struct_types o ≡ None → IsMadeOf types specs ty o x → ⊥
+pub nothing_made : (types : List TypeEntry) (specs : Specs) (ty : ℕ) (o : Option TypeEntry) (x : Denoted) → ((i : ℕ) → variant_types o i ≡ None) → struct_types o ≡ None → IsMadeOf types specs ty o x → ⊥
 nothing_made types specs ty o (variant_of s i xs) v t h = none_of_types types specs xs (subst (λ tys. are_of_types types specs tys xs ≡ true) (v i) h.1)
 nothing_made types specs ty o (struct_of s xs) v t h = none_of_types types specs xs (subst (λ tys. are_of_types types specs tys xs ≡ true) t h.1)
 nothing_made types specs ty o (a_truth b) v t h = h
@@ -207,7 +206,7 @@ module _ (types : List TypeEntry) (specs : Specs) (vs : Place → Denoted) (u : 
     sort_described at x e (Some (words_among ws)) h = widths_described at ws x e h (found k.widths at) (told.widths at)
 
   -- 2. fields
-  fields_stand : (p : ℕ → Place) (j : ℕ) (tys : List ℕ) (xs : DenotedList) → ((n : ℕ) (y : Denoted) → slice_get (denoted_list xs) n ≡ Some y → vs (p (j + n)) ≡ y)
+  pub fields_stand : (p : ℕ → Place) (j : ℕ) (tys : List ℕ) (xs : DenotedList) → ((n : ℕ) (y : Denoted) → slice_get (denoted_list xs) n ≡ Some y → vs (p (j + n)) ≡ y)
       → are_of_types types specs (Some tys) xs ≡ true → (stand_each vs u (fields_at p j tys) ≡ xs) × AllFit types specs vs (fields_at p j tys)
   fields_stand p j [] no_denoted h a = (refl, tt)
   fields_stand p j (ty ∷ tys) (denoted_and x xs) h a =

@@ -1,11 +1,11 @@
 -- What an operator comes to by the sorts of its operands is what it gives.
-use Rattle.std.proofs.Common.{◌≡◌, ℕ, ℤ, pos, ◌+◌, ◌-◌, Bool, true, false, not, ◌&&◌, ◌||◌, Option, Some, None, cond, refl, sym, ap, ◌∙◌}
+use Rattle.std.proofs.Common.{◌≡◌, ℕ, pos, ◌+◌, ◌-◌, Bool, true, false, not, ◌&&◌, ◌||◌, Option, Some, None, cond, refl, ap, ◌∙◌}
 use Rattle.std.specs.Prelude.{nat_lt}
 use Rattle.std.specs.Bool.{◌==◌}
 use Rattle.model.specs.rules.Outcome.{then_option}
 use Rattle.model.proofs.Elements.{some_is, none_some}
-use Rattle.laws_specs.specs.Words.{Denoted, a_truth, an_integer, a_word, DenotedList, no_denoted, denoted_and, of_one_width, word_in, Operator, equals, both, one_of as either, negation, implied, less, less_or_equal, plus, minus, times, word_plus, word_minus, word_times, word_quotient, word_remainder, signed_quotient, signed_remainder, word_and as bit_conjunction, word_or, word_xor, word_not, word_negated, shifted_left, shifted_right, shifted_right_signed, rotated_left, rotated_right, word_less, word_less_or_equal, signed_less, signed_less_or_equal, joined, bits, widened, widened_signed, as_word, as_integer, width_of, field, applied_to}
-use Rattle.model_questions.specs.Formulas.{Fact, known, written, Operands, no_operand, fact_and, integer_and, word_and, written_integer, Integer, Model, number_in, integer_in, truth_in, number_of, integer_of, is_so, operands_in, both_of, none_of, one_of}
+use Rattle.laws_specs.specs.Words.{Denoted, a_truth, an_integer, a_word, DenotedList, no_denoted, denoted_and, of_one_width, word_in, Operator, equals, both, one_of as either, negation, implied, less, less_or_equal, plus, minus, times, word_plus, word_minus, word_times, word_quotient, word_remainder, signed_quotient, signed_remainder, word_and as bit_conjunction, word_or, word_xor, word_not, word_negated, shifted_left, shifted_right, shifted_right_signed, rotated_left, rotated_right, word_less, word_less_or_equal, signed_less, signed_less_or_equal, joined, bits, widened, widened_signed, as_word, as_integer, width_of, applied_to}
+use Rattle.model_questions.specs.Formulas.{Fact, known, written, Operands, no_operand, fact_and, integer_and, word_and, written_integer, Model, number_in, integer_in, truth_in, number_of, integer_of, is_so, operands_in, none_of, one_of}
 use Rattle.model_questions.specs.Evaluated.{Result, no_result, truth_result, integer_result, word_result, unknown_result, of_same_width, word_where, result, fact_from, integer_from, literals}
 use Rattle.model_questions.proofs.FactsSo.{both_so, one_so, none_so}
 

@@ -1,14 +1,12 @@
 -- What forms stand for where each place has a value, the model that such values give, and what is told of them.
-use Rattle.std.proofs.Common.{◌≡◌, ◌<◌, ◌^◌, ℕ, ℤ, zero, suc, Bool, true, false, if◌then◌else◌, ◌&&◌, List, [], ◌∷◌, ◌++◌, Option, Some, None, cond, slice_get, refl, sym, ap, ◌∙◌, subst, arith}
+use Rattle.std.proofs.Common.{◌≡◌, ◌<◌, ◌^◌, ℕ, ℤ, zero, suc, Bool, true, false, if◌then◌else◌, List, [], ◌∷◌, ◌++◌, Some, cond, slice_get, refl, ap, ◌∙◌, subst, arith, ltb-true}
 use Rattle.std.specs.Bool.{◌==◌}
-use Rattle.std.proofs.lemmas.Bool.{and_parts, and_from, false≢true, eqb-true}
+use Rattle.std.proofs.lemmas.Bool.{eqb-true}
 use Rattle.model.specs.lists.Tables.{TypeEntry}
-use Rattle.model.specs.rules.Outcome.{then_option}
-use Rattle.model.proofs.Elements.{In, some_is, none_some}
 use Rattle.laws_specs.specs.Words.{Denoted, a_truth, an_integer, a_word, variant_of, struct_of, DenotedList, no_denoted, denoted_and, denoted_list, is_formed}
 use Rattle.laws_specs.specs.Specs.{Specs, Unknowns}
 use Rattle.laws_specs.specs.Conditions.{is_of_type}
-use Rattle.model_questions.specs.Formulas.{Place, variant_field_at, struct_field_at, Model, number_in, integer_in, truth_in, number_of, integer_of, is_so}
+use Rattle.model_questions.specs.Formulas.{Place, variant_field_at, struct_field_at, Model, integer_in, truth_in, number_of, integer_of, is_so}
 use Rattle.model_questions.specs.Forms.{Form, a_fact, an_integer_by, a_word_by, variant_by, struct_by, any_of, some_at, Forms, no_form, form_and, form_list, form_of, forms_of}
 use Rattle.model_questions.specs.Evaluated.{Known, found}
 
@@ -118,3 +116,14 @@ module _ (types : List TypeEntry) (specs : Specs) (vs : Place → Denoted) (g : 
 pub power_positive : (n : ℕ) → 0 < 2 ^ n
 power_positive zero = omega arith
 power_positive (suc n) = let h : 0 < 2 ^ n = power_positive n in omega arith
+
+pub number_formed : (x : Denoted) (width : ℕ) → is_formed x ≡ true → number_if x width < 2 ^ width
+number_formed (a_word w n) width h = by (w == width) refl
+  where
+    by : (b : Bool) → (w == width) ≡ b → cond b n 0 < 2 ^ width
+    by true e = subst (λ v. n < 2 ^ v) (eqb-true w width e) (ltb-true n (2 ^ w) h)
+    by false e = power_positive width
+number_formed (a_truth b) width h = power_positive width
+number_formed (an_integer z) width h = power_positive width
+number_formed (variant_of s i xs) width h = power_positive width
+number_formed (struct_of s xs) width h = power_positive width

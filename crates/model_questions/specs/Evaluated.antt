@@ -1,13 +1,15 @@
 -- What an expression of a spec comes to, by formulas: it is `says` of laws_specs with cases in place of optional values. What isn't
 -- followed is the rest.
-use Rattle.std.specs.Prelude.{ℕ, zero, suc, ℤ, pos, ◌+◌, ◌-◌, Bool, true, false, not, ◌&&◌, List, [], ◌∷◌, ◌++◌, Option, Some, None, if◌then◌else◌, nat_lt, slice_get}
+use Rattle.std.specs.Prelude.{ℕ, zero, suc, ℤ, pos, ◌+◌, ◌-◌, ◌^◌, Bool, true, false, not, ◌&&◌, List, [], ◌∷◌, ◌++◌, Option, Some, None, if◌then◌else◌, nat_lt, slice_get}
 use Rattle.std.specs.Bool.{◌==◌}
+use Rattle.std.specs.List.{flat_map, list_any}
 use Rattle.model.specs.lists.Tables.{VariantEntry, TypeEntry, builtin_type, primitive_type, enum_type, struct_type}
+use Rattle.model.specs.rules.Meaning.{look}
 use Rattle.model.specs.rules.Outcome.{then_option}
 use Rattle.model.specs.rules.Values.{field_types}
 use Rattle.laws_specs.specs.Words.{Denoted, a_truth, DenotedList, no_denoted, denoted_and, a_word, an_integer, Operator, equals, both, one_of as either, negation, implied, less, less_or_equal, plus, minus, times, word_plus, word_minus, word_times, word_quotient, word_remainder, signed_quotient, signed_remainder, word_and as bit_conjunction, word_or, word_xor, word_not, word_negated, shifted_left, shifted_right, shifted_right_signed, rotated_left, rotated_right, word_less, word_less_or_equal, signed_less, signed_less_or_equal, joined, bits, widened, widened_signed, as_word, as_integer, width_of, field, applied_to}
-use Rattle.laws_specs.specs.Specs.{Sort, truths, integers, words, words_among, SpecExpr, its_argument, its_result, variable, the_same, operation, unknown, let_in, switch_on, match_on, SpecExprs, no_spec_expr, spec_expr_and, SpecCases, no_case, case_and, SpecArms, no_spec_arm, spec_arm_and, struct_arm, arm_else, Specs, sort_of}
-use Rattle.model_questions.specs.Formulas.{Place, place_eq, variant_field_at, struct_field_at, Word, written, word_at, word_by, Integer, written_integer, integer_at, integer_by, Fact, known, truth_at, as_wide, is_kind, fact_by, same_facts, Operands, no_operand, fact_and, integer_and, word_and, both_of, one_of, none_of}
+use Rattle.laws_specs.specs.Specs.{Sort, truths, integers, words, words_among, SpecExpr, its_argument, its_result, variable, the_same, operation, unknown, let_in, switch_on, match_on, SpecExprs, no_spec_expr, spec_expr_and, SpecCases, no_case, case_and, SpecArms, no_spec_arm, spec_arm_and, struct_arm, arm_else, UnknownSort, Specs, sort_of}
+use Rattle.model_questions.specs.Formulas.{Place, place_eq, variant_field_at, struct_field_at, Word, written, word_at, word_by, word_answered, Integer, written_integer, integer_at, integer_by, integer_answered, Fact, known, truth_at, as_wide, is_kind, fact_by, fact_answered, same_facts, Operands, no_operand, fact_and, integer_and, word_and, both_of, one_of, none_of}
 use Rattle.model_questions.specs.Forms.{Form, a_fact, an_integer_by, a_word_by, variant_by, struct_by, any_of, some_at, Forms, no_form, form_and, form_list, form_of, Case, Cases, nothing_said, one_case, anything, under, joined_cases, or_nothing, then_cases, merged}
 
 -- 1. what is told of places: widths of words, integers, and which variants stand there
@@ -101,6 +103,32 @@ came_to o of integer_result = one_case (an_integer_by (integer_from o of))
 came_to o of (word_result width) = one_case (a_word_by width (word_by o of))
 came_to o of unknown_result = anything
 
+-- a width that isn't known is each of the listed ones; what it is besides isn't followed
+abbrev pub widths_in_sort : Sort → List ℕ
+widths_in_sort (words_among ws) = ws
+widths_in_sort _ = []
+
+abbrev pub widths_of : Specs → List ℕ
+widths_of specs = flat_map (λ k. widths_in_sort k.1) specs.models
+
+abbrev pub is_size : Integer → ℕ → Fact
+is_size z w = fact_by equals (integer_and z (integer_and (written_integer (pos w)) no_operand))
+
+abbrev pub each_size : List ℕ → Operator → Integer → Operands → Cases Form
+each_size [] o z rest = anything
+each_size (w ∷ ws) o z rest =
+    joined_cases (under (is_size z w) (came_to o (integer_and (written_integer (pos w)) rest) (result o (integer_and (written_integer (pos w)) rest)))) (under (none_of (is_size z w)) (each_size ws o z rest))
+
+abbrev pub by_size : List ℕ → Operator → Operands → Cases Form
+by_size ws as_word (integer_and z (integer_and y no_operand)) = each_size ws as_word z (integer_and y no_operand)
+by_size ws widened (integer_and z (word_and w t no_operand)) = each_size ws widened z (word_and w t no_operand)
+by_size ws widened_signed (integer_and z (word_and w t no_operand)) = each_size ws widened_signed z (word_and w t no_operand)
+by_size ws o of = anything
+
+abbrev pub followed : List ℕ → Operator → Operands → Result → Cases Form
+followed ws o of unknown_result = by_size ws o of
+followed ws o of r = came_to o of r
+
 -- operands that are written are computed with
 abbrev pub literals : Operands → Option DenotedList
 literals no_operand = Some no_denoted
@@ -113,9 +141,43 @@ abbrev pub literal_case : Option Denoted → Cases Form
 literal_case None = nothing_said
 literal_case (Some x) = one_case (form_of x)
 
-abbrev pub folded : Operator → Operands → Option DenotedList → Cases Form
-folded o of None = came_to o of (result o of)
-folded o of (Some xs) = literal_case (applied_to o xs)
+abbrev pub folded : List ℕ → Operator → Operands → Option DenotedList → Cases Form
+folded ws o of None = followed ws o of (result o of)
+folded ws o of (Some xs) = literal_case (applied_to o xs)
+
+-- an unknown function answers by a value of its sort, on operands of its sorts that lie below two to their widths for sure
+abbrev pub is_operand_of : Sort → Sort → Bool
+is_operand_of truths truths = true
+is_operand_of integers integers = true
+is_operand_of (words w) (words v) = v == w
+is_operand_of (words_among ws) (words v) = list_any (λ w. v == w) ws
+is_operand_of _ _ = false
+
+abbrev pub is_surely_formed : ℕ → Word → Bool
+is_surely_formed width (word_at at w) = w == width
+is_surely_formed width (written n) = nat_lt n (2 ^ width)
+is_surely_formed width _ = false
+
+abbrev pub are_operands_of : List Sort → Operands → Bool
+are_operands_of [] no_operand = true
+are_operands_of (s ∷ sorts) (fact_and f rest) = is_operand_of s truths && are_operands_of sorts rest
+are_operands_of (s ∷ sorts) (integer_and z rest) = is_operand_of s integers && are_operands_of sorts rest
+are_operands_of (s ∷ sorts) (word_and width t rest) = is_operand_of s (words width) && (is_surely_formed width t && are_operands_of sorts rest)
+are_operands_of _ _ = false
+
+abbrev pub answer_of_sort : ℕ → Operands → Sort → Cases Form
+answer_of_sort f of truths = one_case (a_fact (fact_answered f of))
+answer_of_sort f of integers = one_case (an_integer_by (integer_answered f of))
+answer_of_sort f of (words width) = one_case (a_word_by width (word_answered f of))
+answer_of_sort f of (words_among ws) = anything
+
+abbrev pub answered_as_sorted : ℕ → Operands → Option UnknownSort → Cases Form
+answered_as_sorted f of None = anything
+answered_as_sorted f of (Some s) = if are_operands_of s.takes of then answer_of_sort f of s.gives else anything
+
+abbrev pub answered_of : ℕ → Option UnknownSort → Option Operands → Cases Form
+answered_of f s None = anything
+answered_of f s (Some of) = answered_as_sorted f of s
 
 -- plain forms alone are operands
 abbrev pub operands : Forms → Option Operands
@@ -125,13 +187,13 @@ operands (form_and (an_integer_by z) rest) = then_option (operands rest) (λ of.
 operands (form_and (a_word_by width t) rest) = then_option (operands rest) (λ of. Some (word_and width t of))
 operands (form_and _ rest) = None
 
-abbrev pub by_operands : Operator → Option Operands → Cases Form
-by_operands o None = anything
-by_operands o (Some of) = folded o of (literals of)
+abbrev pub by_operands : List ℕ → Operator → Option Operands → Cases Form
+by_operands ws o None = anything
+by_operands ws o (Some of) = folded ws o of (literals of)
 
-abbrev pub fitted : Operator → Forms → Cases Form
-fitted (field i) (form_and (struct_by ty fields) no_form) = or_nothing (slice_get (form_list fields) i)
-fitted o fs = by_operands o (operands fs)
+abbrev pub fitted : List ℕ → Operator → Forms → Cases Form
+fitted ws (field i) (form_and (struct_by ty fields) no_form) = or_nothing (slice_get (form_list fields) i)
+fitted ws o fs = by_operands ws o (operands fs)
 
 -- a choice by a truth
 abbrev pub by_fact : Cases Form → Cases Form → Form → Cases Form
@@ -227,8 +289,8 @@ module _ (types : List TypeEntry) (specs : Specs) (k : Known) where
       evaluated its_result bound = or_nothing result
       evaluated (variable i) bound = or_nothing (slice_get bound i)
       evaluated (the_same x) bound = one_case (form_of x)
-      evaluated (operation o of) bound = then_cases (evaluated_each of bound) (λ fs. then_cases (opened_each fs) (fitted o))
-      evaluated (unknown f of) bound = anything
+      evaluated (operation o of) bound = then_cases (evaluated_each of bound) (λ fs. then_cases (opened_each fs) (fitted (widths_of specs) o))
+      evaluated (unknown f of) bound = then_cases (evaluated_each of bound) (λ fs. then_cases (opened_each fs) (λ gs. answered_of f (look (λ n. n == f) specs.unknown_sorts) (operands gs)))
       evaluated (let_in e body) bound = then_cases (evaluated e bound) (λ x. evaluated body (x ∷ bound))
       evaluated (switch_on e cases) bound = then_cases (evaluated e bound) (λ x. evaluated_case cases x bound)
       evaluated (match_on e arms) bound = then_cases (evaluated e bound) (λ x. opened_then x (λ y. evaluated_arm arms y bound))
@@ -241,7 +303,7 @@ module _ (types : List TypeEntry) (specs : Specs) (k : Known) where
       evaluated_case no_case x bound = nothing_said
       evaluated_case (case_and key e rest) x bound =
           then_cases (evaluated key bound)
-          (λ y. merged (then_cases (then_cases (opened_each (form_and y (form_and x no_form))) (fitted equals)) (by_fact (evaluated e bound) (evaluated_case rest x bound))))
+          (λ y. merged (then_cases (then_cases (opened_each (form_and y (form_and x no_form))) (fitted (widths_of specs) equals)) (by_fact (evaluated e bound) (evaluated_case rest x bound))))
 
       pub evaluated_arm : SpecArms → Form → List Form → Cases Form
       evaluated_arm (arm_else body) x bound = evaluated body (x ∷ bound)

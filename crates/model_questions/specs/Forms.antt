@@ -1,5 +1,5 @@
 -- What a value may be, by formulas; and values under guards.
-use Rattle.std.specs.Prelude.{ℕ, suc, Bool, true, false, List, [], ◌∷◌, ◌++◌, Option, Some, None, if◌then◌else◌, slice_get}
+use Rattle.std.specs.Prelude.{ℕ, true, false, List, [], ◌∷◌, ◌++◌, Option, Some, None, if◌then◌else◌}
 use Rattle.std.specs.Bool.{◌==◌}
 use Rattle.laws_specs.specs.Words.{Denoted, a_truth, an_integer, a_word, variant_of, struct_of, DenotedList, no_denoted, denoted_and}
 use Rattle.model_questions.specs.Formulas.{Place, Word, written, either_word, Integer, written_integer, either_integer, Fact, known, both_of, one_of, none_of}

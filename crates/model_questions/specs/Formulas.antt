@@ -1,5 +1,5 @@
 -- Formulas of words, integers and truths, and what they come to in a model, which gives each constant a value.
-use Rattle.std.specs.Prelude.{ℕ, suc, ℤ, pos, Bool, true, false, not, ◌&&◌, ◌||◌, List, [], ◌∷◌, Option, Some, None, if◌then◌else◌}
+use Rattle.std.specs.Prelude.{ℕ, suc, ℤ, pos, Bool, true, false, not, ◌&&◌, ◌||◌, List, [], ◌∷◌, Option, Some, if◌then◌else◌}
 use Rattle.std.specs.Bool.{◌==◌}
 use Rattle.std.proofs.Math.Bool.{beq}
 use Rattle.model.specs.sites.Sites.{SiteTerm}

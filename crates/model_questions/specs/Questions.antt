@@ -1,14 +1,14 @@
 -- The questions about a condition, by its steps, and what it is that none can be satisfied.
-use Rattle.std.specs.Prelude.{◌≡◌, ◌<◌, ℕ, ℤ, ◌^◌, Bool, true, false, List, [], ◌∷◌, ◌++◌, Option, Some, None, if◌then◌else◌, Contains}
-use Rattle.model.specs.lists.Tables.{TypeEntry}
+use Rattle.std.specs.Prelude.{◌≡◌, ◌<◌, ℕ, suc, ℤ, ◌^◌, Bool, true, false, List, [], ◌∷◌, ◌++◌, Option, Some, None, slice_get, Contains}
+use Rattle.model.specs.lists.Tables.{TypeEntry, builtin_type, primitive_type, enum_type}
 use Rattle.model.specs.rules.Program.{Program}
 use Rattle.model.specs.sites.Sites.{Constraint, is_variant, is_struct, is_bool, is_int, is_prim, is_present}
 use Rattle.laws_specs.specs.Words.{Denoted, Operator, equals}
-use Rattle.laws_specs.specs.Specs.{Sort, words_among, Specs, sort_of, constant_of, literal_of}
+use Rattle.laws_specs.specs.Specs.{Sort, words_among, Specs, sort_of, constant_of, literal_of, AreUnknownsSorted}
 use Rattle.laws_specs.specs.Conditions.{Condition}
 use Rattle.model_questions.specs.Formulas.{Place, Integer, written_integer, integer_at, Fact, known, truth_at, as_wide, is_kind, fact_by, both_facts, Operands, no_operand, integer_and, Model, are_so, both_of, one_of, none_of}
-use Rattle.model_questions.specs.Forms.{Form, a_fact, variant_by, any_of, some_at, Forms, no_form, form_and, form_of, Cases, then_cases, surely, perhaps}
-use Rattle.model_questions.specs.Evaluated.{Known, fitted, opened, opened_each, evaluated}
+use Rattle.model_questions.specs.Forms.{Form, a_fact, any_of, some_at, no_form, form_and, form_of, Cases, then_cases, surely, perhaps}
+use Rattle.model_questions.specs.Evaluated.{Known, widths_of, fitted, opened, opened_each, evaluated}
 use Rattle.model_questions.specs.Steps.{Said, Step, split_at, told_as, told_same, assumed, assumed_under, shown, steps_of}
 
 abbrev pub nothing_known : Known
@@ -49,6 +49,13 @@ abbrev pub unless_false : Fact → List (List Fact) → List (List Fact)
 unless_false (known false) qs = []
 unless_false f qs = qs
 
+-- the sort of a type that has atoms alone
+abbrev pub split_sort : Option TypeEntry → Option Sort → Option Sort
+split_sort (Some (builtin_type (suc n))) s = s
+split_sort (Some (primitive_type id name place)) s = s
+split_sort (Some (enum_type name id is_extern is_nodebug [] place)) s = s
+split_sort _ s = None
+
 -- a type of words of listed widths, at each of them
 abbrev pub at_each_width : Option Sort → (ℕ → List (List Fact)) → List (List Fact) → List (List Fact)
 at_each_width (Some (words_among ws)) f qs = each_of f ws
@@ -72,7 +79,7 @@ module _ (types : List TypeEntry) (specs : Specs) where
   come_to k s = then_cases (evaluated types specs k s.args s.result s.expr []) (opened types specs k)
 
   abbrev pub same_fact : Known → Form → Form → Fact
-  same_fact k f g = perhaps (then_cases (opened_each types specs k (form_and f (form_and g no_form))) (fitted equals))
+  same_fact k f g = perhaps (then_cases (opened_each types specs k (form_and f (form_and g no_form))) (fitted (widths_of specs) equals))
 
   abbrev pub same_if : Known → Form → Option Denoted → Fact
   same_if k f None = known true
@@ -102,7 +109,7 @@ module _ (types : List TypeEntry) (specs : Specs) where
   -- a question is a list of facts, the last one first. Each goal asks one: all that is known before it, and that it isn't so
   abbrev pub paths : List Step → Known → List Fact → List (List Fact)
   paths [] k fs = []
-  paths (split_at ty at ∷ rest) k fs = at_each_width (sort_of specs ty) (λ w. paths rest (with_width at w k) (as_wide at w ∷ fs)) (paths rest k fs)
+  paths (split_at ty at ∷ rest) k fs = at_each_width (split_sort (slice_get types ty) (sort_of specs ty)) (λ w. paths rest (with_width at w k) (as_wide at w ∷ fs)) (paths rest k fs)
   paths (shown s ∷ rest) k fs = (none_of (fact_of k (shown s)) ∷ fs) ∷ paths rest (learned (fact_of k (shown s)) k) (fact_of k (shown s) ∷ fs)
   paths (told_as f c ∷ rest) k fs = unless_false (fact_of k (told_as f c)) (paths rest (learned (fact_of k (told_as f c)) k) (fact_of k (told_as f c) ∷ fs))
   paths (told_same f g ∷ rest) k fs = unless_false (fact_of k (told_same f g)) (paths rest (learned (fact_of k (told_same f g)) k) (fact_of k (told_same f g) ∷ fs))
@@ -114,13 +121,14 @@ module _ (types : List TypeEntry) (specs : Specs) where
 abbrev pub questions : Program → Specs → Condition → (Place → Bool) → List (List Fact)
 questions p specs c plan = paths p.types specs (steps_of p specs c plan) nothing_known []
 
--- words lie below two to their width: what a solver's sorts say
-pub record IsModel (m : Model) : Type 0 where
+-- words lie below two to their width, and unknown functions answer by values of their sorts: what a solver's sorts say
+pub record IsModel (specs : Specs) (m : Model) : Type 0 where
   pub formed : (at : Place) (width : ℕ) → m.words at width < 2 ^ width
+  pub functions : AreUnknownsSorted (record specs { unknowns = m.functions })
 
 -- no model makes all of the facts true: what a solver says by `unsat`
-abbrev pub IsUnsatisfiable : List Fact → Type 0
-IsUnsatisfiable fs = (m : Model) → IsModel m → are_so m fs ≡ true → ⊥
+abbrev pub IsUnsatisfiable : Specs → List Fact → Type 0
+IsUnsatisfiable specs fs = (m : Model) → IsModel specs m → are_so m fs ≡ true → ⊥
 
-abbrev pub AreUnsatisfiable : List (List Fact) → Type 0
-AreUnsatisfiable qs = (q : List Fact) → Contains qs q → IsUnsatisfiable q
+abbrev pub AreUnsatisfiable : Specs → List (List Fact) → Type 0
+AreUnsatisfiable specs qs = (q : List Fact) → Contains qs q → IsUnsatisfiable specs q

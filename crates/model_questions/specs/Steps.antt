@@ -1,9 +1,9 @@
 -- The steps in which a condition is asked: what its sites stand for, by forms; what is assumed of them, in order; and what is shown.
-use Rattle.std.specs.Prelude.{ℕ, suc, Bool, true, false, not, ◌&&◌, ◌||◌, List, [], ◌∷◌, ◌++◌, map, Option, Some, None, if◌then◌else◌, slice_get}
+use Rattle.std.specs.Prelude.{ℕ, Bool, true, false, not, ◌&&◌, ◌||◌, List, [], ◌∷◌, ◌++◌, map, Option, Some, None, if◌then◌else◌, slice_get}
 use Rattle.std.specs.List.{flat_map}
 use Rattle.model.specs.rules.Program.{Program, arg_types}
 use Rattle.model.specs.rules.Values.{variant_types, struct_types}
-use Rattle.model.specs.sites.Sites.{Constraint, is_variant, is_struct, is_bool, is_int, is_prim, is_present, SiteTerm, bool_term, int_term, prim_term, argument, extractor_call, constructor_call, pick_of, variant_made, variant_field, struct_made, struct_field, some_made, some_part, tuple_part, no_site, SiteTerms, no_site_term, site_term_and}
+use Rattle.model.specs.sites.Sites.{Constraint, is_int, is_prim, is_present, SiteTerm, bool_term, int_term, prim_term, argument, extractor_call, constructor_call, pick_of, variant_made, variant_field, struct_made, struct_field, some_made, some_part, tuple_part, SiteTerms, no_site_term, site_term_and}
 use Rattle.model.specs.sites.Serves.{term_args, term_results}
 use Rattle.model.specs.visits.Demands.{has_site}
 use Rattle.laws_specs.specs.Words.{Denoted}
@@ -62,7 +62,7 @@ pub data Event : Type 0 where
   gives_at : (s : SiteTerm) → Event
 
 abbrev pub events_of : Condition → List Event
-events_of c = map (λ e. tests e.0 e.1) c.constraints ++ map (λ e. equals_at e.0 e.1) c.equalities ++ map calls c.impure ++ gives_at c.result ∷ []
+events_of c = map (λ e. tests e.0 e.1) c.constraints ++ (map (λ e. equals_at e.0 e.1) c.equalities ++ (map calls c.impure ++ gives_at c.result ∷ []))
 
 -- the calls whose answers a site's value is made of, sources first, where the site has a value. Of a call whose answer isn't used nothing
 -- is known, not even that there is one
@@ -257,7 +257,7 @@ module _ (p : Program) (specs : Specs) (c : Condition) where
     outputs_at t u = fields_at (output_at u) 0 (term_args (slice_get p.terms t))
 
     abbrev pub extracted : (Place → Bool) → Bool → ℕ → SiteTerm → SiteTerm → List Step
-    extracted plan true t s u = split_each plan (outputs_at t u) ++ map assumed (requires_of specs t (outputs_at t u)) ++ map assumed (provides_of specs t (outputs_at t u) (form_at s))
+    extracted plan true t s u = split_each plan (outputs_at t u) ++ (map assumed (requires_of specs t (outputs_at t u)) ++ map assumed (provides_of specs t (outputs_at t u) (form_at s)))
     extracted plan false t s u = []
 
     abbrev pub picked : (Place → Bool) → SiteTerm → List Step
@@ -285,11 +285,11 @@ module _ (p : Program) (specs : Specs) (c : Condition) where
   abbrev pub steps_from : (Place → Bool) → Forms → List SiteTerm → List SiteTerm → List Event → List Step
   steps_from plan args seen done [] = []
   steps_from plan args seen done (e ∷ es) =
-      flat_map (answer_steps done plan) (fresh seen (event_sites specs e)) ++ event_steps done args e ++ steps_from plan args (event_sites specs e ++ seen) (made_after e done) es
+      flat_map (answer_steps done plan) (fresh seen (event_sites specs e)) ++ (event_steps done args e ++ steps_from plan args (event_sites specs e ++ seen) (made_after e done) es)
 
   -- arguments of the term's types under its require, then what happens
   abbrev pub args_of : Forms
   args_of = fields_at argument_at 0 (arg_types p c.term)
 
   abbrev pub steps_of : (Place → Bool) → List Step
-  steps_of plan = split_each plan args_of ++ map assumed (requires_of specs c.term args_of) ++ steps_from plan args_of [] [] (events_of c)
+  steps_of plan = split_each plan args_of ++ (map assumed (requires_of specs c.term args_of) ++ steps_from plan args_of [] [] (events_of c))

@@ -1,0 +1,296 @@
+-- Where no question can be satisfied, what the steps show holds: values that break it would satisfy a question.
+use Rattle.std.proofs.Common.{◌≡◌, ℕ, ℤ, suc, Bool, true, false, ◌&&◌, List, [], ◌∷◌, Option, Some, None, cond, slice_get, refl, sym, ap, ◌∙◌, subst, inl, inr}
+use Rattle.std.specs.Bool.{◌==◌}
+use Rattle.std.specs.Ordering.{int_eq}
+use Rattle.std.proofs.lemmas.Bool.{and_parts, and_from, false≢true, eqb-true, cond-true}
+use Rattle.std.proofs.lemmas.Bool.Decides.{Decides-int_eq}
+use Rattle.model.specs.lists.Tables.{TypeEntry, builtin_type, primitive_type, enum_type}
+use Rattle.model.specs.sites.Sites.{Constraint, is_variant, is_struct, is_bool, is_int, is_prim, is_present}
+use Rattle.model.specs.visits.Demands.{site_term_eq}
+use Rattle.model.proofs.Elements.{In, in_left, in_right, some_is, none_some}
+use Rattle.model.proofs.SameSites.{term_means, number_same, beq_same}
+use Rattle.laws_specs.specs.Words.{Denoted, a_truth, an_integer, a_word, variant_of, struct_of, DenotedList, no_denoted, denoted_and, same_sort, denoted_eq, denoted_list_eq, is_formed, Operator, equals, applied_to}
+use Rattle.laws_specs.specs.Specs.{Sort, truths, integers, words, words_among, is_of_sort, Specs, sort_of, constant_of, literal_of, Unknowns, AreUnknownsSorted, says}
+use Rattle.laws_specs.specs.Conditions.{is_of_type, is_modelled_as}
+use Rattle.model_questions.specs.Formulas.{Place, argument_at, site_at, output_at, variant_field_at, struct_field_at, place_eq, Integer, written_integer, integer_at, Fact, known, truth_at, as_wide, is_kind, fact_by, both_facts, Operands, no_operand, integer_and, Model, integer_of, is_so, are_so, one_of, none_of}
+use Rattle.model_questions.specs.Forms.{Form, a_fact, an_integer_by, a_word_by, variant_by, struct_by, any_of, some_at, no_form, form_and, form_of, then_cases, surely, perhaps}
+use Rattle.model_questions.specs.Evaluated.{Known, found, widths_of, fitted, opened_each}
+use Rattle.model_questions.specs.Steps.{Said, Step, split_at, told_as, told_same, assumed, assumed_under, shown}
+use Rattle.model_questions.specs.Questions.{with_width, with_integer, with_kind, same_learned, equals_learned, learned, each_of, unless_false, split_sort, at_each_width, kind_fact, truth_fact, come_to, same_fact, same_if, told_fact, all_surely, fact_of, paths, IsModel, IsUnsatisfiable}
+use Rattle.model_questions.proofs.FactsSo.{both_parts, one_left, one_right, none_from}
+use Rattle.model_questions.proofs.Evaluating.{Describe, stands_if, FitsIf, opened_fitted_described, come_described, surely_said, perhaps_so}
+use Rattle.model_questions.proofs.Opening.{IsOf, type_says, nothing_made, listed_width}
+use Rattle.model_questions.proofs.Standing.{width_in, kind_in, model_of, IsCoherent, AreKnown, stands, stand_each, written_stands, Fits, AllFit, written_fits, number_formed}
+
+-- 1. places, and what is told of them
+pub place_means : (a b : Place) → place_eq a b ≡ true → a ≡ b
+place_means (argument_at i) (argument_at j) h = ap argument_at (eqb-true i j h)
+place_means (site_at s) (site_at t) h = ap site_at (term_means s t h)
+place_means (output_at s i) (output_at t j) h =
+    let p = and_parts (site_term_eq s t) (i == j) h in
+    let e = term_means s t p.0 in
+    let f = eqb-true i j p.1 in
+    λ k. output_at (e k) (f k)
+place_means (variant_field_at a s v i) (variant_field_at b t w j) h =
+    let p = and_parts ((place_eq a b && (s == t)) && (v == w)) (i == j) h in
+    let q = and_parts (place_eq a b && (s == t)) (v == w) p.0 in
+    let r = and_parts (place_eq a b) (s == t) q.0 in
+    let e = place_means a b r.0 in
+    let f = eqb-true s t r.1 in
+    let g = eqb-true v w q.1 in
+    let l = eqb-true i j p.1 in
+    λ k. variant_field_at (e k) (f k) (g k) (l k)
+place_means (struct_field_at a s i) (struct_field_at b t j) h =
+    let p = and_parts (place_eq a b && (s == t)) (i == j) h in
+    let q = and_parts (place_eq a b) (s == t) p.0 in
+    let e = place_means a b q.0 in
+    let f = eqb-true s t q.1 in
+    let g = eqb-true i j p.1 in
+    λ k. struct_field_at (e k) (f k) (g k)
+place_means _ _ h = absurd (false≢true h)
+
+found_more : {X : Type 0} (P : Place → X → Type 0) (k : List (Place × X)) (at : Place) (v : X) → P at v → ((a : Place) (y : X) → found k a ≡ Some y → P a y)
+    → (a : Place) (y : X) → found ((at, v) ∷ k) a ≡ Some y → P a y
+found_more {X} P k at v here more a y e = by (place_eq at a) refl e
+  where
+    by : (b : Bool) → place_eq at a ≡ b → cond b (Some v) (found k a) ≡ Some y → P a y
+    by true q h = subst (P a) (some_is v y h) (subst (λ p. P p v) (place_means at a q) here)
+    by false q h = more a y h
+
+module _ (m : Model) where
+  width_more : (k : Known) (at : Place) (w : ℕ) → m.widths at ≡ w → AreKnown m k → AreKnown m (with_width at w k)
+  width_more k at w e told = record { widths = found_more (λ p v. m.widths p ≡ v) k.widths at w e told.widths; integers = told.integers; kinds = told.kinds }
+
+  integer_more : (k : Known) (at : Place) (z : ℤ) → m.integers at ≡ z → AreKnown m k → AreKnown m (with_integer at z k)
+  integer_more k at z e told = record { widths = told.widths; integers = found_more (λ p v. m.integers p ≡ v) k.integers at z e told.integers; kinds = told.kinds }
+
+  kind_more : (k : Known) (at : Place) (i : ℕ) → m.kinds at ≡ suc i → AreKnown m k → AreKnown m (with_kind at i k)
+  kind_more k at i e told = record { widths = told.widths; integers = told.integers; kinds = found_more (λ p v. m.kinds p ≡ suc v) k.kinds at i e told.kinds }
+
+  same_told : (a b : Integer) (k : Known) → integer_of m a ≡ integer_of m b → AreKnown m k → AreKnown m (same_learned a b k)
+  same_told (integer_at at) (written_integer z) k e told = integer_more k at z e told
+  same_told (written_integer z) (integer_at at) k e told = integer_more k at z (sym e) told
+  same_told _ _ k e told = told
+
+  equals_told : (o : Operator) (of : Operands) (k : Known) → is_so m (fact_by o of) ≡ true → AreKnown m k → AreKnown m (equals_learned o of k)
+  equals_told equals (integer_and a (integer_and b no_operand)) k e told = same_told a b k ((Decides-int_eq (integer_of m a) (integer_of m b)).0 e) told
+  equals_told _ _ k e told = told
+
+  -- what is learned from a fact that is so
+  learned_told : (f : Fact) (k : Known) → is_so m f ≡ true → AreKnown m k → AreKnown m (learned f k)
+  learned_told (as_wide at w) k e told = width_more k at w (eqb-true (m.widths at) w e) told
+  learned_told (is_kind at i) k e told = kind_more k at i (eqb-true (m.kinds at) (suc i) e) told
+  learned_told (fact_by o of) k e told = equals_told o of k e told
+  learned_told (both_facts a b) k e told = let s = and_parts (is_so m a) (is_so m b) e in learned_told a (learned b k) s.0 (learned_told b k s.1 told)
+  learned_told _ k e told = told
+
+  not_false : (f : Fact) (qs : List (List Fact)) (q : List Fact) → is_so m f ≡ true → In qs q → In (unless_false f qs) q
+  not_false (known false) qs q e i = absurd (false≢true e)
+  not_false _ qs q e i = i
+
+in_each : {X Y : Type 0} (f : X → List Y) (xs : List X) (x : X) (y : Y) → In xs x → In (f x) y → In (each_of f xs) y
+in_each {X} {Y} f (z ∷ xs) x y (inl e) j = in_left (f z) (each_of f xs) y (subst (λ w. In (f w) y) (sym e) j)
+in_each {X} {Y} f (z ∷ xs) x y (inr i) j = in_right (f z) (each_of f xs) y (in_each f xs x y i j)
+in_each {X} {Y} f [] x y i j = absurd i
+
+-- 2. a value equals itself
+mutual
+  denoted_same : (x : Denoted) → denoted_eq x x ≡ true
+  denoted_same (a_truth b) = beq_same b
+  denoted_same (an_integer z) = (Decides-int_eq z z).1 refl
+  denoted_same (a_word w n) = and_from (w == w) (n == n) (number_same w) (number_same n)
+  denoted_same (variant_of s i xs) = and_from ((s == s) && (i == i)) (denoted_list_eq xs xs) (and_from (s == s) (i == i) (number_same s) (number_same i)) (denoted_list_same xs)
+  denoted_same (struct_of s xs) = and_from (s == s) (denoted_list_eq xs xs) (number_same s) (denoted_list_same xs)
+
+  denoted_list_same : (xs : DenotedList) → denoted_list_eq xs xs ≡ true
+  denoted_list_same no_denoted = refl
+  denoted_list_same (denoted_and x xs) = and_from (denoted_eq x x) (denoted_list_eq xs xs) (denoted_same x) (denoted_list_same xs)
+
+sort_same : (x : Denoted) → same_sort x x ≡ true
+sort_same (a_truth b) = refl
+sort_same (an_integer z) = refl
+sort_same (a_word w n) = number_same w
+sort_same (variant_of s i xs) = number_same s
+sort_same (struct_of s xs) = number_same s
+
+equals_itself : (x : Denoted) → applied_to equals (denoted_and x (denoted_and x no_denoted)) ≡ Some (a_truth true)
+equals_itself x = cond-true (same_sort x x) (Some (a_truth (denoted_eq x x))) None (sort_same x) ∙ ap (λ b. Some (a_truth b)) (denoted_same x)
+
+-- 3. a word's width is among those that are listed
+width_listed : (ws : List ℕ) (x : Denoted) → is_of_sort (words_among ws) x ≡ true → In ws (width_in x)
+width_listed ws (a_word w n) h = listed_width w ws h
+width_listed ws (a_truth b) h = absurd (false≢true h)
+width_listed ws (an_integer z) h = absurd (false≢true h)
+width_listed ws (variant_of s i xs) h = absurd (false≢true h)
+width_listed ws (struct_of s xs) h = absurd (false≢true h)
+
+module _ (types : List TypeEntry) (specs : Specs) (vs : Place → Denoted) (u : Unknowns) where
+  abbrev m : Model
+  m = model_of vs u
+
+  atoms_alone : (ty : ℕ) (o : Option TypeEntry) (s : Sort) (x : Denoted) → IsOf types specs ty o x → split_sort o (sort_of specs ty) ≡ Some s → is_of_sort s x ≡ true
+  atoms_alone ty o s x h e = subst (λ q. is_modelled_as q x ≡ true) (after o h e).0 (after o h e).1
+    where
+      after : (q : Option TypeEntry) → IsOf types specs ty q x → split_sort q (sort_of specs ty) ≡ Some s → (sort_of specs ty ≡ Some s) × (is_modelled_as (sort_of specs ty) x ≡ true)
+      after (Some (builtin_type (suc n))) (inl g) r = (r, (and_parts (is_modelled_as (sort_of specs ty) x) true g).0)
+      after (Some (builtin_type (suc n))) (inr g) r = absurd (nothing_made types specs ty (Some (builtin_type (suc n))) x (λ i. refl) refl g)
+      after (Some (primitive_type id name place)) (inl g) r = (r, (and_parts (is_modelled_as (sort_of specs ty) x) true g).0)
+      after (Some (primitive_type id name place)) (inr g) r = absurd (nothing_made types specs ty (Some (primitive_type id name place)) x (λ i. refl) refl g)
+      after (Some (enum_type name id is_extern is_nodebug [] place)) (inl g) r =
+          (r, (and_parts (is_modelled_as (sort_of specs ty) x) true (and_parts is_extern (is_modelled_as (sort_of specs ty) x && true) g).1).0)
+      after (Some (enum_type name id is_extern is_nodebug [] place)) (inr g) r =
+          absurd (nothing_made types specs ty (Some (enum_type name id is_extern is_nodebug [] place)) x (λ i. refl) refl g)
+      after _ g r = absurd (none_some s r)
+
+  -- 4. what steps assume and show
+  abbrev pub FitsSaid : Said → Type 0
+  FitsSaid s = AllFit types specs vs s.args × FitsIf types specs vs u s.result
+
+  abbrev pub IsHeld : Said → Type 0
+  IsHeld s = says u (stand_each vs u s.args) (stands_if types specs vs u s.result) s.expr [] ≡ Some (a_truth true)
+
+  abbrev pub AllHeld : List Said → Type 0
+  AllHeld ss = (s : Said) → In ss s → IsHeld s
+
+  abbrev pub AllSaidFit : List Said → Type 0
+  AllSaidFit ss = (s : Said) → In ss s → FitsSaid s
+
+  abbrev pub IsToldAs : Form → Constraint → Type 0
+  IsToldAs f (is_variant ty variant fields) = (xs : DenotedList) × (stands vs u f ≡ variant_of ty variant xs)
+  IsToldAs f (is_bool b ty) = stands vs u f ≡ a_truth b
+  IsToldAs f (is_int z ty) = (x : Denoted) → literal_of specs z ty ≡ Some x → (stands vs u f ≡ x) × Fits types specs vs f
+  IsToldAs f (is_prim name) = (x : Denoted) → constant_of specs name ≡ Some x → (stands vs u f ≡ x) × Fits types specs vs f
+  IsToldAs f _ = Unit {0}
+
+  abbrev pub Assumes : Step → Type 0
+  Assumes (split_at ty at) = is_of_type types specs ty (vs at) ≡ true
+  Assumes (told_as f k) = IsToldAs f k
+  Assumes (told_same f g) = Fits types specs vs f × Fits types specs vs g × (stands vs u f ≡ stands vs u g)
+  Assumes (assumed s) = FitsSaid s × IsHeld s
+  Assumes (assumed_under ss s) = AllSaidFit ss × FitsSaid s × (AllHeld ss → IsHeld s)
+  Assumes (shown s) = FitsSaid s
+
+  abbrev pub Shows : Step → Type 0
+  Shows (shown s) = IsHeld s
+  Shows _ = Unit {0}
+
+  abbrev pub AreShown : List Step → Type 0
+  AreShown [] = Unit {0}
+  AreShown (s ∷ rest) = Assumes s → Shows s × AreShown rest
+
+  module _ (coherent : IsCoherent vs) (formed : (at : Place) → is_formed (vs at) ≡ true) (answers : AreUnknownsSorted (record specs { unknowns = u })) where
+    is_model : IsModel specs m
+    is_model = record { formed = λ at width. number_formed (vs at) width (formed at); functions = answers }
+
+    described : (k : Known) (s : Said) → AreKnown m k → FitsSaid s → Describe types specs vs u (come_to types specs k s) (says u (stand_each vs u s.args) (stands_if types specs vs u s.result) s.expr [])
+    described k s told fits = come_described types specs vs u coherent formed answers k told s.args s.result fits.0 fits.1 s.expr
+
+    assumed_so : (k : Known) (s : Said) → AreKnown m k → FitsSaid s → IsHeld s → is_so m (perhaps (come_to types specs k s)) ≡ true
+    assumed_so k s told fits h = perhaps_so types specs vs u (come_to types specs k s) (says u (stand_each vs u s.args) (stands_if types specs vs u s.result) s.expr []) (described k s told fits) h
+
+    shown_said : (k : Known) (s : Said) → AreKnown m k → FitsSaid s → is_so m (surely (come_to types specs k s)) ≡ true → IsHeld s
+    shown_said k s told fits h = surely_said types specs vs u (come_to types specs k s) (says u (stand_each vs u s.args) (stands_if types specs vs u s.result) s.expr []) (described k s told fits) h
+
+    all_said : (k : Known) (ss : List Said) → AreKnown m k → AllSaidFit ss → is_so m (all_surely types specs k ss) ≡ true → AllHeld ss
+    all_said k [] told fits h s i = absurd i
+    all_said k (r ∷ ss) told fits h s (inl e) =
+        subst IsHeld e (shown_said k r told (fits r (inl refl)) (both_parts m (surely (come_to types specs k r)) (all_surely types specs k ss) h).0)
+    all_said k (r ∷ ss) told fits h s (inr i) = all_said k ss told (λ x j. fits x (inr j)) (both_parts m (surely (come_to types specs k r)) (all_surely types specs k ss) h).1 s i
+
+    under_so : (k : Known) (ss : List Said) (s : Said) → AreKnown m k → AllSaidFit ss → FitsSaid s → (AllHeld ss → IsHeld s)
+        → is_so m (one_of (none_of (all_surely types specs k ss)) (perhaps (come_to types specs k s))) ≡ true
+    under_so k ss s told fits fit h = by (is_so m (all_surely types specs k ss)) refl
+      where
+        by : (b : Bool) → is_so m (all_surely types specs k ss) ≡ b → is_so m (one_of (none_of (all_surely types specs k ss)) (perhaps (come_to types specs k s))) ≡ true
+        by true e = one_right m (none_of (all_surely types specs k ss)) (perhaps (come_to types specs k s)) (assumed_so k s told fit (h (all_said k ss told fits e)))
+        by false e = one_left m (none_of (all_surely types specs k ss)) (perhaps (come_to types specs k s)) (none_from m (all_surely types specs k ss) e)
+
+    same_so : (k : Known) (f g : Form) → AreKnown m k → Fits types specs vs f → Fits types specs vs g → stands vs u f ≡ stands vs u g → is_so m (same_fact types specs k f g) ≡ true
+    same_so k f g told ff fg e =
+        perhaps_so types specs vs u (then_cases (opened_each types specs k (form_and f (form_and g no_form))) (fitted (widths_of specs) equals)) (applied_to equals (denoted_and (stands vs u f) (denoted_and (stands vs u g) no_denoted)))
+        (opened_fitted_described types specs vs u coherent formed answers k told no_form None tt tt equals (form_and f (form_and g no_form)) (ff, (fg, tt)))
+        (ap (λ y. applied_to equals (denoted_and (stands vs u f) (denoted_and y no_denoted))) (sym e) ∙ equals_itself (stands vs u f))
+
+    same_if_so : (k : Known) (f : Form) (o : Option Denoted) → AreKnown m k → ((x : Denoted) → o ≡ Some x → (stands vs u f ≡ x) × Fits types specs vs f) → is_so m (same_if types specs k f o) ≡ true
+    same_if_so k f None told h = refl
+    same_if_so k f (Some x) told h = let r = h x refl in same_so k f (form_of x) told r.1 (written_fits types specs vs x) (r.0 ∙ sym (written_stands vs u x))
+
+    kind_so : (ty variant : ℕ) (xs : DenotedList) (f : Form) → stands vs u f ≡ variant_of ty variant xs → is_so m (kind_fact variant f) ≡ true
+    kind_so ty variant xs (any_of t at) e = ap (λ y. kind_in y == suc variant) e ∙ number_same (suc variant)
+    kind_so ty variant xs (some_at at) e = ap (λ y. kind_in y == suc variant) e ∙ number_same (suc variant)
+    kind_so ty variant xs _ e = refl
+
+    truth_so : (b : Bool) (f : Form) → stands vs u f ≡ a_truth b → is_so m (truth_fact b f) ≡ true
+    truth_so true (a_fact f) e = let r : is_so m f ≡ true = cc in r
+    truth_so false (a_fact f) e = let r : is_so m f ≡ false = cc in none_from m f r
+    truth_so true (any_of t at) e = ap (λ y. is_so (model_of (λ p. y) u) (truth_at at)) e
+    truth_so false (any_of t at) e = none_from m (truth_at at) (ap (λ y. is_so (model_of (λ p. y) u) (truth_at at)) e)
+    truth_so true (an_integer_by z) e = refl
+    truth_so true (a_word_by w t) e = refl
+    truth_so true (variant_by ty i fs) e = refl
+    truth_so true (struct_by ty fs) e = refl
+    truth_so true (some_at at) e = refl
+    truth_so false (an_integer_by z) e = refl
+    truth_so false (a_word_by w t) e = refl
+    truth_so false (variant_by ty i fs) e = refl
+    truth_so false (struct_by ty fs) e = refl
+    truth_so false (some_at at) e = refl
+
+    told_so : (k : Known) (f : Form) (c : Constraint) → AreKnown m k → IsToldAs f c → is_so m (told_fact types specs k f c) ≡ true
+    told_so k f (is_variant ty variant fields) told h = kind_so ty variant h.0 f h.1
+    told_so k f (is_struct ty fields) told h = refl
+    told_so k f (is_bool b ty) told h = truth_so b f h
+    told_so k f (is_int z ty) told h = same_if_so k f (literal_of specs z ty) told h
+    told_so k f (is_prim name) told h = same_if_so k f (constant_of specs name) told h
+    told_so k f is_present told h = refl
+
+    -- 5. one step after another
+    abbrev AreRefuted : List (List Fact) → Type 0
+    AreRefuted qs = (q : List Fact) → In qs q → IsUnsatisfiable specs q
+
+    abbrev Next : List Step → Type 0
+    Next rest = (k : Known) (fs : List Fact) → AreKnown m k → are_so m fs ≡ true → AreRefuted (paths types specs rest k fs) → AreShown rest
+
+    -- a fact that is so is added
+    added : (rest : List Step) (k : Known) (fs : List Fact) (f : Fact) → Next rest → AreKnown m k → are_so m fs ≡ true → is_so m f ≡ true → AreRefuted (paths types specs rest (learned f k) (f ∷ fs)) → AreShown rest
+    added rest k fs f next told so e r = next (learned f k) (f ∷ fs) (learned_told m f k e told) (and_from (is_so m f) (are_so m fs) e so) r
+
+    assumed_next : (rest : List Step) (k : Known) (fs : List Fact) (f : Fact) → Next rest → AreKnown m k → are_so m fs ≡ true → is_so m f ≡ true
+        → AreRefuted (unless_false f (paths types specs rest (learned f k) (f ∷ fs))) → AreShown rest
+    assumed_next rest k fs f next told so e r = added rest k fs f next told so e (λ q i. r q (not_false m f (paths types specs rest (learned f k) (f ∷ fs)) q e i))
+
+    split_next : (ty : ℕ) (at : Place) (rest : List Step) (k : Known) (fs : List Fact) (o : Option Sort) → split_sort (slice_get types ty) (sort_of specs ty) ≡ o → Next rest → AreKnown m k → are_so m fs ≡ true
+        → AreRefuted (at_each_width o (λ w. paths types specs rest (with_width at w k) (as_wide at w ∷ fs)) (paths types specs rest k fs)) → is_of_type types specs ty (vs at) ≡ true → AreShown rest
+    split_next ty at rest k fs (Some (words_among ws)) e next told so r fits =
+        let w = width_in (vs at) in
+        let listed = width_listed ws (vs at) (atoms_alone ty (slice_get types ty) (words_among ws) (vs at) (type_says types specs ty (vs at) fits) e) in
+        next (with_width at w k) (as_wide at w ∷ fs) (width_more m k at w refl told) (and_from (is_so m (as_wide at w)) (are_so m fs) (number_same w) so)
+        (λ q i. r q (in_each (λ v. paths types specs rest (with_width at v k) (as_wide at v ∷ fs)) ws w q listed i))
+    split_next ty at rest k fs None e next told so r fits = next k fs told so r
+    split_next ty at rest k fs (Some truths) e next told so r fits = next k fs told so r
+    split_next ty at rest k fs (Some integers) e next told so r fits = next k fs told so r
+    split_next ty at rest k fs (Some (words w)) e next told so r fits = next k fs told so r
+
+    goal_so : (k : Known) (fs : List Fact) (s : Said) → are_so m fs ≡ true → IsUnsatisfiable specs (none_of (surely (come_to types specs k s)) ∷ fs) → is_so m (surely (come_to types specs k s)) ≡ true
+    goal_so k fs s so refuted = by (is_so m (surely (come_to types specs k s))) refl
+      where
+        by : (b : Bool) → is_so m (surely (come_to types specs k s)) ≡ b → is_so m (surely (come_to types specs k s)) ≡ true
+        by true e = e
+        by false e =
+            absurd (refuted m is_model (and_from (is_so m (none_of (surely (come_to types specs k s)))) (are_so m fs) (none_from m (surely (come_to types specs k s)) e) so))
+
+    pub steps_shown : (steps : List Step) (k : Known) (fs : List Fact) → AreKnown m k → are_so m fs ≡ true → AreRefuted (paths types specs steps k fs) → AreShown steps
+    steps_shown [] k fs told so r = tt
+    steps_shown (split_at ty at ∷ rest) k fs told so r =
+        λ fits. (tt, split_next ty at rest k fs (split_sort (slice_get types ty) (sort_of specs ty)) refl (λ k' fs' t s q. steps_shown rest k' fs' t s q) told so r fits)
+    steps_shown (told_as f c ∷ rest) k fs told so r =
+        λ h. (tt, assumed_next rest k fs (fact_of types specs k (told_as f c)) (λ k' fs' t s q. steps_shown rest k' fs' t s q) told so (told_so k f c told h) r)
+    steps_shown (told_same f g ∷ rest) k fs told so r =
+        λ h. (tt, assumed_next rest k fs (fact_of types specs k (told_same f g)) (λ k' fs' t s q. steps_shown rest k' fs' t s q) told so (same_so k f g told h.0 h.1 h.2) r)
+    steps_shown (assumed s ∷ rest) k fs told so r =
+        λ h. (tt, assumed_next rest k fs (fact_of types specs k (assumed s)) (λ k' fs' t s' q. steps_shown rest k' fs' t s' q) told so (assumed_so k s told h.0 h.1) r)
+    steps_shown (assumed_under ss s ∷ rest) k fs told so r =
+        λ h. (tt, assumed_next rest k fs (fact_of types specs k (assumed_under ss s)) (λ k' fs' t s' q. steps_shown rest k' fs' t s' q) told so (under_so k ss s told h.0 h.1 h.2) r)
+    steps_shown (shown s ∷ rest) k fs told so r =
+        λ h. let e = goal_so k fs s so (r (none_of (fact_of types specs k (shown s)) ∷ fs) (inl refl)) in
+        (shown_said k s told h e, added rest k fs (fact_of types specs k (shown s)) (λ k' fs' t s' q. steps_shown rest k' fs' t s' q) told so e (λ q i. r q (inr i)))
