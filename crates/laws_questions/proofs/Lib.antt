@@ -1,0 +1,5 @@
+mod Answered
+mod Enough
+pub mod Refuted
+mod SiteForms
+mod Values
