@@ -1,4 +1,5 @@
 mod Answered
+mod Asked
 mod Chosen
 mod ConstEqRespected
 mod Expansions

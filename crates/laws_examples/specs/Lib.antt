@@ -1,4 +1,5 @@
 pub mod Answered
+pub mod Asked
 pub mod Chosen
 pub mod ConstEq
 pub mod Cycle

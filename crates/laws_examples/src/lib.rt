@@ -9,6 +9,7 @@ ghost use Rattle.model.specs.rules.Meaning.{nothing, one};
 ghost use Rattle.model.specs.rules.Outcome.{ended, failed, no_rule};
 ghost use Rattle.model.specs.trees.Collects.{LeavesNoCallUnused};
 ghost use Rattle.laws_examples.specs.Answered.{ExtractIsAnswered, LeftOverIsAnswered};
+ghost use Rattle.laws_examples.specs.Asked.{AllPremisesHold};
 ghost use Rattle.laws_examples.specs.RulesBetween.{between_sample};
 ghost use Rattle.laws_examples.specs.Chosen.{ExtractIsChosen, ExtractIsWithoutMulti};
 ghost use Rattle.laws_examples.specs.ConstEq.{ConstEqIsRespected, const_eq_sample};
@@ -403,6 +404,9 @@ pub fn visits_count_what_is_shown()
 
 ghost use Rattle.laws_examples.specs.SmallestInputs.{wrapped_set, AboveCallsNothingIsAsked, ReturnsOfMultiTermsGoOn, OverlapsMayHoldTwice, NamelessIsNotAnswered, LookUpsHaveNoList, LimitsAreNamedWherePassed, SecondIsReadAlone, EmptySetsAreBuilt, SignaturesOfW, SitesAreBrought, OverlapsAreTold, TermsOfSites, IdentifiersOfRules, EnvironmentsOfLists, VariantHasItsTerm};
 
+use laws_questions::{questions_ask_enough, refuted_programs_compute_as_said};
+use laws_trees::best_trees_keep_the_headline;
+
 /// A world that has what tests ask may have no content for a construction above an impure call that is never made.
 #[tactic(auto, using(crate::proofs::SmallestInputs::above_calls_nothing_is_asked_lem))]
 pub fn above_calls_nothing_is_asked()
@@ -619,3 +623,13 @@ pub fn rules_are_passed()
     ensures not_dropped { ReportsAreNotDropped }
     ensures wide { WideRuleIsPassed }
 {}
+
+/// All premises hold together of the laws on rules whose questions solvers refute, and on sets whose conditions are valid: two terms with
+/// rules and specs, and the questions about them.
+pub fn asked_premises_hold()
+    ensures { AllPremisesHold }
+{
+    best_trees_keep_the_headline();
+    questions_ask_enough();
+    refuted_programs_compute_as_said();
+}
