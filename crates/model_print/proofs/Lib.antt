@@ -1,0 +1,2 @@
+mod ReadLines
+mod TreesRead
