@@ -1,9 +1,6 @@
-//! Tests of tables, typed rules and printed trees, of what rows of text can't say; of what programs answer to their words, and of
-//! what they do where output fails; and of trees, judged by code that shares nothing with the code that makes them.
+//! Tests of what neither a clause nor a row of text says: lines and places of errors, outputs that fail, public calls that no program
+//! makes, and how long a chain of merges takes.
 #![tactic(auto)]
 
-#[cfg(test)]
-mod lowering_tests;
-pub mod readings;
 #[cfg(test)]
 mod tests;

@@ -1,9 +1,3 @@
-// Tables and typed rules; visits; sets; what is printed.
-mod all_forms;
-mod names;
-mod pairs;
-mod printing;
-mod sets;
-mod signatures;
-mod tables;
-mod visits;
+mod calls;
+mod errors;
+mod outputs;
