@@ -243,11 +243,11 @@ fn cycle_in<'a>(alloc: Global, words: &'a str) -> Result<Option<Cycle<'a>>, Allo
 }
 
 // The error that the next one behind those with leaders is told with by what stands in its rule, or beside it. Else itself.
-fn leader_beside(
+fn leader_beside<'a>(
     alloc: Global,
     defs: &[Def],
-    errors: &[Error],
-    causes: &Causes<'_>,
+    errors: &'a [Error],
+    causes: &Causes<'a>,
     leaders: &[usize],
 ) -> Result<usize, AllocError> {
     let number = leaders.len();
