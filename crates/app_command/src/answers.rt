@@ -226,7 +226,7 @@ fn answer_to_lowered<E: Write>(
         }
         Task::Check => {
             teller.tell("checking", "all rules");
-            let warnings = warnings(alloc, defs, lowered, &asked.allowed)?;
+            let warnings = warnings(alloc, files, defs, lowered, &asked.allowed)?;
             warned(alloc, asked, files, &warnings)
         }
         // one list of definitions is no second version, and what is lowered isn't printed

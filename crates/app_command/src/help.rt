@@ -40,8 +40,8 @@ Options:
   --deny                 check: all warnings are errors
   --deny=NAME,..         check: the warnings of these names are errors
   --allow NAME,..        check: the warnings of these names are not shown. May be given many times. --allow=NAME,.. is the
-                         same. The names are never-run, priority, uncovered, recursion, constant, name, unused and literal
-                         (docs/USING.md).
+                         same. The names are never-run, priority, uncovered, recursion, constant, name, unused, literal
+                         and always (docs/USING.md).
   --all                  shows all errors and warnings. Otherwise only the first 20, and no error that follows from another
                          one. compare: the first line of each term that differs. Otherwise only the first line of all is shown.
   --format text          shows each error with its source lines. This is the default.

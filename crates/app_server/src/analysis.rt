@@ -3,7 +3,7 @@
 use crate::refusals::Refusal;
 use crate::sources::Sources;
 use cranelift_isle::lower::{Lowered, lower};
-use cranelift_isle::syntax::{Def, Fault};
+use cranelift_isle::syntax::{Def, Fault, Files};
 use report_errors::diagnosis::reports_of;
 use report_errors::syntax_report;
 use report_print::report::Report;
@@ -44,7 +44,7 @@ pub fn analysis_of(alloc: Global, sources: Sources) -> Result<Analysis, AllocErr
     }
     let mut lowered = None;
     if reports.is_empty() {
-        lowered = lowered_of(alloc, &defs, &mut reports)?;
+        lowered = lowered_of(alloc, &sources.files, &defs, &mut reports)?;
     }
     Ok(Analysis {
         sources,
@@ -78,12 +78,13 @@ fn read_text(
 // What definitions are lowered to, where nothing is wrong. Errors or warnings are added.
 fn lowered_of(
     alloc: Global,
+    files: &Files,
     defs: &[Def],
     reports: &mut Vec<Report>,
 ) -> Result<Option<Lowered>, AllocError> {
     match lower(alloc, defs, true) {
         Ok(lowered) => {
-            *reports = warnings(alloc, defs, &lowered, &[])?;
+            *reports = warnings(alloc, files, defs, &lowered, &[])?;
             Ok(Some(lowered))
         }
         Err(Fault::Errors(errors)) => {

@@ -16,9 +16,9 @@ begin_of (P.UnknownDefinition word) = []
 abbrev pub places_of : List Label → List Pos
 places_of labels = map (λ label. label.pos) labels
 
--- the first place is the error's, and the next one where the list begins that isn't ended. Others may follow
+-- the places are where the list begins that isn't ended, and the error's. Others may follow
 abbrev pub AreAtError : TextError → List Label → Type 0
-AreAtError error labels = (others : List Pos) × (places_of labels ≡ error.pos ∷ (begin_of error.problem ++ others))
+AreAtError error labels = (others : List Pos) × (places_of labels ≡ begin_of error.problem ++ (error.pos ∷ others))
 
 abbrev pub IsAtError : TextError → Report → Type 0
 IsAtError error report = AreAtError error report.labels.items

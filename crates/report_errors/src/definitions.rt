@@ -1,6 +1,6 @@
 //! Where the things that errors speak of are defined.
 
-use core_syntax::syntax::{Decl, Def, Extern, Ident, Pos, Rule, Type, TypeValue, Variant};
+use core_syntax::syntax::{Decl, Def, Extern, Fields, Ident, Pos, Rule, Type, TypeValue, Variant};
 
 /// The declaration of a term: the first, where there are several.
 pub fn declaration_of<'a>(defs: &'a [Def], term: &str) -> Option<&'a Decl> {
@@ -65,6 +65,28 @@ pub fn is_struct(ty: &Type, name: &str) -> bool {
     matches!(&ty.ty, TypeValue::Struct(..)) && ty.name.0.as_str() == name
 }
 
+/// The fields of the variant or the struct that makes the term of a name.
+pub fn fields_of<'a>(defs: &'a [Def], term: &str) -> Option<&'a Fields> {
+    if let Some(variant) = variant_of(defs, term) {
+        return Some(&variant.fields);
+    }
+    match &struct_of(defs, term)?.ty {
+        TypeValue::Struct(fields, _) => Some(fields),
+        TypeValue::Primitive(..) | TypeValue::Enum(..) => None,
+    }
+}
+
+/// The name of the type of what the term of a name gives.
+pub fn result_of<'a>(defs: &'a [Def], term: &str) -> Option<&'a Ident> {
+    if let Some(decl) = declaration_of(defs, term) {
+        return Some(&decl.ret_ty);
+    }
+    if let Some((ty, _)) = variant_with_type(defs, term) {
+        return Some(&ty.name);
+    }
+    Some(&struct_of(defs, term)?.name)
+}
+
 /// Where the term of a name is defined.
 pub fn place_of_term(defs: &[Def], term: &str) -> Option<Pos> {
     if let Some(decl) = declaration_of(defs, term) {
@@ -84,16 +106,26 @@ pub fn place_of_made(defs: &[Def], term: &str) -> Option<Pos> {
     }
 }
 
-/// Where a constant is defined.
-pub fn place_of_constant(defs: &[Def], constant: &str) -> Option<Pos> {
+/// The definition of a constant: the first, where there are several.
+pub fn constant_of<'a>(defs: &'a [Def], constant: &str) -> Option<&'a Extern> {
     for def in defs {
-        if let Def::Extern(Extern::Const { name, pos, .. }) = def {
-            if name.0.as_str() == constant {
-                return Some(*pos);
+        if let Def::Extern(external) = def {
+            if let Extern::Const { name, .. } = external {
+                if name.0.as_str() == constant {
+                    return Some(external);
+                }
             }
         }
     }
     None
+}
+
+/// Where a constant is defined.
+pub fn place_of_constant(defs: &[Def], constant: &str) -> Option<Pos> {
+    match constant_of(defs, constant)? {
+        Extern::Const { pos, .. } => Some(*pos),
+        _ => None,
+    }
 }
 
 /// Where the pattern of a term's internal extractor stands.

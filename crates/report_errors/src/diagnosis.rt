@@ -1,16 +1,22 @@
 //! What is wrong with definitions, as reports.
 
-use crate::error_order::Order;
+use crate::definitions::{declaration_of, root_of, rule_around};
+use crate::error_order::{Order, place_of, words_of};
+use crate::meanings::meant_by;
+use crate::mentions::Mentions;
 use crate::named_forms::{named_forms, only_place};
 use crate::names::{name_of, priority_of, rule_at};
 use crate::reports::report_of as report_of_type_error;
+use crate::template_errors::{TemplateUse, add_use, use_at, uses_behind};
+use crate::terms_in_errors::is_of_multi;
 use crate::undefined_terms::add_uses;
 use crate::unmatched_templates::{Templates, report_of_template};
-use cranelift_isle::syntax::{Def, Error, Limit, Pos, Span};
+use cranelift_isle::syntax::{Def, Error, Limit, Pos, Rule, Span};
 use report_print::report::{Level, Place, Report, Word};
 use report_witness::forms::{ValueForm, push_form};
 use report_witness::witness::{Conflict, conflict_in, left_side, witness};
 use std::alloc::{AllocError, Global};
+use std::slice;
 
 // How many errors are reported, if not all are wanted.
 const MOST_ERRORS: usize = 20;
@@ -66,10 +72,15 @@ pub fn reports_of(
         expand,
         most_rules: if all { usize::MAX } else { MOST_RULES },
     };
+    let uses = if expand {
+        uses_behind(alloc, defs, errors)?
+    } else {
+        Vec::new(alloc)
+    };
     let order = if all {
         Order::of_all(alloc, errors.len())?
     } else {
-        Order::by_causes(alloc, defs, errors)?
+        Order::by_causes(alloc, defs, errors, &uses)?
     };
     let templates = if all || !expand {
         Templates::none(alloc)
@@ -82,8 +93,11 @@ pub fn reports_of(
     for number in shown.iter().take(most) {
         match templates.told_with(*number) {
             Some(one) => reports.push(report_of_template(alloc, defs, one)?)?,
-            None => add_report(source, &mut reports, errors, &order, *number)?,
+            None => add_report(source, &mut reports, errors, &order, &uses, *number)?,
         }
+    }
+    for report in &mut reports {
+        report.shorten()?;
     }
     let rest = shown.len().saturating_sub(reports.len());
     Ok(Reports { reports, rest })
@@ -95,6 +109,7 @@ fn add_report(
     reports: &mut Vec<Report>,
     errors: &[Error],
     order: &Order,
+    uses: &[Option<TemplateUse<'_>>],
     number: usize,
 ) -> Result<(), AllocError> {
     let Some(error) = errors.get(number) else {
@@ -110,8 +125,45 @@ fn add_report(
         order,
         number,
     )?;
+    let mut rule = place_of(error).and_then(|pos| rule_around(source.defs, pos));
+    if let Some(found) = use_at(uses, number) {
+        add_use(source.alloc, &mut report, found, order.told_with(number))?;
+        rule = Some(found.rule);
+    }
+    if let (Some(rule), true) = (rule, is_of_multi(words_of(error))) {
+        add_multi(source, &mut report, rule)?;
+    }
     reports.push(report)?;
     Ok(())
+}
+
+// Adds what to do where a rule uses a multi term and its own isn't multi. Rules of multi terms have no priorities.
+fn add_multi(source: Source<'_>, report: &mut Report, rule: &Rule) -> Result<(), AllocError> {
+    let Some(decl) = declaration_of(source.defs, root_of(rule)) else {
+        return Ok(());
+    };
+    let name = decl.term.0.as_str();
+    if decl.partial {
+        let text = format!(in source.alloc; "declare `{name}` multi in place of partial")?;
+        return report.add_note("help", text);
+    }
+    let text = format!(in source.alloc; "add `multi` to the declaration of `{name}`")?;
+    if source.defs.iter().any(|def| has_priority(def, name)) {
+        let text = format!(in source.alloc; "{text}, and leave out the priorities of its rules")?;
+        return report.add_note("help", text);
+    }
+    report.add_note("help", text)?;
+    let title = format!(in source.alloc; "Declare `{name}` multi")?;
+    let multi = String::from_str(source.alloc, "multi ")?;
+    report.add_fix(title, Place::Before(decl.term.1), multi)
+}
+
+// Whether a definition is a rule of a term and has a priority.
+fn has_priority(def: &Def, term: &str) -> bool {
+    match def {
+        Def::Rule(rule) => rule.prio.is_some() && root_of(rule) == term,
+        _ => false,
+    }
 }
 
 /// How many of the first errors, so many, say that the rule of an error can't match.
@@ -182,10 +234,8 @@ fn of_words(source: Source<'_>, msg: &str, span: Span) -> Result<Report, AllocEr
         " can never match: no value is both `{first}` and `{second}`"
     )?;
     let mut report = begun(alloc, "unreachable", &message)?;
-    match (
-        place_of_form(source, span.from, &first)?,
-        place_of_form(source, span.from, &second)?,
-    ) {
+    let names = Mentions::around(alloc, source.defs, span.from)?;
+    match (only_place(&names, &first), only_place(&names, &second)) {
         (Some(left), Some(right)) => {
             report.add_label(left, format!(in alloc; "must be `{first}`")?)?;
             report.add_label(right, format!(in alloc; "must be `{second}`")?)?;
@@ -194,14 +244,6 @@ fn of_words(source: Source<'_>, msg: &str, span: Span) -> Result<Report, AllocEr
     }
     add_help(alloc, &mut report, WAY_OUT)?;
     Ok(report)
-}
-
-// The place of a form in the patterns of the rule at a position, if it stands there once.
-fn place_of_form(source: Source<'_>, rule: Pos, form: &str) -> Result<Option<Pos>, AllocError> {
-    match rule_at(source.defs, rule) {
-        Some(rule) => only_place(source.alloc, rule, form),
-        None => Ok(None),
-    }
 }
 
 // What to do about a rule that can't match.
@@ -289,6 +331,7 @@ fn overlap(source: Source<'_>, rules: &[Span]) -> Result<Report, AllocError> {
         "overlap",
         "rules of the same priority match the same values",
     )?;
+    add_suspect(source, &mut report, rules)?;
     let shown = source.most_rules.saturating_add(1);
     let alike = add_overlapping(source, &mut report, rules, shown)?;
     add_values(source, &mut report, rules)?;
@@ -298,6 +341,35 @@ fn overlap(source: Source<'_>, rules: &[Span]) -> Result<Report, AllocError> {
         add_help(alloc, &mut report, NO_TEMPLATES)?;
     }
     Ok(report)
+}
+
+// Adds the first variable of these rules' patterns that looks like something else: it matches any value, so more than is meant.
+fn add_suspect(source: Source<'_>, report: &mut Report, rules: &[Span]) -> Result<(), AllocError> {
+    for rule in rules {
+        if add_suspect_of(source, report, rule.from)? {
+            return Ok(());
+        }
+    }
+    Ok(())
+}
+
+// Adds the first such variable of a rule: whether there is one.
+fn add_suspect_of(source: Source<'_>, report: &mut Report, rule: Pos) -> Result<bool, AllocError> {
+    let names = Mentions::around(source.alloc, source.defs, rule)?;
+    for mention in names.names.iter().filter(|mention| mention.in_pattern) {
+        if let Some(meant) = meant_by(source.alloc, source.defs, mention)? {
+            let name = mention.text();
+            write!(
+                report.message,
+                ": `{name}` is a variable, and matches any value"
+            )?;
+            let text = format!(in source.alloc; "`{name}` is bound here")?;
+            report.add_label(mention.name.1, text)?;
+            meant.add_to(report, mention)?;
+            return Ok(true);
+        }
+    }
+    Ok(false)
 }
 
 // Adds the places of so many rules of which the first overlaps each of the others. How many of the others have its left side.
@@ -440,6 +512,7 @@ pub fn priority_above(defs: &[Def], pos: Pos) -> i64 {
 fn shadow(source: Source<'_>, shadowed: &[Span], mask: Span) -> Result<Report, AllocError> {
     let alloc = source.alloc;
     let mut report = begun(alloc, "shadow", "a rule is never taken")?;
+    add_suspect(source, &mut report, slice::from_ref(&mask))?;
     let mut alike = 0usize;
     for span in shadowed {
         let is_alike = are_alike(alloc, source.defs, mask.from, span.from)?;

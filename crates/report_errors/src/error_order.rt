@@ -1,8 +1,10 @@
 //! Which errors a person is shown, and which say no more than another one.
 
+use crate::codes::code_of;
 use crate::definitions::rule_around;
-use crate::scopes::binding_at;
-use crate::terms_in_errors::{between, path_in, undefined_in, unusable_in};
+use crate::mentions::{Mentions, Need};
+use crate::template_errors::{TemplateUse, first_like};
+use crate::terms_in_errors::{is_of_impure, path_in, undefined_in, unusable_in};
 use core_syntax::syntax::{Def, Error, Pos};
 use std::alloc::{AllocError, Global};
 use std::collections::BTreeMap;
@@ -42,23 +44,45 @@ impl Order {
 
     /// Of these errors those are shown that say no more than another one. What says that a term can't be used is told with
     /// what says that it isn't defined, which comes first then; a cycle of internal extractors is told once; and so is what is
-    /// defined twice, with both places. A variable that isn't known because what binds it has an error is told with this error.
+    /// defined twice, with both places. A variable that isn't known because what binds it has an error is told with this error,
+    /// and so is a wrong type that comes from a term without a constructor. Of the calls of a condition that aren't pure the
+    /// first is told, and of errors in a template one.
     ///
     /// # Errors
     ///
     /// Where memory is refused.
-    pub fn by_causes(alloc: Global, defs: &[Def], errors: &[Error]) -> Result<Order, AllocError> {
+    pub(crate) fn by_causes(
+        alloc: Global,
+        defs: &[Def],
+        errors: &[Error],
+        uses: &[Option<TemplateUse<'_>>],
+    ) -> Result<Order, AllocError> {
         let causes = Causes::new(alloc, errors)?;
         let mut leaders = Vec::new(alloc);
         for (number, error) in errors.iter().enumerate() {
-            let leader = match causes.of(error, number) {
-                Some(leader) => leader,
-                None => leader_beside(alloc, defs, errors, number, &leaders)?,
+            let mut leader = match first_like(errors, uses, number) {
+                Some(first) => first,
+                None => number,
             };
+            if leader == number {
+                leader = match causes.of(error, number) {
+                    Some(leader) => leader,
+                    None => leader_beside(alloc, defs, errors, &causes, &leaders)?,
+                };
+            }
             leaders.push(leader)?;
         }
         let shown = shown_of(alloc, &leaders)?;
         Ok(Order { shown, leaders })
+    }
+
+    /// How many other errors are told with the one of a number.
+    pub(crate) fn told_with(&self, number: usize) -> usize {
+        self.leaders
+            .iter()
+            .filter(|leader| **leader == number)
+            .count()
+            .saturating_sub(1)
     }
 }
 
@@ -100,6 +124,8 @@ pub(crate) fn place_of(error: &Error) -> Option<Pos> {
 struct Causes<'a> {
     // The terms that aren't defined, each with the first error that says so.
     terms: BTreeMap<&'a str, usize>,
+    // The places of terms without a constructor, each with the last error that says so.
+    unmade: BTreeMap<Pos, usize>,
     // The cycles of internal extractors that errors tell: of each error the number of its cycle.
     cycles: Vec<Option<usize>>,
     // The errors that tell the cycles.
@@ -110,6 +136,7 @@ impl<'a> Drop for Causes<'a> {
     fn drop(self) {
         let Causes {
             terms: _,
+            unmade: _,
             cycles: _,
             leaders: _,
         } = self;
@@ -136,6 +163,7 @@ impl<'a> Causes<'a> {
     fn new(alloc: Global, errors: &'a [Error]) -> Result<Causes<'a>, AllocError> {
         let mut causes = Causes {
             terms: BTreeMap::new(alloc),
+            unmade: BTreeMap::new(alloc),
             cycles: Vec::new(alloc),
             leaders: Vec::new(alloc),
         };
@@ -147,6 +175,9 @@ impl<'a> Causes<'a> {
                 if !causes.terms.contains_key(&term) {
                     causes.terms.insert(term, number)?;
                 }
+            }
+            if let (Some(pos), "no-constructor") = (place_of(error), code_of(words)) {
+                causes.unmade.insert(pos, number)?;
             }
             let cycle = match cycle_in(alloc, words)? {
                 Some(cycle) => Some(causes.number_of(&mut numbers, cycle, number)?),
@@ -211,20 +242,40 @@ fn cycle_in<'a>(alloc: Global, words: &'a str) -> Result<Option<Cycle<'a>>, Allo
     Ok(Some(Cycle { closed, members }))
 }
 
-// The error that one is told with by what stands before it or behind it. Else itself.
-fn leader_beside(
+// The error that the next one behind those with leaders is told with by what stands in its rule, or beside it. Else itself.
+fn leader_beside<'a>(
     alloc: Global,
     defs: &[Def],
-    errors: &[Error],
-    number: usize,
+    errors: &'a [Error],
+    causes: &Causes<'a>,
     leaders: &[usize],
 ) -> Result<usize, AllocError> {
-    if let Some(cause) = cause_of_unknown(alloc, defs, errors, number)? {
-        if let Some(leader) = leaders.get(cause) {
-            return Ok(*leader);
-        }
+    let number = leaders.len();
+    let Some(error) = errors.get(number) else {
+        return Ok(number);
+    };
+    let Some(pos) = place_of(error) else {
+        return Ok(number);
+    };
+    let words = words_of(error);
+    let cause = match code_of(words) {
+        "unknown-variable" => cause_of_unknown(alloc, defs, errors, number, pos)?,
+        "mismatched-types" => cause_of_mismatch(alloc, defs, causes, pos)?,
+        "forbidden-term" if is_of_impure(words) => match causes.unmade.get(&pos).copied() {
+            Some(unmade) => Some(unmade),
+            None => first_impure(defs, errors, pos),
+        },
+        _ => None,
+    };
+    match cause {
+        // what comes later leads itself, or is told with a term that isn't defined
+        Some(cause) if cause >= number => Ok(match errors.get(cause) {
+            Some(error) => causes.of(error, cause).unwrap_or(cause),
+            None => cause,
+        }),
+        Some(cause) => Ok(leaders.get(cause).copied().unwrap_or(cause)),
+        None => Ok(beside(errors, number, leaders)),
     }
-    Ok(beside(errors, number, leaders))
 }
 
 // The error because of which a variable isn't known though its rule binds it: one in what binds it.
@@ -233,23 +284,67 @@ fn cause_of_unknown(
     defs: &[Def],
     errors: &[Error],
     number: usize,
+    pos: Pos,
 ) -> Result<Option<usize>, AllocError> {
-    let Some(error) = errors.get(number) else {
-        return Ok(None);
-    };
-    let (Some(name), Some(pos)) = (
-        between(words_of(error), "Unknown variable '", "'"),
-        place_of(error),
-    ) else {
-        return Ok(None);
-    };
     let Some(rule) = rule_around(defs, pos) else {
         return Ok(None);
     };
-    match binding_at(alloc, rule, pos, name)? {
+    let names = Mentions::around(alloc, defs, pos)?;
+    match names.binding_at(pos) {
         Some(bound) => Ok(last_before(errors, number, rule.pos, pos, bound)),
         None => Ok(None),
     }
+}
+
+// The error because of which a type is wrong at a place: that the term there has no constructor, the term that gives the value of
+// the variable there, or the term whose argument is there.
+fn cause_of_mismatch(
+    alloc: Global,
+    defs: &[Def],
+    causes: &Causes<'_>,
+    pos: Pos,
+) -> Result<Option<usize>, AllocError> {
+    if causes.unmade.is_empty() {
+        return Ok(None);
+    }
+    let names = Mentions::around(alloc, defs, pos)?;
+    for source in [Some(pos), source_of(&names, pos), names.user_of(pos)] {
+        if let Some(source) = source {
+            if let Some(cause) = causes.unmade.get(&source).copied() {
+                return Ok(Some(cause));
+            }
+        }
+    }
+    Ok(None)
+}
+
+// Where the value stands of the variable at a place.
+fn source_of(names: &Mentions<'_>, pos: Pos) -> Option<Pos> {
+    match names.need_at(names.binding_at(pos)?) {
+        Need::Given(_, source) => Some(source),
+        Need::Binding(def) => Some(def.val.pos()),
+        _ => None,
+    }
+}
+
+// The first error that says that a call isn't pure of the condition that a place lies in.
+fn first_impure(defs: &[Def], errors: &[Error], pos: Pos) -> Option<usize> {
+    let condition = condition_around(defs, pos)?;
+    for (number, error) in errors.iter().enumerate() {
+        if let (Some(other), true) = (place_of(error), is_of_impure(words_of(error))) {
+            if condition_around(defs, other) == Some(condition) {
+                return Some(number);
+            }
+        }
+    }
+    None
+}
+
+// Where the condition of a rule begins that a place lies in.
+fn condition_around(defs: &[Def], pos: Pos) -> Option<Pos> {
+    let rule = rule_around(defs, pos)?;
+    let iflet = rule.iflets.iter().rev().find(|iflet| iflet.pos <= pos)?;
+    Some(iflet.pos)
 }
 
 // The last of the first errors, so many, that stands between two places and at a third one or before it; or else the first one
@@ -267,9 +362,9 @@ fn last_before(errors: &[Error], count: usize, begin: Pos, end: Pos, bound: Pos)
     found
 }
 
-// Whether a place is behind one place of its file and before another one.
+// Whether a place is at one place of its file or behind it, and before another one.
 fn is_between(place: Pos, begin: Pos, end: Pos) -> bool {
-    place.file == begin.file && place.offset > begin.offset && place.offset < end.offset
+    place.file == begin.file && place.offset >= begin.offset && place.offset < end.offset
 }
 
 // The error that one is told with, where the error beside it says the same: the one before it, or that behind it where a type

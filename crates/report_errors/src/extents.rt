@@ -106,6 +106,28 @@ fn length_of_list(text: &str) -> usize {
     text.len()
 }
 
+/// The first line behind the list that begins at an offset of a text that begins with a list too, by where it begins: one whose first
+/// character is `(` and stands in no comment.
+pub fn line_with_list(text: &str, offset: usize) -> Option<usize> {
+    let rest = text.get(offset..).unwrap_or("");
+    let mut walk = Walk::Text;
+    let mut last = ' ';
+    let mut begun = None;
+    for (at, c) in rest.char_indices() {
+        let before = walk;
+        walk = after(before, last, c);
+        if begun.is_some() && walk == Walk::Text {
+            return begun;
+        }
+        begun = None;
+        if c == '(' && last == '\n' && walk == Walk::Text {
+            begun = Some(offset.saturating_add(at));
+        }
+        last = if walk == before || c == '\n' { c } else { ' ' };
+    }
+    begun
+}
+
 // The length of the word that a text begins with, or of its first character where that begins none.
 fn length_of_word(text: &str) -> usize {
     let mut length = 0usize;

@@ -7,8 +7,8 @@ ghost use Rattle.std.specs.Prelude.{◌≡◌, ◌++◌, ◌∷◌, [], IfOk, Li
 ghost use Rattle.core_syntax.specs.declared.syntax.Pos.{Pos};
 ghost use Rattle.report_errors.specs.Places.{AreAtError, IsAtError, begin_of, places_of};
 
+use crate::extents::line_with_list;
 use crate::misspelled::add_question_at;
-use crate::unclosed::line_with_list;
 use core_syntax::syntax::Pos;
 use report_print::report::{Label, Level, Place, Report};
 use std::alloc::{AllocError, Global};
@@ -21,9 +21,10 @@ pub mod diagnosis;
 pub mod error_order;
 pub mod explanation;
 pub mod extents;
-mod forms_at_places;
 pub mod indented_lines;
+pub mod meanings;
 pub mod meant_rules;
+pub mod mentions;
 mod mismatches;
 pub mod misspelled;
 mod named_forms;
@@ -31,20 +32,19 @@ pub mod names;
 mod nearest;
 mod repeats;
 pub mod reports;
-mod scopes;
 pub mod site_words;
+mod template_errors;
 pub mod term_sizes;
 mod terms_in_errors;
 pub mod tree_sizes;
-pub mod unclosed;
 pub mod undefined_terms;
 mod unknown;
 mod unmatched_templates;
 pub mod way_text;
 pub mod ways;
 
-/// The report of what is wrong with a text: at its place, with where a list that isn't ended begins, and with the word that may be
-/// meant where one of a few is expected.
+/// The report of what is wrong with a text: at its place, but of a list that isn't ended where that begins; and with the word that
+/// may be meant where one of a few is expected.
 ///
 /// # Errors
 ///
@@ -53,36 +53,28 @@ pub fn syntax_report(alloc: Global, text: &str, error: &TextError) -> Result<Rep
     ensures { IfOk result (IsAtError error.now) }
 {
     let mut report = meant(alloc, text, error)?;
+    report.shorten()?;
     report.labels = labels_of(alloc, text, error)?;
     Ok(report)
 }
 
-// The places of what is wrong with a text.
+// The places of what is wrong with a text: of a list that isn't ended its beginning, the text's end, and where the next form
+// seems to begin.
 fn labels_of(alloc: Global, text: &str, error: &TextError) -> Result<Vec<Label>, AllocError>
     ensures { IfOk result (λ labels. AreAtError error.now labels.items) }
 {
     let mut labels = Vec::new(alloc);
-    push_label(alloc, &mut labels, error.pos, "")?;
-    push_begin(alloc, &mut labels, text, &error.problem)?;
-    Ok(labels)
-}
-
-// Adds where the list begins that isn't ended, and where the next form seems to begin.
-fn push_begin(
-    alloc: Global,
-    labels: &mut Vec<Label>,
-    text: &str,
-    problem: &Problem,
-) -> Result<(), AllocError>
-    ensures { OnOk result ((others : List Pos) × (places_of labels.new.items ≡ places_of labels.old.items ++ (begin_of problem.now ++ others))) }
-{
-    match problem {
+    match &error.problem {
         Problem::Unclosed(begin) => {
-            push_label(alloc, labels, *begin, "begins here")?;
-            push_next_line(alloc, labels, text, *begin)
+            push_label(alloc, &mut labels, *begin, "")?;
+            push_label(alloc, &mut labels, error.pos, "the text ends here")?;
+            push_next_line(alloc, &mut labels, text, *begin)?;
         }
-        Problem::Expected(_) | Problem::UnknownDefinition(_) => Ok(()),
+        Problem::Expected(_) | Problem::UnknownDefinition(_) => {
+            push_label(alloc, &mut labels, error.pos, "")?;
+        }
     }
+    Ok(labels)
 }
 
 // Adds a place, with what it has to do with the report.
@@ -128,7 +120,10 @@ const STATEMENTS: [&str; 2] = ["if-let", "if"];
 
 // What is said of a mistake, without its places: with the word that may be meant where one of a few is expected.
 fn meant(alloc: Global, text: &str, error: &TextError) -> Result<Report, AllocError> {
-    let message = format!(in alloc; "{error}")?;
+    let message = match &error.problem {
+        Problem::Unclosed(_) => String::from_str(alloc, "this list isn't closed")?,
+        _ => format!(in alloc; "{error}")?,
+    };
     let mut report = Report::new(alloc, Level::Error, "syntax", message);
     let pos = error.pos;
     match &error.problem {

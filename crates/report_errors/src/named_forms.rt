@@ -1,9 +1,10 @@
 //! The library's words on rules that can't match, with names in the place of numbers.
 
+use crate::mentions::{LiteralValue, Mention, MentionKind, Mentions};
 use crate::names::NameTables;
 use cranelift_isle::environments::environments_of;
 use cranelift_isle::sema::{Sym, TypeId, VariantId};
-use cranelift_isle::syntax::{Def, Fault, Pattern, Pos, Rule};
+use cranelift_isle::syntax::{Def, Fault, Pos};
 use std::alloc::{AllocError, Global};
 
 // What the library says before the two constraints.
@@ -66,73 +67,41 @@ fn push_named(out: &mut String, names: NameTables<'_>, constraint: &str) -> Resu
     }
 }
 
-/// The place of a form in the patterns of a rule, if it stands there once.
-pub(crate) fn only_place(
-    alloc: Global,
-    rule: &Rule,
-    form: &str,
-) -> Result<Option<Pos>, AllocError> {
-    let mut places = Vec::new(alloc);
-    add_places(&mut places, &rule.pattern, form)?;
-    for iflet in &rule.iflets {
-        add_places(&mut places, &iflet.pattern, form)?;
+/// The place of a form in the patterns of a rule, by its names and literals, if it stands there once.
+pub(crate) fn only_place(names: &Mentions<'_>, form: &str) -> Option<Pos> {
+    let mut found = None;
+    let mut count = 0usize;
+    for mention in names.names.iter().filter(|mention| mention.in_pattern) {
+        if is_named(mention, form) {
+            found = Some(mention.form);
+            count = count.saturating_add(1);
+        }
     }
-    Ok(if places.len() == 1 {
-        places.first().copied()
-    } else {
-        None
-    })
+    for literal in names.literals.iter().filter(|literal| literal.in_pattern) {
+        if is_literal(literal.value, form) {
+            found = Some(literal.pos);
+            count = count.saturating_add(1);
+        }
+    }
+    if count == 1 { found } else { None }
 }
 
-#[cycle(patterns)]
-fn add_places(places: &mut Vec<Pos>, pattern: &Pattern, form: &str) -> Result<(), AllocError> {
-    if is_form(pattern, form) {
-        places.push(pattern.pos())?;
-    }
-    match pattern {
-        Pattern::BindPattern { subpat, .. } => add_places(places, subpat, form),
-        Pattern::Term { args, .. } => add_places_in(places, args, form),
-        Pattern::And { subpats, .. } => add_places_in(places, subpats, form),
-        Pattern::Var { .. }
-        | Pattern::ConstBool { .. }
-        | Pattern::ConstInt { .. }
-        | Pattern::ConstPrim { .. }
-        | Pattern::Wildcard { .. }
-        | Pattern::MacroArg { .. } => Ok(()),
+// Whether a term or a constant has a form.
+fn is_named(mention: &Mention<'_>, form: &str) -> bool {
+    match mention.kind {
+        MentionKind::Term => mention.text() == form,
+        MentionKind::Constant => form.strip_prefix("$") == Some(mention.text()),
+        _ => false,
     }
 }
 
-#[cycle(patterns)]
-fn add_places_in(
-    places: &mut Vec<Pos>,
-    patterns: &[Pattern],
-    form: &str,
-) -> Result<(), AllocError> {
-    for pattern in patterns {
-        add_places(places, pattern, form)?;
-    }
-    Ok(())
-}
-
-// Whether a pattern begins with a form.
-fn is_form(pattern: &Pattern, form: &str) -> bool {
-    match pattern {
-        Pattern::ConstBool { val: true, .. } => form == "true",
-        Pattern::ConstBool { val: false, .. } => form == "false",
-        Pattern::ConstInt { val, .. } => is_number(form, *val),
-        Pattern::ConstPrim { val, .. } => form.strip_prefix("$") == Some(val.0.as_str()),
-        Pattern::Term { sym, .. } => sym.0.as_str() == form,
-        Pattern::Var { .. }
-        | Pattern::BindPattern { .. }
-        | Pattern::Wildcard { .. }
-        | Pattern::And { .. }
-        | Pattern::MacroArg { .. } => false,
-    }
-}
-
-fn is_number(form: &str, val: i128) -> bool {
-    match form.parse::<i128>() {
-        Ok(number) => number == val,
-        Err(_) => false,
+fn is_literal(value: LiteralValue, form: &str) -> bool {
+    match value {
+        LiteralValue::Truth(true) => form == "true",
+        LiteralValue::Truth(false) => form == "false",
+        LiteralValue::Integer(val) => match form.parse::<i128>() {
+            Ok(number) => number == val,
+            Err(_) => false,
+        },
     }
 }

@@ -1,9 +1,10 @@
 //! The other places of what is defined more than once.
 
 use crate::definitions::{definition_around, is_struct, root_of, variant_in};
-use crate::forms_at_places::subject_at;
-use core_syntax::syntax::{Converter, Def, Extern, Fields, Pos, Rule, Type, TypeValue};
-use std::alloc::{AllocError, Global};
+use crate::mentions::MentionKind;
+use crate::reports::Told;
+use core_syntax::syntax::{Def, Extern, Pos, Rule};
+use std::alloc::AllocError;
 
 // How many other places are shown.
 const MOST_PLACES: usize = 2;
@@ -38,19 +39,14 @@ const NAMED: [&str; 7] = [
 ];
 
 /// The other places of what an error says is defined more than once: a few of them.
-pub(crate) fn other_places(
-    alloc: Global,
-    defs: &[Def],
-    msg: &str,
-    pos: Pos,
-) -> Result<Vec<Pos>, AllocError> {
-    let mut places = Vec::new(alloc);
-    let Some(repeat) = repeat_in(defs, msg, pos) else {
+pub(crate) fn other_places(told: &Told<'_>) -> Result<Vec<Pos>, AllocError> {
+    let (defs, pos) = (told.defs, told.pos);
+    let mut places = Vec::new(told.alloc);
+    let Some(repeat) = repeat_in(told) else {
         return Ok(places);
     };
-    let around = definition_around(defs, pos);
-    add_inside(&mut places, around, repeat, pos)?;
-    let own = match around {
+    add_inside(told, &mut places, repeat)?;
+    let own = match definition_around(defs, pos) {
         Some(def) => def.place().unwrap_or(pos),
         None => pos,
     };
@@ -65,7 +61,8 @@ pub(crate) fn other_places(
 }
 
 // What an error says is defined more than once.
-fn repeat_in<'a>(defs: &'a [Def], msg: &'a str, pos: Pos) -> Option<Repeat<'a>> {
+fn repeat_in<'a>(told: &Told<'a>) -> Option<Repeat<'a>> {
+    let msg = told.msg;
     if let Some(term) = msg.strip_prefix(
         "External constructor declared on term that already has rules: ",
     ) {
@@ -77,12 +74,12 @@ fn repeat_in<'a>(defs: &'a [Def], msg: &'a str, pos: Pos) -> Option<Repeat<'a>> 
     }
     match msg {
         "Duplicate external constructor definition" => {
-            Some(Repeat::Constructor(subject_at(defs, pos)?.0.as_str()))
+            Some(Repeat::Constructor(told.subject_text()?))
         }
         "Duplicate extractor definition"
         | "Duplicate external extractor definition"
         | "Cannot define external extractor for term that already has an internal extractor macro body defined" =>
-            { Some(Repeat::Extractor(subject_at(defs, pos)?.0.as_str())) }
+            { Some(Repeat::Extractor(told.subject_text()?)) }
         _ => named_in(msg),
     }
 }
@@ -119,113 +116,43 @@ fn repeat_of<'a>(begin: &str, name: &'a str) -> Repeat<'a> {
 
 // Where a definition defines it.
 fn place_in(defs: &[Def], def: &Def, repeat: Repeat<'_>) -> Option<Pos> {
-    match def {
-        Def::TypeDef(ty) => place_of_type(ty, repeat),
-        Def::Decl(decl) => place_if(decl.pos, is_term(repeat, decl.term.0.as_str())),
-        Def::Rule(rule) => place_if(rule.pos, is_rule(defs, rule, repeat)),
-        Def::Converter(converter) => place_if(converter.pos, is_between(converter, repeat)),
-        Def::Extractor(extractor) => {
-            place_if(
-                extractor.pos,
-                is_extractor(repeat, extractor.term.0.as_str()),
+    let (pos, is_it) = match (def, repeat) {
+        (Def::TypeDef(ty), Repeat::Type(name)) => (ty.pos, ty.name.0.as_str() == name),
+        (Def::TypeDef(ty), Repeat::Term(name)) => match variant_in(ty, name) {
+            Some(variant) => (variant.pos, true),
+            None => (ty.pos, is_struct(ty, name)),
+        },
+        (Def::Decl(decl), Repeat::Term(name)) => (decl.pos, decl.term.0.as_str() == name),
+        (Def::Rule(rule), Repeat::Rule(name)) => (rule.pos, is_called(defs, rule, name)),
+        (Def::Rule(rule), Repeat::Rules(term)) => (rule.pos, root_of(rule) == term),
+        (Def::Converter(converter), Repeat::Converter(inner, outer)) => {
+            let (own, other) = (&converter.inner_ty.0, &converter.outer_ty.0);
+            (
+                converter.pos,
+                own.as_str() == inner && other.as_str() == outer,
             )
         }
-        Def::Extern(external) => place_of_external(external, repeat),
-        Def::Other => None,
-    }
-}
-
-fn place_if(pos: Pos, holds: bool) -> Option<Pos> {
-    if holds { Some(pos) } else { None }
-}
-
-// Whether it is the term of a name.
-fn is_term(repeat: Repeat<'_>, name: &str) -> bool {
-    match repeat {
-        Repeat::Term(term) => term == name,
-        _ => false,
-    }
-}
-
-// Whether it is an extractor of a term.
-fn is_extractor(repeat: Repeat<'_>, name: &str) -> bool {
-    match repeat {
-        Repeat::Extractor(term) => term == name,
-        _ => false,
-    }
-}
-
-// Whether it is an external constructor of a term.
-fn is_constructor(repeat: Repeat<'_>, name: &str) -> bool {
-    match repeat {
-        Repeat::Constructor(term) => term == name,
-        _ => false,
-    }
-}
-
-// Whether it is a rule, by its name or by its term.
-fn is_rule(defs: &[Def], rule: &Rule, repeat: Repeat<'_>) -> bool {
-    match repeat {
-        Repeat::Rule(name) => is_called(defs, rule, name),
-        Repeat::Rules(term) => root_of(rule) == term,
-        _ => false,
-    }
-}
-
-// Whether it is a converter, by its types.
-fn is_between(converter: &Converter, repeat: Repeat<'_>) -> bool {
-    match repeat {
-        Repeat::Converter(inner, outer) => {
-            converter.inner_ty.0.as_str() == inner && converter.outer_ty.0.as_str() == outer
+        (Def::Extractor(extractor), Repeat::Extractor(term)) => {
+            (extractor.pos, extractor.term.0.as_str() == term)
         }
-        _ => false,
-    }
-}
-
-// Where a type or what makes its values defines it.
-fn place_of_type(ty: &Type, repeat: Repeat<'_>) -> Option<Pos> {
-    match repeat {
-        Repeat::Type(name) => place_if(ty.pos, ty.name.0.as_str() == name),
-        Repeat::Term(name) => place_of_made(ty, name),
-        _ => None,
-    }
-}
-
-// Where a type defines the term of a name.
-fn place_of_made(ty: &Type, name: &str) -> Option<Pos> {
-    if is_struct(ty, name) {
-        return Some(ty.pos);
-    }
-    match variant_in(ty, name) {
-        Some(variant) => Some(variant.pos),
-        None => None,
-    }
-}
-
-// Where an external function of a term is defined.
-fn place_of_external(external: &Extern, repeat: Repeat<'_>) -> Option<Pos> {
-    match external {
-        Extern::Constructor { term, pos, .. } => {
-            place_if(*pos, is_constructor(repeat, term.0.as_str()))
+        (Def::Extern(Extern::Constructor { term: own, pos, .. }), Repeat::Constructor(term))
+        | (Def::Extern(Extern::Extractor { term: own, pos, .. }), Repeat::Extractor(term)) => {
+            (*pos, own.0.as_str() == term)
         }
-        Extern::Extractor { term, pos, .. } => {
-            place_if(*pos, is_extractor(repeat, term.0.as_str()))
-        }
-        Extern::Const { .. } => None,
-    }
+        _ => return None,
+    };
+    if is_it { Some(pos) } else { None }
 }
 
 // Whether a rule has a name. One without a name that is the only one of its term has the term's.
 fn is_called(defs: &[Def], rule: &Rule, name: &str) -> bool {
     match &rule.name {
         Some(own) => own.0.as_str() == name,
-        None => root_of(rule) == name && rules_of(defs, name) == 1,
+        None => {
+            let count = defs.iter().filter(|def| is_rule_of(def, name)).count();
+            root_of(rule) == name && count == 1
+        }
     }
-}
-
-// How many rules a term has.
-fn rules_of(defs: &[Def], term: &str) -> usize {
-    defs.iter().filter(|def| is_rule_of(def, term)).count()
 }
 
 fn is_rule_of(def: &Def, term: &str) -> bool {
@@ -235,65 +162,27 @@ fn is_rule_of(def: &Def, term: &str) -> bool {
     }
 }
 
-// Adds the other places in the definition that the place lies in, where it is a type.
+// Adds the other places of a variant or a field in the type that the error stands in: a field beside the one there.
 fn add_inside(
+    told: &Told<'_>,
     places: &mut Vec<Pos>,
-    around: Option<&Def>,
     repeat: Repeat<'_>,
-    pos: Pos,
 ) -> Result<(), AllocError> {
-    let Some(Def::TypeDef(ty)) = around else {
+    let (name, kind) = match repeat {
+        Repeat::Variant(name) => (name, MentionKind::Variant),
+        Repeat::Field(name) => (name, MentionKind::Field),
+        _ => return Ok(()),
+    };
+    let own = told.names.names.iter().find(|mention| {
+        mention.kind == kind && mention.form == told.pos
+    });
+    let Some(own) = own else {
         return Ok(());
     };
-    match repeat {
-        Repeat::Variant(name) => add_variants(places, ty, name, pos),
-        Repeat::Field(name) => add_fields(places, ty, name, pos),
-        _ => Ok(()),
-    }
-}
-
-fn add_variants(places: &mut Vec<Pos>, ty: &Type, name: &str, pos: Pos) -> Result<(), AllocError> {
-    let TypeValue::Enum(variants, _) = &ty.ty else {
-        return Ok(());
-    };
-    for variant in variants {
-        if variant.name.0.as_str() == name && variant.pos != pos {
-            places.push(variant.pos)?;
-        }
-    }
-    Ok(())
-}
-
-// Adds the places of a type's fields that have a name, beside the field at a place.
-fn add_fields(places: &mut Vec<Pos>, ty: &Type, name: &str, pos: Pos) -> Result<(), AllocError> {
-    match &ty.ty {
-        TypeValue::Primitive(..) => Ok(()),
-        TypeValue::Struct(fields, _) => add_fields_beside(places, fields, name, pos),
-        TypeValue::Enum(variants, _) => {
-            for variant in variants {
-                add_fields_beside(places, &variant.fields, name, pos)?;
-            }
-            Ok(())
-        }
-    }
-}
-
-// The same, of fields among which there may be none at the place.
-fn add_fields_beside(
-    places: &mut Vec<Pos>,
-    fields: &Fields,
-    name: &str,
-    pos: Pos,
-) -> Result<(), AllocError> {
-    let Fields::Struct(fields) = fields else {
-        return Ok(());
-    };
-    if !fields.fields.iter().any(|field| field.pos == pos) {
-        return Ok(());
-    }
-    for field in &fields.fields {
-        if field.name.0.as_str() == name && field.pos != pos {
-            places.push(field.pos)?;
+    for mention in &told.names.names {
+        let is_beside = mention.kind == kind && mention.home.1 == own.home.1;
+        if is_beside && mention.text() == name && mention.form != told.pos {
+            places.push(mention.form)?;
         }
     }
     Ok(())

@@ -1,6 +1,7 @@
 //! The terms that errors speak of, whose definition tells why.
 
-use crate::forms_at_places::subject_at;
+use crate::mentions::Mentions;
+use crate::reports::Told;
 use core_syntax::syntax::{Def, Pos};
 
 // How errors begin that are of a term, and what stands behind its name.
@@ -48,18 +49,33 @@ const OF_ROOTS: [&str; 7] = [
 ];
 
 /// The term that an error is of, where its definition tells why.
-pub(crate) fn term_in<'a>(defs: &'a [Def], msg: &'a str, pos: Pos) -> Option<&'a str> {
+pub(crate) fn term_in<'a>(told: &Told<'a>) -> Option<&'a str> {
     for begin in OF_ROOTS {
-        if msg.starts_with(begin) {
-            return Some(subject_at(defs, pos)?.0.as_str());
+        if told.msg.starts_with(begin) {
+            return told.subject_text();
         }
     }
     for (begin, end) in OF_TERMS {
-        if let Some(term) = between(msg, begin, end) {
+        if let Some(term) = between(told.msg, begin, end) {
             return Some(term);
         }
     }
     None
+}
+
+/// Whether a term is used at a place where nobody wrote it: a conversion puts it in.
+pub(crate) fn is_put_in(defs: &[Def], names: &Mentions<'_>, pos: Pos, term: &str) -> bool {
+    match names.at(pos) {
+        Some(mention) if mention.text() == term => false,
+        _ => defs.iter().any(|def| is_conversion_by(def, term)),
+    }
+}
+
+fn is_conversion_by(def: &Def, term: &str) -> bool {
+    match def {
+        Def::Converter(converter) => converter.term.0.as_str() == term,
+        _ => false,
+    }
 }
 
 /// The term that an error says can't be used, since it has no constructor or no extractor.
@@ -72,6 +88,16 @@ pub(crate) fn unusable_in(msg: &str) -> Option<&str> {
     msg.strip_prefix("term `")?.strip_suffix(
         "` cannot be used in an expression because it does not have a constructor",
     )
+}
+
+/// Whether an error says that a rule uses a multi term, and its own term isn't multi.
+pub(crate) fn is_of_multi(msg: &str) -> bool {
+    msg.starts_with("Used multi-")
+}
+
+/// Whether an error says that what must be pure isn't.
+pub(crate) fn is_of_impure(msg: &str) -> bool {
+    msg.starts_with("Used non-pure constructor '")
 }
 
 /// The term that an error says is declared and not defined.

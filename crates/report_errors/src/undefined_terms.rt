@@ -2,7 +2,8 @@
 
 use crate::definitions::definition_around;
 use crate::error_order::{Order, place_of, words_of};
-use crate::terms_in_errors::undefined_in;
+use crate::mentions::Mentions;
+use crate::terms_in_errors::{is_put_in, undefined_in};
 use core_syntax::syntax::{Def, Error, Pos};
 use report_print::report::Report;
 use std::alloc::{AllocError, Global};
@@ -17,18 +18,23 @@ pub fn add_uses(
     order: &Order,
     number: usize,
 ) -> Result<(), AllocError> {
-    let is_cause = match errors.get(number) {
-        Some(error) => undefined_in(words_of(error)).is_some(),
-        None => false,
-    };
-    if !is_cause {
+    let Some(error) = errors.get(number) else {
         return Ok(());
-    }
+    };
+    let Some(term) = undefined_in(words_of(error)) else {
+        return Ok(());
+    };
     let places = places_told_with(alloc, errors, order, number)?;
     let Some(first) = places.first() else {
         return Ok(());
     };
-    report.add_new_label(*first, String::from_str(alloc, "used here")?)?;
+    let names = Mentions::around(alloc, defs, *first)?;
+    let text = if is_put_in(defs, &names, *first, term) {
+        "a conversion puts it in here"
+    } else {
+        "used here"
+    };
+    report.add_new_label(*first, String::from_str(alloc, text)?)?;
     let users = users_of(alloc, defs, &places)?;
     let count = users.len();
     let word = word_for(&users);

@@ -1,13 +1,12 @@
 //! The names that errors say aren't known, and those that may be meant.
 
-use crate::definitions::rule_around;
-use crate::forms_at_places::{form_at, subject_at};
+use crate::mentions::{MentionKind, Mentions};
 use crate::nearest::Nearest;
-use crate::scopes::variables_at;
-use core_syntax::syntax::{Def, Extern, LetDef, Pos, Type, TypeValue, Variant};
+use crate::reports::Told;
+use core_syntax::syntax::{Def, Extern, Fields, Pos, Type, TypeValue, Variant};
 use core_types::BuiltinType;
 use report_print::report::Report;
-use std::alloc::{AllocError, Global};
+use std::alloc::AllocError;
 
 /// What a name stands for.
 #[derive(Clone, Copy, PartialEq, Eq)]
@@ -47,9 +46,10 @@ const QUOTED: [(&str, Kind); 11] = [
 ];
 
 /// The name that an error says isn't known, where it says so.
-pub(crate) fn unknown_in<'a>(defs: &'a [Def], msg: &'a str, pos: Pos) -> Option<Unknown<'a>> {
+pub(crate) fn unknown_in<'a>(told: &Told<'a>) -> Option<Unknown<'a>> {
+    let msg = told.msg;
     if let Some(kind) = kind_without_name(msg) {
-        let name = subject_at(defs, pos)?;
+        let name = told.subject()?;
         return Some(Unknown {
             kind,
             name: name.0.as_str(),
@@ -58,30 +58,26 @@ pub(crate) fn unknown_in<'a>(defs: &'a [Def], msg: &'a str, pos: Pos) -> Option<
     }
     if let Some(name) = type_of_let(msg) {
         let kind = Kind::Type;
-        let pos = place_in_lets(form_at(defs, pos)?.lets, name)?;
+        let pos = place_of_type(&told.names, name, told.pos)?;
         return Some(Unknown { kind, name, pos });
     }
     let (name, kind) = match msg.split_once("` extractor definition references unknown term `") {
         Some((_, name)) => (name.strip_suffix("`")?, Kind::Term),
         None => quoted_in(msg)?,
     };
-    let pos = place_of_name(defs, name, pos);
+    // the name in the form there, or the place itself
+    let pos = match told.subject() {
+        Some(subject) if subject.0.as_str() == name => subject.1,
+        _ => told.pos,
+    };
     Some(Unknown { kind, name, pos })
 }
 
-// Where the name stands that an error at a place speaks of: in the form there, or at the place itself.
-fn place_of_name(defs: &[Def], name: &str, pos: Pos) -> Pos {
-    match subject_at(defs, pos) {
-        Some(subject) if subject.0.as_str() == name => subject.1,
-        _ => pos,
-    }
-}
-
-// Where a type stands in the definitions of a let.
-fn place_in_lets(lets: &[LetDef], name: &str) -> Option<Pos> {
-    for def in lets {
-        if def.ty.0.as_str() == name {
-            return Some(def.ty.1);
+// Where a type of a name stands first, at a place or behind it.
+fn place_of_type(names: &Mentions<'_>, name: &str, pos: Pos) -> Option<Pos> {
+    for mention in &names.names {
+        if mention.kind == MentionKind::Type && mention.text() == name && mention.form >= pos {
+            return Some(mention.form);
         }
     }
     None
@@ -132,9 +128,8 @@ fn before_quote(words: &str) -> &str {
 
 /// Adds the question whether another name is meant than one that isn't known, where one is near.
 pub(crate) fn add_question(
-    alloc: Global,
+    told: &Told<'_>,
     report: &mut Report,
-    defs: &[Def],
     unknown: Unknown<'_>,
 ) -> Result<(), AllocError> {
     let sign = if unknown.kind == Kind::Constant {
@@ -142,13 +137,13 @@ pub(crate) fn add_question(
     } else {
         ""
     };
-    let mut nearest = Nearest::new(alloc, sign, unknown.name)?;
+    let mut nearest = Nearest::new(told.alloc, sign, unknown.name)?;
     match unknown.kind {
         Kind::Type => offer_builtins(&mut nearest)?,
-        Kind::Variable => offer_variables(alloc, &mut nearest, defs, unknown.pos)?,
+        Kind::Variable => offer_variables(&mut nearest, &told.names, unknown.pos)?,
         Kind::Term | Kind::Declared | Kind::Constant => {}
     }
-    for def in defs {
+    for def in told.defs {
         offer_definition(&mut nearest, def, unknown.kind)?;
     }
     nearest.add_to(report, unknown.pos)
@@ -164,21 +159,20 @@ fn offer_builtins(nearest: &mut Nearest<'_>) -> Result<(), AllocError> {
 
 // Offers the names of the variables that can be used at a place.
 fn offer_variables(
-    alloc: Global,
     nearest: &mut Nearest<'_>,
-    defs: &[Def],
+    names: &Mentions<'_>,
     pos: Pos,
 ) -> Result<(), AllocError> {
-    let Some(rule) = rule_around(defs, pos) else {
-        return Ok(());
-    };
-    for variable in &variables_at(alloc, rule, pos)? {
-        nearest.offer(&variable.0)?;
+    let place = names.number_at(pos).unwrap_or(names.names.len());
+    for (number, mention) in names.names.iter().enumerate() {
+        if names.is_in_scope(number, place) {
+            nearest.offer(mention.text())?;
+        }
     }
     Ok(())
 }
 
-// Offers the names of a kind that a definition defines.
+// Offers the names of a kind that a definition defines. In the place of a variable a constant may be meant.
 fn offer_definition(nearest: &mut Nearest<'_>, def: &Def, kind: Kind) -> Result<(), AllocError> {
     match def {
         Def::TypeDef(ty) => offer_type(nearest, ty, kind),
@@ -188,6 +182,9 @@ fn offer_definition(nearest: &mut Nearest<'_>, def: &Def, kind: Kind) -> Result<
         Def::Extern(Extern::Const { name, .. }) if kind == Kind::Constant => {
             nearest.offer(&name.0)
         }
+        Def::Extern(Extern::Const { name, .. }) if kind == Kind::Variable => {
+            nearest.offer_in("$", &name.0, "")
+        }
         _ => Ok(()),
     }
 }
@@ -196,14 +193,34 @@ fn offer_definition(nearest: &mut Nearest<'_>, def: &Def, kind: Kind) -> Result<
 fn offer_type(nearest: &mut Nearest<'_>, ty: &Type, kind: Kind) -> Result<(), AllocError> {
     match &ty.ty {
         _ if kind == Kind::Type => nearest.offer(&ty.name.0),
-        TypeValue::Enum(variants, _) if kind == Kind::Term => {
+        TypeValue::Enum(variants, _) => {
             for variant in variants {
-                let name = Variant::full_name(&ty.name, &variant.name)?;
-                nearest.offer(&name.0)?;
+                offer_variant(nearest, ty, variant, kind)?;
             }
             Ok(())
         }
         TypeValue::Struct(..) if kind == Kind::Term => nearest.offer(&ty.name.0),
+        _ => Ok(()),
+    }
+}
+
+// Offers a variant: by its full name, or where it is meant by its own name alone. In the place of a variable one without fields may
+// be meant.
+fn offer_variant(
+    nearest: &mut Nearest<'_>,
+    ty: &Type,
+    variant: &Variant,
+    kind: Kind,
+) -> Result<(), AllocError> {
+    let name = Variant::full_name(&ty.name, &variant.name)?;
+    match kind {
+        Kind::Term => {
+            nearest.offer_as(&variant.name.0, &name.0)?;
+            nearest.offer(&name.0)
+        }
+        Kind::Variable if matches!(&variant.fields, Fields::Unit) => {
+            nearest.offer_in("(", &name.0, ")")
+        }
         _ => Ok(()),
     }
 }

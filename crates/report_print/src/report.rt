@@ -104,6 +104,25 @@ impl Report {
         Ok(())
     }
 
+    /// Cuts names that are too long in what is said, but not what a fix writes.
+    ///
+    /// # Errors
+    ///
+    /// Where memory is refused.
+    pub fn shorten(&mut self) -> Result<(), AllocError> {
+        shorten(&mut self.message)?;
+        for label in &mut self.labels {
+            shorten(&mut label.text)?;
+        }
+        for note in &mut self.notes {
+            shorten(&mut note.text)?;
+        }
+        for fix in &mut self.fixes {
+            shorten(&mut fix.title)?;
+        }
+        Ok(())
+    }
+
     /// Adds a fix of one edit: what stands at a place becomes a text.
     ///
     /// # Errors
@@ -115,6 +134,37 @@ impl Report {
         self.fixes.push(Fix { title, edits })?;
         Ok(())
     }
+}
+
+// How many letters of a name are shown.
+const MOST_LETTERS: usize = 80;
+
+// Cuts each name of a text that is longer.
+fn shorten(text: &mut String) -> Result<(), AllocError> {
+    if text.len() <= MOST_LETTERS {
+        return Ok(());
+    }
+    let mut out = String::new(*text.allocator());
+    let mut count = 0usize;
+    for c in text.chars() {
+        count = if ends_name(c) {
+            0
+        } else {
+            count.saturating_add(1)
+        };
+        if count <= MOST_LETTERS {
+            out.push(c)?;
+        } else if count == MOST_LETTERS.saturating_add(1) {
+            out.push_str("..")?;
+        }
+    }
+    *text = out;
+    Ok(())
+}
+
+// Whether a name ends before this character, where it is quoted or stands in a pattern.
+fn ends_name(c: char) -> bool {
+    c.is_whitespace() || matches!(c, '(' | ')' | '\'' | '`')
 }
 
 /// A place that a report speaks of.

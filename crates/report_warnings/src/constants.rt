@@ -3,9 +3,10 @@
 use crate::kinds::{Warning, add_place, begun};
 use cranelift_isle::lower::{Lowered, LoweredTerm};
 use cranelift_isle::sema::{Sym, Type};
-use cranelift_isle::syntax::{Def, Ident, Pattern, Pos, Rule};
+use cranelift_isle::syntax::{Def, Ident, Pos};
 use cranelift_isle::trie_again::{BindingId, Constraint};
 use report_errors::diagnosis::{add_help, add_rule};
+use report_errors::mentions::{MentionKind, Mentions};
 use report_errors::names::NameTables;
 use report_errors::site_words::push_head;
 use report_print::report::Report;
@@ -16,57 +17,12 @@ pub(crate) fn add_named(
     alloc: Global,
     reports: &mut Vec<Report>,
     lowered: &Lowered,
-    def: &Def,
+    names: &Mentions<'_>,
 ) -> Result<(), AllocError> {
-    match def {
-        Def::Rule(rule) => add_in_rule(alloc, reports, lowered, rule),
-        Def::Extractor(extractor) => add_in_pattern(alloc, reports, lowered, &extractor.template),
-        _ => Ok(()),
-    }
-}
-
-fn add_in_rule(
-    alloc: Global,
-    reports: &mut Vec<Report>,
-    lowered: &Lowered,
-    rule: &Rule,
-) -> Result<(), AllocError> {
-    add_in_pattern(alloc, reports, lowered, &rule.pattern)?;
-    for iflet in &rule.iflets {
-        add_in_pattern(alloc, reports, lowered, &iflet.pattern)?;
-    }
-    Ok(())
-}
-
-#[cycle(patterns)]
-fn add_in_pattern(
-    alloc: Global,
-    reports: &mut Vec<Report>,
-    lowered: &Lowered,
-    pattern: &Pattern,
-) -> Result<(), AllocError> {
-    match pattern {
-        Pattern::ConstPrim { val, pos } => add_constant(alloc, reports, lowered, val, *pos),
-        Pattern::BindPattern { subpat, .. } => add_in_pattern(alloc, reports, lowered, subpat),
-        Pattern::Term { args, .. } => add_in_patterns(alloc, reports, lowered, args),
-        Pattern::And { subpats, .. } => add_in_patterns(alloc, reports, lowered, subpats),
-        Pattern::Var { .. }
-        | Pattern::ConstBool { .. }
-        | Pattern::ConstInt { .. }
-        | Pattern::Wildcard { .. }
-        | Pattern::MacroArg { .. } => Ok(()),
-    }
-}
-
-#[cycle(patterns)]
-fn add_in_patterns(
-    alloc: Global,
-    reports: &mut Vec<Report>,
-    lowered: &Lowered,
-    patterns: &[Pattern],
-) -> Result<(), AllocError> {
-    for pattern in patterns {
-        add_in_pattern(alloc, reports, lowered, pattern)?;
+    for mention in &names.names {
+        if mention.kind == MentionKind::Constant && mention.in_pattern {
+            add_constant(alloc, reports, lowered, mention.name, mention.form)?;
+        }
     }
     Ok(())
 }

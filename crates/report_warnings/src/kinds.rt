@@ -23,10 +23,12 @@ pub enum Warning {
     Unused,
     /// A literal is out of range.
     Literal,
+    /// A condition is always true.
+    Always,
 }
 
 /// All kinds of warnings.
-pub const WARNINGS: [Warning; 8] = [
+pub const WARNINGS: [Warning; 9] = [
     Warning::NeverRun,
     Warning::Priority,
     Warning::Uncovered,
@@ -35,6 +37,7 @@ pub const WARNINGS: [Warning; 8] = [
     Warning::Name,
     Warning::Unused,
     Warning::Literal,
+    Warning::Always,
 ];
 
 impl Warning {
@@ -49,6 +52,7 @@ impl Warning {
             Warning::Name => "name",
             Warning::Unused => "unused",
             Warning::Literal => "literal",
+            Warning::Always => "always",
         }
     }
 

@@ -1,6 +1,8 @@
 //! Warnings: what is likely not meant, in definitions that are accepted. And what changed between two versions of definitions.
 #![tactic(auto)]
 
+mod allowances;
+mod always;
 mod calls;
 pub mod changes;
 mod constants;
@@ -8,7 +10,6 @@ mod coverage;
 pub mod kinds;
 pub mod lints;
 mod literals;
-mod meanings;
 mod passing;
 mod recursion;
 mod returns;

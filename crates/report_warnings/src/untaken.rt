@@ -6,7 +6,7 @@ use cranelift_isle::lower::{Lowered, LoweredTerm};
 use cranelift_isle::sema::{Term, TypeEnv};
 use cranelift_isle::trie_again::{Binding, BindingId, Constraint, RuleSet, TupleIndex};
 use report_errors::names::NameTables;
-use report_errors::site_words::push_head;
+use report_errors::site_words::{push_head, site_texts, text_at};
 use std::alloc::{AllocError, Global};
 
 // How many pieces a call may have.
@@ -35,6 +35,8 @@ struct Writing<'a> {
     tyenv: &'a TypeEnv,
     set: &'a RuleSet,
     facts: &'a [Fact],
+    // What each site stands for, in words.
+    texts: Vec<String>,
     // The sites of which the call tells all that was found.
     told: Vec<BindingId>,
 }
@@ -47,6 +49,7 @@ impl<'a> Drop for Writing<'a> {
             tyenv: _,
             set: _,
             facts: _,
+            texts: _,
             told: _,
         } = self;
     }
@@ -65,12 +68,14 @@ pub(crate) fn push_untaken(
         return Ok(());
     };
     let tyenv = &lowered.tyenv;
+    let names = NameTables { tyenv, terms };
     let mut writing = Writing {
         alloc,
-        names: NameTables { tyenv, terms },
+        names,
         tyenv,
         set: &lowered_term.rules,
         facts,
+        texts: site_texts(alloc, names, &lowered_term.rules.bindings)?,
         told: Vec::new(alloc),
     };
     writing.push_call(term, out)?;
@@ -205,7 +210,11 @@ impl<'a> Writing<'a> {
         match fact {
             Fact::Is(site, constraint) => self.met(*site, *constraint, true),
             Fact::Isnt(site, constraint) => self.met(*site, *constraint, false),
-            Fact::Differ(_, _) => String::from_str(self.alloc, "two values differ"),
+            Fact::Differ(left, right) => {
+                let left = text_at(&self.texts, *left);
+                let right = text_at(&self.texts, *right);
+                format!(in self.alloc; "{left} and {right} differ")
+            }
         }
     }
 
@@ -224,11 +233,8 @@ impl<'a> Writing<'a> {
             | Constraint::ConstPrim { .. } => {
                 let mut text = String::new(self.alloc);
                 if !self.told.iter().any(|other| *other == site) {
-                    text.push_str(if meets {
-                        "a value is `"
-                    } else {
-                        "a value isn't `"
-                    })?;
+                    text.push_str(text_at(&self.texts, site))?;
+                    text.push_str(if meets { " is `" } else { " isn't `" })?;
                     push_head(&mut text, self.names, constraint)?;
                     text.push('`')?;
                 }
@@ -239,20 +245,19 @@ impl<'a> Writing<'a> {
 
     // That a call has an answer, or none.
     fn answer(&self, site: BindingId, has: bool) -> Result<String, AllocError> {
-        let (term, verb, negated) = match self.set.bindings.get(site.index()) {
-            Some(Binding::Extractor { term, .. }) => (
-                self.names.term(*term),
-                "matches",
-                "doesn't match",
-            ),
-            Some(Binding::Constructor { term, .. }) => (
-                self.names.term(*term),
-                "gives a value",
-                "gives none",
-            ),
-            _ => return Ok(String::new(self.alloc)),
-        };
-        let verb = if has { verb } else { negated };
-        format!(in self.alloc; "`{term}` {verb}")
+        match self.set.bindings.get(site.index()) {
+            Some(Binding::Extractor { term, parameter }) => {
+                let term = self.names.term(*term);
+                let verb = if has { "matches" } else { "doesn't match" };
+                let source = text_at(&self.texts, *parameter);
+                format!(in self.alloc; "`{term}` {verb} {source}")
+            }
+            Some(Binding::Constructor { .. }) => {
+                let call = text_at(&self.texts, site);
+                let verb = if has { "gives a value" } else { "gives none" };
+                format!(in self.alloc; "{call} {verb}")
+            }
+            _ => Ok(String::new(self.alloc)),
+        }
     }
 }
