@@ -6,7 +6,9 @@ endif
 " A word is all but white space, parentheses, `;` and `@`.
 syntax iskeyword 33-39,42-58,60-63,65-126,192-255
 
-syntax match isleNumber '\v-?<\d\k*>'
+" A term is what begins a list, unless something below says otherwise.
+syntax match isleTerm '\v\(\zs[^-0-9[:space:]();@$][^[:space:]();@]*'
+syntax match isleNumber '\v<-?\d\k*>'
 syntax match isleConstant '\v\$[^[:space:]();@]+'
 syntax match isleWildcard '\v<_>'
 syntax match isleBinder '@'
@@ -39,7 +41,8 @@ highlight default link isleFlag StorageClass
 highlight default link isleVariant Identifier
 highlight default link isleKeyword Keyword
 highlight default link isleSkipped PreProc
-highlight default link isleRule Function
+highlight default link isleRule Label
+highlight default link isleTerm Function
 highlight default link isleBuiltin Type
 
 let b:current_syntax = 'isle'

@@ -12,6 +12,16 @@ exports.activate = function () {
     documentSelector: [{ language: 'isle' }],
     initializationOptions: files.length > 0 ? { files } : {},
   });
+  // The server has lost the text of a document: it is opened anew.
+  client.onNotification('isle/outOfStep', ({ uri }) => {
+    const document = vscode.workspace.textDocuments.find(
+      (one) => client.code2ProtocolConverter.asUri(one.uri) === uri,
+    );
+    if (document) {
+      const { asOpenTextDocumentParams } = client.code2ProtocolConverter;
+      client.sendNotification('textDocument/didOpen', asOpenTextDocumentParams(document));
+    }
+  });
   return client.start();
 };
 

@@ -47,6 +47,98 @@ local function ask(method, more)
   end
 end
 
+-- The names in some answers, with blanks between them.
+local function names(found, key)
+  local all = {}
+  for _, one in ipairs(found or {}) do
+    table.insert(all, one[key or 'name'])
+  end
+  return table.concat(all, ' ')
+end
+
+local function whole_file()
+  return { textDocument = { uri = vim.uri_from_bufnr(0) } }
+end
+
+-- What is asked of right rules.
+local function try_reading()
+  go_to('Operand.Constant 0')
+  local found = ask('textDocument/documentHighlight')
+  check('the uses of a variant in the file are shown', found and #found == 2, found)
+  found = ask('workspace/symbol', { query = 'oprnd' })
+  check('a symbol is found by some of its letters', names(found) == 'Operand', found)
+  found = ask('textDocument/foldingRange', whole_file())
+  check('no form of one line folds', found and #found == 0, found)
+  found = ask('textDocument/selectionRange', { positions = { { line = 2, character = 14 } } })
+  local range = found and found[1] and found[1].parent and found[1].parent.range
+  check('the list around a word is selected behind it', range and range.start.character == 8 and range['end'].character == 36, found)
+  found = ask('textDocument/semanticTokens/full', whole_file())
+  check('names have kinds', found and #found.data % 5 == 0 and table.concat(found.data, ' ', 1, 10) == '0 6 3 1 1 0 5 7 0 0', found)
+  found = ask('textDocument/codeLens', whole_file())
+  check('a term has a count of its rules', found and #found == 1 and found[1].command.title == '3 rules', found)
+  found = ask('textDocument/inlayHint', { range = { start = { line = 4, character = 0 }, ['end'] = { line = 4, character = 9 } } })
+  check('variables have types', names(found, 'label') == ': Operand : Operand', found)
+  go_to('Inst.Add a b')
+  vim.fn.cursor(vim.fn.line('.'), vim.fn.col('.') + 11)
+  found = ask('textDocument/signatureHelp')
+  check('a signature is shown', found and found.signatures[1].label == '(Inst.Add Operand Operand) Inst', found)
+  check('with the argument that is written', found and found.activeParameter == 1, found)
+end
+
+-- What is asked while one writes.
+local function try_writing()
+  local count = vim.api.nvim_buf_line_count(0)
+  vim.api.nvim_buf_set_lines(0, count, count, false, { '(rule three 3 (add (Operand.' })
+  vim.fn.cursor(count + 1, 1)
+  vim.fn.search('Operand\\.', 'e')
+  vim.cmd('normal! $')
+  local params = { position = { line = count, character = 28 } }
+  local found = ask('textDocument/completion', params)
+  local best = {}
+  for _, item in ipairs(found or {}) do
+    if item.sortText:sub(1, 1) == '0' then
+      table.insert(best, item)
+    end
+  end
+  check('the variants of the wanted type come first', names(best, 'label') == 'let and Operand.Register Operand.Constant', found)
+  check('completed by an edit of the word', best[3] and best[3].textEdit.range.start.character == 20, best)
+  found = ask('textDocument/documentSymbol', whole_file())
+  check('the outline lives while a rule is written', found and #found == 4, found)
+  check('and only this rule is wrong', comes(function()
+    local all = diagnostics()
+    return #all == 1 and all[1].code == 'syntax' and all[1].lnum == count and all[1].col == 19
+  end), diagnostics())
+  local _, refused = ask('textDocument/rename', { newName = 'other' })
+  check('nothing is renamed meanwhile', refused ~= nil and refused.code == -32803, refused)
+  vim.api.nvim_buf_set_lines(0, count, count + 1, false, { '(rule   three 3 (add a a)', '(Inst.Copy   a))' })
+  local options = { options = { tabSize = 2, insertSpaces = true } }
+  found = ask('textDocument/formatting', options)
+  check('the layout is one edit', found and #found == 1, found)
+  local last = { range = { start = { line = count, character = 0 }, ['end'] = { line = count, character = 1 } } }
+  local part = ask('textDocument/rangeFormatting', vim.tbl_extend('error', options, last))
+  check('and the same for the last form alone', vim.deep_equal(part, found), part)
+  vim.lsp.util.apply_text_edits(found or {}, 0, 'utf-16')
+  check('a form is laid out', lines():find('\n(rule three 3 (add a a)\n      (Inst.Copy a))', 1, true) ~= nil, lines())
+  vim.api.nvim_buf_set_lines(0, count, -1, false, {})
+  check('and the rules are right again', comes(function()
+    return #diagnostics() == 0
+  end), diagnostics())
+end
+
+-- A type gets another name in both files.
+local function try_renaming()
+  go_to('Operand Operand')
+  vim.lsp.buf.rename('Source')
+  check('a type is renamed', comes(function()
+    return lines():find('(decl add (Source Source) Inst)', 1, true) ~= nil
+  end), lines())
+  check('in the names of its variants too', lines():find('(Source.Constant 0)', 1, true) ~= nil, lines())
+  vim.cmd('buffer types.isle')
+  check('and in the other file', lines():find('(type Source (enum', 1, true) ~= nil and lines():find('Operand', 1, true) == nil, lines())
+  vim.cmd('write')
+  vim.cmd('buffer rules.isle')
+end
+
 local function try()
   local isle = dofile(vim.env.ISLE_EDITORS .. '/isle.lua')
   isle.setup({ cmd = { vim.env.ISLE_SERVER, 'lsp' } })
@@ -139,8 +231,11 @@ local function try()
   end), lines())
   check('in its rule alone', lines():find('(rule 0 (add a b) (Inst.Add a b))', 1, true) ~= nil, lines())
   go_to('Inst.Copy')
-  local _, refused = ask('textDocument/rename', { newName = 'other' })
-  check('a variant is not renamed', refused ~= nil and refused.code == -32803, refused)
+  local _, refused = ask('textDocument/rename', { newName = 'Add' })
+  check('a name that is taken is refused', refused ~= nil and refused.code == -32803, refused)
+  try_reading()
+  try_writing()
+  try_renaming()
 
   vim.cmd('write')
   local saved = assert(io.open(folder .. '/rules.isle')):read('a')

@@ -1,10 +1,10 @@
 //! The fixes of reports, as actions of the protocol.
 
 use crate::analysis::Analysis;
-use crate::diagnostics::{Shown, diagnostic_of};
+use crate::diagnostics::{Shown, diagnostic_of, place_of};
 use crate::edits::{Edit, changes_value};
-use crate::messages::{member, range_of};
-use crate::refusals::Refusal;
+use app_messages::messages::{member, range_of};
+use app_messages::refusals::Refusal;
 use report_errors::extents::{end_of_form, piece_of};
 use report_print::report::{Fix, Report};
 use serde_json::{Value, json};
@@ -34,11 +34,9 @@ pub fn actions_at(
 }
 
 fn is_told_in(report: &Report, text: &str, (file, begin, end): (usize, usize, usize)) -> bool {
-    match report.labels.first() {
-        Some(label) => {
-            label.pos.file == file
-                && label.pos.offset <= end
-                && begin <= end_of_form(text, label.pos.offset)
+    match place_of(report) {
+        Some(pos) => {
+            pos.file == file && pos.offset <= end && begin <= end_of_form(text, pos.offset)
         }
         None => false,
     }

@@ -2,46 +2,67 @@
 
 use crate::analysis::Analysis;
 use crate::ranges::Ranges;
-use crate::replies::{Unsent, send_notification};
 use crate::session::Session;
+use app_messages::replies::{Unsent, send_notification};
+use cranelift_isle::syntax::Pos;
 use report_print::lines::{FileLines, file_name};
 use report_print::report::{Label, Level, Report};
 use serde_json::{Value, json};
 use std::alloc::{AllocError, Global};
 use std::io::Write;
 
-/// Sends the diagnostics of all files: of each document that is open, and of each other file that has some or had some.
+/// Sends the diagnostics of all files: of each document that is open, and of each other file that has some or had some. Those of a
+/// file that is in several lists come from each.
 pub fn publish<W: Write>(
     alloc: Global,
     out: &mut W,
-    analysis: &Analysis,
+    analyses: &[Analysis],
     session: &Session,
 ) -> Result<(), Unsent> {
-    let shown = Shown::new(alloc, analysis)?;
-    for file in 0..analysis.sources.uris.len() {
-        let found = diagnostics_in(alloc, &shown, file)?;
-        let is_wanted = !found.is_empty() || session.shows(analysis, file);
-        if is_wanted {
-            publish_file(
-                alloc,
-                out,
-                (analysis.uri(file), session.version_of(analysis, file)),
-                found,
-            )?;
+    for (number, analysis) in analyses.iter().enumerate() {
+        for (uri, path) in analysis.sources.uris.iter().zip(&analysis.sources.paths) {
+            let earlier = analyses.get(..number).unwrap_or(&[]);
+            if !earlier
+                .iter()
+                .any(|other| other.sources.number_of(path).is_some())
+            {
+                let found = diagnostics_of(alloc, analyses, path)?;
+                if !found.is_empty() || session.shows(path, uri) {
+                    publish_file(alloc, out, (uri.as_str(), session.version_of(path)), found)?;
+                }
+            }
         }
     }
-    publish_gone(alloc, out, analysis, session)
+    publish_gone(alloc, out, analyses, session)
+}
+
+// The diagnostics of the file at a path, in all lists.
+fn diagnostics_of(
+    alloc: Global,
+    analyses: &[Analysis],
+    path: &str,
+) -> Result<Vec<Value>, AllocError> {
+    let mut found = Vec::new(alloc);
+    for analysis in analyses {
+        if let Some(file) = analysis.sources.number_of(path) {
+            add_diagnostics(alloc, analysis, file, &mut found)?;
+        }
+    }
+    Ok(found)
 }
 
 // Sends that files which are no longer there have no diagnostics.
 fn publish_gone<W: Write>(
     alloc: Global,
     out: &mut W,
-    analysis: &Analysis,
+    analyses: &[Analysis],
     session: &Session,
 ) -> Result<(), Unsent> {
     for uri in &session.shown {
-        if !analysis.sources.uris.contains(uri) {
+        if !analyses
+            .iter()
+            .any(|analysis| analysis.sources.uris.contains(uri))
+        {
             publish_file(alloc, out, (uri.as_str(), None), Vec::new(alloc))?;
         }
     }
@@ -63,23 +84,30 @@ fn publish_file<W: Write>(
 }
 
 /// The URIs of the files that have diagnostics.
-pub fn told_files(alloc: Global, analysis: &Analysis) -> Result<Vec<String>, AllocError> {
+pub fn told_files(alloc: Global, analyses: &[Analysis]) -> Result<Vec<String>, AllocError> {
     let mut told = Vec::new(alloc);
-    for (file, uri) in analysis.sources.uris.iter().enumerate() {
-        if analysis
-            .reports
-            .iter()
-            .any(|report| file_of(report) == file)
-        {
-            told.push(uri.clone()?)?;
+    for analysis in analyses {
+        for report in &analysis.reports {
+            if let Some(uri) = analysis.sources.uris.get(file_of(report)) {
+                if !told.contains(uri) {
+                    told.push(uri.clone()?)?;
+                }
+            }
         }
     }
     Ok(told)
 }
 
+/// Where a report is told: of a list that isn't ended where it begins, else at the report's first place.
+pub fn place_of(report: &Report) -> Option<Pos> {
+    let number = if report.code == "unclosed-list" { 1 } else { 0 };
+    let label = report.labels.get(number).or(report.labels.first())?;
+    Some(label.pos)
+}
+
 fn file_of(report: &Report) -> usize {
-    match report.labels.first() {
-        Some(label) => label.pos.file,
+    match place_of(report) {
+        Some(pos) => pos.file,
         None => 0,
     }
 }
@@ -114,14 +142,30 @@ impl<'a> Shown<'a> {
     }
 }
 
-fn diagnostics_in(alloc: Global, shown: &Shown<'_>, file: usize) -> Result<Vec<Value>, AllocError> {
-    let mut found = Vec::new(alloc);
-    for report in &shown.analysis.reports {
+// Adds the diagnostics of a file that aren't there.
+fn add_diagnostics(
+    alloc: Global,
+    analysis: &Analysis,
+    file: usize,
+    found: &mut Vec<Value>,
+) -> Result<(), AllocError> {
+    if !analysis
+        .reports
+        .iter()
+        .any(|report| file_of(report) == file)
+    {
+        return Ok(());
+    }
+    let shown = Shown::new(alloc, analysis)?;
+    for report in &analysis.reports {
         if file_of(report) == file {
-            found.push(diagnostic_of(alloc, shown, report)?)?;
+            let diagnostic = diagnostic_of(alloc, &shown, report)?;
+            if !found.contains(&diagnostic) {
+                found.push(diagnostic)?;
+            }
         }
     }
-    Ok(found)
+    Ok(())
 }
 
 /// A report as a diagnostic. Where `--all` shows more is left out: an editor hasn't it.
@@ -130,17 +174,24 @@ pub fn diagnostic_of(
     shown: &Shown<'_>,
     report: &Report,
 ) -> Result<Value, AllocError> {
-    let range = match report.labels.first() {
-        Some(label) => shown.ranges.of_form(label.pos)?,
+    let range = match place_of(report) {
+        Some(pos) if report.code == "unclosed-list" => shown.ranges.of_head(pos)?,
+        Some(pos) => shown.ranges.of_form(pos)?,
         None => shown.ranges.between(0, 0, 0)?,
     };
     let message = message_of(alloc, &shown.lines, report)?;
     let related = related_to(alloc, &shown.ranges, report)?;
+    let list = shown.analysis.sources.name.as_str();
+    let source = if list.is_empty() {
+        String::from_str(alloc, "isle")?
+    } else {
+        format!(in alloc; "isle, {list}")?
+    };
     json!(in alloc; {
         "range": range,
         "severity": severity_of(report),
         "code": report.kind,
-        "source": "isle",
+        "source": source,
         "message": message,
         "relatedInformation": related
     })

@@ -2,7 +2,7 @@
 
 ghost use Rattle.std.specs.Prelude.{◌<◌, length, IfSome};
 
-use crate::refusals::Refusal;
+use app_messages::refusals::Refusal;
 use std::alloc::{AllocError, Global};
 use text_documents::changes::Change;
 use text_documents::documents::Document;

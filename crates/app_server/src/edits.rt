@@ -18,8 +18,18 @@ pub struct Edit<'a> {
     pub text: &'a str,
 }
 
-/// Edits as a change of the workspace, file by file.
+/// Edits as a change of the workspace.
 pub fn changes_value(
+    alloc: Global,
+    analysis: &Analysis,
+    edits: &[Edit<'_>],
+) -> Result<Value, AllocError> {
+    let changes = file_changes(alloc, analysis, edits)?;
+    json!(in alloc; {"changes": changes})
+}
+
+/// Edits by the URIs of their files.
+pub fn file_changes(
     alloc: Global,
     analysis: &Analysis,
     edits: &[Edit<'_>],
@@ -32,7 +42,7 @@ pub fn changes_value(
             serde_json::put(object, alloc, analysis.uri(file), Value::Array(found))?;
         }
     }
-    json!(in alloc; {"changes": changes})
+    Ok(changes)
 }
 
 fn edits_in(

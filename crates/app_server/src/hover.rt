@@ -1,17 +1,18 @@
 //! What is told of the thing at a place.
 
 use crate::analysis::Analysis;
-use crate::mentions::Mention;
+use crate::hints::{is_rule_of, rules_text};
 use crate::ranges::Ranges;
 use crate::references::position_in;
-use crate::refusals::Refusal;
-use crate::symbols::{Symbol, mention_at, names_of, symbol_of, type_named};
-use crate::variables::type_at;
-use cranelift_isle::sema::BuiltinType;
+use app_messages::refusals::Refusal;
+use app_names::mentions::Mention;
+use app_names::symbols::{
+    Symbol, is_built_in, mention_at, names_of, specs_of, symbol_of, type_named,
+};
+use app_names::variables::type_at;
 use cranelift_isle::syntax::{Def, Extern, Extractor, Ident, Pos, Rule};
 use report_errors::definitions::{declaration_of, definition_around, variant_with_type};
 use report_errors::explanation::explanation;
-use report_errors::extents::end_of_form;
 use report_print::lines::FileLines;
 use report_witness::conditions::{conditions_of, given_of};
 use serde_json::{Value, json};
@@ -25,7 +26,12 @@ pub fn hover_at(
     params: &Value,
 ) -> Result<Value, Refusal> {
     let pos = position_in(analysis, file, params)?;
-    if let Some(mention) = mention_at(alloc, analysis, pos)? {
+    if let Some(mention) = mention_at(
+        alloc,
+        &analysis.defs,
+        &specs_of(alloc, &analysis.sources.files.texts)?,
+        pos,
+    )? {
         let answer = hover_on_name(alloc, analysis, &mention)?;
         return Ok(answer);
     }
@@ -78,7 +84,9 @@ fn text_of_name(
         Symbol::Variant(ty, name) => variant_text(alloc, analysis, ty, name),
         Symbol::Variable(home) => variable_text(alloc, analysis, mention, home),
         Symbol::Rule(_) => named_rule_text(alloc, analysis, mention.name.1),
-        Symbol::Constant(_) | Symbol::Field(_) => defining_text(alloc, analysis, symbol),
+        Symbol::Constant(_) | Symbol::Field(..) | Symbol::MadeOf(_) => defining_text(
+            alloc, analysis, symbol,
+        ),
     }
 }
 
@@ -86,15 +94,8 @@ fn code(alloc: Global, language: &str, text: &str) -> Result<String, AllocError>
     format!(in alloc; "```{language}\n{text}\n```\n")
 }
 
-// The form at a position, as it is written.
-fn form_at(analysis: &Analysis, pos: Pos) -> &str {
-    let text = analysis.text(pos.file);
-    text.get(pos.offset..end_of_form(text, pos.offset))
-        .unwrap_or("")
-}
-
 fn form_code(alloc: Global, analysis: &Analysis, pos: Pos) -> Result<String, AllocError> {
-    code(alloc, "isle", form_at(analysis, pos))
+    code(alloc, "isle", analysis.form_at(pos))
 }
 
 fn type_text(alloc: Global, analysis: &Analysis, name: &str) -> Result<String, AllocError> {
@@ -105,46 +106,20 @@ fn type_text(alloc: Global, analysis: &Analysis, name: &str) -> Result<String, A
     }
 }
 
-// Whether a type needs no definition.
-fn is_built_in(name: &str) -> bool {
-    BuiltinType::ALL
-        .iter()
-        .any(|builtin| builtin.name() == name)
-}
-
 // What is told of a term: its declaration, and what makes it and takes it apart.
 fn term_text(alloc: Global, analysis: &Analysis, name: &str) -> Result<String, AllocError> {
     let mut out = String::new(alloc);
     if let Some(decl) = declaration_of(&analysis.defs, name) {
         out.push_str(&form_code(alloc, analysis, decl.pos)?)?;
     }
-    let mut rules = 0usize;
     for def in &analysis.defs {
         push_side(alloc, analysis, def, name, &mut out)?;
-        if is_rule_of(def, name) {
-            rules = rules.saturating_add(1);
-        }
     }
-    push_count(&mut out, rules)?;
+    if analysis.defs.iter().any(|def| is_rule_of(def, name)) {
+        let rules = rules_text(alloc, &analysis.defs, name)?;
+        write!(out, "\n{rules}\n")?;
+    }
     Ok(out)
-}
-
-fn push_count(out: &mut String, rules: usize) -> Result<(), AllocError> {
-    match rules {
-        0 => Ok(()),
-        1 => out.push_str("\n1 rule\n"),
-        _ => write!(out, "\n{rules} rules\n"),
-    }
-}
-
-fn is_rule_of(def: &Def, name: &str) -> bool {
-    match def {
-        Def::Rule(rule) => match rule.pattern.root_term() {
-            Some(Ident(term, _)) => term.as_str() == name,
-            None => false,
-        },
-        _ => false,
-    }
 }
 
 // Adds a definition that says how a term is made or taken apart.
@@ -192,7 +167,7 @@ fn variant_text(
     let full = format!(in alloc; "{ty}.{name}")?;
     match variant_with_type(&analysis.defs, &full) {
         Some((_, variant)) => {
-            let form = form_at(analysis, variant.pos);
+            let form = analysis.form_at(variant.pos);
             let told = format!(in alloc; "{form} ; a variant of {ty}")?;
             code(alloc, "isle", &told)
         }
@@ -226,7 +201,7 @@ fn defining_text(
     analysis: &Analysis,
     symbol: Symbol<'_>,
 ) -> Result<String, AllocError> {
-    for mention in &names_of(alloc, analysis, symbol)? {
+    for mention in &names_of(alloc, &analysis.defs, &[], symbol)? {
         if mention.defines {
             if let Some(def) = definition_around(&analysis.defs, mention.name.1) {
                 return defined_text(alloc, analysis, def);

@@ -1,7 +1,11 @@
-//! The outline of a file: its definitions.
+//! The outline of a file, and the symbols of all files: their definitions.
 
 use crate::analysis::Analysis;
 use crate::ranges::{Ranges, end_of_name};
+use crate::references::location_of;
+use app_messages::messages::text_of;
+use app_messages::refusals::Refusal;
+use app_names::mentions::{MentionKind, mentions_in};
 use cranelift_isle::syntax::{
     Decl, Def, Extern, Fields, Ident, Pos, Rule, StructFields, Type, TypeValue, Variant,
 };
@@ -61,6 +65,77 @@ fn is_in(def: &Def, file: usize) -> bool {
     }
 }
 
+/// The names that the files of all lists define, but for variables, whose letters have those of a query among them in its order.
+pub fn found_symbols(
+    alloc: Global,
+    analyses: &[Analysis],
+    params: &Value,
+) -> Result<Value, Refusal> {
+    let query = text_of(params, "query")?;
+    let mut found = Vec::new(alloc);
+    for (number, analysis) in analyses.iter().enumerate() {
+        let earlier = analyses.get(..number).unwrap_or(&[]);
+        let ranges = Ranges::new(alloc, analysis)?;
+        for def in &analysis.defs {
+            if !is_in_lists(earlier, analysis, def) {
+                add_symbols(alloc, &ranges, def, query, &mut found)?;
+            }
+        }
+    }
+    Ok(Value::Array(found))
+}
+
+// Whether one of some lists has the file of a definition.
+fn is_in_lists(lists: &[Analysis], analysis: &Analysis, def: &Def) -> bool {
+    let file = def.place().map_or(usize::MAX, |pos| pos.file);
+    match analysis.sources.paths.get(file) {
+        Some(path) => lists
+            .iter()
+            .any(|list| list.sources.number_of(path).is_some()),
+        None => false,
+    }
+}
+
+// Adds the names that a definition defines.
+fn add_symbols(
+    alloc: Global,
+    ranges: &Ranges<'_>,
+    def: &Def,
+    query: &str,
+    found: &mut Vec<Value>,
+) -> Result<(), AllocError> {
+    for mention in &mentions_in(alloc, def)? {
+        let kind = symbol_kind(mention.kind);
+        let name = mention.text();
+        if mention.defines && kind > 0 && is_like(name, query) {
+            let location = location_of(ranges, mention)?;
+            found.push(json!(in alloc; {"name": name, "kind": kind, "location": location})?)?;
+        }
+    }
+    Ok(())
+}
+
+// What a name stands for, in the protocol's numbers; 0 for what is no symbol of the workspace.
+fn symbol_kind(kind: MentionKind) -> u8 {
+    match kind {
+        MentionKind::Type => Sort::Enumeration.number(),
+        MentionKind::Term => Sort::Term.number(),
+        MentionKind::Variant => Sort::Variant.number(),
+        MentionKind::Field => Sort::Field.number(),
+        MentionKind::Rule => Sort::Rule.number(),
+        MentionKind::Constant => Sort::Constant.number(),
+        MentionKind::Variable | MentionKind::Made | MentionKind::Arm | MentionKind::Access => 0,
+    }
+}
+
+// Whether a name has the letters of a query in its order, small or large.
+fn is_like(name: &str, query: &str) -> bool {
+    let mut letters = name.chars();
+    query
+        .chars()
+        .all(|c| letters.any(|letter| letter.eq_ignore_ascii_case(&c)))
+}
+
 fn push_definition(
     alloc: Global,
     ranges: &Ranges<'_>,
@@ -90,7 +165,7 @@ fn push_definition(
                 converter.pos,
             )?
         }
-        Def::Rule(rule) => rule_entry(alloc, ranges, rule)?,
+        Def::Rule(rule) => named_rule_entry(alloc, ranges, rule)?,
         Def::Extern(external) => external_entry(alloc, ranges, external)?,
         Def::Other => return Ok(()),
     };
@@ -146,29 +221,50 @@ fn external_entry(
     }
 }
 
-fn declaration_entry(alloc: Global, ranges: &Ranges<'_>, decl: &Decl) -> Result<Value, AllocError> {
-    let mut detail = String::from_str(alloc, "(")?;
-    for (number, ty) in decl.arg_tys.iter().enumerate() {
-        if number > 0 {
-            detail.push(' ')?;
-        }
-        detail.push_str(&ty.0)?;
-    }
-    detail.push_str(") ")?;
-    detail.push_str(&decl.ret_ty.0)?;
+/// The entry of a declaration.
+pub fn declaration_entry(
+    alloc: Global,
+    ranges: &Ranges<'_>,
+    decl: &Decl,
+) -> Result<Value, AllocError> {
+    let detail = signature_of(alloc, decl)?;
     entry_of(alloc, ranges, (&decl.term, Sort::Term, &detail), decl.pos)
 }
 
+/// The types of a term's arguments and of its result, as they are declared.
+pub fn signature_of(alloc: Global, decl: &Decl) -> Result<String, AllocError> {
+    let mut text = String::from_str(alloc, "(")?;
+    for (number, ty) in decl.arg_tys.iter().enumerate() {
+        if number > 0 {
+            text.push(' ')?;
+        }
+        text.push_str(&ty.0)?;
+    }
+    text.push_str(") ")?;
+    text.push_str(&decl.ret_ty.0)?;
+    Ok(text)
+}
+
 // The entry of a rule: by its name, or by that of its term.
-fn rule_entry(alloc: Global, ranges: &Ranges<'_>, rule: &Rule) -> Result<Value, AllocError> {
+fn named_rule_entry(alloc: Global, ranges: &Ranges<'_>, rule: &Rule) -> Result<Value, AllocError> {
     match (&rule.name, rule.pattern.root_term()) {
-        (Some(name), _) => entry_of(alloc, ranges, (name, Sort::Rule, "rule"), rule.pos),
-        (None, Some(term)) => entry_of(alloc, ranges, (term, Sort::Rule, "rule"), rule.pos),
+        (Some(name), _) => rule_entry(alloc, ranges, (name, "rule"), rule.pos),
+        (None, Some(term)) => rule_entry(alloc, ranges, (term, "rule"), rule.pos),
         (None, None) => {
             let name = Ident(String::from_str(alloc, "rule")?, rule.pos);
-            entry_of(alloc, ranges, (&name, Sort::Rule, "rule"), rule.pos)
+            rule_entry(alloc, ranges, (&name, "rule"), rule.pos)
         }
     }
+}
+
+/// The entry of the rule at a position, by a name, with what is said of it.
+pub fn rule_entry(
+    alloc: Global,
+    ranges: &Ranges<'_>,
+    (name, detail): (&Ident, &str),
+    pos: Pos,
+) -> Result<Value, AllocError> {
+    entry_of(alloc, ranges, (name, Sort::Rule, detail), pos)
 }
 
 // The entry of a type, with those of its parts.

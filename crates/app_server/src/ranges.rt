@@ -40,9 +40,15 @@ impl<'a> Ranges<'a> {
 
     /// The range between two offsets of a file.
     pub fn between(&self, file: usize, begin: usize, end: usize) -> Result<Value, AllocError> {
-        let begin = place_value(self.alloc, self.place_near(file, begin))?;
-        let end = place_value(self.alloc, self.place_near(file, end))?;
+        let begin = self.place_value(file, begin)?;
+        let end = self.place_value(file, end)?;
         json!(in self.alloc; {"start": begin, "end": end})
+    }
+
+    /// The place of an offset of a file.
+    pub fn place_value(&self, file: usize, offset: usize) -> Result<Value, AllocError> {
+        let place = self.place_near(file, offset);
+        json!(in self.alloc; {"line": place.line, "character": place.character})
     }
 
     /// The range of the form at a position.
@@ -50,9 +56,22 @@ impl<'a> Ranges<'a> {
         self.between(pos.file, pos.offset, self.end_of_form(pos))
     }
 
+    /// The range of the parenthesis at a position and the word behind it.
+    pub fn of_head(&self, pos: Pos) -> Result<Value, AllocError> {
+        let word = Pos {
+            file: pos.file,
+            offset: pos.offset.saturating_add(1),
+        };
+        self.between(pos.file, pos.offset, self.end_of_form(word))
+    }
+
     /// Where the form at a position ends.
     pub fn end_of_form(&self, pos: Pos) -> usize {
-        end_of_form(self.analysis.text(pos.file), pos.offset)
+        let end = end_of_form(self.analysis.text(pos.file), pos.offset);
+        match self.analysis.lost_at(pos) {
+            Some(forms) => end.min(forms.end),
+            None => end,
+        }
     }
 
     /// The range of a name.
@@ -65,9 +84,9 @@ impl<'a> Ranges<'a> {
         json!(in self.alloc; {"uri": self.analysis.uri(file), "range": range})
     }
 
-    // The place of an offset. Between `\r` and `\n` that is the end of the line, before both. Where it is no place, this is the
-    // beginning of the text.
-    fn place_near(&self, file: usize, offset: usize) -> DocumentPosition {
+    /// The place of an offset. Between `\r` and `\n` that is the end of the line, before both. Where it is no place, this is the
+    /// beginning of the text.
+    pub fn place_near(&self, file: usize, offset: usize) -> DocumentPosition {
         let begin = DocumentPosition {
             line: 0,
             character: 0,
@@ -80,10 +99,6 @@ impl<'a> Ranges<'a> {
             None => table.place_at(offset.saturating_sub(1)).unwrap_or(begin),
         }
     }
-}
-
-fn place_value(alloc: Global, place: DocumentPosition) -> Result<Value, AllocError> {
-    json!(in alloc; {"line": place.line, "character": place.character})
 }
 
 /// Where a name ends.

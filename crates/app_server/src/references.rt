@@ -1,13 +1,13 @@
 //! Where names are defined, and where they stand.
 
 use crate::analysis::Analysis;
-use crate::mentions::Mention;
-use crate::messages::{member, place_of};
 use crate::ranges::Ranges;
-use crate::refusals::Refusal;
-use crate::symbols::{mention_at, names_of, symbol_of};
+use app_messages::messages::{member, place_of};
+use app_messages::refusals::Refusal;
+use app_names::mentions::Mention;
+use app_names::symbols::{Specs, mention_at, names_of, specs_of, symbol_of};
 use cranelift_isle::syntax::Pos;
-use serde_json::Value;
+use serde_json::{Value, json};
 use std::alloc::{AllocError, Global};
 use text_documents::places::offset_at;
 
@@ -28,9 +28,10 @@ pub fn definition_at(
     params: &Value,
 ) -> Result<Value, Refusal> {
     let pos = position_in(analysis, file, params)?;
+    let specs = specs_of(alloc, &analysis.sources.files.texts)?;
     let ranges = Ranges::new(alloc, analysis)?;
     let mut found = Vec::new(alloc);
-    for mention in &same_names(alloc, analysis, pos)? {
+    for mention in &same_names(alloc, analysis, &specs, pos)? {
         if mention.defines {
             found.push(location_of(&ranges, mention)?)?;
         }
@@ -47,11 +48,33 @@ pub fn references_at(
 ) -> Result<Value, Refusal> {
     let pos = position_in(analysis, file, params)?;
     let with_definitions = wants_definitions(params).unwrap_or(true);
+    let specs = specs_of(alloc, &analysis.sources.files.texts)?;
     let ranges = Ranges::new(alloc, analysis)?;
     let mut found = Vec::new(alloc);
-    for mention in &same_names(alloc, analysis, pos)? {
+    for mention in &same_names(alloc, analysis, &specs, pos)? {
         if with_definitions || !mention.defines {
             found.push(location_of(&ranges, mention)?)?;
+        }
+    }
+    Ok(Value::Array(found))
+}
+
+/// Where the name at a place stands in its file: as it is written where it is defined, else as it is read.
+pub fn highlights_at(
+    alloc: Global,
+    analysis: &Analysis,
+    file: usize,
+    params: &Value,
+) -> Result<Value, Refusal> {
+    let pos = position_in(analysis, file, params)?;
+    let specs = specs_of(alloc, &analysis.sources.files.texts)?;
+    let ranges = Ranges::new(alloc, analysis)?;
+    let mut found = Vec::new(alloc);
+    for mention in &same_names(alloc, analysis, &specs, pos)? {
+        if mention.name.1.file == file {
+            let range = ranges.of_name(mention.name)?;
+            let kind = if mention.defines { 3u8 } else { 2u8 };
+            found.push(json!(in alloc; {"range": range, "kind": kind})?)?;
         }
     }
     Ok(Value::Array(found))
@@ -66,19 +89,20 @@ fn wants_definitions(params: &Value) -> Option<bool> {
 fn same_names<'a>(
     alloc: Global,
     analysis: &'a Analysis,
+    specs: &'a Specs,
     pos: Pos,
 ) -> Result<Vec<Mention<'a>>, AllocError> {
-    match mention_at(alloc, analysis, pos)? {
+    match mention_at(alloc, &analysis.defs, specs, pos)? {
         Some(mention) => {
             let symbol = symbol_of(&analysis.defs, &mention);
-            let names = names_of(alloc, analysis, symbol)?;
-            Ok(names)
+            names_of(alloc, &analysis.defs, specs, symbol)
         }
         None => Ok(Vec::new(alloc)),
     }
 }
 
-fn location_of(ranges: &Ranges<'_>, mention: &Mention<'_>) -> Result<Value, AllocError> {
+/// The place of a name.
+pub fn location_of(ranges: &Ranges<'_>, mention: &Mention<'_>) -> Result<Value, AllocError> {
     let range = ranges.of_name(mention.name)?;
     ranges.location(mention.name.1.file, range)
 }

@@ -1,17 +1,22 @@
-//! New names for variables and rules.
+//! New names for what has one in the files.
 
 use crate::analysis::Analysis;
-use crate::edits::{Edit, changes_value};
-use crate::mentions::{Mention, MentionKind};
-use crate::messages::text_of;
+use crate::edits::{Edit, file_changes};
 use crate::ranges::{Ranges, end_of_name};
 use crate::references::position_in;
-use crate::refusals::Refusal;
-use crate::symbols::{has_rule, has_variable, mention_at, names_of, symbol_of};
-use cranelift_isle::syntax::Pos;
-use report_errors::definitions::definition_around;
+use app_messages::messages::text_of;
+use app_messages::refusals::Refusal;
+use app_names::mentions::{Mention, MentionKind, mentions_in};
+use app_names::symbols::{
+    Specs, Symbol, has_rule, has_variable, is_built_in, mention_at, names_of, specs_of, symbol_of,
+    type_named,
+};
+use cranelift_isle::syntax::{Def, Pos, TypeValue};
+use report_errors::definitions::{
+    declaration_of, definition_around, place_of_constant, place_of_term,
+};
 use serde_json::{Value, json};
-use std::alloc::Global;
+use std::alloc::{AllocError, Global};
 
 /// The name at a place that can be renamed, with its range.
 pub fn prepared_at(
@@ -21,13 +26,46 @@ pub fn prepared_at(
     params: &Value,
 ) -> Result<Value, Refusal> {
     let pos = position_in(analysis, file, params)?;
-    let mention = renamed_mention(alloc, analysis, pos)?;
-    let range = Ranges::new(alloc, analysis)?.of_name(mention.name)?;
-    Ok(json!(in alloc; {"range": range, "placeholder": mention.text()})?)
+    let specs = specs_of(alloc, &analysis.sources.files.texts)?;
+    let (mention, symbol) = renamed_at_place(alloc, analysis, &specs, pos)?;
+    let old = old_name(&mention, symbol);
+    let end = end_of_name(mention.name);
+    let range = Ranges::new(alloc, analysis)?.between(file, end.saturating_sub(old.len()), end)?;
+    Ok(json!(in alloc; {"range": range, "placeholder": old})?)
 }
 
-/// The edits that give the variable or the rule at a place a new name.
-pub fn renamed_at(
+/// The edits that give what is named at a place a new name, in all lists that have its file.
+pub fn renamed_in_lists(
+    alloc: Global,
+    analyses: &[Analysis],
+    path: &str,
+    params: &Value,
+) -> Result<Value, Refusal> {
+    let mut changes = json!(in alloc; {})?;
+    for analysis in analyses {
+        if let Some(file) = analysis.sources.number_of(path) {
+            let found = renamed_at(alloc, analysis, file, params)?;
+            add_changes(alloc, &mut changes, &found)?;
+        }
+    }
+    Ok(json!(in alloc; {"changes": changes})?)
+}
+
+// Adds the edits of those files that aren't there: a file has the same ones in each list.
+fn add_changes(alloc: Global, changes: &mut Value, found: &Value) -> Result<(), AllocError> {
+    let (Some(object), Some(found)) = (changes.as_object_mut(), found.as_object()) else {
+        return Ok(());
+    };
+    for (uri, edits) in found.iter() {
+        if !object.contains_key(uri.as_str()) {
+            serde_json::put(object, alloc, uri, edits.clone()?)?;
+        }
+    }
+    Ok(())
+}
+
+// The edits of each file of a list that give what is named at a place a new name.
+fn renamed_at(
     alloc: Global,
     analysis: &Analysis,
     file: usize,
@@ -35,37 +73,75 @@ pub fn renamed_at(
 ) -> Result<Value, Refusal> {
     let pos = position_in(analysis, file, params)?;
     let name = text_of(params, "newName")?;
-    let mention = renamed_mention(alloc, analysis, pos)?;
+    let specs = specs_of(alloc, &analysis.sources.files.texts)?;
+    let (mention, symbol) = renamed_at_place(alloc, analysis, &specs, pos)?;
+    let old = old_name(&mention, symbol);
+    let name = match symbol {
+        Symbol::Constant(_) => name.strip_prefix("$").unwrap_or(name),
+        _ => name,
+    };
     if !is_name(name) {
         return Err(Refusal::NoName);
     }
-    if name != mention.text() && is_taken(alloc, analysis, &mention, name)? {
+    let is_other = name != old;
+    if is_other && is_taken(alloc, analysis, &mention, symbol, name)? {
         return Err(Refusal::Taken);
     }
-    let symbol = symbol_of(&analysis.defs, &mention);
-    let mut edits = Vec::new(alloc);
-    for other in &names_of(alloc, analysis, symbol)? {
-        edits.push(Edit {
-            file: other.name.1.file,
-            begin: other.name.1.offset,
-            end: end_of_name(other.name),
-            text: name,
-        })?;
+    if is_other && is_unsure(alloc, analysis, &specs, symbol)? {
+        return Err(Refusal::Unsure);
     }
-    Ok(changes_value(alloc, analysis, &edits)?)
+    let mut edits = Vec::new(alloc);
+    for other in &names_of(alloc, &analysis.defs, &specs, symbol)? {
+        let end = end_of_name(other.name);
+        edits.push(edit_of(other, end.saturating_sub(old.len()), end, name))?;
+    }
+    for other in &names_of(alloc, &analysis.defs, &specs, Symbol::MadeOf(old))? {
+        if matches!(symbol, Symbol::Type(_))
+            && declaration_of(&analysis.defs, other.text()).is_none()
+        {
+            let begin = other.name.1.offset;
+            edits.push(edit_of(other, begin, begin.saturating_add(old.len()), name))?;
+        }
+    }
+    Ok(file_changes(alloc, analysis, &edits)?)
 }
 
-// The name at a place, if it is that of a variable or of a rule.
-fn renamed_mention<'a>(
+fn edit_of<'a>(mention: &Mention<'_>, begin: usize, end: usize, text: &'a str) -> Edit<'a> {
+    Edit {
+        file: mention.name.1.file,
+        begin,
+        end,
+        text,
+    }
+}
+
+// The name at a place, and what it means, if that is defined in a file.
+fn renamed_at_place<'a>(
     alloc: Global,
     analysis: &'a Analysis,
+    specs: &'a Specs,
     pos: Pos,
-) -> Result<Mention<'a>, Refusal> {
-    match mention_at(alloc, analysis, pos)? {
-        Some(mention) if matches!(mention.kind, MentionKind::Variable | MentionKind::Rule) => Ok(
-            mention,
-        ),
-        _ => Err(Refusal::NotRenamed),
+) -> Result<(Mention<'a>, Symbol<'a>), Refusal> {
+    if !analysis.lost.is_empty() {
+        return Err(Refusal::Unread);
+    }
+    let Some(mention) = mention_at(alloc, &analysis.defs, specs, pos)? else {
+        return Err(Refusal::NotRenamed);
+    };
+    let symbol = symbol_of(&analysis.defs, &mention);
+    let names = names_of(alloc, &analysis.defs, specs, symbol)?;
+    if names.iter().any(|other| other.defines) {
+        Ok((mention, symbol))
+    } else {
+        Err(Refusal::NotRenamed)
+    }
+}
+
+// The name that changes: of a variant the part behind that of its type.
+fn old_name<'a>(mention: &Mention<'a>, symbol: Symbol<'a>) -> &'a str {
+    match symbol {
+        Symbol::Variant(_, name) | Symbol::Field(name, _) => name,
+        _ => mention.text(),
     }
 }
 
@@ -74,15 +150,87 @@ fn is_taken(
     alloc: Global,
     analysis: &Analysis,
     mention: &Mention<'_>,
+    symbol: Symbol<'_>,
     name: &str,
-) -> Result<bool, Refusal> {
-    if mention.kind == MentionKind::Rule {
-        return Ok(has_rule(&analysis.defs, name));
+) -> Result<bool, AllocError> {
+    let defs = analysis.defs.as_slice();
+    match symbol {
+        Symbol::Rule(_) => Ok(has_rule(defs, name)),
+        Symbol::Variable(_) => match definition_around(defs, mention.name.1) {
+            Some(def) => has_variable(alloc, def, name),
+            None => Ok(false),
+        },
+        Symbol::Field(_, pos) => match definition_around(defs, pos) {
+            Some(def) => has_field(alloc, def, name),
+            None => Ok(false),
+        },
+        Symbol::Constant(_) => Ok(place_of_constant(defs, name).is_some()),
+        Symbol::Term(_) | Symbol::MadeOf(_) => Ok(is_term(defs, name)),
+        Symbol::Variant(ty, _) => {
+            let full = format!(in alloc; "{ty}.{name}")?;
+            Ok(is_term(defs, &full))
+        }
+        Symbol::Type(old) | Symbol::Struct(old) => {
+            Ok(is_type(defs, name) || is_term(defs, name) || has_variants(alloc, defs, old, name)?)
+        }
     }
-    match definition_around(&analysis.defs, mention.name.1) {
-        Some(def) => Ok(has_variable(alloc, def, name)?),
-        None => Ok(false),
+}
+
+// Whether a word means something at the head of a list in a rule.
+fn is_term(defs: &[Def], name: &str) -> bool {
+    matches!(name, "let" | "and" | "if" | "if-let") || place_of_term(defs, name).is_some()
+}
+
+fn is_type(defs: &[Def], name: &str) -> bool {
+    is_built_in(name) || type_named(defs, name).is_some()
+}
+
+// Whether a definition has a field of a name.
+fn has_field(alloc: Global, def: &Def, name: &str) -> Result<bool, AllocError> {
+    let mentions = mentions_in(alloc, def)?;
+    Ok(mentions.iter().any(|mention| mention.kind == MentionKind::Field && mention.text() == name))
+}
+
+// Whether a variant of a type would be another term if the type had this name.
+fn has_variants(alloc: Global, defs: &[Def], ty: &str, name: &str) -> Result<bool, AllocError> {
+    if let Some(TypeValue::Enum(variants, _)) = type_named(defs, ty).map(|ty| &ty.ty) {
+        for variant in variants {
+            let short = &variant.name.0;
+            let full = format!(in alloc; "{name}.{short}")?;
+            if is_term(defs, &full) {
+                return Ok(true);
+            }
+        }
     }
+    Ok(false)
+}
+
+// Whether a spec has a variant or a field without the name of its type, and several types have one of this name.
+fn is_unsure(
+    alloc: Global,
+    analysis: &Analysis,
+    specs: &Specs,
+    symbol: Symbol<'_>,
+) -> Result<bool, AllocError> {
+    let (kind, name) = match symbol {
+        Symbol::Variant(_, name) => (MentionKind::Variant, name),
+        Symbol::Field(name, _) => (MentionKind::Field, name),
+        _ => return Ok(false),
+    };
+    let mut count = 0usize;
+    for def in &analysis.defs {
+        let mentions = mentions_in(alloc, def)?;
+        let defined = mentions
+            .iter()
+            .filter(|mention| mention.kind == kind && mention.text() == name)
+            .count();
+        count = count.saturating_add(defined);
+    }
+    if count < 2 {
+        return Ok(false);
+    }
+    let names = names_of(alloc, &analysis.defs, specs, symbol)?;
+    Ok(names.iter().any(|mention| matches!(mention.kind, MentionKind::Arm | MentionKind::Access)))
 }
 
 // Whether a text is read as one name.

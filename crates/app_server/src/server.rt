@@ -5,19 +5,30 @@ ghost use Rattle.app_server.specs.declared.server.TheConstants.{CUT, SHUT, UNWRI
 
 use crate::actions::actions_at;
 use crate::analysis::{Analysis, analysis_of};
+use crate::calls::{callees_of, callers_of, prepared_calls};
+use crate::colours::colours_of;
+use crate::completion::completions_at;
 use crate::diagnostics::{publish, told_files};
-use crate::framing::{Frame, Frames};
+use crate::formatting::{layout_in, layout_of};
+use crate::hints::{hints_in, lenses_of};
 use crate::hover::hover_at;
-use crate::messages::{Message, message_of};
-use crate::outline::outline_of;
-use crate::references::{definition_at, references_at};
-use crate::refusals::Refusal;
-use crate::renaming::{prepared_at, renamed_at};
-use crate::replies::{Unsent, send_answer, send_log, send_refusal};
+use crate::outline::{found_symbols, outline_of};
+use crate::references::{definition_at, highlights_at, references_at};
+use crate::renaming::{prepared_at, renamed_in_lists};
 use crate::session::{ServerStage, Session};
-use crate::sources::sources_of;
+use crate::signatures::signature_at;
+use crate::sources::{Sources, lists_of};
+use crate::structure::{folds_of, selections_at};
+use app_messages::framing::{Frame, Frames};
+use app_messages::messages::{Message, member, message_of, text_of};
+use app_messages::refusals::Refusal;
+use app_messages::replies::{
+    Unsent, send_answer, send_log, send_notification, send_out_of_step, send_refusal,
+};
+use app_messages::uris::name_of;
 use serde_json::Value;
 use std::alloc::{AllocError, Global};
+use std::collections::VecDeque;
 use std::io::{Read, Write};
 
 // The status of an end after `shutdown`, of one without it, and of an output that can't be written.
@@ -33,8 +44,12 @@ const NO_ID: &str = "null";
 struct Server {
     alloc: Global,
     session: Session,
-    // What the files mean. None where something has changed since.
-    analysis: Option<Analysis>,
+    // What the files of each list mean, or meant before something was changed.
+    analyses: Vec<Analysis>,
+    // Whether nothing has changed since.
+    is_current: bool,
+    // What was read and isn't taken yet.
+    waiting: VecDeque<Frame>,
 }
 
 impl Drop for Server {
@@ -42,7 +57,9 @@ impl Drop for Server {
         let Server {
             alloc: _,
             session: _,
-            analysis: _,
+            analyses: _,
+            is_current: _,
+            waiting: _,
         } = self;
     }
 }
@@ -68,13 +85,19 @@ pub fn serve<R: std::rt::Files + AllocGlobal, I: Read + Drop, O: Write>(
     let mut server = Server {
         alloc,
         session: Session::new(alloc),
-        analysis: None,
+        analyses: Vec::new(alloc),
+        is_current: false,
+        waiting: VecDeque::new(alloc),
     };
     for _ in 0..u64::MAX {
-        let frame = frames.next_frame();
+        let frame = match server.waiting.pop_front() {
+            Some(frame) => frame,
+            None => frames.next_frame(),
+        };
         if let Frame::End = &frame {
             break;
         }
+        frames.read_ahead(&mut server.waiting);
         match server.take(rt, out, &frame, frames.is_waiting()) {
             Ok(Going::On) => {}
             Ok(Going::End) => break,
@@ -119,7 +142,7 @@ impl Server {
             Frame::Memory => refused(out, NO_ID, Refusal::Memory)?,
             Frame::End => Going::End,
         };
-        if !waits && self.session.stage == ServerStage::Open {
+        if !waits && self.waiting.is_empty() && self.session.stage == ServerStage::Open {
             self.tell_changes(rt, out)?;
         }
         Ok(going)
@@ -147,26 +170,29 @@ impl Server {
         rt: &R,
         out: &mut O,
     ) -> Result<(), Unsent> {
-        if self.analysis.is_some() {
+        if self.is_current {
             return Ok(());
         }
-        let analysis = self.worked_out(rt)?;
-        let told = told_files(self.alloc, &analysis)?;
-        self.tell(out, &analysis)?;
+        let analyses = self.worked_out(rt)?;
+        let told = told_files(self.alloc, &analyses)?;
+        publish(self.alloc, out, &analyses, &self.session)?;
         self.session.shown = told;
-        self.analysis = Some(analysis);
+        self.analyses = analyses;
+        self.is_current = true;
         Ok(())
     }
 
-    // What the files mean.
-    fn worked_out<R: std::rt::Files + AllocGlobal>(&self, rt: &R) -> Result<Analysis, AllocError> {
-        let sources = sources_of(rt, &self.session.workspace, &self.session.documents)?;
-        analysis_of(self.alloc, sources)
-    }
-
-    // Tells the client what the files mean.
-    fn tell<O: Write>(&self, out: &mut O, analysis: &Analysis) -> Result<(), Unsent> {
-        publish(self.alloc, out, analysis, &self.session)
+    // What the files of each list mean.
+    fn worked_out<R: std::rt::Files + AllocGlobal>(
+        &self,
+        rt: &R,
+    ) -> Result<Vec<Analysis>, AllocError> {
+        let mut analyses = Vec::new(self.alloc);
+        for sources in lists_of(rt, &self.session.workspaces, &self.session.documents)? {
+            let previous = self.analyses.iter().find(|one| is_of_list(one, &sources));
+            analyses.push(analysis_of(self.alloc, sources, previous)?)?;
+        }
+        Ok(analyses)
     }
 
     fn take_message<R: std::rt::Files + AllocGlobal, O: Write>(
@@ -197,8 +223,30 @@ impl Server {
         }
         if let Err(why) = self.note(method, params) {
             send_log(out, method, why)?;
+            if method == "textDocument/didChange" && why != Refusal::NotOpen {
+                self.lose(out, params)?;
+            }
         }
         Ok(Going::On)
+    }
+
+    // Closes a document whose change was refused, since the client has another text. It is told so, and has to open it again.
+    fn lose<O: Write>(&mut self, out: &mut O, params: Option<&Value>) -> Result<(), Unwritten> {
+        let Ok(params) = given(params) else {
+            return Ok(());
+        };
+        let Some(document) = params.get("textDocument") else {
+            return Ok(());
+        };
+        if self.session.close(self.alloc, params).is_err() {
+            return Ok(());
+        }
+        self.is_current = false;
+        send_out_of_step(out)?;
+        match send_notification(self.alloc, out, "isle/outOfStep", document) {
+            Ok(()) | Err(Unsent::Memory) => Ok(()),
+            Err(Unsent::Closed) => Err(Unwritten),
+        }
     }
 
     // Does what a notification says. One that isn't known is passed over.
@@ -211,7 +259,7 @@ impl Server {
             "textDocument/didSave" | "workspace/didChangeWatchedFiles" => {}
             _ => return Ok(()),
         }
-        self.analysis = None;
+        self.is_current = false;
         Ok(())
     }
 
@@ -223,9 +271,13 @@ impl Server {
         (id, method): (&Value, &str),
         params: Option<&Value>,
     ) -> Result<Going, Unwritten> {
+        let is_cancelled = self.waiting.iter().any(|frame| cancels(frame, id));
         let Ok(id) = id.to_string(self.alloc) else {
             return refused(out, NO_ID, Refusal::Memory);
         };
+        if is_cancelled {
+            return refused(out, &id, Refusal::Cancelled);
+        }
         match self.answer(rt, out, method, params)? {
             Ok(answer) => match send_answer(self.alloc, out, &id, &answer) {
                 Ok(()) => Ok(Going::On),
@@ -268,24 +320,74 @@ impl Server {
         self.session.initialize(self.alloc, given(params)?)
     }
 
-    // The answer to a question about an open document.
+    // The answer to a question, mostly about an open document.
     fn answer_to(&self, question: Question, params: Option<&Value>) -> Result<Value, Refusal> {
-        let alloc = self.alloc;
         let params = given(params)?;
-        let name = self.session.open_name(alloc, params)?;
-        let Some(analysis) = &self.analysis else {
-            return Err(Refusal::Memory);
-        };
-        let file = analysis.file_of(&name)?;
-        match question {
-            Question::Hover => hover_at(alloc, analysis, file, params),
-            Question::Definition => definition_at(alloc, analysis, file, params),
-            Question::References => references_at(alloc, analysis, file, params),
-            Question::Outline => Ok(outline_of(alloc, analysis, file)?),
-            Question::Prepare => prepared_at(alloc, analysis, file, params),
-            Question::Rename => renamed_at(alloc, analysis, file, params),
-            Question::Actions => actions_at(alloc, analysis, file, params),
+        if question == Question::Symbols {
+            return found_symbols(self.alloc, &self.analyses, params);
         }
+        let name = match question {
+            Question::Callers | Question::Callees => name_of(self.alloc, item_uri(params)?)?,
+            _ => self.session.open_name(self.alloc, params)?,
+        };
+        if question == Question::Rename {
+            return renamed_in_lists(self.alloc, &self.analyses, &name, params);
+        }
+        for analysis in &self.analyses {
+            if let Some(file) = analysis.sources.number_of(&name) {
+                return answer_in(self.alloc, analysis, file, question, params);
+            }
+        }
+        Err(Refusal::NotOpen)
+    }
+}
+
+// The answer to a question about a file.
+fn answer_in(
+    alloc: Global,
+    analysis: &Analysis,
+    file: usize,
+    question: Question,
+    params: &Value,
+) -> Result<Value, Refusal> {
+    match question {
+        Question::Hover => hover_at(alloc, analysis, file, params),
+        Question::Definition => definition_at(alloc, analysis, file, params),
+        Question::References => references_at(alloc, analysis, file, params),
+        Question::Highlights => highlights_at(alloc, analysis, file, params),
+        Question::Completion => completions_at(alloc, analysis, file, params),
+        Question::Signature => signature_at(alloc, analysis, file, params),
+        Question::Selections => selections_at(alloc, analysis, file, params),
+        Question::Hints => hints_in(alloc, analysis, file, params),
+        Question::Layout => layout_of(alloc, analysis, file),
+        Question::LayoutIn => layout_in(alloc, analysis, file, params),
+        Question::Prepare => prepared_at(alloc, analysis, file, params),
+        Question::Actions => actions_at(alloc, analysis, file, params),
+        Question::Calls => prepared_calls(alloc, analysis, file, params),
+        Question::Callers => callers_of(alloc, analysis, params),
+        Question::Callees => callees_of(alloc, analysis, params),
+        Question::Outline => Ok(outline_of(alloc, analysis, file)?),
+        Question::Folds => Ok(folds_of(alloc, analysis, file)?),
+        Question::Colours => Ok(colours_of(alloc, analysis, file)?),
+        Question::Lenses => Ok(lenses_of(alloc, analysis, file)?),
+        Question::Rename | Question::Symbols => Err(Refusal::NoMethod),
+    }
+}
+
+// Whether the files of a list were analysed.
+fn is_of_list(analysis: &Analysis, sources: &Sources) -> bool {
+    analysis.sources.name == sources.name && analysis.sources.root == sources.root
+}
+
+// Whether a message cancels the request of an id.
+fn cancels(frame: &Frame, id: &Value) -> bool {
+    let Frame::Message(value) = frame else {
+        return false;
+    };
+    let is_cancel = value.get("method").and_then(Value::as_str) == Some("$/cancelRequest");
+    match value.get("params") {
+        Some(params) => is_cancel && params.get("id") == Some(id),
+        None => false,
     }
 }
 
@@ -297,22 +399,41 @@ fn given(params: Option<&Value>) -> Result<&Value, Refusal> {
     }
 }
 
+// The URI of the item that a request is of.
+fn item_uri(params: &Value) -> Result<&str, Refusal> {
+    text_of(member(params, "item")?, "uri")
+}
+
 // Writes an error, and goes on.
 fn refused<O: Write>(out: &mut O, id: &str, why: Refusal) -> Result<Going, Unwritten> {
     send_refusal(out, id, why)?;
     Ok(Going::On)
 }
 
-// What a request asks about a document.
+// What a request asks.
 #[derive(Clone, Copy, PartialEq, Eq)]
 enum Question {
     Hover,
     Definition,
     References,
-    Outline,
+    Highlights,
+    Completion,
+    Signature,
+    Selections,
+    Hints,
+    Layout,
+    LayoutIn,
     Prepare,
     Rename,
     Actions,
+    Calls,
+    Callers,
+    Callees,
+    Outline,
+    Folds,
+    Colours,
+    Lenses,
+    Symbols,
 }
 
 fn question_of(method: &str) -> Option<Question> {
@@ -320,10 +441,24 @@ fn question_of(method: &str) -> Option<Question> {
         "textDocument/hover" => Some(Question::Hover),
         "textDocument/definition" => Some(Question::Definition),
         "textDocument/references" => Some(Question::References),
-        "textDocument/documentSymbol" => Some(Question::Outline),
+        "textDocument/documentHighlight" => Some(Question::Highlights),
+        "textDocument/completion" => Some(Question::Completion),
+        "textDocument/signatureHelp" => Some(Question::Signature),
+        "textDocument/selectionRange" => Some(Question::Selections),
+        "textDocument/inlayHint" => Some(Question::Hints),
+        "textDocument/formatting" => Some(Question::Layout),
+        "textDocument/rangeFormatting" => Some(Question::LayoutIn),
         "textDocument/prepareRename" => Some(Question::Prepare),
         "textDocument/rename" => Some(Question::Rename),
         "textDocument/codeAction" => Some(Question::Actions),
+        "textDocument/prepareCallHierarchy" => Some(Question::Calls),
+        "callHierarchy/incomingCalls" => Some(Question::Callers),
+        "callHierarchy/outgoingCalls" => Some(Question::Callees),
+        "textDocument/documentSymbol" => Some(Question::Outline),
+        "textDocument/foldingRange" => Some(Question::Folds),
+        "textDocument/semanticTokens/full" => Some(Question::Colours),
+        "textDocument/codeLens" => Some(Question::Lenses),
+        "workspace/symbol" => Some(Question::Symbols),
         _ => None,
     }
 }

@@ -1,11 +1,10 @@
 //! What the server knows of its client: the stage that they are in, the open documents, and what was last told.
 
-use crate::analysis::Analysis;
 use crate::documents::{Documents, OpenDocument};
-use crate::messages::{changes_of, document_uri, member, text_of};
-use crate::refusals::Refusal;
 use crate::sources::Workspace;
-use crate::uris::name_of;
+use app_messages::messages::{changes_of, document_uri, member, text_of};
+use app_messages::refusals::Refusal;
+use app_messages::uris::name_of;
 use serde_json::{Value, json};
 use std::alloc::{AllocError, Global};
 use text_documents::documents::Document;
@@ -25,8 +24,8 @@ pub enum ServerStage {
 pub struct Session {
     /// The stage.
     pub stage: ServerStage,
-    /// The client's folder.
-    pub workspace: Workspace,
+    /// The client's folders: at least one.
+    pub workspaces: Vec<Workspace>,
     /// The open documents.
     pub documents: Documents,
     /// The URIs of the files that the client shows diagnostics of.
@@ -37,7 +36,7 @@ impl Drop for Session {
     fn drop(self) {
         let Session {
             stage: _,
-            workspace: _,
+            workspaces: _,
             documents: _,
             shown: _,
         } = self;
@@ -49,10 +48,7 @@ impl Session {
     pub fn new(alloc: Global) -> Session {
         Session {
             stage: ServerStage::New,
-            workspace: Workspace {
-                root: String::new(alloc),
-                named: Vec::new(alloc),
-            },
+            workspaces: Vec::new(alloc),
             documents: Documents {
                 open: Vec::new(alloc),
             },
@@ -61,31 +57,23 @@ impl Session {
     }
 
     /// Whether the client is told of a file that has no diagnostics: it is open, or had some.
-    pub fn shows(&self, analysis: &Analysis, file: usize) -> bool {
-        self.version_of(analysis, file).is_some()
-            || self
-                .shown
-                .iter()
-                .any(|uri| uri.as_str() == analysis.uri(file))
+    pub fn shows(&self, path: &str, uri: &str) -> bool {
+        self.version_of(path).is_some() || self.shown.iter().any(|shown| shown.as_str() == uri)
     }
 
     /// The version of a file that is open.
-    pub fn version_of(&self, analysis: &Analysis, file: usize) -> Option<i64> {
-        let path = analysis.sources.paths.get(file)?;
+    pub fn version_of(&self, path: &str) -> Option<i64> {
         match self.documents.named(path) {
             Some(open) => Some(open.document.version()),
             None => None,
         }
     }
 
-    /// Begins, with what the client says of its folder, and answers what the server can do.
+    /// Begins, with what the client says of its folders, and answers what the server can do.
     pub fn initialize(&mut self, alloc: Global, params: &Value) -> Result<Value, Refusal> {
-        let workspace = Workspace {
-            root: root_of(alloc, params)?,
-            named: named_files(alloc, params)?,
-        };
+        let workspaces = workspaces_of(alloc, params)?;
         let answer = capabilities(alloc)?;
-        self.workspace = workspace;
+        self.workspaces = workspaces;
         self.stage = ServerStage::Open;
         Ok(answer)
     }
@@ -135,28 +123,37 @@ fn version_in(document: &Value) -> i64 {
     document.get("version").and_then(Value::as_i64).unwrap_or(0)
 }
 
+// The client's folders: where it has none, the one that it names otherwise.
+fn workspaces_of(alloc: Global, params: &Value) -> Result<Vec<Workspace>, AllocError> {
+    let mut workspaces = Vec::new(alloc);
+    if let Some(folders) = params.get("workspaceFolders").and_then(Value::as_array) {
+        for folder in folders {
+            let uri = folder.get("uri").and_then(Value::as_str).unwrap_or("");
+            let path = name_of(alloc, uri)?;
+            workspaces.push(workspace_at(alloc, params, &path)?)?;
+        }
+    }
+    if workspaces.is_empty() {
+        let path = root_of(alloc, params)?;
+        workspaces.push(workspace_at(alloc, params, &path)?)?;
+    }
+    Ok(workspaces)
+}
+
+fn workspace_at(alloc: Global, params: &Value, path: &str) -> Result<Workspace, AllocError> {
+    Ok(Workspace {
+        root: String::from_str(alloc, without_slash(path))?,
+        named: named_files(alloc, params)?,
+    })
+}
+
 // The path of the client's folder.
 fn root_of(alloc: Global, params: &Value) -> Result<String, AllocError> {
-    let uri = root_uri(params);
-    if !uri.is_empty() {
-        let name = name_of(alloc, uri)?;
-        return String::from_str(alloc, without_slash(&name));
-    }
     let path = params.get("rootPath").and_then(Value::as_str).unwrap_or("");
-    String::from_str(alloc, without_slash(path))
-}
-
-// The URI of the client's folder: of the first one, where there are several.
-fn root_uri(params: &Value) -> &str {
-    if let Some(folder) = first_folder(params) {
-        return folder.get("uri").and_then(Value::as_str).unwrap_or("");
+    match params.get("rootUri").and_then(Value::as_str) {
+        Some(uri) => name_of(alloc, uri),
+        None => String::from_str(alloc, path),
     }
-    params.get("rootUri").and_then(Value::as_str).unwrap_or("")
-}
-
-fn first_folder(params: &Value) -> Option<&Value> {
-    let folders = params.get("workspaceFolders").and_then(Value::as_array)?;
-    folders.first()
 }
 
 // A path without a slash at its end.
@@ -183,18 +180,54 @@ fn files_option(params: &Value) -> Option<&Vec<Value>> {
     options.get("files").and_then(Value::as_array)
 }
 
+// What the server offers: each name in the protocol, with its value as JSON. The kinds of semantic tokens are in the order of
+// `colours`.
+const OFFERED: [(&str, &str); 21] = [
+    ("positionEncoding", "\"utf-16\""),
+    (
+        "textDocumentSync",
+        "{\"openClose\":true,\"change\":2,\"save\":true}",
+    ),
+    ("hoverProvider", "true"),
+    ("definitionProvider", "true"),
+    ("referencesProvider", "true"),
+    ("documentHighlightProvider", "true"),
+    ("documentSymbolProvider", "true"),
+    ("workspaceSymbolProvider", "true"),
+    ("foldingRangeProvider", "true"),
+    ("selectionRangeProvider", "true"),
+    (
+        "completionProvider",
+        "{\"triggerCharacters\":[\"(\",\".\",\"$\"]}",
+    ),
+    (
+        "signatureHelpProvider",
+        "{\"triggerCharacters\":[\"(\",\" \"]}",
+    ),
+    ("inlayHintProvider", "true"),
+    ("codeLensProvider", "{}"),
+    ("callHierarchyProvider", "true"),
+    ("documentFormattingProvider", "true"),
+    ("documentRangeFormattingProvider", "true"),
+    ("renameProvider", "{\"prepareProvider\":true}"),
+    ("codeActionProvider", "{\"codeActionKinds\":[\"quickfix\"]}"),
+    ("workspace", "{\"workspaceFolders\":{\"supported\":true}}"),
+    (
+        "semanticTokensProvider",
+        "{\"legend\":{\"tokenTypes\":[\"type\",\"function\",\"enumMember\",\"property\",\"variable\",\"macro\"],\"tokenModifiers\":[\"declaration\"]},\"full\":true}",
+    ),
+];
+
+// Only memory can be missing: the values are JSON.
 fn capabilities(alloc: Global) -> Result<Value, AllocError> {
-    json!(in alloc; {
-        "capabilities": {
-            "positionEncoding": "utf-16",
-            "textDocumentSync": {"openClose": true, "change": 2, "save": true},
-            "hoverProvider": true,
-            "definitionProvider": true,
-            "referencesProvider": true,
-            "documentSymbolProvider": true,
-            "renameProvider": {"prepareProvider": true},
-            "codeActionProvider": {"codeActionKinds": ["quickfix"]}
-        },
-        "serverInfo": {"name": "isle"}
-    })
+    let mut offered = json!(in alloc; {})?;
+    if let Some(object) = offered.as_object_mut() {
+        for (name, text) in OFFERED {
+            match Value::from_str(alloc, text) {
+                Ok(value) => serde_json::put(object, alloc, name, value)?,
+                Err(_error) => return Err(AllocError),
+            }
+        }
+    }
+    json!(in alloc; {"capabilities": offered, "serverInfo": {"name": "isle"}})
 }

@@ -1,10 +1,13 @@
 //! What a name at a place means, and which other names mean the same.
 
-use crate::analysis::Analysis;
-use crate::mentions::{Mention, MentionKind, mentions_in};
+use crate::mentions::{Mention, MentionKind, mentions_in, mentions_in_spec};
+use cranelift_isle::sema::BuiltinType;
 use cranelift_isle::syntax::{Def, Ident, Pos, Type};
 use report_errors::definitions::{declaration_of, definition_around, struct_of, variant_with_type};
 use std::alloc::{AllocError, Global};
+use text_reader::errors::ReadFault;
+use text_reader::syntax::VerificationForm;
+use text_reader::verification;
 
 /// What a name means.
 #[derive(Clone, Copy)]
@@ -17,8 +20,10 @@ pub enum Symbol<'a> {
     Term(&'a str),
     /// A variant of a type, by both names.
     Variant(&'a str, &'a str),
-    /// A field, by where it is defined.
-    Field(Pos),
+    /// The variants of a type where they are made or taken apart: the name of the type stands in theirs.
+    MadeOf(&'a str),
+    /// A field, by its name and where it is defined.
+    Field(&'a str, Pos),
     /// A rule.
     Rule(&'a str),
     /// A variable, by where it is bound.
@@ -33,12 +38,22 @@ impl<'a> Symbol<'a> {
         match self {
             Symbol::Type(name) => mention.kind == MentionKind::Type && mention.text() == name,
             Symbol::Struct(name) => {
-                matches!(mention.kind, MentionKind::Type | MentionKind::Term)
-                    && mention.text() == name
+                matches!(
+                    mention.kind,
+                    MentionKind::Type | MentionKind::Term | MentionKind::Made
+                ) && mention.text() == name
             }
             Symbol::Term(name) => mention.kind == MentionKind::Term && mention.text() == name,
             Symbol::Variant(ty, name) => is_variant(mention, ty, name),
-            Symbol::Field(pos) => mention.kind == MentionKind::Field && mention.name.1 == pos,
+            Symbol::MadeOf(ty) => {
+                matches!(mention.kind, MentionKind::Term | MentionKind::Made)
+                    && short_name(mention.text(), ty).is_some()
+            }
+            Symbol::Field(name, pos) => match mention.kind {
+                MentionKind::Field => mention.name.1 == pos,
+                MentionKind::Access => mention.text().strip_prefix(":") == Some(name),
+                _ => false,
+            },
             Symbol::Rule(name) => mention.kind == MentionKind::Rule && mention.text() == name,
             Symbol::Variable(pos) => mention.kind == MentionKind::Variable && mention.home.1 == pos,
             Symbol::Constant(name) => mention.kind == MentionKind::Constant
@@ -50,7 +65,8 @@ impl<'a> Symbol<'a> {
 fn is_variant(mention: &Mention<'_>, ty: &str, name: &str) -> bool {
     match mention.kind {
         MentionKind::Variant => mention.text() == name && mention.home.0.as_str() == ty,
-        MentionKind::Term => short_name(mention.text(), ty) == Some(name),
+        MentionKind::Arm => mention.text() == name,
+        MentionKind::Term | MentionKind::Made => short_name(mention.text(), ty) == Some(name),
         _ => false,
     }
 }
@@ -60,21 +76,44 @@ fn short_name<'a>(term: &'a str, ty: &str) -> Option<&'a str> {
     term.strip_prefix(ty)?.strip_prefix(".")
 }
 
-/// The name that stands at a place.
+/// What is said for a verifier, with its place among the definitions of its file.
+pub type Specs = Vec<(usize, VerificationForm)>;
+
+/// What the texts of files say for a verifier, but for those that can't be read.
+pub fn specs_of(alloc: Global, texts: &[String]) -> Result<Specs, AllocError> {
+    let mut specs = Vec::new(alloc);
+    for (number, text) in texts.iter().enumerate() {
+        match verification(alloc, number, text) {
+            Ok(mut found) => specs.append(&mut found)?,
+            Err(ReadFault::Text(_error)) => {}
+            Err(ReadFault::Memory(error)) => return Err(error),
+        }
+    }
+    Ok(specs)
+}
+
+/// The name that stands at a place, in a definition or in one of these specs.
 pub fn mention_at<'a>(
     alloc: Global,
-    analysis: &'a Analysis,
+    defs: &'a [Def],
+    specs: &'a [(usize, VerificationForm)],
     pos: Pos,
 ) -> Result<Option<Mention<'a>>, AllocError> {
-    let Some(def) = definition_around(&analysis.defs, pos) else {
-        return Ok(None);
-    };
-    for mention in mentions_in(alloc, def)? {
-        if mention.is_at(pos) {
+    if let Some(def) = definition_around(defs, pos) {
+        if let Some(mention) = one_at(mentions_in(alloc, def)?, pos) {
+            return Ok(Some(mention));
+        }
+    }
+    for (_, form) in specs {
+        if let Some(mention) = one_at(mentions_in_spec(alloc, form)?, pos) {
             return Ok(Some(mention));
         }
     }
     Ok(None)
+}
+
+fn one_at<'a>(mentions: Vec<Mention<'a>>, pos: Pos) -> Option<Mention<'a>> {
+    mentions.iter().find(|mention| mention.is_at(pos)).copied()
 }
 
 /// What a name means.
@@ -85,9 +124,11 @@ pub fn symbol_of<'a>(defs: &'a [Def], mention: &Mention<'a>) -> Symbol<'a> {
             Some(_) if declaration_of(defs, name).is_none() => Symbol::Struct(name),
             _ => Symbol::Type(name),
         },
-        MentionKind::Term => term_symbol(defs, name),
+        MentionKind::Term | MentionKind::Made => term_symbol(defs, name),
         MentionKind::Variant => Symbol::Variant(mention.home.0.as_str(), name),
-        MentionKind::Field => Symbol::Field(mention.name.1),
+        MentionKind::Arm => Symbol::Term(""),
+        MentionKind::Field => Symbol::Field(name, mention.name.1),
+        MentionKind::Access => Symbol::Term(""),
         MentionKind::Rule => Symbol::Rule(name),
         MentionKind::Variable => Symbol::Variable(mention.home.1),
         MentionKind::Constant => Symbol::Constant(name),
@@ -119,27 +160,37 @@ pub fn type_named<'a>(defs: &'a [Def], name: &str) -> Option<&'a Type> {
     None
 }
 
-/// The names that mean something, in the order of the definitions.
+/// Whether a type needs no definition.
+pub fn is_built_in(name: &str) -> bool {
+    BuiltinType::ALL
+        .iter()
+        .any(|builtin| builtin.name() == name)
+}
+
+/// The names that mean something, in the order of the definitions, and those in specs behind them.
 pub fn names_of<'a>(
     alloc: Global,
-    analysis: &'a Analysis,
+    defs: &'a [Def],
+    specs: &'a [(usize, VerificationForm)],
     symbol: Symbol<'_>,
 ) -> Result<Vec<Mention<'a>>, AllocError> {
     let mut found = Vec::new(alloc);
-    for def in &analysis.defs {
-        push_names(alloc, def, symbol, &mut found)?;
+    for def in defs {
+        push_meant(&mut found, mentions_in(alloc, def)?, symbol)?;
+    }
+    for (_, form) in specs {
+        push_meant(&mut found, mentions_in_spec(alloc, form)?, symbol)?;
     }
     Ok(found)
 }
 
-// Adds the names of a definition that mean something.
-fn push_names<'a>(
-    alloc: Global,
-    def: &'a Def,
-    symbol: Symbol<'_>,
+// Adds those of some names that mean something.
+fn push_meant<'a>(
     found: &mut Vec<Mention<'a>>,
+    mentions: Vec<Mention<'a>>,
+    symbol: Symbol<'_>,
 ) -> Result<(), AllocError> {
-    for mention in mentions_in(alloc, def)? {
+    for mention in mentions {
         if symbol.is_meant_by(&mention) {
             found.push(mention)?;
         }

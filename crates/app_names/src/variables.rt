@@ -172,8 +172,8 @@ impl<'a> Types<'a> {
     }
 }
 
-// The name of the type of a term's argument, or the empty text.
-fn argument_type<'a>(defs: &'a [Def], term: &str, number: usize) -> &'a str {
+/// The name of the type of a term's argument, or the empty text.
+pub fn argument_type<'a>(defs: &'a [Def], term: &str, number: usize) -> &'a str {
     let ty = match declaration_of(defs, term) {
         Some(decl) => decl.arg_tys.get(number),
         None => match fields_named(defs, term) {
@@ -206,8 +206,8 @@ fn field_type(fields: &Fields, number: usize) -> Option<&Ident> {
     }
 }
 
-// The name of the type of a term's result, or the empty text.
-fn result_type<'a>(defs: &'a [Def], term: &str) -> &'a str {
+/// The name of the type of a term's result, or the empty text.
+pub fn result_type<'a>(defs: &'a [Def], term: &str) -> &'a str {
     if let Some(decl) = declaration_of(defs, term) {
         return decl.ret_ty.0.as_str();
     }

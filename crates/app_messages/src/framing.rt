@@ -2,6 +2,7 @@
 
 use serde_json::Value;
 use std::alloc::Global;
+use std::collections::VecDeque;
 use std::io::{ErrorKind, Read};
 
 // The longest message that is read.
@@ -111,6 +112,32 @@ impl<R: Read + Drop> Frames<R> {
     /// Whether more was read than is used.
     pub fn is_waiting(&self) -> bool {
         self.used < self.bytes.len()
+    }
+
+    /// Reads on, as far as whole messages were received. Those that there is no memory for are read later.
+    pub fn read_ahead(&mut self, waiting: &mut VecDeque<Frame>) {
+        for _ in 0..u64::MAX {
+            if !self.has_message() || waiting.try_reserve(1).is_err() {
+                break;
+            }
+            if waiting.push_back(self.next_frame()).is_err() {
+                break;
+            }
+        }
+    }
+
+    // Whether what was read begins with a whole message, where its head is one field.
+    fn has_message(&self) -> bool {
+        let rest = self.bytes.get(self.used..).unwrap_or(&[]);
+        let count = rest.iter().take(MOST_HEAD).position(|byte| *byte == b'\n');
+        let head = rest.get(..count.unwrap_or(0)).unwrap_or(&[]);
+        match line_of(head) {
+            Line::Length(length, true) => {
+                let needed = length.saturating_add(head.len()).saturating_add(3);
+                rest.len() >= needed
+            }
+            _ => false,
+        }
     }
 
     /// What comes next.

@@ -21,6 +21,8 @@ pub enum Refusal {
     InitializedTwice,
     /// `shutdown` came before.
     ShutDown,
+    /// The client doesn't want the answer any more.
+    Cancelled,
     /// A parameter isn't there, or isn't what it has to be.
     NoParameter,
     /// The document isn't open.
@@ -33,6 +35,10 @@ pub enum Refusal {
     Taken,
     /// Nothing that can be renamed stands there.
     NotRenamed,
+    /// A text has a mistake, so that not all names are known.
+    Unread,
+    /// A spec has this name without its type, and several types have it.
+    Unsure,
 }
 
 impl Refusal {
@@ -45,8 +51,13 @@ impl Refusal {
             Refusal::NoMethod => -32601,
             Refusal::NoParameter | Refusal::NotOpen | Refusal::Outside => -32602,
             Refusal::Memory => -32603,
+            Refusal::Cancelled => -32800,
             Refusal::NotInitialized => -32002,
-            Refusal::NoName | Refusal::Taken | Refusal::NotRenamed => -32803,
+            Refusal::NoName
+            | Refusal::Taken
+            | Refusal::NotRenamed
+            | Refusal::Unread
+            | Refusal::Unsure => -32803,
         }
     }
 
@@ -61,12 +72,15 @@ impl Refusal {
             Refusal::NotInitialized => "initialize has to come first",
             Refusal::InitializedTwice => "initialize came before",
             Refusal::ShutDown => "shutdown came before",
+            Refusal::Cancelled => "the request was cancelled",
             Refusal::NoParameter => "a parameter is missing or wrong",
             Refusal::NotOpen => "the document is not open",
             Refusal::Outside => "the place is not in the document",
             Refusal::NoName => "this is no name",
             Refusal::Taken => "this name has another meaning there",
-            Refusal::NotRenamed => "only variables and rules can be renamed",
+            Refusal::NotRenamed => "nothing stands here that a file defines",
+            Refusal::Unsure => "a spec has this name without its type, and several types have it",
+            Refusal::Unread => "a text can not be read: mend its mistakes first",
         }
     }
 }

@@ -102,6 +102,7 @@ fn code_text<'a>(why: Refusal) -> &'a str {
         -32602 => "-32602",
         -32002 => "-32002",
         -32803 => "-32803",
+        -32800 => "-32800",
         _ => "-32603",
     }
 }
@@ -134,6 +135,18 @@ pub fn send_log<W: Write>(out: &mut W, method: &str, why: Refusal) -> io::Result
     } else {
         send_note(out, "a notification", why.text(), code_text(why))
     }
+}
+
+/// Tells whoever edits that a document has another text than the server thinks. It needs no memory.
+pub fn send_out_of_step<W: Write>(out: &mut W) -> io::Result<()> {
+    send(
+        out,
+        &[
+            "{\"jsonrpc\":\"2.0\",\"method\":\"window/showMessage\",\"params\":{\"type\":1,\"message\":\"",
+            "isle has lost the text of a document: close it, and open it again",
+            "\"}}",
+        ],
+    )
 }
 
 // Writes the parts of a note on a notification.

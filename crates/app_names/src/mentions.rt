@@ -5,6 +5,9 @@ use cranelift_isle::syntax::{
     TypeValue, Variant,
 };
 use std::alloc::{AllocError, Global};
+use text_reader::syntax::{
+    Model, ModelType, ModelValue, Signature, Spec, SpecExpr, VerificationForm,
+};
 
 /// What a name stands for.
 #[derive(Clone, Copy, Debug, PartialEq, Eq)]
@@ -18,6 +21,12 @@ pub enum MentionKind {
     Rule,
     Variable,
     Constant,
+    /// A variant or a struct in an expression of a spec, where terms have no meaning.
+    Made,
+    /// A variant in a match of a spec, without the name of its type.
+    Arm,
+    /// A field in a spec, behind `:`.
+    Access,
 }
 
 /// A name that stands somewhere.
@@ -66,6 +75,19 @@ pub fn mentions_in(alloc: Global, def: &Def) -> Result<Vec<Mention<'_>>, AllocEr
         scope: Vec::new(alloc),
     };
     listing.add_definition(def)?;
+    Ok(listing.into_found())
+}
+
+/// The names in what is said for a verifier.
+pub fn mentions_in_spec(
+    alloc: Global,
+    form: &VerificationForm,
+) -> Result<Vec<Mention<'_>>, AllocError> {
+    let mut listing = Listing {
+        found: Vec::new(alloc),
+        scope: Vec::new(alloc),
+    };
+    listing.add_verification(form)?;
     Ok(listing.into_found())
 }
 
@@ -281,6 +303,147 @@ impl<'a> Listing<'a> {
             self.add_binding(&def.var)?;
         }
         Ok(())
+    }
+}
+
+impl<'a> Listing<'a> {
+    fn add_verification(&mut self, form: &'a VerificationForm) -> Result<(), AllocError> {
+        match form {
+            VerificationForm::Spec(spec) => self.add_spec(spec),
+            VerificationForm::Model(model) => self.add_model(model),
+            VerificationForm::Form(form) => self.add_signatures(&form.signatures),
+            VerificationForm::Instantiation(one) => {
+                self.add(&one.term, MentionKind::Term, false)?;
+                self.add_signatures(&one.signatures)
+            }
+            VerificationForm::Attr(attr) if attr.is_rule => {
+                self.add(&attr.name, MentionKind::Rule, false)
+            }
+            VerificationForm::Attr(attr) => self.add(&attr.name, MentionKind::Term, false),
+            VerificationForm::State(state) => {
+                self.add_model_type(&state.ty)?;
+                self.add_spec_expr(&state.default)
+            }
+            VerificationForm::Macro(one) => self.add_spec_expr(&one.body),
+            VerificationForm::Pragma(_) => Ok(()),
+        }
+    }
+
+    fn add_spec(&mut self, spec: &'a Spec) -> Result<(), AllocError> {
+        self.add(&spec.term, MentionKind::Term, false)?;
+        for part in [&spec.provides, &spec.required, &spec.matches] {
+            if let Some(exprs) = part {
+                self.add_spec_exprs(exprs)?;
+            }
+        }
+        Ok(())
+    }
+
+    fn add_model(&mut self, model: &'a Model) -> Result<(), AllocError> {
+        match &model.value {
+            ModelValue::Type(ty) => {
+                self.add(&model.name, MentionKind::Type, false)?;
+                self.add_model_type(ty)
+            }
+            ModelValue::Enum(values) => {
+                self.add(&model.name, MentionKind::Type, false)?;
+                for value in values {
+                    self.add_of(&value.name, MentionKind::Variant, false, &model.name)?;
+                }
+                Ok(())
+            }
+            ModelValue::Const(expr) => {
+                self.add(&model.name, MentionKind::Constant, false)?;
+                self.add_spec_expr(expr)
+            }
+        }
+    }
+
+    fn add_model_type(&mut self, ty: &'a ModelType) -> Result<(), AllocError> {
+        match ty {
+            ModelType::Named(name, _) => self.add(name, MentionKind::Type, false),
+            ModelType::Int(_) | ModelType::Bool(_) | ModelType::Unit(_) | ModelType::BitVec(..) =>
+                Ok(()),
+        }
+    }
+
+    fn add_signatures(&mut self, signatures: &'a [Signature]) -> Result<(), AllocError> {
+        for signature in signatures {
+            for ty in &signature.args {
+                self.add_model_type(ty)?;
+            }
+            self.add_model_type(&signature.ret)?;
+            self.add_model_type(&signature.canonical)?;
+        }
+        Ok(())
+    }
+
+    #[cycle(specs)]
+    fn add_spec_exprs(&mut self, exprs: &'a [SpecExpr]) -> Result<(), AllocError> {
+        for expr in exprs {
+            self.add_spec_expr(expr)?;
+        }
+        Ok(())
+    }
+
+    #[cycle(specs)]
+    fn add_spec_expr(&mut self, expr: &'a SpecExpr) -> Result<(), AllocError> {
+        match expr {
+            SpecExpr::Op { op, args, .. } => {
+                let kind = if op.0.starts_with(':') {
+                    MentionKind::Access
+                } else {
+                    MentionKind::Made
+                };
+                self.add(op, kind, false)?;
+                self.add_spec_exprs(args)
+            }
+            SpecExpr::Cases { value, cases, .. } => {
+                self.add_spec_expr(value)?;
+                self.add_cases(cases)
+            }
+            SpecExpr::Let { defs, body, .. } => {
+                self.add_spec_exprs(defs)?;
+                self.add_spec_expr(body)
+            }
+            SpecExpr::With { body, .. } => self.add_spec_expr(body),
+            SpecExpr::As { value, ty, .. } => {
+                self.add_model_type(ty)?;
+                self.add_spec_expr(value)
+            }
+            SpecExpr::Pair { left, right, .. } => {
+                self.add_spec_expr(left)?;
+                self.add_spec_expr(right)
+            }
+            SpecExpr::ConstInt { .. }
+            | SpecExpr::ConstBitVec { .. }
+            | SpecExpr::ConstBool { .. }
+            | SpecExpr::ConstUnit { .. }
+            | SpecExpr::Var { .. } => Ok(()),
+        }
+    }
+
+    // Adds the names of the cases of a match or a switch. What begins the left side of a match is a variant.
+    #[cycle(specs)]
+    fn add_cases(&mut self, cases: &'a [SpecExpr]) -> Result<(), AllocError> {
+        for case in cases {
+            match case {
+                SpecExpr::Pair { left, right, .. } => {
+                    self.add_side(left)?;
+                    self.add_spec_expr(right)?;
+                }
+                other => self.add_spec_expr(other)?,
+            }
+        }
+        Ok(())
+    }
+
+    // Adds the name of the left side of a case.
+    fn add_side(&mut self, side: &'a SpecExpr) -> Result<(), AllocError> {
+        match side {
+            SpecExpr::Op { op, .. } => self.add(op, MentionKind::Arm, false),
+            _ => Ok(()),
+        }
     }
 }
 
