@@ -118,6 +118,8 @@ pub struct Terms {
     pub widths: Widths,
     // The integers that formulas are known to be.
     numbers: Vec<Option<i128>>,
+    // The integers that are made of others, or are widths of words, ascending.
+    integers: Vec<NodeId>,
     // Widths that follow from others, or from integers, and whether the rule demands it.
     rules: Vec<(WidthId, WidthRule, bool)>,
     // Words that others extend: the width that is no less, the other one, and whether the rule demands it.
@@ -138,6 +140,7 @@ impl Drop for Terms {
             functions: _,
             widths: _,
             numbers: _,
+            integers: _,
             rules: _,
             extended: _,
             is_demanded: _,
@@ -157,6 +160,7 @@ impl Terms {
             functions: Vec::new(alloc),
             widths: Widths::new(alloc),
             numbers: Vec::new(alloc),
+            integers: Vec::new(alloc),
             rules: Vec::new(alloc),
             extended: Vec::new(alloc),
             is_demanded: true,
@@ -233,6 +237,9 @@ impl Terms {
         let id = NodeId(self.nodes.len());
         let number = self.number_of(&node);
         self.numbers.push(number)?;
+        if sort == Sort::Integer && matches!(&node, Node::Apply(..)) {
+            self.integers.push(id)?;
+        }
         self.nodes.push(node)?;
         self.sorts.push(sort)?;
         Ok(id)
@@ -529,20 +536,22 @@ impl Terms {
 
     // Finds the integers that formulas are.
     fn settle_numbers(&mut self) {
-        for id in 0..self.nodes.len() {
-            let number = self.new_number(id);
-            if number.is_some() {
-                self.note_number(NodeId(id), number);
+        for place in 0..self.integers.len() {
+            if let Some(id) = self.integers.get(place).copied() {
+                let number = self.new_number(id);
+                if number.is_some() {
+                    self.note_number(id, number);
+                }
             }
         }
     }
 
     // The integer that a formula is, if that wasn't known before.
-    fn new_number(&self, id: usize) -> Option<i128> {
-        if self.number(NodeId(id)).is_some() {
+    fn new_number(&self, id: NodeId) -> Option<i128> {
+        if self.number(id).is_some() {
             return None;
         }
-        self.number_of(self.nodes.get(id)?)
+        self.number_of(self.node(id)?)
     }
 
     fn note_number(&mut self, id: NodeId, number: Option<i128>) {
@@ -575,8 +584,8 @@ impl Terms {
     // Finds the widths of words by integers that are known to be them. True if one was found.
     fn settle_words(&mut self) -> Result<bool, NoCondition> {
         let mut more = false;
-        for id in 0..self.nodes.len() {
-            if let Some((width, number)) = self.width_by_number(id) {
+        for place in 0..self.integers.len() {
+            if let Some((width, number)) = self.width_by_number(place) {
                 let Ok(found) = width_of(number) else {
                     return Err(NoCondition::Untaken);
                 };
@@ -587,10 +596,11 @@ impl Terms {
         Ok(more)
     }
 
-    // The open width that a known integer is, if it is one.
-    fn width_by_number(&self, id: usize) -> Option<(WidthId, i128)> {
-        let number = self.number(NodeId(id))?;
-        match self.nodes.get(id)? {
+    // The open width that a known integer is, if the one at this place among those that are made of others is one.
+    fn width_by_number(&self, place: usize) -> Option<(WidthId, i128)> {
+        let id = *self.integers.get(place)?;
+        let number = self.number(id)?;
+        match self.node(id)? {
             Node::Apply(Operator::WidthOf, of) => {
                 let width = self.word_width(*of.first()?)?;
                 Some((width, number))
