@@ -675,11 +675,16 @@ impl<'a> Builder<'a> {
         before: &[Arm],
         fuel: usize,
     ) -> Result<Arm, NoCondition> {
+        let len = self.defined.len();
         let condition = if matched.is_match {
             self.match_condition(scope, matched.value, left)?
         } else {
             self.switch_condition(scope, matched.value, left, fuel)?
         };
+        if len < self.defined.len() {
+            let reached = self.behind(before)?;
+            self.guard_defined(len, reached)?;
+        }
         let taken = self.taken_behind(before, condition)?;
         self.arm(scope, condition, taken, right, fuel)
     }
@@ -687,9 +692,15 @@ impl<'a> Builder<'a> {
     // Where an arm of this condition is taken behind others. Of two variants or keys at most one is met; any other value is met where
     // none of the others is.
     fn taken_behind(&mut self, before: &[Arm], condition: NodeId) -> Result<NodeId, AllocError> {
-        if self.terms.literal(condition) != Some(true) {
-            return Ok(condition);
+        if self.terms.literal(condition) == Some(true) {
+            self.behind(before)
+        } else {
+            Ok(condition)
         }
+    }
+
+    // That none of these arms is taken.
+    fn behind(&mut self, before: &[Arm]) -> Result<NodeId, AllocError> {
         let mut others = Vec::new(self.alloc);
         for arm in before {
             others.push(self.terms.not(arm.condition)?)?;
