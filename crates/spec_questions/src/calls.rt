@@ -52,7 +52,7 @@ impl<'a, 'b> Maker<'a, 'b> {
         }
     }
 
-    // Assumes what is said of an extractor that answers: what it looks at is the result, and its outputs are the arguments.
+    // Assumes what is said of an extractor that answers.
     fn assume_extractor(
         &mut self,
         term: TermId,
@@ -60,14 +60,26 @@ impl<'a, 'b> Maker<'a, 'b> {
         site: usize,
     ) -> Result<(), NoCondition> {
         let Some(spec) = self.builder.specs.spec(term) else {
-            return Err(self.no_spec(term));
+            return self.assume_templates(term, parameter, site);
         };
-        let result = Some(self.sites.value_at(parameter)?);
+        let value = self.sites.value_at(parameter)?;
         let args = self.sites.outputs_at(site)?;
-        self.take_signature(term, &args, result)?;
-        self.assume_list(spec, &args, result, &spec.required)?;
-        self.assume_list(spec, &args, result, &spec.provides)?;
-        self.assume_list(spec, &args, result, &spec.matches)
+        self.assume_extracted(term, spec, &args, value)
+    }
+
+    /// Assumes what is said of an extractor that matches a value: that is its result, and what it gives are its arguments.
+    pub(crate) fn assume_extracted(
+        &mut self,
+        term: TermId,
+        spec: &'a Spec,
+        args: &[ValueId],
+        value: ValueId,
+    ) -> Result<(), NoCondition> {
+        let result = Some(value);
+        self.take_signature(term, args, result)?;
+        self.assume_list(spec, args, result, &spec.required)?;
+        self.assume_list(spec, args, result, &spec.provides)?;
+        self.assume_list(spec, args, result, &spec.matches)
     }
 
     // Assumes what is said of a constructor that answers, where its arguments are as required.

@@ -120,6 +120,7 @@ pub(crate) fn condition_of(
         assumed: Vec::new(alloc),
         steps: Vec::new(alloc),
         is_certain: true,
+        within: Vec::new(alloc),
     };
     match maker.made(&term.rules.rules, choice) {
         Ok(outcome) => {
