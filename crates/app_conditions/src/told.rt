@@ -141,19 +141,6 @@ impl<'a, 'f> Teller<'a, 'f> {
             _ => Ok(()),
         }
     }
-
-    /// Adds which rule this is in a line of its own.
-    pub(crate) fn push_line(
-        self,
-        out: &mut String,
-        rule: RuleId,
-        pos: Pos,
-        term: TermId,
-    ) -> Result<(), AllocError> {
-        out.push_str("  ")?;
-        self.push_rule(out, rule, pos, term)?;
-        out.push('\n')
-    }
 }
 
 // Whether a term of this name is an internal extractor, and no constructor, and questions speak of what its template calls by another
