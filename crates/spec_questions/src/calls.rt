@@ -17,15 +17,36 @@ impl<'a, 'b> Maker<'a, 'b> {
             return Err(self.no_spec(self.root.id));
         };
         let args = copied(self.builder.alloc, &self.args)?;
-        self.assume_list(spec, &args, None, &spec.required)
+        let always = self.builder.terms.truth(true)?;
+        self.assume_list(spec, &args, None, &spec.required, always)
     }
 
-    /// Assumes what is said of the calls among these sites, but for impure ones.
+    /// Assumes what is said of the calls among these sites, but for impure ones. Those that only test a value come first, since fewer arms
+    /// and widths may be taken then.
     pub(crate) fn assume_calls(&mut self, sites: &[usize]) -> Result<(), NoCondition> {
+        self.assume_calls_of(sites, true)?;
+        self.assume_calls_of(sites, false)
+    }
+
+    // Assumes what is said of the calls among these sites that only test a value, or of the others.
+    fn assume_calls_of(&mut self, sites: &[usize], are_tests: bool) -> Result<(), NoCondition> {
         for site in sites {
-            self.assume_call(*site)?;
+            if self.is_test(*site) == are_tests {
+                self.assume_call(*site)?;
+            }
         }
         Ok(())
+    }
+
+    // Whether a site calls an extractor that gives nothing and has a spec.
+    fn is_test(&self, site: usize) -> bool {
+        match self.sites.bindings.get(site) {
+            Some(Binding::Extractor { term, .. }) => match self.builder.specs.spec(*term) {
+                Some(spec) => spec.args.is_empty(),
+                None => false,
+            },
+            _ => false,
+        }
     }
 
     // Assumes what is said of the call at a site, if it is a pure one.
@@ -77,9 +98,10 @@ impl<'a, 'b> Maker<'a, 'b> {
     ) -> Result<(), NoCondition> {
         let result = Some(value);
         self.take_signature(term, args, result)?;
-        self.assume_list(spec, args, result, &spec.required)?;
-        self.assume_list(spec, args, result, &spec.provides)?;
-        self.assume_list(spec, args, result, &spec.matches)
+        let always = self.builder.terms.truth(true)?;
+        self.assume_list(spec, args, result, &spec.required, always)?;
+        self.assume_list(spec, args, result, &spec.provides, always)?;
+        self.assume_list(spec, args, result, &spec.matches, always)
     }
 
     // Assumes what is said of a constructor that answers, where its arguments are as required.
@@ -159,8 +181,8 @@ impl<'a, 'b> Maker<'a, 'b> {
         given: ValueId,
         guard: NodeId,
     ) -> Result<(), NoCondition> {
-        self.assume_list_under(spec, args, given, &spec.provides, guard)?;
-        self.assume_list_under(spec, args, given, &spec.matches, guard)?;
+        self.assume_list(spec, args, Some(given), &spec.provides, guard)?;
+        self.assume_list(spec, args, Some(given), &spec.matches, guard)?;
         if self.take_result(term, args, given)? {
             return Ok(());
         }

@@ -208,12 +208,38 @@ impl<'a, 'b> Maker<'a, 'b> {
         None
     }
 
-    // Whether a site holds a value.
+    // Whether a site holds a value, or would where nothing looked at it yet: a field of a value that is known.
     fn holds(&self, site: BindingId, value: ValueId) -> bool {
-        match self.sites.value_at(site) {
-            Ok(held) => held == value,
-            Err(_) => false,
+        let found = match self.sites.value_at(site) {
+            Ok(held) => Some(held),
+            Err(_) => self.field_at(site),
+        };
+        found == Some(value)
+    }
+
+    // The field that a site is, of a variant or a struct that is known.
+    fn field_at(&self, site: BindingId) -> Option<ValueId> {
+        let (source, field, wanted) = match self.sites.bindings.get(site.index())? {
+            Binding::MatchVariant {
+                source,
+                variant,
+                field,
+            } => (*source, field.index(), Some(*variant)),
+            Binding::ExtractStruct { source, field } => (*source, field.index(), None),
+            _ => return None,
+        };
+        let whole = match self.sites.value_at(source) {
+            Ok(whole) => whole,
+            Err(_) => return None,
+        };
+        let known = match self.builder.shape(whole) {
+            ValueShape::Variant(_, variant) => Some(variant),
+            _ => None,
+        };
+        if known != wanted {
+            return None;
         }
+        self.builder.value(whole).parts().get(field).copied()
     }
 }
 
