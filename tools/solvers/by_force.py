@@ -530,7 +530,7 @@ class Trial:
             return self.says_arm(self.says(parts[0], names), parts[1:], names)
         if head.endswith("!"):
             takes, body = self.unit.macros[head[:-1]]
-            return self.says(substituted(body, dict(zip(takes, parts))), names)
+            return self.says(body, dict(zip(takes, [self.says(part, names) for part in parts])))
         xs = [self.says(part, names) for part in parts]
         if head.startswith(":"):
             need(isinstance(xs[0], tuple) and xs[0][0] == "struct")

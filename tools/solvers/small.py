@@ -45,7 +45,7 @@ TOLD = {
     "open-bits": "lower wrong, lower2 right",
     "unmet-spec": "f right, g right",
     "lower-wide": "f right",
-    "internal-extractor": "lower wrong|unknown|without",
+    "internal-extractor": "lower right",
     "opaque": "f right, f right, f wrong",
     "below-match": "f right, f wrong|unknown",
     "below-numbers": "g right, g wrong|unknown",

@@ -14,9 +14,8 @@ Options:
   --deny                 status 1 unless each rule is right at all widths
   --expect FILE          status 1 unless each rule is right but those that FILE names: each of its lines begins the line
                          that is told of one, as 'wrong: rule at a.isle:7 of f'
-  --format FORMAT        json: all questions, as without this option; or with --answers what is said of each rule. smt: the
-                         text of the one question about the rule of --rule, for a solver. open: the texts that lack an
-                         answer, as records. asked: all texts that are asked, as records
+  --format FORMAT        json: all questions, as without this option; or with --answers what is said of each rule. open: the
+                         texts that lack an answer, as records. asked: all texts that are asked, as records
   -C FOLDER              looks for files in this folder
   --help
 

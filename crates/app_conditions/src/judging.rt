@@ -127,7 +127,7 @@ impl<'a, 'f> Judge<'a, 'f> {
             self.push_without(out, rule, &mut counts)?;
         }
         for form in forms {
-            self.teller.push_if_unused(out, form)?;
+            self.teller.push_if_unused(out, form, forms)?;
         }
         counts.push(out)?;
         Ok(counts)

@@ -3,7 +3,6 @@
 #![tactic(auto)]
 
 mod calls;
-mod chosen;
 mod documents;
 mod forms;
 mod help;

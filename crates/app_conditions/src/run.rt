@@ -5,12 +5,11 @@ ghost use Rattle.app_conditions.specs.Accepted.{AreAcceptedTexts, IsMadeOf, IsRe
 ghost use Rattle.app_command.specs.Readings.{none_without, AreOfTexts};
 ghost use Rattle.cranelift_isle.specs.SyntaxViews.{definition_views};
 
-use crate::chosen::{Chosen, only_question};
 use crate::documents::{document_of_questions, document_of_verdicts};
 use crate::help::HELP;
 use crate::judging::{Judge, wrong_places};
 use crate::reading::{Said, Texts, definitions_in, said_in, texts_of};
-use crate::told::{Teller, text_for_solver};
+use crate::told::Teller;
 use crate::words::{ConditionsRequest, QuestionFormat, ask_for_help, conditions_by};
 use app_command::project::find_files;
 use app_command::reading::Reading;
@@ -36,8 +35,8 @@ use text_reader::syntax::VerificationForm;
 /// Runs `isle conditions`: `words` are the words behind it, `input` is standard input, and the answer is the status.
 ///
 /// 0: what is asked is on `out`: questions, or what is told of rules, none of which is wrong. 1: a text, a definition or a spec is
-/// wrong, or there isn't one question where one is asked about, as `err` says; or a rule is wrong, as `out` says. 2: the words ask nothing,
-/// and `err` says why. 3: memory was refused. 4: a file can't be read, or `out` can't be written.
+/// wrong, or no rule is called so, as `err` says; or a rule is wrong, as `out` says. 2: the words ask nothing, and `err` says why. 3:
+/// memory was refused. 4: a file can't be read, or `out` can't be written.
 pub fn run<R: std::rt::Files + AllocGlobal, I: Read + Drop, O: Write, E: Write>(
     rt: &R,
     words: &[String],
@@ -83,7 +82,7 @@ fn wrong_words<E: Write>(alloc: Global, why: &str, err: &mut E) -> u8
     }
 }
 
-// Writes the questions about the rules of files, or what an answer says of one.
+// Writes the questions about the rules of files, or what answers say of them.
 fn run_conditions<R: std::rt::Files + AllocGlobal, I: Read + Drop, O: Write, E: Write>(
     rt: &R,
     asked: &ConditionsRequest<'_>,
@@ -274,7 +273,7 @@ fn made_for(
     }
 }
 
-// What is made of questions: what answers say of their rules, a text for a solver, or their document.
+// What is made of questions: what answers say of their rules, or their document.
 fn made_with(
     alloc: Global,
     asked: &ConditionsRequest<'_>,
@@ -291,23 +290,10 @@ fn made_with(
         lowered,
     };
     match (asked.answers, asked.format) {
-        (None, Some(QuestionFormat::Smt)) => made_of_one(teller, asked, found),
         (None, None | Some(QuestionFormat::Json)) => {
             Ok(Made::Text(document_of_questions(alloc, files, lowered, forms, found)?))
         }
         _ => made_by_answers(teller, asked, texts, forms, found),
-    }
-}
-
-// The text of a question for a solver.
-fn made_of_one(
-    teller: Teller<'_, '_>,
-    asked: &ConditionsRequest<'_>,
-    found: &Questions,
-) -> Result<Made, AllocError> {
-    match only_question(teller, asked.rule.unwrap_or("_"), found)? {
-        Chosen::Only(question) => Ok(Made::Text(text_for_solver(teller.alloc, question)?)),
-        Chosen::Not(why) => Ok(Made::Wrong(why)),
     }
 }
 

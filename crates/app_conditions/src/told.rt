@@ -3,7 +3,7 @@
 use crate::calls::Given;
 use cranelift_isle::lower::Lowered;
 use cranelift_isle::sema::{ExtractorKind, RuleId, TermId, TermKind};
-use cranelift_isle::syntax::{Ident, Pos};
+use cranelift_isle::syntax::{Ident, Pattern, Pos};
 use report_print::lines::{FileLines, file_name};
 use report_queries::names::{rule_name, term_name};
 use spec_questions::questions::Question;
@@ -122,54 +122,61 @@ impl<'a, 'f> Teller<'a, 'f> {
         write!(out, "{file}:{number}")
     }
 
-    /// Adds a line where a list is a spec that isn't used, since its term is an internal extractor.
+    /// Adds a line where one of these lists is a spec of an internal extractor that isn't used.
     pub(crate) fn push_if_unused(
         self,
         out: &mut String,
         form: &VerificationForm,
+        forms: &[VerificationForm],
     ) -> Result<(), AllocError> {
         match form {
-            VerificationForm::Spec(said) if is_replaced(self.lowered, &said.term) => {
+            VerificationForm::Spec(said) if is_replaced(self.lowered, &said.term, forms) => {
                 let name = &said.term.0;
                 write!(out, "warning: the spec of `{name}` at ")?;
                 self.push_place(out, said.term.1)?;
                 out.push_str(
-                    " isn't used: an internal extractor is replaced by what it stands for\n",
+                    " isn't used: the extractor that its template calls has one of its own\n",
                 )
             }
             _ => Ok(()),
         }
     }
+}
 
-    /// Adds which rule this is in a line of its own.
-    pub(crate) fn push_line(
-        self,
-        out: &mut String,
-        rule: RuleId,
-        pos: Pos,
-        term: TermId,
-    ) -> Result<(), AllocError> {
-        out.push_str("  ")?;
-        self.push_rule(out, rule, pos, term)?;
-        out.push('\n')
+// Whether a term of this name is an internal extractor, and no constructor, and questions speak of what its template calls by another
+// one of these specs.
+fn is_replaced(lowered: &Lowered, name: &Ident, forms: &[VerificationForm]) -> bool {
+    match template_of(lowered, name) {
+        Some(Pattern::Term { sym, .. }) => {
+            template_of(lowered, sym).is_none() && forms.iter().any(|form| is_spec_of(form, sym))
+        }
+        _ => false,
     }
 }
 
-// Whether a term of this name is an internal extractor, and no constructor.
-fn is_replaced(lowered: &Lowered, name: &Ident) -> bool {
+// The template of a term of this name that is an internal extractor, and no constructor.
+fn template_of<'a>(lowered: &'a Lowered, name: &Ident) -> Option<&'a Pattern> {
     for term in &lowered.termenv.terms {
         if lowered.tyenv.text_of(term.name) == name.0.as_str() {
-            return matches!(
-                &term.kind,
+            return match &term.kind {
                 TermKind::Decl {
                     constructor_kind: None,
-                    extractor_kind: Some(ExtractorKind::InternalExtractor { .. }),
+                    extractor_kind: Some(ExtractorKind::InternalExtractor { template }),
                     ..
-                }
-            );
+                } => Some(template),
+                _ => None,
+            };
         }
     }
-    false
+    None
+}
+
+// Whether a list is a spec of a term of this name.
+fn is_spec_of(form: &VerificationForm, name: &Ident) -> bool {
+    match form {
+        VerificationForm::Spec(said) => said.term.0.as_str() == name.0.as_str(),
+        _ => false,
+    }
 }
 
 // Adds the values of a rule's variables, what it gives, and what its spec wants.

@@ -1,8 +1,5 @@
 //! What `conditions` is asked by its words.
 
-ghost use Rattle.std.specs.Prelude.{◌≡◌, ◌↔◌, IfOk, IsSome, IsTrue, None};
-ghost use Rattle.app_conditions.specs.Asked.{IsOfOne};
-
 use app_command::words::{Unasked, wrong, wrong_as};
 use std::alloc::Global;
 
@@ -11,8 +8,6 @@ use std::alloc::Global;
 pub enum QuestionFormat {
     /// All that are asked about, as one JSON object: docs/JSON.md.
     Json,
-    /// The only one that is asked about, as a text for a solver.
-    Smt,
     /// The texts that lack an answer, as lines of a file of records.
     Open,
     /// All texts that verdicts rest on, in the same form.
@@ -74,7 +69,7 @@ pub fn ask_for_help(words: &[String]) -> bool {
 }
 
 /// What the words behind `conditions` ask: `-C FOLDER`, `--above`, `--rule RULE`, `--format FORMAT`, `--answers FILE`, `--deny`,
-/// `--expect FILE`, and files. A text for a solver is of one rule, so it goes with `--rule`.
+/// `--expect FILE`, and files.
 ///
 /// # Errors
 ///
@@ -82,9 +77,7 @@ pub fn ask_for_help(words: &[String]) -> bool {
 pub fn conditions_by<'a>(
     alloc: Global,
     words: &'a [String],
-) -> Result<ConditionsRequest<'a>, Unasked>
-    ensures { IfOk result (λ asked. IsOfOne asked → IsSome asked.rule) }
-{
+) -> Result<ConditionsRequest<'a>, Unasked> {
     let mut asked = ConditionsRequest {
         folder: "",
         above: false,
@@ -99,7 +92,7 @@ pub fn conditions_by<'a>(
     for word in words {
         awaited = asked.read(alloc, awaited, word.as_str())?;
     }
-    match asked.missing(awaited) {
+    match missing(awaited) {
         Some(why) => Err(wrong_as(alloc, why)),
         None => Ok(asked),
     }
@@ -109,50 +102,27 @@ pub fn conditions_by<'a>(
 fn format_of(alloc: Global, word: &str) -> Result<QuestionFormat, Unasked> {
     match word {
         "json" => Ok(QuestionFormat::Json),
-        "smt" => Ok(QuestionFormat::Smt),
         "open" => Ok(QuestionFormat::Open),
         "asked" => Ok(QuestionFormat::Asked),
         _ => Err(wrong(format!(in alloc;
-            "conditions has no format '{word}', but json, smt, open and asked"
+            "conditions has no format '{word}', but json, open and asked"
         ))),
     }
 }
 
+// What is missing behind the last word, where something is.
+fn missing(awaited: Awaited) -> Option<&'static str> {
+    match awaited {
+        Awaited::Folder => Some("nothing after '-C'"),
+        Awaited::Rule => Some("nothing after '--rule'"),
+        Awaited::Format => Some("nothing after '--format'"),
+        Awaited::Answers => Some("nothing after '--answers'"),
+        Awaited::Expected => Some("nothing after '--expect'"),
+        Awaited::Any => None,
+    }
+}
+
 impl<'a> ConditionsRequest<'a> {
-    // What is missing behind the last word, where something is.
-    fn missing(&self, awaited: Awaited) -> Option<&'static str>
-        ensures { result ≡ None → IsOfOne self.now → IsSome self.now.rule }
-    {
-        match awaited {
-            Awaited::Folder => Some("nothing after '-C'"),
-            Awaited::Rule => Some("nothing after '--rule'"),
-            Awaited::Format => Some("nothing after '--format'"),
-            Awaited::Answers => Some("nothing after '--answers'"),
-            Awaited::Expected => Some("nothing after '--expect'"),
-            Awaited::Any => self.lacking(),
-        }
-    }
-
-    // What is missing or too much where all words were read, where something is.
-    fn lacking(&self) -> Option<&'static str>
-        ensures { result ≡ None → IsOfOne self.now → IsSome self.now.rule }
-    {
-        if self.answers.is_some() && self.is_of_one() {
-            return Some("'--answers' and '--format smt' don't go together");
-        }
-        if self.is_of_one() && self.rule.is_none() {
-            return Some("no rule to ask about, by '--rule'");
-        }
-        None
-    }
-
-    /// Whether a single question is asked about.
-    pub fn is_of_one(&self) -> bool
-        ensures { IsTrue result ↔ IsOfOne self.now }
-    {
-        self.format == Some(QuestionFormat::Smt)
-    }
-
     // Reads a word, and answers what is awaited then.
     fn read(&mut self, alloc: Global, awaited: Awaited, word: &'a str) -> Result<Awaited, Unasked> {
         match awaited {

@@ -150,9 +150,9 @@ const OPERATORS: [(&str, Operator, Group); 46] = [
 
 /// The operator of a word, and its group.
 pub fn operator_of(word: &str) -> Option<(Operator, Group)> {
-    for (name, operator, group) in OPERATORS {
-        if name == word {
-            return Some((operator, group));
+    for (name, operator, group) in &OPERATORS {
+        if name.len() == word.len() && *name == word {
+            return Some((*operator, *group));
         }
     }
     None
@@ -161,9 +161,9 @@ pub fn operator_of(word: &str) -> Option<(Operator, Group)> {
 impl Operator {
     /// The word of the operator in a spec.
     pub fn word(self) -> &'static str {
-        for (name, operator, _) in OPERATORS {
-            if operator == self {
-                return name;
+        for (name, operator, _) in &OPERATORS {
+            if *operator == self {
+                return *name;
             }
         }
         ""

@@ -103,6 +103,18 @@ struct Extension {
     is_demanded: bool,
 }
 
+// The numbers that an unknown word may be where a truth value is so, and where it isn't, as bits: one for each number, and the last one
+// for all further numbers.
+#[derive(Clone, Copy)]
+struct Cases {
+    of: NodeId,
+    so: u128,
+    not_so: u128,
+}
+
+// Each number.
+const ANY_NUMBER: u128 = u128::MAX;
+
 /// The formulas of a condition.
 pub struct Terms {
     alloc: Global,
@@ -110,6 +122,12 @@ pub struct Terms {
     pub nodes: Vec<Node>,
     /// What each stands for.
     pub sorts: Vec<Sort>,
+    // What each says of the number of an unknown word, if it is a truth value that speaks of one.
+    cases: Vec<Option<Cases>>,
+    // The numbers that unknown words may be by what is assumed.
+    possible: Vec<(NodeId, u128)>,
+    // Unknown words that are assumed to be equal to others, each with the last of these.
+    same: Vec<(NodeId, NodeId)>,
     /// The unknowns.
     pub unknowns: Vec<Unknown>,
     /// The unknown functions.
@@ -118,6 +136,8 @@ pub struct Terms {
     pub widths: Widths,
     // The integers that formulas are known to be.
     numbers: Vec<Option<i128>>,
+    // The integers that are made of others, or are widths of words, and weren't known when they were made, ascending.
+    integers: Vec<NodeId>,
     // Widths that follow from others, or from integers, and whether the rule demands it.
     rules: Vec<(WidthId, WidthRule, bool)>,
     // Words that others extend: the width that is no less, the other one, and whether the rule demands it.
@@ -134,10 +154,14 @@ impl Drop for Terms {
             alloc: _,
             nodes: _,
             sorts: _,
+            cases: _,
+            possible: _,
+            same: _,
             unknowns: _,
             functions: _,
             widths: _,
             numbers: _,
+            integers: _,
             rules: _,
             extended: _,
             is_demanded: _,
@@ -153,10 +177,14 @@ impl Terms {
             alloc,
             nodes: Vec::new(alloc),
             sorts: Vec::new(alloc),
+            cases: Vec::new(alloc),
+            possible: Vec::new(alloc),
+            same: Vec::new(alloc),
             unknowns: Vec::new(alloc),
             functions: Vec::new(alloc),
             widths: Widths::new(alloc),
             numbers: Vec::new(alloc),
+            integers: Vec::new(alloc),
             rules: Vec::new(alloc),
             extended: Vec::new(alloc),
             is_demanded: true,
@@ -220,12 +248,188 @@ impl Terms {
         *self.numbers.get(id.0)?
     }
 
-    /// The truth value that a formula is, if that is known.
+    /// The truth value that a formula is, if that is known, also by what is assumed of the number of a word.
     pub fn literal(&self, id: NodeId) -> Option<bool> {
-        match self.node(id) {
-            Some(Node::Truth(value)) => Some(*value),
+        if let Some(Node::Truth(value)) = self.node(id) {
+            return Some(*value);
+        }
+        let cases = self.cases_at(id)?;
+        let possible = self.possible(cases.of);
+        if possible & cases.so == 0 {
+            Some(false)
+        } else if possible & cases.not_so == 0 {
+            Some(true)
+        } else {
+            None
+        }
+    }
+
+    fn cases_at(&self, id: NodeId) -> Option<Cases> {
+        *self.cases.get(id.0)?
+    }
+
+    // The unknown word that stands for all that are assumed to be equal to this one.
+    fn one_of_same(&self, word: NodeId) -> NodeId {
+        for (known, one) in &self.same {
+            if *known == word {
+                return *one;
+            }
+        }
+        word
+    }
+
+    // The numbers that an unknown word may be.
+    fn possible(&self, word: NodeId) -> u128 {
+        let one = self.one_of_same(word);
+        for (known, numbers) in &self.possible {
+            if *known == one {
+                return *numbers;
+            }
+        }
+        ANY_NUMBER
+    }
+
+    // What a truth value that is made so says of the number of an unknown word.
+    fn cases_of(&self, node: &Node) -> Option<Cases> {
+        let Node::Apply(operator, parts) = node else {
+            return None;
+        };
+        if *operator == Operator::Equal {
+            return self.cases_of_equal(parts);
+        }
+        let of = self.word_of(parts)?;
+        let cases = match (*operator, parts.as_slice()) {
+            (Operator::Not, [a]) => opposite(self.cases_on(*a, of)),
+            (Operator::Implies, [a, b]) => {
+                either(opposite(self.cases_on(*a, of)), self.cases_on(*b, of))
+            }
+            (Operator::If, [c, a, b]) => chosen(
+                self.cases_on(*c, of),
+                self.cases_on(*a, of),
+                self.cases_on(*b, of),
+            ),
+            (Operator::And, _) => self.cases_of_all(parts, of),
+            (Operator::Or, _) => self.cases_of_any(parts, of),
+            _ => return None,
+        };
+        Some(cases)
+    }
+
+    // The first unknown word whose number truth values speak of.
+    fn word_of(&self, parts: &[NodeId]) -> Option<NodeId> {
+        for part in parts {
+            if let Some(cases) = self.cases_at(*part) {
+                return Some(cases.of);
+            }
+        }
+        None
+    }
+
+    // What a truth value says of the number of this word.
+    fn cases_on(&self, id: NodeId, of: NodeId) -> Cases {
+        match (self.node(id), self.cases_at(id)) {
+            (Some(Node::Truth(value)), _) => known_cases(of, *value),
+            (_, Some(cases)) if self.one_of_same(cases.of) == self.one_of_same(of) => cases,
+            _ => Cases {
+                of,
+                so: ANY_NUMBER,
+                not_so: ANY_NUMBER,
+            },
+        }
+    }
+
+    fn cases_of_all(&self, parts: &[NodeId], of: NodeId) -> Cases {
+        let mut all = known_cases(of, true);
+        for part in parts {
+            all = opposite(either(opposite(all), opposite(self.cases_on(*part, of))));
+        }
+        all
+    }
+
+    fn cases_of_any(&self, parts: &[NodeId], of: NodeId) -> Cases {
+        let mut any = known_cases(of, false);
+        for part in parts {
+            any = either(any, self.cases_on(*part, of));
+        }
+        any
+    }
+
+    // What it says of an unknown word that it is a number.
+    fn cases_of_equal(&self, sides: &[NodeId]) -> Option<Cases> {
+        let [a, b] = sides else {
+            return None;
+        };
+        let (of, number) = match (self.node(*a)?, self.node(*b)?) {
+            (Node::Unknown(_), Node::Word(number)) => (*a, *number),
+            (Node::Word(number), Node::Unknown(_)) => (*b, *number),
+            _ => return None,
+        };
+        // a word of eight bits or more has a bit for each number below 127, and no number is two of these
+        if self.width(of)? < 8 {
+            return None;
+        }
+        let so = bit_of(number)?;
+        Some(Cases {
+            of,
+            so,
+            not_so: ANY_NUMBER ^ so,
+        })
+    }
+
+    // Notes which numbers of a word an assumed fact leaves, or that it makes two words one.
+    fn note_numbers(&mut self, fact: NodeId) -> Result<(), NoCondition> {
+        if let Some((a, b)) = self.equal_unknowns(fact) {
+            let left = self.possible(a) & self.possible(b);
+            self.make_same(a, b)?;
+            return self.keep_possible(a, left);
+        }
+        match self.cases_at(fact) {
+            Some(cases) => self.keep_possible(cases.of, self.possible(cases.of) & cases.so),
+            None => Ok(()),
+        }
+    }
+
+    // The two unknown words that a fact makes equal.
+    fn equal_unknowns(&self, fact: NodeId) -> Option<(NodeId, NodeId)> {
+        let Node::Apply(Operator::Equal, sides) = self.node(fact)? else {
+            return None;
+        };
+        let [a, b] = sides.as_slice() else {
+            return None;
+        };
+        match (self.node(*a)?, self.node(*b)?, self.sort(*a)) {
+            (Node::Unknown(_), Node::Unknown(_), Sort::Word(_)) => Some((*a, *b)),
             _ => None,
         }
+    }
+
+    // Makes two unknown words one.
+    fn make_same(&mut self, a: NodeId, b: NodeId) -> Result<(), NoCondition> {
+        let one = self.one_of_same(a);
+        let other = self.one_of_same(b);
+        for entry in &mut self.same {
+            if entry.1 == other {
+                entry.1 = one;
+            }
+        }
+        self.same.push((other, one))?;
+        Ok(())
+    }
+
+    // Keeps only these numbers of a word.
+    fn keep_possible(&mut self, word: NodeId, left: u128) -> Result<(), NoCondition> {
+        if left == 0 {
+            return Err(NoCondition::Untaken);
+        }
+        let one = self.one_of_same(word);
+        for entry in &mut self.possible {
+            if entry.0 == one {
+                entry.1 = left;
+                return Ok(());
+            }
+        }
+        self.possible.push((one, left))?;
+        Ok(())
     }
 
     /// A new formula.
@@ -233,6 +437,15 @@ impl Terms {
         let id = NodeId(self.nodes.len());
         let number = self.number_of(&node);
         self.numbers.push(number)?;
+        if number.is_none() && sort == Sort::Integer && matches!(&node, Node::Apply(..)) {
+            self.integers.push(id)?;
+        }
+        let cases = if sort == Sort::Truth {
+            self.cases_of(&node)
+        } else {
+            None
+        };
+        self.cases.push(cases)?;
         self.nodes.push(node)?;
         self.sorts.push(sort)?;
         Ok(id)
@@ -447,25 +660,31 @@ impl Terms {
         a: NodeId,
         width: WidthId,
     ) -> Result<NodeId, NoCondition> {
-        let is_demanded = self.is_demanded;
         if let Sort::Word(old) = self.sort(a) {
-            self.extended.push(Extension {
+            let extension = Extension {
                 width,
                 old,
-                is_demanded,
-            })?;
+                is_demanded: self.is_demanded,
+            };
+            if self.widths.known(width).is_none() || self.widths.known(old).is_none() {
+                self.extended.push(extension)?;
+            } else {
+                self.check_extension(extension)?;
+            }
         }
         Ok(self.one(operator, a, Sort::Word(width))?)
     }
 
-    /// Notes that a formula is assumed, for the integers that are known by it.
+    /// Notes that a formula is assumed, for the integers and the numbers of words that are known by it.
     pub fn assume(&mut self, fact: NodeId) -> Result<(), NoCondition> {
         if let Some(Node::Apply(Operator::And, of)) = self.node(fact) {
             let parts = Vec::from_slice(self.alloc, of)?;
             for part in &parts {
+                self.note_numbers(*part)?;
                 self.assume_equal(*part)?;
             }
         }
+        self.note_numbers(fact)?;
         self.assume_equal(fact)
     }
 
@@ -516,33 +735,38 @@ impl Terms {
     // Whether words that extend others are as wide as these, as far as that is known.
     fn check_extensions(&self) -> Result<(), NoCondition> {
         for extension in &self.extended {
-            let width = self.widths.known(extension.width);
-            let old = self.widths.known(extension.old);
-            if let (Some(width), Some(old)) = (width, old) {
-                if width < old {
-                    return Err(self.unfit(extension.is_demanded));
-                }
-            }
+            self.check_extension(*extension)?;
         }
         Ok(())
     }
 
+    fn check_extension(&self, extension: Extension) -> Result<(), NoCondition> {
+        let width = self.widths.known(extension.width);
+        let old = self.widths.known(extension.old);
+        match (width, old) {
+            (Some(width), Some(old)) if width < old => Err(self.unfit(extension.is_demanded)),
+            _ => Ok(()),
+        }
+    }
+
     // Finds the integers that formulas are.
     fn settle_numbers(&mut self) {
-        for id in 0..self.nodes.len() {
-            let number = self.new_number(id);
-            if number.is_some() {
-                self.note_number(NodeId(id), number);
+        for place in 0..self.integers.len() {
+            if let Some(id) = self.integers.get(place).copied() {
+                let number = self.new_number(id);
+                if number.is_some() {
+                    self.note_number(id, number);
+                }
             }
         }
     }
 
     // The integer that a formula is, if that wasn't known before.
-    fn new_number(&self, id: usize) -> Option<i128> {
-        if self.number(NodeId(id)).is_some() {
+    fn new_number(&self, id: NodeId) -> Option<i128> {
+        if self.number(id).is_some() {
             return None;
         }
-        self.number_of(self.nodes.get(id)?)
+        self.number_of(self.node(id)?)
     }
 
     fn note_number(&mut self, id: NodeId, number: Option<i128>) {
@@ -575,8 +799,8 @@ impl Terms {
     // Finds the widths of words by integers that are known to be them. True if one was found.
     fn settle_words(&mut self) -> Result<bool, NoCondition> {
         let mut more = false;
-        for id in 0..self.nodes.len() {
-            if let Some((width, number)) = self.width_by_number(id) {
+        for place in 0..self.integers.len() {
+            if let Some((width, number)) = self.width_by_number(place) {
                 let Ok(found) = width_of(number) else {
                     return Err(NoCondition::Untaken);
                 };
@@ -587,10 +811,11 @@ impl Terms {
         Ok(more)
     }
 
-    // The open width that a known integer is, if it is one.
-    fn width_by_number(&self, id: usize) -> Option<(WidthId, i128)> {
-        let number = self.number(NodeId(id))?;
-        match self.nodes.get(id)? {
+    // The open width that a known integer is, if the one at this place among those that are made of others is one.
+    fn width_by_number(&self, place: usize) -> Option<(WidthId, i128)> {
+        let id = *self.integers.get(place)?;
+        let number = self.number(id)?;
+        match self.node(id)? {
             Node::Apply(Operator::WidthOf, of) => {
                 let width = self.word_width(*of.first()?)?;
                 Some((width, number))
@@ -651,6 +876,51 @@ impl Terms {
             },
             _ => None,
         }
+    }
+}
+
+// Of a truth value that is known.
+fn known_cases(of: NodeId, value: bool) -> Cases {
+    let so = Cases {
+        of,
+        so: ANY_NUMBER,
+        not_so: 0,
+    };
+    if value { so } else { opposite(so) }
+}
+
+// Where one of two truth values is so.
+fn either(a: Cases, b: Cases) -> Cases {
+    Cases {
+        of: a.of,
+        so: a.so | b.so,
+        not_so: a.not_so & b.not_so,
+    }
+}
+
+// Where a truth value isn't so.
+fn opposite(a: Cases) -> Cases {
+    Cases {
+        of: a.of,
+        so: a.not_so,
+        not_so: a.so,
+    }
+}
+
+// Where one of two truth values is so: the first where the condition is.
+fn chosen(condition: Cases, a: Cases, b: Cases) -> Cases {
+    Cases {
+        of: condition.of,
+        so: (condition.so & a.so) | (condition.not_so & b.so),
+        not_so: (condition.so & a.not_so) | (condition.not_so & b.not_so),
+    }
+}
+
+// The bit of a number. None for the numbers that share one.
+fn bit_of(number: i128) -> Option<u128> {
+    match u32::try_from(number) {
+        Ok(place) if place < 127 => Some(1u128 << place),
+        _ => None,
     }
 }
 

@@ -5,7 +5,7 @@ use Rattle.std.proofs.lemmas.List.{take_all}
 use Rattle.std.proofs.lemmas.List.Elements.{All-more}
 use Rattle.core_rule_sets.specs.declared.trie_again.Rule.{Rule}
 use Rattle.cranelift_isle.specs.declared.lower.LoweredTerm.{LoweredTerm}
-use Rattle.spec_values.specs.declared.specs.TermSpec.{TermSpec}
+use Rattle.spec_tables.specs.declared.specs.TermSpec.{TermSpec}
 use Rattle.spec_questions.specs.declared.questions.Questions.{Questions}
 use Rattle.spec_questions.specs.declared.questions.Wanted.{Wanted}
 use Rattle.spec_questions.specs.Telling.{AreTold, AreAllTold, KeepsTold, has_spec, is_told, is_wanted_at}

@@ -4,7 +4,7 @@ use Rattle.std.specs.List.{All, list_any}
 use Rattle.core_syntax.specs.declared.syntax.Pos.{Pos}
 use Rattle.core_rule_sets.specs.declared.trie_again.Rule.{Rule}
 use Rattle.cranelift_isle.specs.declared.lower.LoweredTerm.{LoweredTerm}
-use Rattle.spec_values.specs.declared.specs.TermSpec.{TermSpec}
+use Rattle.spec_tables.specs.declared.specs.TermSpec.{TermSpec}
 use Rattle.spec_questions.specs.declared.questions.RuleQuestions.{RuleQuestions}
 use Rattle.spec_questions.specs.declared.questions.Questions.{Questions}
 use Rattle.spec_questions.specs.declared.questions.Wanted.{Wanted}

@@ -17,15 +17,36 @@ impl<'a, 'b> Maker<'a, 'b> {
             return Err(self.no_spec(self.root.id));
         };
         let args = copied(self.builder.alloc, &self.args)?;
-        self.assume_list(spec, &args, None, &spec.required)
+        let always = self.builder.terms.truth(true)?;
+        self.assume_list(spec, &args, None, &spec.required, always)
     }
 
-    /// Assumes what is said of the calls among these sites, but for impure ones.
+    /// Assumes what is said of the calls among these sites, but for impure ones. Those that only test a value come first, since fewer arms
+    /// and widths may be taken then.
     pub(crate) fn assume_calls(&mut self, sites: &[usize]) -> Result<(), NoCondition> {
+        self.assume_calls_of(sites, true)?;
+        self.assume_calls_of(sites, false)
+    }
+
+    // Assumes what is said of the calls among these sites that only test a value, or of the others.
+    fn assume_calls_of(&mut self, sites: &[usize], are_tests: bool) -> Result<(), NoCondition> {
         for site in sites {
-            self.assume_call(*site)?;
+            if self.is_test(*site) == are_tests {
+                self.assume_call(*site)?;
+            }
         }
         Ok(())
+    }
+
+    // Whether a site calls an extractor that gives nothing and has a spec.
+    fn is_test(&self, site: usize) -> bool {
+        match self.sites.bindings.get(site) {
+            Some(Binding::Extractor { term, .. }) => match self.builder.specs.spec(*term) {
+                Some(spec) => spec.args.is_empty(),
+                None => false,
+            },
+            _ => false,
+        }
     }
 
     // Assumes what is said of the call at a site, if it is a pure one.
@@ -52,7 +73,7 @@ impl<'a, 'b> Maker<'a, 'b> {
         }
     }
 
-    // Assumes what is said of an extractor that answers: what it looks at is the result, and its outputs are the arguments.
+    // Assumes what is said of an extractor that answers.
     fn assume_extractor(
         &mut self,
         term: TermId,
@@ -60,14 +81,27 @@ impl<'a, 'b> Maker<'a, 'b> {
         site: usize,
     ) -> Result<(), NoCondition> {
         let Some(spec) = self.builder.specs.spec(term) else {
-            return Err(self.no_spec(term));
+            return self.assume_templates(term, parameter, site);
         };
-        let result = Some(self.sites.value_at(parameter)?);
+        let value = self.sites.value_at(parameter)?;
         let args = self.sites.outputs_at(site)?;
-        self.take_signature(term, &args, result)?;
-        self.assume_list(spec, &args, result, &spec.required)?;
-        self.assume_list(spec, &args, result, &spec.provides)?;
-        self.assume_list(spec, &args, result, &spec.matches)
+        self.assume_extracted(term, spec, &args, value)
+    }
+
+    /// Assumes what is said of an extractor that matches a value: that is its result, and what it gives are its arguments.
+    pub(crate) fn assume_extracted(
+        &mut self,
+        term: TermId,
+        spec: &'a Spec,
+        args: &[ValueId],
+        value: ValueId,
+    ) -> Result<(), NoCondition> {
+        let result = Some(value);
+        self.take_signature(term, args, result)?;
+        let always = self.builder.terms.truth(true)?;
+        self.assume_list(spec, args, result, &spec.required, always)?;
+        self.assume_list(spec, args, result, &spec.provides, always)?;
+        self.assume_list(spec, args, result, &spec.matches, always)
     }
 
     // Assumes what is said of a constructor that answers, where its arguments are as required.
@@ -147,8 +181,8 @@ impl<'a, 'b> Maker<'a, 'b> {
         given: ValueId,
         guard: NodeId,
     ) -> Result<(), NoCondition> {
-        self.assume_list_under(spec, args, given, &spec.provides, guard)?;
-        self.assume_list_under(spec, args, given, &spec.matches, guard)?;
+        self.assume_list(spec, args, Some(given), &spec.provides, guard)?;
+        self.assume_list(spec, args, Some(given), &spec.matches, guard)?;
         if self.take_result(term, args, given)? {
             return Ok(());
         }

@@ -7,8 +7,8 @@ use cranelift_isle::lower::{Lowered, LoweredTerm};
 use cranelift_isle::trie_again::Rule;
 use spec_formulas::faults::{NoCondition, missing};
 use spec_formulas::terms::{NodeId, Terms};
+use spec_tables::specs::Specs;
 use spec_values::builder::Builder;
-use spec_values::specs::Specs;
 use std::alloc::{AllocError, Global};
 
 /// Something that is to be shown.
@@ -120,6 +120,7 @@ pub(crate) fn condition_of(
         assumed: Vec::new(alloc),
         steps: Vec::new(alloc),
         is_certain: true,
+        within: Vec::new(alloc),
     };
     match maker.made(&term.rules.rules, choice) {
         Ok(outcome) => {

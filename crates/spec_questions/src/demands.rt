@@ -21,23 +21,36 @@ pub(crate) fn asked_by(alloc: Global, rule: &Rule) -> Result<Vec<BindingId>, All
     Ok(asked)
 }
 
-/// Which sites are at or below these. What a site is made of has smaller numbers.
+/// Which sites are at or below these, up to the last of these. What a site is made of has smaller numbers.
 pub(crate) fn needed_for(
     alloc: Global,
     bindings: &[Binding],
     of: &[BindingId],
 ) -> Result<Vec<bool>, AllocError> {
     let mut needed = Vec::new(alloc);
-    for _ in bindings {
+    for _ in 0..count_to(of) {
         needed.push(false)?;
     }
     mark(&mut needed, of);
-    for (site, binding) in bindings.iter().enumerate().rev() {
-        if is_marked(&needed, site) {
-            mark(&mut needed, binding.sources());
+    for site in (0..needed.len()).rev() {
+        if let Some(binding) = bindings.get(site) {
+            if is_marked(&needed, site) {
+                mark(&mut needed, binding.sources());
+            }
         }
     }
     Ok(needed)
+}
+
+// How many sites there are up to the last of these.
+fn count_to(sites: &[BindingId]) -> usize {
+    let mut count = 0usize;
+    for site in sites {
+        if count <= site.index() {
+            count = site.index().saturating_add(1);
+        }
+    }
+    count
 }
 
 fn mark(marks: &mut [bool], sites: &[BindingId]) {

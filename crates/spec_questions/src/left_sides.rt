@@ -137,11 +137,14 @@ impl<'a, 'b> Maker<'a, 'b> {
         Ok(())
     }
 
-    // Assumes that a rule doesn't match, unless it looks at a call that this rule doesn't make.
+    // Assumes that a rule doesn't match, unless it looks at a call that this rule doesn't make. Where it surely matches, that is what
+    // the question says.
     fn exclude_one(&mut self, rule: &Rule) -> Result<(), NoCondition> {
         if self.hold_parts(rule)? {
             let fact = self.sites.matches_not(&mut self.builder, rule, self.rule)?;
-            self.assume(fact)?;
+            if self.builder.terms.literal(fact) != Some(true) {
+                self.note_assumed(fact)?;
+            }
         }
         Ok(())
     }

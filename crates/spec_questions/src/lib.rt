@@ -15,6 +15,7 @@ pub mod replies;
 mod said;
 mod signatures;
 mod sites;
+mod templates;
 mod tokens;
 mod values;
 pub mod verdicts;

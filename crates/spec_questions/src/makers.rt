@@ -22,6 +22,8 @@ pub(crate) struct Maker<'a, 'b> {
     pub(crate) steps: Vec<Step>,
     // Whether what is assumed now is so wherever something is to be shown.
     pub(crate) is_certain: bool,
+    // The sites of extractors that the templates of internal extractors call whose specs are assumed.
+    pub(crate) within: Vec<usize>,
 }
 
 impl<'a, 'b> Drop for Maker<'a, 'b> {
@@ -35,6 +37,7 @@ impl<'a, 'b> Drop for Maker<'a, 'b> {
             assumed: _,
             steps: _,
             is_certain: _,
+            within: _,
         } = self;
     }
 }
@@ -51,6 +54,7 @@ impl<'a, 'b> Maker<'a, 'b> {
             assumed: _,
             steps,
             is_certain: _,
+            within: _,
         } = self;
         (builder.into_terms(), steps)
     }
@@ -72,8 +76,8 @@ impl<'a, 'b> Maker<'a, 'b> {
         Ok(())
     }
 
-    // Notes what is assumed: at first, or after the last impure call.
-    fn note_assumed(&mut self, fact: NodeId) -> Result<(), NoCondition> {
+    /// Notes what is assumed: at first, or after the last impure call.
+    pub(crate) fn note_assumed(&mut self, fact: NodeId) -> Result<(), NoCondition> {
         if self.is_certain {
             self.builder.terms.assume(fact)?;
         }

@@ -6,7 +6,7 @@ use crate::sites::Variable;
 use cranelift_isle::trie_again::{BindingId, Rule};
 use spec_formulas::faults::NoCondition;
 use spec_formulas::terms::{NodeId, Terms};
-use spec_values::models::ValueModel;
+use spec_tables::models::ValueModel;
 use std::alloc::{AllocError, Global};
 
 /// What is known once all is assumed: what is true of the values of enums beside what is assumed, and the widths and values

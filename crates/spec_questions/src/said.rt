@@ -10,15 +10,23 @@ use spec_values::values::ValueId;
 use std::mem;
 use text_reader::syntax::{Spec, SpecExpr};
 
+// What an expression of a spec says: that it is so, where it says something, and where its operands fit.
+#[derive(Clone, Copy)]
+struct Said {
+    is_so: NodeId,
+    defined: NodeId,
+    fitting: NodeId,
+}
+
 impl<'a, 'b> Maker<'a, 'b> {
-    // What an expression of a spec says of a call, and where it says something.
+    // What an expression of a spec says of a call.
     fn said(
         &mut self,
         spec: &'a Spec,
         args: &[ValueId],
         given: Option<ValueId>,
         expr: &'a SpecExpr,
-    ) -> Result<(NodeId, NodeId), NoCondition> {
+    ) -> Result<Said, NoCondition> {
         let mut scope = Scope::new(self.builder.alloc);
         if let Some(result) = given {
             scope.add("result", result)?;
@@ -27,82 +35,59 @@ impl<'a, 'b> Maker<'a, 'b> {
             scope.add(name.0.as_str(), *value)?;
         }
         self.builder.defined.clear();
-        let value = self.builder.says(&mut scope, expr, DEEPEST)?;
-        let defined = self.builder.all_defined()?;
-        let term = self.builder.truth_said(value, expr)?;
-        Ok((term, defined))
+        self.builder.fitting.clear();
+        let is_so = match self.builder.says(&mut scope, expr, DEEPEST) {
+            Ok(value) => self.builder.truth_said(value, expr)?,
+            Err(NoCondition::Nothing) => {
+                let nothing = self.builder.terms.truth(false)?;
+                self.builder.defined.push(nothing)?;
+                nothing
+            }
+            Err(fault) => return Err(fault),
+        };
+        Ok(Said {
+            is_so,
+            defined: self.builder.all_defined()?,
+            fitting: self.builder.all_fitting()?,
+        })
     }
 
-    /// Assumes what the expressions of a list say, if there is one.
+    /// Assumes what the expressions of a list say where a guard is true, if there is one.
     pub(crate) fn assume_list(
         &mut self,
         spec: &'a Spec,
         args: &[ValueId],
         given: Option<ValueId>,
         list: &'a Option<Vec<SpecExpr>>,
+        guard: NodeId,
     ) -> Result<(), NoCondition> {
         if let Some(exprs) = list {
             for expr in exprs {
-                self.assume_said(spec, args, given, expr)?;
+                let said = self.said(spec, args, given, expr);
+                self.assume_said(said, guard)?;
             }
         }
         Ok(())
     }
 
-    // Assumes what an expression says, where it says something. Where its operands don't fit, the rule isn't taken.
+    // Assumes what is said where a guard is true, as far as something is said. Where its operands don't fit, it isn't so.
     fn assume_said(
         &mut self,
-        spec: &'a Spec,
-        args: &[ValueId],
-        given: Option<ValueId>,
-        expr: &'a SpecExpr,
-    ) -> Result<(), NoCondition> {
-        match self.said(spec, args, given, expr) {
-            Ok((term, defined)) => {
-                let fact = self.builder.terms.implies(defined, term)?;
-                self.assume(fact)
-            }
-            Err(NoCondition::Nothing) => Ok(()),
-            Err(NoCondition::Unfit) => Err(NoCondition::Untaken),
-            Err(fault) => Err(fault),
-        }
-    }
-
-    /// Assumes what the expressions of a list say where a guard is true, if there is one.
-    pub(crate) fn assume_list_under(
-        &mut self,
-        spec: &'a Spec,
-        args: &[ValueId],
-        given: ValueId,
-        list: &'a Option<Vec<SpecExpr>>,
+        said: Result<Said, NoCondition>,
         guard: NodeId,
     ) -> Result<(), NoCondition> {
-        if let Some(exprs) = list {
-            for expr in exprs {
-                self.assume_under(spec, args, given, expr, guard)?;
+        let said = match said {
+            Ok(said) => said,
+            Err(NoCondition::Unfit) => {
+                let unmet = self.builder.terms.not(guard)?;
+                return self.assume(unmet);
             }
-        }
-        Ok(())
-    }
-
-    // Assumes what an expression says where a guard is true.
-    fn assume_under(
-        &mut self,
-        spec: &'a Spec,
-        args: &[ValueId],
-        given: ValueId,
-        expr: &'a SpecExpr,
-        guard: NodeId,
-    ) -> Result<(), NoCondition> {
-        let fact = match self.said(spec, args, Some(given), expr) {
-            Ok((term, defined)) => {
-                let said = self.builder.terms.implies(defined, term)?;
-                self.builder.terms.implies(guard, said)?
-            }
-            Err(NoCondition::Nothing) => return Ok(()),
-            Err(NoCondition::Unfit) => self.builder.terms.not(guard)?,
             Err(fault) => return Err(fault),
         };
+        let fits = self.builder.terms.implies(guard, said.fitting)?;
+        self.assume(fits)?;
+        let is_so = self.builder.terms.implies(said.defined, said.is_so)?;
+        let fact = self.builder.terms.implies(guard, is_so)?;
         self.assume(fact)
     }
 
@@ -141,13 +126,14 @@ impl<'a, 'b> Maker<'a, 'b> {
     }
 
     // That what was said is true.
-    fn shown_by(
-        &mut self,
-        said: Result<(NodeId, NodeId), NoCondition>,
-    ) -> Result<NodeId, NoCondition> {
+    fn shown_by(&mut self, said: Result<Said, NoCondition>) -> Result<NodeId, NoCondition> {
         match said {
-            Ok((term, defined)) => Ok(self.builder.terms.all(&[defined, term])?),
-            Err(NoCondition::Nothing | NoCondition::Unfit) => Ok(self.builder.terms.truth(false)?),
+            Ok(said) => Ok(
+                self.builder
+                    .terms
+                    .all(&[said.defined, said.fitting, said.is_so])?,
+            ),
+            Err(NoCondition::Unfit) => Ok(self.builder.terms.truth(false)?),
             Err(fault) => Err(fault),
         }
     }

@@ -1,8 +1,6 @@
 //! A condition that is being built: its formulas and values.
 
 use crate::expressions::pos_of;
-use crate::models::{ValueModel, without_model};
-use crate::specs::Specs;
 use crate::values::{SymbolicValue, ValueId, ValueShape, copied};
 use cranelift_isle::lower::Lowered;
 use cranelift_isle::sema::{Fields, TermId, Type, TypeId, Variant, VariantId};
@@ -10,6 +8,8 @@ use report_queries::names::sym_name;
 use spec_formulas::faults::{NoCondition, missing, wrong};
 use spec_formulas::operators::Operator;
 use spec_formulas::terms::{NodeId, Sort, Terms};
+use spec_tables::models::{ValueModel, without_model};
+use spec_tables::specs::Specs;
 use std::alloc::{AllocError, Global};
 use text_reader::syntax::SpecExpr;
 
@@ -33,6 +33,8 @@ pub struct Builder<'a> {
     unit: SymbolicValue,
     /// Where specs say something of the values that they are asked about: all of these are true.
     pub defined: Vec<NodeId>,
+    /// Where the operands of what they say fit: all of these are true.
+    pub fitting: Vec<NodeId>,
     // Which signature is taken at each call where several fit, and how many were taken.
     decisions: &'a [usize],
     decided: usize,
@@ -50,6 +52,7 @@ impl<'a> Drop for Builder<'a> {
             values: _,
             unit: _,
             defined: _,
+            fitting: _,
             decisions: _,
             decided: _,
         } = self;
@@ -73,6 +76,7 @@ impl<'a> Builder<'a> {
             values: Vec::new(alloc),
             unit: SymbolicValue::Unit,
             defined: Vec::new(alloc),
+            fitting: Vec::new(alloc),
             decisions,
             decided: 0,
         }
@@ -875,6 +879,13 @@ impl<'a> Builder<'a> {
         Ok(all)
     }
 
+    /// That the operands of what they say fit, since this was last empty.
+    pub fn all_fitting(&mut self) -> Result<NodeId, NoCondition> {
+        let all = self.terms.all(&self.fitting)?;
+        self.fitting.clear();
+        Ok(all)
+    }
+
     /// The truth value that an expression of a spec comes to.
     pub fn truth_said(&self, value: ValueId, expr: &SpecExpr) -> Result<NodeId, NoCondition> {
         match self.term_of(value) {
@@ -897,6 +908,7 @@ impl<'a> Builder<'a> {
             values: _,
             unit: _,
             defined: _,
+            fitting: _,
             decisions: _,
             decided: _,
         } = self;

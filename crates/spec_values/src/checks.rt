@@ -1,12 +1,12 @@
 //! Names in specs that stand for nothing.
 
 use crate::expressions::pos_of;
-use crate::models::ValueModel;
-use crate::specs::{ConstantModel, Specs};
 use core_syntax::syntax::{Ident, Pos};
 use cranelift_isle::lower::Lowered;
 use spec_formulas::faults::SpecError;
 use spec_formulas::operators::operator_of;
+use spec_tables::models::ValueModel;
+use spec_tables::specs::{ConstantModel, Specs};
 use std::alloc::{AllocError, Global};
 use text_reader::syntax::{Macro, Spec, SpecExpr};
 

@@ -93,10 +93,9 @@ impl<'a> Builder<'a> {
         let Type::Enum { variants, .. } = tyenv.types.get(ty.index())? else {
             return None;
         };
+        let sym = tyenv.intern(name)?;
         for variant in variants {
-            if tyenv.text_of(variant.name) == name.0.as_str()
-                || tyenv.text_of(variant.fullname) == name.0.as_str()
-            {
+            if variant.name == sym || variant.fullname == sym {
                 return Some(variant.id);
             }
         }

@@ -2,14 +2,14 @@
 
 use crate::builder::{Builder, DEEPEST_VALUE};
 use crate::checks::is_other;
-use crate::models::{ValueModel, said_model};
 use crate::values::{SymbolicValue, ValueId, ValueShape};
 use core_syntax::syntax::{Ident, Pos};
 use cranelift_isle::sema::{Fields, Term, TermId, TermKind, Type, TypeId, VariantId};
 use report_queries::names::type_name;
 use spec_formulas::faults::{NoCondition, wrong, wrong_as};
 use spec_formulas::operators::{Operator, operator_of};
-use spec_formulas::terms::{NodeId, Sort};
+use spec_formulas::terms::{NodeId, Sort, Terms};
+use spec_tables::models::{ValueModel, said_model};
 use std::alloc::{AllocError, Global};
 use std::mem;
 use text_reader::syntax::{Macro, ModelType, SpecExpr};
@@ -80,8 +80,10 @@ impl<'e> Scope<'e> {
 #[derive(Clone, Copy)]
 struct Arm {
     condition: NodeId,
-    // None where the spec says nothing.
+    // None where the spec says nothing, or what it says isn't so.
     gives: Option<ValueId>,
+    // Whether the spec says something.
+    is_said: bool,
 }
 
 // The arms of a case that may be taken, and the variants that arms name which say something.
@@ -95,6 +97,13 @@ impl Drop for Arms {
     fn drop(self) {
         let Arms { arms: _, named: _ } = self;
     }
+}
+
+// So many facts of each kind.
+#[derive(Clone, Copy, PartialEq, Eq)]
+struct Noted {
+    defined: usize,
+    fitting: usize,
 }
 
 // What is matched in the cases of a switch or a match.
@@ -598,7 +607,7 @@ impl<'a> Builder<'a> {
             is_match: op.0.as_str() == "match",
         };
         let found = self.arms_of(scope, matched, cases, fuel - 1)?;
-        let is_whole = self.are_all(value, &found.named) && all_give(&found.arms);
+        let is_whole = self.are_all(value, &found.named) && all_say(&found.arms);
         self.joined(&found.arms, is_whole, pos)
     }
 
@@ -640,7 +649,7 @@ impl<'a> Builder<'a> {
         let arm = self.arm_of_case(scope, matched, left, right, &found.arms, fuel);
         scope.shorten(len);
         let arm = arm?;
-        if matched.is_match && arm.gives.is_some() {
+        if matched.is_match && arm.is_said {
             if let Some(variant) = self.variant_in(matched.value, left) {
                 if is_among(&found.named, variant.index()) {
                     return Err(self.arm_twice(pos_of(left)));
@@ -675,11 +684,16 @@ impl<'a> Builder<'a> {
         before: &[Arm],
         fuel: usize,
     ) -> Result<Arm, NoCondition> {
+        let noted = self.noted();
         let condition = if matched.is_match {
             self.match_condition(scope, matched.value, left)?
         } else {
             self.switch_condition(scope, matched.value, left, fuel)?
         };
+        if noted != self.noted() {
+            let reached = self.behind(before)?;
+            self.guard_noted(noted, reached)?;
+        }
         let taken = self.taken_behind(before, condition)?;
         self.arm(scope, condition, taken, right, fuel)
     }
@@ -687,9 +701,15 @@ impl<'a> Builder<'a> {
     // Where an arm of this condition is taken behind others. Of two variants or keys at most one is met; any other value is met where
     // none of the others is.
     fn taken_behind(&mut self, before: &[Arm], condition: NodeId) -> Result<NodeId, AllocError> {
-        if self.terms.literal(condition) != Some(true) {
-            return Ok(condition);
+        if self.terms.literal(condition) == Some(true) {
+            self.behind(before)
+        } else {
+            Ok(condition)
         }
+    }
+
+    // That none of these arms is taken.
+    fn behind(&mut self, before: &[Arm]) -> Result<NodeId, AllocError> {
         let mut others = Vec::new(self.alloc);
         for arm in before {
             others.push(self.terms.not(arm.condition)?)?;
@@ -768,7 +788,7 @@ impl<'a> Builder<'a> {
         let mut covered = Vec::new(self.alloc);
         let mut before = self.terms.truth(true)?;
         for arm in arms {
-            if arm.gives.is_some() {
+            if arm.is_said {
                 covered.push(self.both(before, arm.condition)?)?;
             }
             let other = self.terms.not(arm.condition)?;
@@ -849,8 +869,10 @@ impl<'a> Builder<'a> {
         let otherwise = Arm {
             condition: self.terms.truth(true)?,
             gives: second.gives,
+            is_said: second.is_said,
         };
-        self.joined(&[first, otherwise], false, pos)
+        let is_whole = first.is_said && second.is_said;
+        self.joined(&[first, otherwise], is_whole, pos)
     }
 
     // What an arm gives, where it may be taken: behind earlier arms it is taken where `taken` is true.
@@ -870,9 +892,10 @@ impl<'a> Builder<'a> {
             return Ok(Arm {
                 condition,
                 gives: None,
+                is_said: false,
             });
         }
-        let before = self.defined.len();
+        let before = self.noted();
         if self.terms.literal(taken) == Some(true) {
             let said = self.says(scope, body, fuel - 1);
             return self.arm_said(before, condition, taken, said);
@@ -886,52 +909,60 @@ impl<'a> Builder<'a> {
         self.arm_said(before, condition, taken, said)
     }
 
-    // What an arm gives that says this. So many facts had to be true before it. An arm whose operands don't fit says nothing.
+    // How many facts are noted so far: where specs say something, and where their operands fit.
+    fn noted(&self) -> Noted {
+        Noted {
+            defined: self.defined.len(),
+            fitting: self.fitting.len(),
+        }
+    }
+
+    // What an arm gives that says this. So many facts were noted before it. Where an arm is taken whose operands don't fit, what the spec
+    // says isn't so.
     fn arm_said(
         &mut self,
-        before: usize,
+        before: Noted,
         condition: NodeId,
         taken: NodeId,
         said: Result<ValueId, NoCondition>,
     ) -> Result<Arm, NoCondition> {
         let is_sure = self.terms.literal(taken) == Some(true);
-        match said {
-            Ok(value) => {
-                self.guard_defined(before, taken)?;
-                Ok(Arm {
-                    condition,
-                    gives: Some(value),
-                })
+        let (gives, is_said) = match said {
+            Ok(value) => (Some(value), true),
+            Err(NoCondition::Unfit) if !is_sure => {
+                self.fitting.truncate(before.fitting);
+                let fits = self.terms.truth(false)?;
+                self.fitting.push(fits)?;
+                (None, true)
             }
-            Err(NoCondition::Unfit) if is_sure => Err(NoCondition::Unfit),
-            Err(NoCondition::Nothing | NoCondition::Unfit) => {
-                self.defined.truncate(before);
-                Ok(Arm {
-                    condition,
-                    gives: None,
-                })
-            }
-            Err(fault) => Err(fault),
+            Err(NoCondition::Nothing) => (None, false),
+            Err(fault) => return Err(fault),
+        };
+        if gives.is_none() {
+            self.defined.truncate(before.defined);
         }
+        self.guard_noted(before, taken)?;
+        Ok(Arm {
+            condition,
+            gives,
+            is_said,
+        })
     }
 
-    // What has to be true since then has to be so only where this is.
-    fn guard_defined(&mut self, before: usize, condition: NodeId) -> Result<(), NoCondition> {
-        for place in before..self.defined.len() {
-            self.guard_fact(place, condition)?;
-        }
-        Ok(())
-    }
-
-    // What has to be true at a place has to be so only where this is.
-    fn guard_fact(&mut self, place: usize, condition: NodeId) -> Result<(), AllocError> {
-        if let Some(fact) = self.defined.get(place).copied() {
-            let guarded = self.terms.implies(condition, fact)?;
-            if let Some(entry) = self.defined.get_mut(place) {
-                *entry = guarded;
-            }
-        }
-        Ok(())
+    // What was noted since then has to be true only where this is.
+    fn guard_noted(&mut self, before: Noted, condition: NodeId) -> Result<(), NoCondition> {
+        guard(
+            &mut self.terms,
+            &mut self.defined,
+            before.defined,
+            condition,
+        )?;
+        guard(
+            &mut self.terms,
+            &mut self.fitting,
+            before.fitting,
+            condition,
+        )
     }
 
     // Where an arm of a match is taken: a variant with names for its fields, a name for any other value, or `_`.
@@ -1092,6 +1123,24 @@ impl<'a> Builder<'a> {
     }
 }
 
+// The facts from a place on have to be true only where this is.
+fn guard(
+    terms: &mut Terms,
+    facts: &mut [NodeId],
+    before: usize,
+    condition: NodeId,
+) -> Result<(), NoCondition> {
+    for place in before..facts.len() {
+        if let Some(fact) = facts.get(place).copied() {
+            let guarded = terms.implies(condition, fact)?;
+            if let Some(entry) = facts.get_mut(place) {
+                *entry = guarded;
+            }
+        }
+    }
+    Ok(())
+}
+
 fn name_in(expr: &SpecExpr) -> Option<&str> {
     match expr {
         SpecExpr::Var { var, .. } => Some(var.0.as_str()),
@@ -1112,10 +1161,10 @@ fn scope_of<'e>(
     Ok(scope)
 }
 
-// Whether each arm says something.
-fn all_give(arms: &[Arm]) -> bool {
+// Whether the spec says something in each arm.
+fn all_say(arms: &[Arm]) -> bool {
     for arm in arms {
-        if arm.gives.is_none() {
+        if !arm.is_said {
             return false;
         }
     }

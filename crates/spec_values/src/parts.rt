@@ -1,11 +1,11 @@
 //! Parts of values, and what is known of a value that meets what a rule asks.
 
 use crate::builder::{Builder, DEEPEST_VALUE};
-use crate::models::ValueModel;
 use crate::values::{SymbolicValue, ValueId};
 use cranelift_isle::sema::{TypeId, VariantId};
 use spec_formulas::faults::{NoCondition, missing};
 use spec_formulas::terms::NodeId;
+use spec_tables::models::ValueModel;
 
 impl<'a> Builder<'a> {
     /// What an integer of a type stands for. None where the type's model has no integers and no words.
@@ -66,10 +66,9 @@ impl<'a> Builder<'a> {
             return Err(self.opaque());
         };
         let is = self.is_variant(value, variant)?;
-        if self.terms.literal(is) == Some(true) {
-            return Ok(());
+        if self.terms.literal(is) != Some(true) {
+            facts.push(is)?;
         }
-        facts.push(is)?;
         if let Some(fields) = self.fields_as(value, variant, DEEPEST_VALUE)? {
             self.replace(
                 value,
@@ -91,10 +90,9 @@ impl<'a> Builder<'a> {
         facts: &mut Vec<NodeId>,
     ) -> Result<(), NoCondition> {
         let equal = self.equal(value, wanted, DEEPEST_VALUE)?;
-        if self.terms.literal(equal) == Some(true) {
-            return Ok(());
+        if self.terms.literal(equal) != Some(true) {
+            facts.push(equal)?;
         }
-        facts.push(equal)?;
         if let Some(term) = self.term_of(wanted) {
             self.replace(value, SymbolicValue::Term(term));
         }
