@@ -1,4 +1,5 @@
 mod FileLines
+mod FreeVariables
 mod Grown
 mod GrownTexts
 mod HeldNames
