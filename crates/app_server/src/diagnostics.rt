@@ -98,10 +98,9 @@ pub fn told_files(alloc: Global, analyses: &[Analysis]) -> Result<Vec<String>, A
     Ok(told)
 }
 
-/// Where a report is told: of a list that isn't ended where it begins, else at the report's first place.
+/// Where a report is told: at its first place.
 pub fn place_of(report: &Report) -> Option<Pos> {
-    let number = if report.code == "unclosed-list" { 1 } else { 0 };
-    let label = report.labels.get(number).or(report.labels.first())?;
+    let label = report.labels.first()?;
     Some(label.pos)
 }
 

@@ -117,7 +117,11 @@ impl<'a> Readings<'a> {
         found: &mut Recovered,
     ) -> Result<(), AllocError> {
         for error in &found.errors {
-            self.reports.push(syntax_report(self.alloc, text, error)?)?;
+            let mut report = syntax_report(self.alloc, text, error)?;
+            if error.pos.offset < text.len() {
+                drop_end(&mut report);
+            }
+            self.reports.push(report)?;
         }
         for chunk in &chunks(self.alloc, text)? {
             if found
@@ -171,6 +175,13 @@ impl<'a> Readings<'a> {
             Some(lost) => lost.good.as_str(),
             None => older.get(begin..end).unwrap_or(""),
         }
+    }
+}
+
+// Takes away where the text ends, of a list that isn't ended: behind a part of a text, others follow.
+fn drop_end(report: &mut Report) {
+    if report.code == "unclosed-list" && report.labels.len() > 1 {
+        report.labels.remove(1);
     }
 }
 
