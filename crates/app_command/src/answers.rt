@@ -22,7 +22,7 @@ use crate::words::{Format, Request, Task};
 use cranelift_isle::lower::{Lowered, LoweredTerm, lower};
 use cranelift_isle::syntax::{Def, Error, Fault, Files};
 use report_errors::diagnosis::reports_of;
-use report_errors::explanation::{explanation, with_rules};
+use report_errors::explanation::{explanation, rule_names};
 use report_errors::term_sizes::stats;
 use report_json::documents::{
     DocumentPurpose, document_of_reports, document_of_sizes, document_of_terms,
@@ -30,8 +30,9 @@ use report_json::documents::{
 };
 use report_print::layout::push_reports;
 use report_print::lines::FileLines;
-use report_print::print::{TreeNames, print_bindings, print_block};
+use report_print::print::{Comments, print_term};
 use report_print::report::Report;
+use report_queries::texts::names_of;
 use report_warnings::kinds::is_one_of;
 use report_warnings::lints::warnings;
 use std::alloc::{AllocError, Global};
@@ -538,17 +539,12 @@ fn tree(
 ) -> Result<String, AllocError>
     ensures { IfOk result (λ text. 0 < string_len text) }
 {
-    let names = TreeNames {
-        syms: &lowered.tyenv.syms,
-        types: &lowered.tyenv.types,
-        terms: &lowered.termenv.terms,
-    };
-    let mut printed = String::new(alloc);
-    print_bindings(&mut printed, names, &term.rules.bindings)?;
-    print_block(&mut printed, names, 2, &term.block)?;
-    let steps = with_rules(alloc, lines, lowered, term, &printed)?;
-    let name = term_name(lowered, term);
-    format!(in alloc; "term {name}\n{steps}")
+    let rules = rule_names(alloc, term)?;
+    let mut out = String::new(alloc);
+    let comments = Comments::Rules(lines, &rules);
+    let (bindings, block) = (&term.rules.bindings, &term.block);
+    print_term(&mut out, names_of(lowered), comments, term.id, bindings, block)?;
+    Ok(out)
 }
 
 fn term_name<'a>(lowered: &'a Lowered, term: &LoweredTerm) -> &'a str {

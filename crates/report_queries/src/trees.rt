@@ -1,7 +1,7 @@
 //! The text of what definitions become.
 
 use cranelift_isle::lower::Lowered;
-use report_print::print::{TreeNames, print_term};
+use report_print::print::{Comments, TreeNames, print_term};
 use std::alloc::{AllocError, Global};
 
 // The text of all terms' trees.
@@ -13,7 +13,8 @@ pub(crate) fn trees(alloc: Global, lowered: &Lowered) -> Result<String, AllocErr
     };
     let mut out = String::new(alloc);
     for term in &lowered.terms {
-        print_term(&mut out, names, term.id, &term.rules.bindings, &term.block)?;
+        let (bindings, block) = (&term.rules.bindings, &term.block);
+        print_term(&mut out, names, Comments::Nothing, term.id, bindings, block)?;
     }
     Ok(out)
 }

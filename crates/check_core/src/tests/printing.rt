@@ -6,7 +6,7 @@ use cranelift_isle::syntax::{Error, Limit, Pos, Span};
 use cranelift_isle::trie_again::{Binding, BindingId, Constraint, TupleIndex};
 use report_print::errors::error_lines;
 use report_print::places::Places;
-use report_print::print::{TreeNames, print_bindings, print_block};
+use report_print::print::{Comments, TreeNames, print_bindings, print_block};
 use std::alloc::{AllocError, Global};
 use std::test::Fail;
 use text_reader::read;
@@ -72,7 +72,7 @@ fn printed(alloc: Global, bindings: &[Binding], block: &Block) -> Result<String,
     };
     let mut out = String::new(alloc);
     print_bindings(&mut out, names, bindings)?;
-    print_block(&mut out, names, 2, block)?;
+    print_block(&mut out, names, Comments::Nothing, 2, block)?;
     Ok(out)
 }
 
