@@ -22,7 +22,7 @@ use crate::words::{Format, Request, Task};
 use cranelift_isle::lower::{Lowered, LoweredTerm, lower};
 use cranelift_isle::syntax::{Def, Error, Fault, Files};
 use report_errors::diagnosis::reports_of;
-use report_errors::explanation::{explanation, rule_names};
+use report_errors::explanation::explanation;
 use report_errors::term_sizes::stats;
 use report_json::documents::{
     DocumentPurpose, document_of_reports, document_of_sizes, document_of_terms,
@@ -30,9 +30,8 @@ use report_json::documents::{
 };
 use report_print::layout::push_reports;
 use report_print::lines::FileLines;
-use report_print::print::{Comments, print_term};
 use report_print::report::Report;
-use report_queries::texts::names_of;
+use report_queries::trees::push_tree;
 use report_warnings::kinds::is_one_of;
 use report_warnings::lints::warnings;
 use std::alloc::{AllocError, Global};
@@ -539,11 +538,8 @@ fn tree(
 ) -> Result<String, AllocError>
     ensures { IfOk result (λ text. 0 < string_len text) }
 {
-    let rules = rule_names(alloc, term)?;
     let mut out = String::new(alloc);
-    let comments = Comments::Rules(lines, &rules);
-    let (bindings, block) = (&term.rules.bindings, &term.block);
-    print_term(&mut out, names_of(lowered), comments, term.id, bindings, block)?;
+    push_tree(&mut out, lines, lowered, term)?;
     Ok(out)
 }
 

@@ -6,14 +6,12 @@ use crate::names::{NameTables, rule_at};
 use crate::way_text::Sites;
 use crate::ways::Search;
 use cranelift_isle::lower::{Lowered, LoweredTerm};
-use cranelift_isle::sema::Sym;
-use cranelift_isle::syntax::{self, Def, Pos};
+use cranelift_isle::syntax::{self, Def};
 use cranelift_isle::trie_again::{Overlap, Rule};
 use report_print::layout::push_place;
 use report_print::lines::FileLines;
 use report_witness::conditions::{Conditions, conditions_of, given_of};
 use std::alloc::{AllocError, Global};
-use std::collections::BTreeMap;
 
 /// What is said of a rule that is called by its name, by that of its term, by the number of a line that it stands in, or by
 /// the end of its file's path, a colon and that number: its place, what it demands of the term's arguments, in its own words,
@@ -189,15 +187,4 @@ fn overlaps(rule: &Rule, other: &Rule) -> bool {
         Overlap::No => false,
         Overlap::Yes { .. } => true,
     }
-}
-
-/// The names of the rules of a term that have one, by their positions.
-pub fn rule_names(alloc: Global, term: &LoweredTerm) -> Result<BTreeMap<Pos, Sym>, AllocError> {
-    let mut names = BTreeMap::new(alloc);
-    for rule in &term.rules.rules {
-        if let Some(name) = rule.name {
-            names.insert(rule.pos, name)?;
-        }
-    }
-    Ok(names)
 }
