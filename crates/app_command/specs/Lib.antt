@@ -1,4 +1,5 @@
 pub mod Codes
+pub mod Compared
 pub mod Readings
 pub mod Statuses
 pub mod TaskAnswers

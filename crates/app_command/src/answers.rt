@@ -1,17 +1,17 @@
 //! What the command answers to texts.
 
-ghost use Rattle.std.specs.Prelude.{◌≡◌, ◌≢◌, ◌⊎◌, ◌≤◌, ◌<◌, true, false, [], length, is_none, map, string_bytes, string_len, IfOk, OnOk};
+ghost use Rattle.std.specs.Prelude.{◌≡◌, ◌==◌, ◌≢◌, ◌⊎◌, ◌≤◌, ◌<◌, true, false, [], length, is_none, map, string_bytes, string_len, IfOk, OnOk};
 ghost use Rattle.cranelift_isle.specs.SyntaxViews.{definition_views};
 ghost use Rattle.app_command.specs.declared.code.Code.{Code};
 ghost use Rattle.app_command.specs.declared.words.Task.TheVariants.{Lower};
 ghost use Rattle.app_command.specs.Codes.{IsAnswerOfCode, IsCode};
+ghost use Rattle.app_command.specs.Compared.{last_has_trees};
 ghost use Rattle.app_command.specs.TaskAnswers.{AreReports, AreTrees, HasNoReport, HasReport, IsDoneWithText, IsDoneWithoutText, IsFailed, IsRefusal, IsStatusOfWarnings, denies};
 ghost use Rattle.app_command.specs.TaskAnswers.{lowered_terms, AsksForAll, IsAnswerBy, IsAnswerToDefinitions, IsAnswerToOneReading, IsAnswerToReading, IsAnswerToTexts};
 ghost use Rattle.app_command.specs.Statuses.{IsStatusOfReading};
 
 use crate::calls::{Told, ran, told_why};
 use crate::code::{Code, code_or_stubs};
-use crate::comparison::{difference, differences};
 use crate::graphs::graph_of;
 use crate::printing::printed_texts;
 use crate::progress::Teller;
@@ -21,6 +21,7 @@ use crate::versions::answer_to_versions;
 use crate::words::{Format, Request, Task};
 use cranelift_isle::lower::{Lowered, LoweredTerm, lower};
 use cranelift_isle::syntax::{Def, Error, Fault, Files};
+use report_compare::departures;
 use report_errors::diagnosis::reports_of;
 use report_errors::explanation::explanation;
 use report_errors::term_sizes::stats;
@@ -29,7 +30,7 @@ use report_json::documents::{
     document_of_warnings,
 };
 use report_print::layout::push_reports;
-use report_print::lines::FileLines;
+use report_print::lines::{FileLines, file_name};
 use report_print::report::Report;
 use report_queries::trees::push_tree;
 use report_warnings::kinds::is_one_of;
@@ -433,16 +434,15 @@ fn compared<E: Write>(
 
 // Where the trees of the last file depart from these: in all terms, or the first line.
 fn compared_with(alloc: Global, all: bool, files: &Files, trees: &str) -> Result<Answer, AllocError>
-    ensures { IfOk result (λ a. IsDoneWithoutText a ⊎ IsFailed a) }
+    ensures answer { IfOk result (λ a. IsDoneWithoutText a ⊎ IsFailed a) }
+    // the status is 0 exactly where the file has just these trees
+    ensures same { IfOk result (λ a. (a.status == 0) ≡ last_has_trees (map string_bytes files.now.texts.items) trees.now) }
 {
-    let (Some(name), Some(text)) = (files.names.last(), files.texts.last()) else {
+    let Some(text) = files.texts.last() else {
         return Ok(accepted(alloc, String::new(alloc)));
     };
-    let err = if all {
-        differences(alloc, name, text, trees)?
-    } else {
-        difference(alloc, name, text, trees)?
-    };
+    let name = file_name(files, files.texts.len().saturating_sub(1));
+    let err = departures(alloc, name, text, trees, all)?;
     let status = if err.is_empty() { 0 } else { 1 };
     Ok(Answer {
         status,
