@@ -12,6 +12,9 @@ use std::alloc::{AllocError, AllocFailed, Global};
 use text_reader::errors::ReadFault;
 use text_reader::read;
 
+// May stand at the beginning of a file, and is no part of its first line.
+const BYTE_ORDER_MARK: &str = "\u{feff}";
+
 // What stands before a line where it is read: its words are the arguments on the right side of a rule.
 const BEFORE: &str = "(rule (run) (answer ";
 
@@ -74,13 +77,17 @@ pub fn read_answers(
 ) -> Result<ReadAnswers, AllocError> {
     let mut read = Vec::new(alloc);
     let mut wrong = String::new(alloc);
-    let mut begin = 0usize;
+    let text = file_text(lines.files(), file);
+    let (mut begin, text) = match text.strip_prefix(BYTE_ORDER_MARK) {
+        Some(rest) => (BYTE_ORDER_MARK.len(), rest),
+        None => (0usize, text),
+    };
     let at = Place {
         alloc,
         lowered,
         expand,
     };
-    for text in file_text(lines.files(), file).split('\n') {
+    for text in text.split('\n') {
         match at.push_line(text, &mut read) {
             Ok(()) => {}
             Err(Wrong::Memory) => return Err(AllocError),

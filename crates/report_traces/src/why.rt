@@ -48,7 +48,7 @@ pub struct Asking<'a, 'f> {
 ///
 /// # Errors
 ///
-/// There is no such rule, or a call that a demand needs has no answer.
+/// There is no such rule; or calls that demands need have no answers: then what is known of each rule is told too.
 pub fn why<'a, 'f>(
     asking: Asking<'a, 'f>,
     called: &str,
@@ -58,12 +58,18 @@ pub fn why<'a, 'f>(
     let found = Called::new(alloc, asking.lines.files(), called)?;
     let mut runs = Runs::new(alloc, asking.lowered, asking.lines, asking.replies, false);
     let mut out = String::new(alloc);
+    let mut lacking = String::new(alloc);
     for rule in &call.entry.rules.rules {
         if let Some(written) = rule_at(asking.defs, rule.pos) {
             if found.is(asking.lines.files(), written) {
-                push_answer(asking, &mut runs, call, (rule, written), &mut out)?;
+                let answer = push_answer(asking, &mut runs, call, (rule, written), &mut out);
+                push_lack(answer, &mut out, &mut lacking)?;
             }
         }
+    }
+    if !lacking.is_empty() {
+        out.push_str(lacking.trim_end())?;
+        return Err(TraceFault::Text(out));
     }
     if out.is_empty() {
         let env = &asking.lowered.termenv;
@@ -73,6 +79,22 @@ pub fn why<'a, 'f>(
         )));
     }
     Ok(out)
+}
+
+// Where it isn't known whether a rule is taken, adds that, and why, if that isn't told yet.
+fn push_lack(
+    answer: Result<(), TraceFault>,
+    out: &mut String,
+    lacking: &mut String,
+) -> Result<(), TraceFault> {
+    let Err(TraceFault::Text(why)) = answer else {
+        return answer;
+    };
+    out.push_str(": not known\n")?;
+    if !lacking.lines().any(|line| line == why.as_str()) {
+        write!(lacking, "{why}\n")?;
+    }
+    Ok(())
 }
 
 // Adds whether a rule is taken.
