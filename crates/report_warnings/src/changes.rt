@@ -1,5 +1,6 @@
 //! What changed between two versions of definitions: the trees of terms, and rules.
 
+use crate::changed_types::push_types;
 use crate::takers::{Taker, taker_of};
 use crate::versions::{Version, term_called, term_name};
 use cranelift_isle::lower::{Lowered, LoweredTerm};
@@ -39,7 +40,8 @@ struct Rules<'a, 'f> {
 }
 
 /// What changed from one version of definitions to another: for each term whose tree differs or whose rules do, which rules
-/// came, went or have another priority; and the terms that are new or gone. The empty text where nothing changed.
+/// came, went or have another priority; the terms that are new or gone; and the variants of types that are. The empty text where
+/// nothing changed.
 ///
 /// # Errors
 ///
@@ -50,6 +52,7 @@ pub fn changes(
     new: Version<'_, '_>,
 ) -> Result<String, AllocError> {
     let mut out = String::new(alloc);
+    push_types(&mut out, old.defs, new.defs)?;
     for term in &new.lowered.terms {
         push_term(alloc, old, new, term, &mut out)?;
     }
@@ -77,7 +80,7 @@ fn push_term(
     let had = tree_text(alloc, old.lowered, before)?;
     let has = tree_text(alloc, new.lowered, term)?;
     let same = had == has;
-    let rules = changes_of_rules(alloc, old, new, name)?;
+    let rules = changes_of_rules(alloc, old, new, name, same)?;
     if same && rules.is_empty() {
         return Ok(());
     }
@@ -91,15 +94,24 @@ fn tree_text(alloc: Global, lowered: &Lowered, term: &LoweredTerm) -> Result<Str
     let mut text = String::new(alloc);
     let names = names_of(lowered);
     let (bindings, block) = (&term.rules.bindings, &term.block);
-    print_term(&mut text, names, Comments::Nothing, term.id, bindings, block)?;
+    print_term(
+        &mut text,
+        names,
+        Comments::Nothing,
+        term.id,
+        bindings,
+        block,
+    )?;
     Ok(text)
 }
 
+// What changed of the rules of a term, or why else its trees aren't the same.
 fn changes_of_rules(
     alloc: Global,
     old: Version<'_, '_>,
     new: Version<'_, '_>,
     term: &str,
+    same: bool,
 ) -> Result<String, AllocError> {
     let before = rules_of(alloc, old.defs, term)?;
     let now = rules_of(alloc, new.defs, term)?;
@@ -115,6 +127,9 @@ fn changes_of_rules(
     rules.push_came(&mut out)?;
     rules.push_went(&mut out)?;
     rules.push_changed(&mut out)?;
+    if !same && out.is_empty() {
+        rules.push_reason(&mut out)?;
+    }
     Ok(out)
 }
 
@@ -172,6 +187,16 @@ impl<'a, 'f> Rules<'a, 'f> {
             }
         }
         Ok(())
+    }
+
+    // Adds why the trees of the same rules differ.
+    fn push_reason(self, out: &mut String) -> Result<(), AllocError> {
+        let mut pairs = self.before.iter().zip(self.now);
+        if pairs.all(|(before, told)| is_same(before, told)) {
+            out.push_str("  a term or a type that its rules name is declared otherwise\n")
+        } else {
+            out.push_str("  its rules stand in another order\n")
+        }
     }
 
     fn push_change(

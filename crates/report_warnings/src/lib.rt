@@ -2,6 +2,7 @@
 #![tactic(auto)]
 
 mod calls;
+mod changed_types;
 pub mod changes;
 mod constants;
 mod coverage;
