@@ -1,4 +1,6 @@
+mod RustCode
 mod TaskStatuses
 mod Texts
 mod TextsRead
 pub mod AllRead
+pub mod CodeMade

@@ -1,4 +1,5 @@
 pub mod Codes
 pub mod Readings
+pub mod RustCode
 pub mod Statuses
 pub mod TaskAnswers

@@ -2,11 +2,10 @@
 
 ghost use Rattle.std.specs.Prelude.{◌≡◌, ◌≢◌, ◌⊎◌, ◌≤◌, ◌<◌, true, false, [], length, is_none, map, string_bytes, string_len, IfOk, OnOk};
 ghost use Rattle.cranelift_isle.specs.SyntaxViews.{definition_views};
-ghost use Rattle.app_command.specs.declared.code.Code.{Code};
 ghost use Rattle.app_command.specs.declared.words.Task.TheVariants.{Lower};
-ghost use Rattle.app_command.specs.Codes.{IsAnswerOfCode, IsCode};
+ghost use Rattle.app_command.specs.Codes.{IsAnswerOfCode, IsAnswerOfRust};
 ghost use Rattle.app_command.specs.TaskAnswers.{AreReports, AreTrees, HasNoReport, HasReport, IsDoneWithText, IsDoneWithoutText, IsFailed, IsRefusal, IsStatusOfWarnings, denies};
-ghost use Rattle.app_command.specs.TaskAnswers.{lowered_terms, AsksForAll, IsAnswerBy, IsAnswerToDefinitions, IsAnswerToOneReading, IsAnswerToReading, IsAnswerToTexts};
+ghost use Rattle.app_command.specs.TaskAnswers.{AsksForAll, IsAnswerBy, IsAnswerToDefinitions, IsAnswerToOneReading, IsAnswerToReading, IsAnswerToTexts};
 ghost use Rattle.app_command.specs.Statuses.{IsStatusOfReading};
 
 use crate::calls::{Told, ran, told_why};
@@ -216,7 +215,7 @@ fn answer_to_lowered<E: Write>(
     lowered: &Lowered,
     teller: &mut Teller<'_, E>,
 ) -> Result<Answer, AllocError>
-    ensures { IfOk result (IsAnswerBy asked.now.task asked.now (lowered_terms lowered.now)) }
+    ensures { IfOk result (IsAnswerBy asked.now.task asked.now lowered.now) }
 {
     match asked.task {
         Task::Lower => trees(alloc, asked, files, defs, lowered, teller),
@@ -252,7 +251,7 @@ fn coded(
     files: &Files,
     lowered: &Lowered,
 ) -> Result<Answer, AllocError>
-    ensures { IfOk result (λ a. (code : Code) × IsCode code × IsAnswerOfCode code a) }
+    ensures { IfOk result (IsAnswerOfRust lowered.now asked.now.code asked.now.stubs) }
 {
     let code = code_or_stubs(alloc, files, lowered, &asked.code, asked.stubs)?;
     Ok(answer_of_code(alloc, code))
@@ -459,7 +458,7 @@ fn trees<E: Write>(
     lowered: &Lowered,
     teller: &mut Teller<'_, E>,
 ) -> Result<Answer, AllocError>
-    ensures { IfOk result (IsAnswerBy Lower asked.now (lowered_terms lowered.now)) }
+    ensures { IfOk result (IsAnswerBy Lower asked.now lowered.now) }
 {
     if let Some(name) = missing_term(asked.terms, lowered) {
         return missing(alloc, "term with rules", name);

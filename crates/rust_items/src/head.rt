@@ -1,5 +1,9 @@
 //! What comes before the first item.
 
+ghost use Rattle.std.specs.Prelude.{◌≡◌, ◌++◌, OnOk, string_bytes};
+ghost use Rattle.rust_items.specs.LineViews.{lines_view};
+ghost use Rattle.rust_items.specs.WrittenItems.{head_written, unless};
+
 use crate::lines::Lines;
 use crate::options::CodegenOptions;
 use std::alloc::AllocError;
@@ -27,11 +31,18 @@ pub fn push_head(
     out: &mut String,
     lines: &Lines<'_>,
     options: &CodegenOptions,
-) -> Result<(), AllocError> {
+) -> Result<(), AllocError>
+    ensures { OnOk result (string_bytes out.new ≡ string_bytes out.old ++ head_written (lines_view lines.now) options.now.exclude_global_allow_pragmas) }
+{
     out.push_str(FIRST)?;
     lines.push_files(out)?;
-    if !options.exclude_global_allow_pragmas {
-        out.push_str(ALLOWS)?;
-    }
+    push_allows(out, options.exclude_global_allow_pragmas)?;
     out.push_str(IMPORTS)
+}
+
+// Adds the attributes of a file, unless there are to be none.
+fn push_allows(out: &mut String, excluded: bool) -> Result<(), AllocError>
+    ensures { OnOk result (string_bytes out.new ≡ string_bytes out.old ++ unless excluded ALLOWS.now) }
+{
+    out.push_str(if excluded { "" } else { ALLOWS })
 }

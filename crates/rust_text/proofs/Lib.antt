@@ -1,7 +1,10 @@
 mod AddedSteps
 mod CalleeNumbers
+mod CodeOfTerms
+mod Expanded
 mod FieldSteps
 mod FieldTypes
+mod Fronts
 mod HexDigits
 mod IntegerTexts
 mod LabelSteps
@@ -10,6 +13,8 @@ mod PieceSteps
 mod PieceTexts
 mod PrintedTexts
 mod ProgramSteps
+mod WholeCode
 mod WholeNames
+mod WrittenFunctions
 mod WrittenSteps
 pub mod ClosedNames
