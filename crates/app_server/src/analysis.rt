@@ -7,6 +7,7 @@ use cranelift_isle::syntax::{Def, Fault};
 use report_errors::diagnosis::reports_of;
 use report_errors::syntax_report;
 use report_print::report::Report;
+use report_stack::deep_rule;
 use report_warnings::lints::warnings;
 use std::alloc::{AllocError, Global};
 use text_reader::errors::ReadFault;
@@ -35,8 +36,9 @@ impl Drop for Analysis {
     }
 }
 
-/// What files mean together. If a text can't be read, this alone is reported.
-pub fn analysis_of(alloc: Global, sources: Sources) -> Result<Analysis, AllocError> {
+/// What files mean together. If a text can't be read, this alone is reported; and so is a rule that takes more than `stack` bytes of
+/// stack.
+pub fn analysis_of(alloc: Global, sources: Sources, stack: usize) -> Result<Analysis, AllocError> {
     let mut defs = Vec::new(alloc);
     let mut reports = Vec::new(alloc);
     for (number, text) in sources.files.texts.iter().enumerate() {
@@ -44,7 +46,7 @@ pub fn analysis_of(alloc: Global, sources: Sources) -> Result<Analysis, AllocErr
     }
     let mut lowered = None;
     if reports.is_empty() {
-        lowered = lowered_of(alloc, &defs, &mut reports)?;
+        lowered = lowered_of(alloc, &defs, stack, &mut reports)?;
     }
     Ok(Analysis {
         sources,
@@ -79,8 +81,13 @@ fn read_text(
 fn lowered_of(
     alloc: Global,
     defs: &[Def],
+    stack: usize,
     reports: &mut Vec<Report>,
 ) -> Result<Option<Lowered>, AllocError> {
+    if let Some(report) = deep_rule(alloc, defs, true, stack)? {
+        reports.push(report)?;
+        return Ok(None);
+    }
     match lower(alloc, defs, true) {
         Ok(lowered) => {
             *reports = warnings(alloc, defs, &lowered, &[])?;

@@ -16,6 +16,7 @@ use crate::renaming::{prepared_at, renamed_at};
 use crate::replies::{Unsent, send_answer, send_log, send_refusal};
 use crate::session::{ServerStage, Session};
 use crate::sources::sources_of;
+use report_stack::size_of_stack;
 use serde_json::Value;
 use std::alloc::{AllocError, Global};
 use std::io::{Read, Write};
@@ -161,7 +162,7 @@ impl Server {
     // What the files mean.
     fn worked_out<R: std::rt::Files + AllocGlobal>(&self, rt: &R) -> Result<Analysis, AllocError> {
         let sources = sources_of(rt, &self.session.workspace, &self.session.documents)?;
-        analysis_of(self.alloc, sources)
+        analysis_of(self.alloc, sources, size_of_stack(rt))
     }
 
     // Tells the client what the files mean.
