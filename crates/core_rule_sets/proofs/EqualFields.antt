@@ -29,7 +29,7 @@ use Rattle.core_rule_sets.proofs.ClassHeads.{one_head, same_head}
 use Rattle.core_rule_sets.proofs.ClassTests.{in_one, is_or_joins, joined_too, joined_each, each_merged}
 use Rattle.core_rule_sets.proofs.FieldJoins.{same_parts}
 use Rattle.core_rule_sets.proofs.ListedParts.{made_number, one_number}
-use Rattle.core_rule_sets.proofs.SameBindings.{one_binding}
+use Rattle.core_rule_sets.specs.SameBindings.{one_binding}
 
 -- 1. fields of two sites, place by place
 abbrev OnePlace : (ℕ → SiteTerm) → (ℕ → SiteTerm) → List SiteTerm → List SiteTerm → SiteTerm → Type 0

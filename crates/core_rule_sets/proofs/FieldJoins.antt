@@ -14,7 +14,7 @@ use Rattle.core_rule_sets.specs.declared.trie_again.Binding.{Binding}
 use Rattle.core_rule_sets.specs.declared.trie_again.Binding.TheVariants as B
 use Rattle.core_rule_sets.specs.declared.closure_classes.Part.{Part}
 use Rattle.core_rule_sets.proofs.ClassHeads.{head_again}
-use Rattle.core_rule_sets.proofs.SameBindings.{one_binding}
+use Rattle.core_rule_sets.specs.SameBindings.{one_binding}
 
 -- one binding is one field of one site
 pub same_parts : (v w : Option VariantId) (s t i j : ℕ) → ghosts.eq (field_binding v s i) (field_binding w t j) ≡ true → (v ≡ w) × (s ≡ t) × (i ≡ j)

@@ -20,7 +20,6 @@ mod ListedParts
 mod NoEqualities
 mod NotedSites
 mod PartsAdded
-mod SameBindings
 mod SetsListed
 mod SideBySide
 mod TablesGrown

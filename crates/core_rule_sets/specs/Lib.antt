@@ -1,8 +1,10 @@
+pub mod BindingHashes
 pub mod Closings
 pub mod Endings
 pub mod FieldParts
 pub mod Listings
 pub mod Overlaps
+pub mod SameBindings
 pub mod SetLists
 pub mod SiteDemands
 pub mod SiteTables

@@ -2,6 +2,7 @@
 #![tactic(auto)]
 
 mod asked_sites;
+mod binding_hashes;
 pub mod bindings;
 mod class_lists;
 mod closing;

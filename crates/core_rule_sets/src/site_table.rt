@@ -11,6 +11,7 @@ use core_syntax::visit_fault::VisitFault;
 use core_types::VariantId;
 use std::alloc::{AllocError, Global};
 use std::collections::HashMap;
+use std::collections::hash_map::Entry;
 
 /// The binding sites of a term: each binding once, found by its equal and not by a walk.
 pub struct SiteTable {
@@ -67,9 +68,18 @@ impl SiteTable {
         ensures full { MayAdd self.old (site_view binding)
             → IfErr result (λ e. HasNoRoom (table_sites self.old) (table_sites self.new) (site_view binding) e × ForWantOfRoom (IsTable self.new) e) }
     {
-        match self.find(&binding) {
-            Some(number) => Ok(number),
-            None => self.push(binding),
+        match self.numbers.entry(binding)? {
+            Entry::Occupied(known) => Ok(*known.get()),
+            Entry::Vacant(new) => {
+                let Ok(number) = BindingId::try_from(self.bindings.len()) else {
+                    // gives the numbers back as they were
+                    let _binding = new.into_key();
+                    return Err(VisitFault::Limit(Limit::Sites));
+                };
+                self.bindings.push(copied(new.key())?)?;
+                new.insert(number);
+                Ok(number)
+            }
         }
     }
 
@@ -171,22 +181,6 @@ impl SiteTable {
             numbers: _,
         } = self;
         bindings
-    }
-
-    // The next number, for a binding that has no site.
-    fn push(&mut self, binding: Binding) -> Result<BindingId, VisitFault>
-        ensures added { MayAdd self.old (site_view binding) → IsAbsent (table_sites self.old) (site_view binding)
-            → IfOk result (λ n. AddsSite (table_sites self.old) (table_sites self.new) (site_view binding) n × IsTable self.new) }
-        ensures full { MayAdd self.old (site_view binding) → IsAbsent (table_sites self.old) (site_view binding)
-            → IfErr result (λ e. HasNoRoom (table_sites self.old) (table_sites self.new) (site_view binding) e × ForWantOfRoom (IsTable self.new) e) }
-    {
-        let Ok(number) = BindingId::try_from(self.bindings.len()) else {
-            return Err(VisitFault::Limit(Limit::Sites));
-        };
-        let copy = copied(&binding)?;
-        self.numbers.insert(copy, number)?;
-        self.bindings.push(binding)?;
-        Ok(number)
     }
 }
 

@@ -116,7 +116,7 @@ impl From<u16> for BindingId {
 
 /// What a binding site stands for: a value that rules make, or a part of one that they look at. Sites that it is made
 /// of have smaller numbers than its own. A site is found by its equal, so all that tells two values apart stands here.
-#[derive(Clone, Debug, PartialEq, Eq, Hash)]
+#[derive(Clone, Debug, PartialEq, Eq)]
 pub enum Binding {
     /// A truth value.
     ConstBool {

@@ -1,5 +1,5 @@
 use Rattle.std.proofs.Common.{sym, ◌∙◌}
-use Rattle.core_rule_sets.proofs.SameBindings.{one_view, one_binding}
+use Rattle.core_rule_sets.specs.SameBindings.{one_view, one_binding}
 use Rattle.core_rule_sets.proofs.rule_sets.is_same_binding.Goals as goal
 
 pub returns : goal.returns
