@@ -4,6 +4,7 @@ use crate::code::push_code;
 use crate::command::{push_command, push_files};
 use crate::questions::{push_answer, push_questions, push_verdicts};
 use crate::texts::push_text;
+use crate::writing::{push_laid, push_printed, push_sample};
 use cranelift_isle::syntax::Files;
 use std::alloc::{AllocError, Global};
 
@@ -23,10 +24,10 @@ impl<'a> Drop for Row<'a> {
 ///
 /// A row is a line that begins with `# `, behind it the row's name and its words, and the text of the file `a.isle` below it.
 /// A line that begins with `## ` and a name begins another file. What stands before the first row is passed over. The words
-/// are those of the command, or the first one is `code`, `files`, `tree`, `rules`, `shared`, `questions`, `verdicts` or `reply`. For
-/// these but `code` and `verdicts` only the first file is looked at. The text of a row `shared` has no answer, and stands before the
-/// text of each row `questions` or `verdicts` behind it. The last file of a row `verdicts` is a file of records. The text of a row
-/// `reply` is what a solver wrote, and that of a row `files` is a project file.
+/// are those of the command, or the first one is `code`, `files`, `tree`, `rules`, `laid`, `printed`, `sample`, `shared`, `questions`,
+/// `verdicts` or `reply`. For these but `code` and `verdicts` only the first file is looked at. The text of a row `shared` has no
+/// answer, and stands before the text of each row `questions` or `verdicts` behind it. The last file of a row `verdicts` is a file of
+/// records. The text of a row `reply` is what a solver wrote, and that of a row `files` is a project file.
 pub fn answers(alloc: Global, text: &str) -> Result<String, AllocError> {
     let mut out = String::new(alloc);
     let mut shared = String::new(alloc);
@@ -95,6 +96,9 @@ fn push_row(
         "reply" => push_answer(alloc, &words, text, out),
         "files" => push_files(alloc, &words, text, out),
         "code" => push_code(alloc, &words, &row.files, out),
+        "laid" => push_laid(alloc, text, out),
+        "printed" => push_printed(alloc, text, out),
+        "sample" => push_sample(alloc, &words, out),
         "tree" | "rules" => push_text(alloc, &words, text, out),
         _ => push_command(alloc, &words, &row.files, out),
     }
