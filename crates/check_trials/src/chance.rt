@@ -27,10 +27,4 @@ impl Chance {
     pub fn below(&mut self, limit: usize) -> usize {
         self.number().checked_rem(limit as u64).unwrap_or(0) as usize
     }
-
-    /// One of these, or None where there is none.
-    pub fn pick<T: Copy>(&mut self, from: &[T]) -> Option<T> {
-        let place = self.below(from.len());
-        from.get(place).copied()
-    }
 }
