@@ -2,7 +2,7 @@
 //! crate is proved once more for it.
 #![tactic(auto)]
 
-ghost use Rattle.std.specs.Prelude.{◌≡◌, ◌+◌, ◌++◌, ◌∷◌, [], ℕ, All, Bool, false, IfOk, length, List, OnErr, OnOk, sum_by, true};
+ghost use Rattle.std.specs.Prelude.{◌≡◌, ◌+◌, ◌++◌, ◌∷◌, [], ℕ, All, Bool, false, IfErr, IfOk, length, List, OnErr, OnOk, string_bytes, sum_by, true};
 ghost use Rattle.model.specs.claims.Environments.{AreReadable, AreRulesOf, HasTypedRules, IsElaborated, IsReadAs, TypesRead, program_of};
 ghost use Rattle.model.specs.claims.Refusals.{overlapping};
 ghost use Rattle.model.specs.lists.Elaborated.{TypedRules};
@@ -23,6 +23,9 @@ ghost use Rattle.core_rules.specs.ShownEnvs.{environment_shown_by};
 ghost use Rattle.cranelift_isle.specs.BuiltSets.{IsOfElaborated, ShowsElaborated};
 ghost use Rattle.cranelift_isle.specs.Checks.{IsChecked};
 ghost use Rattle.cranelift_isle.specs.Lowerings.{AreAccepted, IsLowered};
+ghost use Rattle.rust_items.specs.Faults.{TellsOf};
+ghost use Rattle.rust_text.specs.Settings.{setting_of_included};
+ghost use Rattle.rust_text.specs.WholeCode.{IsWholeCode, TellsNames};
 
 use core_overlap::overlap::report;
 use core_rule_sets::closure_classes::Part;
@@ -32,8 +35,9 @@ use cranelift_isle::disjointsets::DisjointSets;
 use cranelift_isle::lower::{Lowered, lower};
 use cranelift_isle::overlap::check;
 use cranelift_isle::sema::{TermEnv, TermId, TypeEnv};
-use cranelift_isle::syntax::{Def, Error, Fault, Pos};
+use cranelift_isle::syntax::{Def, Error, Fault, Files, Pos};
 use cranelift_isle::trie_again::{BindingId, RuleSet};
+use rust_text::code::{CodeError, rust_code};
 use std::alloc::{AllocError, Global};
 use std::collections::BTreeMap;
 use std::fmt::Debug;
@@ -148,4 +152,16 @@ pub fn lowered(alloc: Global, defs: &[Def], expand: bool) -> Result<Lowered, Fau
     ensures accepted { Answers result (AreAccepted (definition_views defs.now) expand) (IsLowered (definition_views defs.now) expand) }
 {
     lower(alloc, defs, expand)
+}
+
+/// `rust_code`.
+///
+/// # Errors
+///
+/// As it has them.
+pub fn code_of(alloc: Global, lowered: &Lowered, files: &Files) -> Result<String, CodeError>
+    ensures code { IfOk result (λ code. IsWholeCode lowered.now (setting_of_included lowered.now files.now) true (string_bytes code)) }
+    ensures wrong { IfErr result (λ e. TellsOf e (TellsNames lowered.now (setting_of_included lowered.now files.now).sources)) }
+{
+    rust_code(alloc, lowered, files)
 }

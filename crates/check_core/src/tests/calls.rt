@@ -9,7 +9,7 @@ use cranelift_isle::trie_again::BindingId;
 use report_queries::in_place::is_site_in_place;
 use report_queries::names::variant_name;
 use report_queries::positions::rules_named;
-use report_queries::texts::{names_of, print_binding};
+use report_queries::texts::{Comments, names_of, print_term};
 use report_queries::walk::steps;
 use std::alloc::{AllocError, Global};
 use std::process::Abort;
@@ -96,19 +96,20 @@ fn answers(rt: HostRuntime) -> Result<(), Fail> {
         let tree = term.block.clone()?;
         assert!(rt; tree == term.block && is_site_in_place(&term.rules, BindingId::from(1)));
         let text = text_of(rt.alloc(), &lowered, term)?;
-        assert_eq!(rt; text.as_str(), " arg 0; int 10 u8; 0 1 0");
+        assert_eq!(rt;
+            text.as_str(),
+            "term f\n  b0 = arg 0\n  b1 = int 10 u8\n  match b0\n    int 1 u8:\n      return b1\n  return b0\n 0 1 0"
+        );
     }
     Ok(())
 }
 
-// Each site of a term, then of each step the number of tests around it.
+// A term's tree, then of each step the number of tests around it.
 fn text_of(alloc: Global, lowered: &Lowered, term: &LoweredTerm) -> Result<String, AllocError> {
     let names = names_of(lowered);
     let mut text = String::new(alloc);
-    for binding in &term.rules.bindings {
-        print_binding(&mut text, names, binding)?;
-        text.push_str(";")?;
-    }
+    let bindings = &term.rules.bindings;
+    print_term(&mut text, names, Comments::Nothing, term.id, bindings, &term.block)?;
     for visit in &steps(alloc, &term.block)? {
         let depth = visit.depth();
         write!(text, " {depth}")?;
