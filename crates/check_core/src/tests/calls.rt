@@ -109,7 +109,14 @@ fn text_of(alloc: Global, lowered: &Lowered, term: &LoweredTerm) -> Result<Strin
     let names = names_of(lowered);
     let mut text = String::new(alloc);
     let bindings = &term.rules.bindings;
-    print_term(&mut text, names, Comments::Nothing, term.id, bindings, &term.block)?;
+    print_term(
+        &mut text,
+        names,
+        Comments::Nothing,
+        term.id,
+        bindings,
+        &term.block,
+    )?;
     for visit in &steps(alloc, &term.block)? {
         let depth = visit.depth();
         write!(text, " {depth}")?;
