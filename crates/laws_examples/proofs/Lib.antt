@@ -24,6 +24,7 @@ mod PickOrders
 mod PickedAnswers
 mod PickedNumber
 mod ReadLists
+mod ReadingSamples
 mod Refused
 mod ReportedOnce
 mod RulesPassed

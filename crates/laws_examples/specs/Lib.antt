@@ -31,6 +31,7 @@ pub mod PickedAnswers
 pub mod PickedNumber
 pub mod Prio
 pub mod Ranges
+pub mod ReadingSamples
 pub mod Refused
 pub mod ReportedOnce
 pub mod RulesBetween

@@ -10,6 +10,7 @@ ghost use Rattle.model.specs.rules.Outcome.{ended, failed, no_rule};
 ghost use Rattle.model.specs.trees.Collects.{LeavesNoCallUnused};
 ghost use Rattle.laws_examples.specs.Answered.{ExtractIsAnswered, LeftOverIsAnswered};
 ghost use Rattle.laws_examples.specs.Asked.{AllPremisesHold};
+ghost use Rattle.laws_examples.specs.ReadingSamples.{ReadingsAreJudged};
 ghost use Rattle.laws_examples.specs.RulesBetween.{between_sample};
 ghost use Rattle.laws_examples.specs.Chosen.{ExtractIsChosen, ExtractIsWithoutMulti};
 ghost use Rattle.laws_examples.specs.ConstEq.{ConstEqIsRespected, const_eq_sample};
@@ -643,3 +644,9 @@ pub fn text_premises_hold()
 {
     pure_functions_call_alike();
 }
+
+/// Two lists of tokens have one text where they don't stand in order, and two codes where names aren't apart.
+#[tactic(auto, using(crate::proofs::ReadingSamples::readings_are_judged_lem))]
+pub fn readings_are_judged()
+    ensures { ReadingsAreJudged }
+{}

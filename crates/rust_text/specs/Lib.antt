@@ -1,6 +1,7 @@
 pub mod Adding
 pub mod ClosedNames
 pub mod CodeOfTerms
+pub mod CodeReadOnce
 pub mod Expanded
 pub mod Fields
 pub mod Fronts
@@ -11,6 +12,7 @@ pub mod PrintedTexts
 pub mod ProgramFields
 pub mod ProgramNames
 pub mod ProgramTokens
+pub mod ReadOnceSample
 pub mod SettingViews
 pub mod Settings
 pub mod TokenViews

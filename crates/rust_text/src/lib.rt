@@ -11,11 +11,13 @@ ghost use Rattle.laws_code.specs.CodeChoices.{MeansItsSource};
 ghost use Rattle.laws_code.specs.TypedTrees.{IsWellMade};
 ghost use Rattle.rust_code.specs.CodeViews.{block_view};
 ghost use Rattle.rust_text.specs.CodeOfTerms.{EachTermIsInItsCode};
+ghost use Rattle.rust_text.specs.CodeReadOnce.{AnswersCodeIsReadOnce};
 ghost use Rattle.rust_text.specs.Fronts.{FrontsAreClosed};
 ghost use Rattle.rust_text.specs.LoweredCode.{IsItsCode, OfLowered};
 ghost use Rattle.rust_text.specs.OneReading.{CodeIsReadOnce, TextsAreReadOnce};
 ghost use Rattle.rust_text.specs.PrintedTexts.{EachTermHasItsPrintedText, PrintedTextsAreReadBack};
 ghost use Rattle.rust_text.specs.ProgramTokens.{WellNamedAreWrittenOnce};
+ghost use Rattle.rust_text.specs.ReadOnceSample.{SampleIsReadOnce};
 ghost use Rattle.rust_text.specs.WholeNames.{NamesAreClosed, NamesAreWhole};
 ghost use Rattle.rust_text.specs.WrittenOnce.{WrittenOnceAreApart};
 
@@ -168,3 +170,15 @@ pub fn code_is_read_once()
     well_named_are_written_once();
     names_are_whole();
 }
+
+/// So the code of an answer has one reading: none of its functions' bodies is read as two codes by tokens of its program.
+pub fn answers_code_is_read_once()
+    ensures { AnswersCodeIsReadOnce }
+{
+    texts_are_read_once();
+}
+
+/// A sample's names are told apart and tell what they name, and the tokens of its code are the program's.
+pub fn sample_is_read_once()
+    ensures { SampleIsReadOnce }
+{}
