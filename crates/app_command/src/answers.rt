@@ -22,7 +22,7 @@ use crate::words::{Format, Request, Task};
 use cranelift_isle::lower::{Lowered, LoweredTerm, lower};
 use cranelift_isle::syntax::{Def, Error, Fault, Files};
 use report_compare::departures;
-use report_errors::diagnosis::reports_of;
+use report_errors::diagnosis::{amount_wanted, reports_of};
 use report_errors::explanation::explanation;
 use report_errors::term_sizes::stats;
 use report_json::documents::{
@@ -209,8 +209,9 @@ pub(crate) fn refused<E: Write>(
     ensures { IfOk result (IsRefusal asked.now) }
 {
     teller.tell("explaining", "errors");
-    let found = reports_of(alloc, defs, asked.expand, errors, asked.wants_all())?;
-    refusal(alloc, asked, files, &found.reports, found.rest)
+    let amount = amount_wanted(asked.wants_all());
+    let found = reports_of(alloc, defs, asked.expand, errors, amount)?;
+    refusal(alloc, asked, files, &found.reports, found.rest.len())
 }
 
 // What is answered to definitions with trees.

@@ -12,7 +12,7 @@ use crate::progress::Teller;
 use crate::reading::{recovered_of, recovered_texts_have_no_mistake};
 use crate::words::Request;
 use cranelift_isle::syntax::Files;
-use report_errors::diagnosis::reports_of;
+use report_errors::diagnosis::{amount_wanted, reports_of};
 use report_errors::lost::{errors_beside, lost_parts, lost_report};
 use report_errors::syntax_report;
 use report_print::lines::file_text;
@@ -85,9 +85,10 @@ fn add_errors(
 {
     let mut lost = lost_parts(alloc, &files.texts, &found.errors)?;
     let errors = errors_beside(alloc, files, &mut found.defs, &mut lost, asked.expand)?;
-    let mut told = reports_of(alloc, &found.defs, asked.expand, &errors, asked.wants_all())?;
+    let amount = amount_wanted(asked.wants_all());
+    let mut told = reports_of(alloc, &found.defs, asked.expand, &errors, amount)?;
     reports.append(&mut told.reports)?;
-    Ok(told.rest)
+    Ok(told.rest.len())
 }
 
 /// A report for each mistake in the texts of files, at its place.

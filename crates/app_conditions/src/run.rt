@@ -18,7 +18,7 @@ use app_command::unread::reports_of_texts;
 use app_command::words::Unasked;
 use cranelift_isle::lower::{Lowered, lower};
 use cranelift_isle::syntax::{Def, Error, Fault, Files, Pos};
-use report_errors::diagnosis::reports_of;
+use report_errors::diagnosis::{Amount, reports_of};
 use report_errors::meant_rules::Called;
 use report_print::layout::{Layout, push_reports};
 use report_print::lines::FileLines;
@@ -200,7 +200,7 @@ fn made_of_all(
 fn refused(alloc: Global, files: &Files, defs: &[Def], errors: &[Error]) -> Result<Made, AllocError>
     ensures { IfOk result IsRefusal }
 {
-    let found = reports_of(alloc, defs, true, errors, false)?;
+    let found = reports_of(alloc, defs, true, errors, Amount::Few)?;
     Ok(Made::Wrong(text_of(alloc, files, &found.reports)?))
 }
 

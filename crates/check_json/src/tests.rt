@@ -130,57 +130,108 @@ fn what_a_document_says(rt: HostRuntime) -> Result<(), Fail> {
     Ok(())
 }
 
-// Texts with something to mend, and the code of the report whose first fix mends it.
-const TO_MEND: [(&str, &str); 17] = [
+// Texts with something to mend, and the code of the report that is mended by its fix of this number.
+const TO_MEND: [(&str, usize, &str); 25] = [
     (
         "unknown-constant",
+        0,
         "(extern const $ZERO u8) (decl f (u8) u8) (rule 1 (f $ZER) 1) (rule (f x) x)",
     ),
     (
         "unknown-term",
+        0,
         "(decl fox (u8) u8) (extern extractor fox fox) (decl f (u8) u8) (rule ; foy\n (f (foy x)) x)",
     ),
     (
         "unknown-type",
+        0,
         "(decl f (u8) bool) (rule (f _) (let ((boool boool true)) boool))",
     ),
     (
         "unknown-type",
+        0,
         "(decl boool (boool) bool) (rule (boool x) x)",
     ),
     (
         "unknown-variable",
+        0,
         "(decl f (u8) u8) (rule (f value) valeu)",
     ),
     (
         "undeclared-term",
+        0,
         "(decl one (u8) u8) (extern constructor oen f)",
     ),
-    ("unknown-definition", "(rul (f x) x)(decl f (u8) u8)"),
-    ("syntax", "(decl prue f (u8) u8) (rule (f x) x)"),
-    ("syntax", "(decl f (u8) u8) (rule (f x) (iflet y x) y)"),
+    ("unknown-definition", 0, "(rul (f x) x)(decl f (u8) u8)"),
+    ("syntax", 0, "(decl prue f (u8) u8) (rule (f x) x)"),
+    ("syntax", 0, "(decl f (u8) u8) (rule (f x) (iflet y x) y)"),
     (
         "overlap",
+        0,
         "(decl f (u8 u8) u8) (rule (f x _) x) (rule (f 1 _) 10)",
     ),
     (
         "shadow",
+        0,
         "(decl f (u8) u8) (rule 1 (f x) x) (rule ; 0\n -1 (f 1) 10)",
     ),
     (
         "priority",
+        0,
         "(decl partial f (u8) u8) (rule ; 1\n 2 (f 1) 10)",
     ),
-    ("recursion", "(decl ;rec\n rec f (u8) u8) (rule (f x) x)"),
+    ("recursion", 0, "(decl ;rec\n rec f (u8) u8) (rule (f x) x)"),
     (
         "recursion",
+        0,
         "(decl f (u8) u8) (decl g (u8) u8) (rule (f x) (g x)) (rule (g x) (f x))",
     ),
-    ("uncovered", "(decl f (u8) u8) (rule (f 1) 2)"),
-    ("unused", "(decl partial f (u8) u8) (rule (f y @ 1) 2)"),
+    ("uncovered", 1, "(decl f (u8) u8) (rule (f 1) 2)"),
+    ("unused", 0, "(decl partial f (u8) u8) (rule (f y @ 1) 2)"),
     (
         "name",
+        0,
         "(type C (enum A B)) (decl partial f (C) u8) (rule (f C.A) 1)",
+    ),
+    (
+        "uncovered",
+        0,
+        "(type E (enum A B (C (x u8)))) (decl f (E) E) (rule (f (E.A)) (E.B)) (rule 3 (f (E.C x)) (E.C x))",
+    ),
+    (
+        "uncovered",
+        0,
+        "(decl pure partial g (u8) u8) (extern constructor g g) (type S (struct (a u8) (b bool))) (decl f (u8) S) (rule -2 (f x) (if-let y (g x)) (S y true))",
+    ),
+    (
+        "uncovered",
+        0,
+        "(type T (primitive T)) (decl g (u8) T) (extern constructor g g) (extern extractor g g) (decl f (T bool) T) (rule (f (g x) true) (g x)) (rule (f t false) t)",
+    ),
+    (
+        "unknown-term",
+        0,
+        "(type E (enum A B)) (decl f (E u8) E) (rule (f x y) (make x (E.A) true y))",
+    ),
+    (
+        "unknown-term",
+        0,
+        "(decl f (u16) u8) (decl half (u8) u8) (extern constructor half half) (rule (f (split x)) (half x)) (rule -1 (f _) 0)",
+    ),
+    (
+        "unknown-term",
+        0,
+        "(type E (enum A B)) (decl f (E) E) (rule (f x) (if-let (E.A) (other x)) x) (rule -1 (f x) x)",
+    ),
+    (
+        "undeclared-term",
+        0,
+        "(type E (enum A B)) (decl half (u8) u8) (extern constructor half half) (rule (g (E.A) x true) (half x))",
+    ),
+    (
+        "forbidden-term",
+        0,
+        "(decl multi g (u8) u8) (extern constructor g g) (decl f (u8) u8) (rule 3 (f 1) (g 1)) (rule a -2 (f x) (g x))",
     ),
 ];
 
@@ -196,11 +247,12 @@ fn report_of<'a>(value: &'a Value, code: &str) -> Option<&'a Value> {
     None
 }
 
-// What the first fix of a report makes of a text. Its edits stand in the order of the text.
-fn mended(alloc: Global, text: &str, report: &Value) -> Result<String, Fail> {
+// What the fix of a report of this number makes of a text. Its edits stand in the order of the text.
+fn mended(alloc: Global, text: &str, report: &Value, number: usize) -> Result<String, Fail> {
     let mut made = String::new(alloc);
     let mut at = 0usize;
-    let Some(edits) = report.pointer("/fixes/0/edits").and_then(Value::as_array) else {
+    let path = format!(in alloc; "/fixes/{number}/edits")?;
+    let Some(edits) = report.pointer(&path).and_then(Value::as_array) else {
         return Err(Fail::from("no edits"));
     };
     for edit in edits {
@@ -223,12 +275,12 @@ fn mended(alloc: Global, text: &str, report: &Value) -> Result<String, Fail> {
 #[test]
 fn fixes_mend(rt: HostRuntime) -> Result<(), Fail> {
     let alloc = rt.alloc();
-    for (code, text) in TO_MEND {
+    for (code, number, text) in TO_MEND {
         let value = document(&rt, alloc, "check --format json a.isle", text)?;
         let Some(report) = report_of(&value, code) else {
             return Err(Fail::from("no report"));
         };
-        let made = mended(alloc, text, report)?;
+        let made = mended(alloc, text, report, number)?;
         let value = document(&rt, alloc, "check --format json a.isle", &made)?;
         assert!(&rt;
             is_accepted(&value) && report_of(&value, code).is_none(),

@@ -1,6 +1,7 @@
 //! Where the things that errors speak of are defined.
 
 use core_syntax::syntax::{Decl, Def, Extern, Fields, Ident, Pos, Rule, Type, TypeValue, Variant};
+use std::alloc::{AllocError, Global};
 
 /// The declaration of a term: the first, where there are several.
 pub fn declaration_of<'a>(defs: &'a [Def], term: &str) -> Option<&'a Decl> {
@@ -118,6 +119,21 @@ pub fn constant_of<'a>(defs: &'a [Def], constant: &str) -> Option<&'a Extern> {
         }
     }
     None
+}
+
+/// The names of the constants that definitions define, in order, each with that of its type.
+///
+/// # Errors
+///
+/// Where memory is refused.
+pub fn constants_of(alloc: Global, defs: &[Def]) -> Result<Vec<(&Ident, &Ident)>, AllocError> {
+    let mut constants = Vec::new(alloc);
+    for def in defs {
+        if let Def::Extern(Extern::Const { name, ty, .. }) = def {
+            constants.push((name, ty))?;
+        }
+    }
+    Ok(constants)
 }
 
 /// Where a constant is defined.

@@ -1,6 +1,6 @@
 //! What is wrong with definitions, as reports.
 
-use crate::definitions::{declaration_of, root_of, rule_around};
+use crate::definitions::{constants_of, declaration_of, root_of, rule_around};
 use crate::error_order::{Order, place_of, words_of};
 use crate::meanings::meant_by;
 use crate::mentions::Mentions;
@@ -11,15 +11,18 @@ use crate::template_errors::{TemplateUse, add_use, use_at, uses_behind};
 use crate::terms_in_errors::is_of_multi;
 use crate::undefined_terms::add_uses;
 use crate::unmatched_templates::{Templates, report_of_template};
-use cranelift_isle::syntax::{Def, Error, Limit, Pos, Rule, Span};
-use report_print::report::{Level, Place, Report, Word};
+use cranelift_isle::syntax::{Decl, Def, Error, Limit, Pos, Rule, Span};
+use report_print::report::{Edit, Fix, Level, Place, Report, Word};
 use report_witness::forms::{ValueForm, push_form};
 use report_witness::witness::{Conflict, conflict_in, left_side, witness};
 use std::alloc::{AllocError, Global};
 use std::slice;
 
-// How many errors are reported, if not all are wanted.
+// How many errors are reported, if few are wanted.
 const MOST_ERRORS: usize = 20;
+
+// How many errors of a file are reported, if those of each file are wanted.
+const MOST_OF_FILE: usize = 100;
 
 // How many of the rules that overlap one are shown, if not all are wanted.
 const MOST_RULES: usize = 5;
@@ -38,12 +41,28 @@ struct Source<'a> {
     most_rules: usize,
 }
 
+/// How many errors are reported.
+#[derive(Clone, Copy, PartialEq, Eq)]
+pub enum Amount {
+    /// Each of them, in order, with all that is known of it.
+    All,
+    /// Causes before what follows from them, and only the first 20.
+    Few,
+    /// Causes before what follows from them, and of each file the first 100.
+    OfEachFile,
+}
+
+/// The amount that a reader wants who wants all, or doesn't.
+pub fn amount_wanted(wants_all: bool) -> Amount {
+    if wants_all { Amount::All } else { Amount::Few }
+}
+
 /// The reports of errors.
 pub struct Reports {
     /// A report for each error that is shown.
     pub reports: Vec<Report>,
-    /// How many more there are.
-    pub rest: usize,
+    /// The file of each of the others, by its number.
+    pub rest: Vec<usize>,
 }
 
 impl Drop for Reports {
@@ -55,17 +74,18 @@ impl Drop for Reports {
     }
 }
 
-/// The reports of the errors of lowering these definitions. If `all` are wanted, each error has one, in order. Else those have
-/// one that say no more than another one, causes before what follows from them, and rules that can't match only because of an
-/// internal extractor are told with the extractor, once; only the first 20 are shown, and only the first 5 rules that overlap a
+/// The reports of the errors of lowering these definitions. If all are wanted, each error has one, in order. Else those have
+/// none that say no more than another one, causes come before what follows from them, and rules that can't match only because of an
+/// internal extractor are told with the extractor, once; only the first ones are shown, and only the first 5 rules that overlap a
 /// rule. Overlaps are reported with what both rules match.
 pub fn reports_of(
     alloc: Global,
     defs: &[Def],
     expand: bool,
     errors: &[Error],
-    all: bool,
+    amount: Amount,
 ) -> Result<Reports, AllocError> {
+    let all = amount == Amount::All;
     let source = Source {
         alloc,
         defs,
@@ -88,9 +108,9 @@ pub fn reports_of(
         Templates::behind(alloc, defs, errors)?
     };
     let shown = templates.leading(alloc, &order.shown)?;
-    let most = if all { usize::MAX } else { MOST_ERRORS };
+    let chosen = Chosen::among(alloc, errors, &shown, amount)?;
     let mut reports = Vec::new(alloc);
-    for number in shown.iter().take(most) {
+    for number in &chosen.numbers {
         match templates.told_with(*number) {
             Some(one) => reports.push(report_of_template(alloc, defs, one)?)?,
             None => add_report(source, &mut reports, errors, &order, &uses, *number)?,
@@ -99,8 +119,89 @@ pub fn reports_of(
     for report in &mut reports {
         report.shorten()?;
     }
-    let rest = shown.len().saturating_sub(reports.len());
-    Ok(Reports { reports, rest })
+    Ok(Reports {
+        reports,
+        rest: chosen.into_rest(),
+    })
+}
+
+// Errors that are reported, by their numbers, and others.
+struct Chosen {
+    numbers: Vec<usize>,
+    // The file of each of these errors.
+    files: Vec<usize>,
+    // The file of each of the others.
+    rest: Vec<usize>,
+}
+
+impl Drop for Chosen {
+    fn drop(self) {
+        let Chosen {
+            numbers: _,
+            files: _,
+            rest: _,
+        } = self;
+    }
+}
+
+impl Chosen {
+    // Those of some errors that are reported, if this amount is.
+    fn among(
+        alloc: Global,
+        errors: &[Error],
+        numbers: &[usize],
+        amount: Amount,
+    ) -> Result<Chosen, AllocError> {
+        let mut chosen = Chosen {
+            numbers: Vec::new(alloc),
+            files: Vec::new(alloc),
+            rest: Vec::new(alloc),
+        };
+        for number in numbers {
+            let file = errors
+                .get(*number)
+                .and_then(begin_of_error)
+                .map_or(0, |pos| pos.file);
+            if chosen.has_room(amount, file) {
+                chosen.numbers.push(*number)?;
+                chosen.files.push(file)?;
+            } else {
+                chosen.rest.push(file)?;
+            }
+        }
+        Ok(chosen)
+    }
+
+    // Whether one more error of a file is reported.
+    fn has_room(&self, amount: Amount, file: usize) -> bool {
+        match amount {
+            Amount::All => true,
+            Amount::Few => self.numbers.len() < MOST_ERRORS,
+            Amount::OfEachFile => {
+                self.files.iter().filter(|other| **other == file).count() < MOST_OF_FILE
+            }
+        }
+    }
+
+    fn into_rest(self) -> Vec<usize> {
+        let Chosen {
+            numbers: _,
+            files: _,
+            rest,
+        } = self;
+        rest
+    }
+}
+
+/// Where an error begins.
+pub fn begin_of_error(error: &Error) -> Option<Pos> {
+    match error {
+        Error::TypeError { span, .. }
+        | Error::UnreachableError { span, .. }
+        | Error::LimitError { span, .. } => Some(span.from),
+        Error::OverlapError { rules, .. } => Some(rules.first()?.from),
+        Error::ShadowedError { shadowed, .. } => Some(shadowed.first()?.from),
+    }
 }
 
 // Adds the report of the error of a number.
@@ -147,22 +248,42 @@ fn add_multi(source: Source<'_>, report: &mut Report, rule: &Rule) -> Result<(),
         let text = format!(in source.alloc; "declare `{name}` multi in place of partial")?;
         return report.add_note("help", text);
     }
-    let text = format!(in source.alloc; "add `multi` to the declaration of `{name}`")?;
-    if source.defs.iter().any(|def| has_priority(def, name)) {
-        let text = format!(in source.alloc; "{text}, and leave out the priorities of its rules")?;
-        return report.add_note("help", text);
-    }
+    let edits = multi_edits(source, decl)?;
+    let rest = if edits.len() > 1 {
+        ", and leave out the priorities of its rules"
+    } else {
+        ""
+    };
+    let text = format!(in source.alloc; "add `multi` to the declaration of `{name}`{rest}")?;
     report.add_note("help", text)?;
     let title = format!(in source.alloc; "Declare `{name}` multi")?;
-    let multi = String::from_str(source.alloc, "multi ")?;
-    report.add_fix(title, Place::Before(decl.term.1), multi)
+    report.fixes.push(Fix { title, edits })?;
+    Ok(())
 }
 
-// Whether a definition is a rule of a term and has a priority.
-fn has_priority(def: &Def, term: &str) -> bool {
+// The edits that make a term multi: its declaration gets the word, and its rules lose their priorities.
+fn multi_edits(source: Source<'_>, decl: &Decl) -> Result<Vec<Edit>, AllocError> {
+    let mut edits = Vec::new(source.alloc);
+    edits.push(Edit {
+        place: Place::Before(decl.term.1),
+        text: String::from_str(source.alloc, "multi ")?,
+    })?;
+    for def in source.defs {
+        if let Some(place) = place_of_priority(def, &decl.term.0) {
+            let text = String::new(source.alloc);
+            edits.push(Edit { place, text })?;
+        }
+    }
+    Ok(edits)
+}
+
+// Where the priority of a rule of a term stands, if it has one.
+fn place_of_priority(def: &Def, term: &str) -> Option<Place> {
     match def {
-        Def::Rule(rule) => rule.prio.is_some() && root_of(rule) == term,
-        _ => false,
+        Def::Rule(rule) if rule.prio.is_some() && root_of(rule) == term => {
+            Some(Place::Between(rule.pos, rule.pattern.pos(), Word::Priority))
+        }
+        _ => None,
     }
 }
 
@@ -356,8 +477,9 @@ fn add_suspect(source: Source<'_>, report: &mut Report, rules: &[Span]) -> Resul
 // Adds the first such variable of a rule: whether there is one.
 fn add_suspect_of(source: Source<'_>, report: &mut Report, rule: Pos) -> Result<bool, AllocError> {
     let names = Mentions::around(source.alloc, source.defs, rule)?;
+    let constants = constants_of(source.alloc, source.defs)?;
     for mention in names.names.iter().filter(|mention| mention.in_pattern) {
-        if let Some(meant) = meant_by(source.alloc, source.defs, mention)? {
+        if let Some(meant) = meant_by(source.alloc, source.defs, &constants, mention)? {
             let name = mention.text();
             write!(
                 report.message,

@@ -81,8 +81,12 @@ pub fn lost_parts(
     Ok(lost)
 }
 
-// Adds the parts of the text of a file that have one of these mistakes.
-fn add_lost(
+/// Adds the parts of the text of a file that have one of these mistakes.
+///
+/// # Errors
+///
+/// Where memory is refused.
+pub fn add_lost(
     alloc: Global,
     file: usize,
     text: &str,
@@ -193,7 +197,8 @@ fn begins_one(parts: &[LostPart], def: &Def) -> bool {
     }
 }
 
-fn is_of_lost(files: &Files, defs: &[Def], lost: &[LostPart], error: &Error) -> bool {
+/// Whether a type error comes of lost parts.
+pub fn is_of_lost(files: &Files, defs: &[Def], lost: &[LostPart], error: &Error) -> bool {
     match place_of(error) {
         Some(pos) => comes_of_lost(&files.texts, defs, lost, pos),
         None => false,

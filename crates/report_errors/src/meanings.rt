@@ -1,8 +1,8 @@
 //! What is meant by variables that look like something else.
 
-use crate::definitions::{constant_of, variant_of};
+use crate::definitions::variant_of;
 use crate::mentions::{Mention, MentionKind, Need, type_needed};
-use core_syntax::syntax::{Def, Extern, Fields};
+use core_syntax::syntax::{Def, Fields, Ident};
 use core_types::BuiltinType;
 use report_print::report::{Place, Report};
 use std::alloc::{AllocError, Global};
@@ -65,8 +65,8 @@ impl Meant {
     }
 }
 
-/// What is meant by a variable that a pattern binds, or that nothing binds, where its name looks like a variant, a constant, an
-/// integer, a truth value or a comparison. None for any other name.
+/// What is meant by a variable that a pattern binds, or that nothing binds, where its name looks like a variant, one of these
+/// constants, an integer, a truth value or a comparison. None for any other name.
 ///
 /// # Errors
 ///
@@ -74,6 +74,7 @@ impl Meant {
 pub fn meant_by(
     alloc: Global,
     defs: &[Def],
+    constants: &[(&Ident, &Ident)],
     mention: &Mention<'_>,
 ) -> Result<Option<Meant>, AllocError> {
     let is_bound_elsewhere = mention.home.1 != mention.name.1;
@@ -86,7 +87,7 @@ pub fn meant_by(
     if mention.text().contains('.') {
         return meant_as_variant(alloc, defs, mention);
     }
-    if is_constant(defs, mention) {
+    if is_constant(defs, constants, mention) {
         let written = format!(in alloc; "${}", mention.text())?;
         return Meant::new(alloc, "the constant is written ", &written);
     }
@@ -119,9 +120,14 @@ fn begins_with_type(defs: &[Def], mention: &Mention<'_>) -> bool {
     }
 }
 
-// Whether a variable has the name of a constant of its type. Most names are no constant's, so the type is looked for last.
-fn is_constant(defs: &[Def], mention: &Mention<'_>) -> bool {
-    let Some(Extern::Const { ty, .. }) = constant_of(defs, mention.text()) else {
+// Whether a variable has the name of one of these constants, which has its type. Most names are no constant's, so the type is looked
+// for last.
+fn is_constant(defs: &[Def], constants: &[(&Ident, &Ident)], mention: &Mention<'_>) -> bool {
+    let name = mention.text();
+    let Some((_, ty)) = constants
+        .iter()
+        .find(|(constant, _)| constant.0.as_str() == name)
+    else {
         return false;
     };
     match type_needed(defs, mention.need) {

@@ -18,6 +18,12 @@ pub enum MentionKind {
     Rule,
     Variable,
     Constant,
+    /// A variant or a struct in an expression of a spec, where terms have no meaning.
+    Made,
+    /// A variant in a match of a spec, without the name of its type.
+    Arm,
+    /// A field in a spec, behind `:`.
+    Access,
 }
 
 /// What needs a type where a form stands.
@@ -56,6 +62,8 @@ pub struct Mention<'a> {
     pub home: &'a Ident,
     /// What needs a type there.
     pub need: Need<'a>,
+    /// Of a term that is used in a rule or a template, or that an extractor is of, how many arguments it has there; else 0.
+    pub count: usize,
     /// The pattern that stands behind a variable, as in `x @ (f _)`.
     pub behind: Option<Pos>,
     // The number of the first name behind the let that binds it.
@@ -114,8 +122,8 @@ impl<'a> Drop for Mentions<'a> {
     }
 }
 
-// A name without a home of its own that stands outside of patterns.
-fn plain_mention(name: &Ident, kind: MentionKind) -> Mention<'_> {
+/// A name without a home of its own that stands outside of patterns, and is used there.
+pub fn plain_mention(name: &Ident, kind: MentionKind) -> Mention<'_> {
     Mention {
         name,
         kind,
@@ -124,6 +132,7 @@ fn plain_mention(name: &Ident, kind: MentionKind) -> Mention<'_> {
         in_pattern: false,
         home: name,
         need: Need::Nothing,
+        count: 0,
         behind: None,
         until: usize::MAX,
     }
@@ -313,7 +322,13 @@ impl<'a> Mentions<'a> {
 
     // Adds the names of an extractor. Its arguments are variables of its template.
     fn add_extractor(&mut self, extractor: &'a Extractor) -> Result<(), AllocError> {
-        self.add(&extractor.term, MentionKind::Term, false)?;
+        self.add_term(
+            &extractor.term,
+            extractor.args.len(),
+            extractor.term.1,
+            false,
+            Need::Nothing,
+        )?;
         for (number, arg) in extractor.args.iter().enumerate() {
             self.bind(arg, Need::Parameter(&extractor.term.0, number), None, false)?;
         }
@@ -326,7 +341,7 @@ impl<'a> Mentions<'a> {
         }
         match &rule.pattern {
             Pattern::Term { sym, args, pos } => {
-                self.add_use(sym, MentionKind::Term, *pos, true, Need::Nothing)?;
+                self.add_term(sym, args.len(), *pos, true, Need::Nothing)?;
                 for (number, arg) in args.iter().enumerate() {
                     self.add_pattern(arg, Need::Parameter(&sym.0, number))?;
                 }
@@ -356,11 +371,11 @@ impl<'a> Mentions<'a> {
         }
     }
 
-    // Adds a term or a constant that is used.
-    fn add_use(
+    // Adds a term that is used with so many arguments.
+    fn add_term(
         &mut self,
         name: &'a Ident,
-        kind: MentionKind,
+        count: usize,
         form: Pos,
         in_pattern: bool,
         need: Need<'a>,
@@ -369,7 +384,25 @@ impl<'a> Mentions<'a> {
             form,
             in_pattern,
             need,
-            ..plain_mention(name, kind)
+            count,
+            ..plain_mention(name, MentionKind::Term)
+        })?;
+        Ok(())
+    }
+
+    // Adds a constant that is used.
+    fn add_constant(
+        &mut self,
+        name: &'a Ident,
+        form: Pos,
+        in_pattern: bool,
+        need: Need<'a>,
+    ) -> Result<(), AllocError> {
+        self.names.push(Mention {
+            form,
+            in_pattern,
+            need,
+            ..plain_mention(name, MentionKind::Constant)
         })?;
         Ok(())
     }
@@ -469,11 +502,9 @@ impl<'a> Mentions<'a> {
             Pattern::ConstInt { val, pos } => {
                 self.add_literal(LiteralValue::Integer(*val), *pos, true, need)
             }
-            Pattern::ConstPrim { val, pos } => {
-                self.add_use(val, MentionKind::Constant, *pos, true, need)
-            }
+            Pattern::ConstPrim { val, pos } => { self.add_constant(val, *pos, true, need) }
             Pattern::Term { sym, args, pos } => {
-                self.add_use(sym, MentionKind::Term, *pos, true, need)?;
+                self.add_term(sym, args.len(), *pos, true, need)?;
                 for (number, arg) in args.iter().enumerate() {
                     self.add_pattern(arg, Need::Argument(&sym.0, number))?;
                 }
@@ -493,7 +524,7 @@ impl<'a> Mentions<'a> {
     fn add_expr(&mut self, expr: &'a Expr, need: Need<'a>) -> Result<(), AllocError> {
         match expr {
             Expr::Term { sym, args, pos } => {
-                self.add_use(sym, MentionKind::Term, *pos, false, need)?;
+                self.add_term(sym, args.len(), *pos, false, need)?;
                 for (number, arg) in args.iter().enumerate() {
                     self.add_expr(arg, Need::Argument(&sym.0, number))?;
                 }
@@ -506,9 +537,7 @@ impl<'a> Mentions<'a> {
             Expr::ConstInt { val, pos } => {
                 self.add_literal(LiteralValue::Integer(*val), *pos, false, need)
             }
-            Expr::ConstPrim { val, pos } => {
-                self.add_use(val, MentionKind::Constant, *pos, false, need)
-            }
+            Expr::ConstPrim { val, pos } => { self.add_constant(val, *pos, false, need) }
             Expr::Let { defs, body, .. } => {
                 let count = self.scope.len();
                 self.add_lets(defs)?;
@@ -563,7 +592,8 @@ pub fn type_needed<'a>(defs: &'a [Def], need: Need<'a>) -> Option<&'a Ident> {
     }
 }
 
-fn argument_type<'a>(defs: &'a [Def], term: &str, place: usize) -> Option<&'a Ident> {
+/// The name of the type of a term's argument, by its place.
+pub fn argument_type<'a>(defs: &'a [Def], term: &str, place: usize) -> Option<&'a Ident> {
     if let Some(decl) = declaration_of(defs, term) {
         return decl.arg_tys.get(place);
     }

@@ -1,13 +1,16 @@
 //! The reports of type errors.
 
 use crate::codes::code_of;
-use crate::definitions::{definition_around, place_of_template, place_of_term, subject_of};
+use crate::declarations::add_declaration;
+use crate::definitions::{
+    constants_of, definition_around, place_of_template, place_of_term, subject_of,
+};
 use crate::meanings::meant_by;
 use crate::mentions::Mentions;
 use crate::mismatches::add_types;
 use crate::repeats::other_places;
 use crate::terms_in_errors::{is_put_in, path_in, term_in};
-use crate::unknown::{add_question, unknown_in};
+use crate::unknown::{Kind, add_question, unknown_in};
 use core_syntax::syntax::{Def, Ident, Pos};
 use report_print::report::{Level, Report};
 use std::alloc::{AllocError, Global};
@@ -179,12 +182,21 @@ fn add_cycle(told: &Told<'_>, report: &mut Report) -> Result<(), AllocError> {
 // Adds what may be meant: by a variable that looks like something else, or by a name that isn't known.
 fn add_meant(told: &Told<'_>, report: &mut Report) -> Result<(), AllocError> {
     if let Some(mention) = told.names.at(told.pos) {
-        if let Some(meant) = meant_by(told.alloc, told.defs, mention)? {
+        let constants = constants_of(told.alloc, told.defs)?;
+        if let Some(meant) = meant_by(told.alloc, told.defs, &constants, mention)? {
             return meant.add_to(report, mention);
         }
     }
     match unknown_in(told) {
-        Some(unknown) => add_question(told, report, unknown),
+        Some(unknown) => {
+            add_question(told, report, unknown)?;
+            match unknown.kind {
+                Kind::Term | Kind::Declared => {
+                    add_declaration(told, report, unknown.name, unknown.pos)
+                }
+                Kind::Type | Kind::Constant | Kind::Variable => Ok(()),
+            }
+        }
         None => Ok(()),
     }
 }

@@ -10,7 +10,9 @@ use crate::returns::{add_dead, add_idle_priorities};
 use crate::uncovered::add_uncovered;
 use crate::variables::add_variables;
 use cranelift_isle::lower::{Lowered, LoweredTerm};
-use cranelift_isle::syntax::{Def, Files};
+use cranelift_isle::sema::TypeEnv;
+use cranelift_isle::syntax::{Def, Files, Ident, Pos};
+use report_errors::definitions::constants_of;
 use report_errors::mentions::Mentions;
 use report_print::report::Report;
 use report_queries::premises::is_multi;
@@ -32,13 +34,69 @@ pub fn warnings(
 ) -> Result<Vec<Report>, AllocError> {
     let mut reports = Vec::new(alloc);
     for term in &lowered.terms {
-        add_of_term(alloc, &mut reports, defs, lowered, term)?;
+        add_of_term(alloc, &mut reports, files, defs, lowered, term)?;
     }
     add_recursion(alloc, &mut reports, defs, lowered)?;
     add_always(alloc, &mut reports, defs, lowered)?;
+    let constants = constants_of(alloc, defs)?;
     for def in defs {
-        add_of_definition(alloc, &mut reports, defs, lowered, def)?;
+        if let Def::Rule(_) | Def::Extractor(_) = def {
+            let names = Mentions::of(alloc, def)?;
+            add_by_itself(
+                alloc,
+                &mut reports,
+                (defs, &lowered.tyenv),
+                &constants,
+                def,
+                &names,
+            )?;
+            add_named(alloc, &mut reports, lowered, &names)?;
+        }
     }
+    kept(alloc, files, defs, reports, allowed)
+}
+
+/// The warnings that each rule and each extractor gives by itself, of accepted types, whatever the other definitions are: without
+/// those at these places, and without those that a comment above allows.
+///
+/// # Errors
+///
+/// If memory is refused.
+pub fn warnings_of_each(
+    alloc: Global,
+    files: &Files,
+    defs: &[Def],
+    tyenv: &TypeEnv,
+    except: &[Pos],
+) -> Result<Vec<Report>, AllocError> {
+    let mut reports = Vec::new(alloc);
+    let constants = constants_of(alloc, defs)?;
+    for def in defs {
+        if is_at_none(def, except) {
+            let names = Mentions::of(alloc, def)?;
+            add_by_itself(alloc, &mut reports, (defs, tyenv), &constants, def, &names)?;
+        }
+    }
+    kept(alloc, files, defs, reports, &[])
+}
+
+// Whether a rule or an extractor stands at none of these places.
+fn is_at_none(def: &Def, places: &[Pos]) -> bool {
+    match def {
+        Def::Rule(rule) => !places.contains(&rule.pos),
+        Def::Extractor(extractor) => !places.contains(&extractor.pos),
+        _ => false,
+    }
+}
+
+// Those reports that are of no allowed kind, and that no comment above allows.
+fn kept(
+    alloc: Global,
+    files: &Files,
+    defs: &[Def],
+    reports: Vec<Report>,
+    allowed: &[Warning],
+) -> Result<Vec<Report>, AllocError> {
     let mut kept = Vec::new(alloc);
     for report in reports {
         if !is_one_of(&report, allowed) && !is_allowed_above(files, defs, &report) {
@@ -57,6 +115,7 @@ fn shortened(mut report: Report) -> Result<Report, AllocError> {
 fn add_of_term(
     alloc: Global,
     reports: &mut Vec<Report>,
+    files: &Files,
     defs: &[Def],
     lowered: &Lowered,
     term: &LoweredTerm,
@@ -64,26 +123,22 @@ fn add_of_term(
     if !is_multi(&lowered.termenv, term.id) {
         add_dead(alloc, reports, defs, &term.block, None)?;
         add_idle_priorities(alloc, reports, defs, &term.rules.rules)?;
-        add_uncovered(alloc, reports, defs, lowered, term)?;
+        add_uncovered(alloc, reports, files, defs, lowered, term)?;
     }
     add_beside(alloc, reports, defs, lowered, term)
 }
 
-// Adds what a definition says that is likely not meant.
-fn add_of_definition(
+// Adds what a rule or an extractor says by itself that is likely not meant.
+fn add_by_itself(
     alloc: Global,
     reports: &mut Vec<Report>,
-    defs: &[Def],
-    lowered: &Lowered,
+    (defs, tyenv): (&[Def], &TypeEnv),
+    constants: &[(&Ident, &Ident)],
     def: &Def,
+    names: &Mentions<'_>,
 ) -> Result<(), AllocError> {
-    let names = match def {
-        Def::Rule(_) | Def::Extractor(_) => Mentions::of(alloc, def)?,
-        _ => return Ok(()),
-    };
     if let Def::Rule(_) = def {
-        add_variables(alloc, reports, defs, &names)?;
+        add_variables(alloc, reports, defs, constants, names)?;
     }
-    add_named(alloc, reports, lowered, &names)?;
-    add_outside(alloc, reports, defs, lowered, &names)
+    add_outside(alloc, reports, defs, tyenv, names)
 }

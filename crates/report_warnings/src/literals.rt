@@ -2,8 +2,7 @@
 
 use crate::coverage::int_type;
 use crate::kinds::{Warning, add_place, begun};
-use cranelift_isle::lower::Lowered;
-use cranelift_isle::sema::IntType;
+use cranelift_isle::sema::{IntType, TypeEnv};
 use cranelift_isle::syntax::{Def, Pos};
 use report_errors::diagnosis::add_help;
 use report_errors::mentions::{LiteralValue, Mentions, Need, type_needed};
@@ -16,13 +15,13 @@ pub(crate) fn add_outside(
     alloc: Global,
     reports: &mut Vec<Report>,
     defs: &[Def],
-    lowered: &Lowered,
+    tyenv: &TypeEnv,
     names: &Mentions<'_>,
 ) -> Result<(), AllocError> {
     for literal in &names.literals {
         match literal.value {
             LiteralValue::Integer(val) if !is_in_all(val) => {
-                let ty = int_needed(defs, lowered, literal.need);
+                let ty = int_needed(defs, tyenv, literal.need);
                 add_literal(alloc, reports, ty, val, literal.pos)?;
             }
             _ => {}
@@ -37,9 +36,9 @@ fn is_in_all(val: i128) -> bool {
 }
 
 // The built-in integer type that is needed.
-fn int_needed(defs: &[Def], lowered: &Lowered, need: Need<'_>) -> Option<IntType> {
+fn int_needed(defs: &[Def], tyenv: &TypeEnv, need: Need<'_>) -> Option<IntType> {
     let name = type_needed(defs, need)?;
-    int_type(&lowered.tyenv, lowered.tyenv.get_type_by_name(name)?)
+    int_type(tyenv, tyenv.get_type_by_name(name)?)
 }
 
 // Adds a warning where a number is outside a type's range.

@@ -1,11 +1,12 @@
 //! Values that no rule of a term takes.
 
 use crate::kinds::{Warning, add_place, begun};
+use crate::missing_rules::add_rule_for;
 use crate::passing::{Fact, passing};
-use crate::untaken::push_untaken;
+use crate::untaken::untaken_call;
 use cranelift_isle::lower::{Lowered, LoweredTerm};
 use cranelift_isle::sema::Term;
-use cranelift_isle::syntax::{Decl, Def};
+use cranelift_isle::syntax::{Decl, Def, Files};
 use report_errors::definitions::definition_around;
 use report_errors::diagnosis::add_help;
 use report_print::report::{Place, Report};
@@ -15,6 +16,7 @@ use std::alloc::{AllocError, Global};
 pub(crate) fn add_uncovered(
     alloc: Global,
     reports: &mut Vec<Report>,
+    files: &Files,
     defs: &[Def],
     lowered: &Lowered,
     lowered_term: &LoweredTerm,
@@ -28,7 +30,7 @@ pub(crate) fn add_uncovered(
     let bindings = &lowered_term.rules.bindings;
     match passing(alloc, &lowered.tyenv, bindings, &lowered_term.block)? {
         Some(facts) => {
-            let report = uncovered(alloc, defs, lowered, lowered_term, term, &facts)?;
+            let report = uncovered(alloc, files, defs, lowered, lowered_term, term, &facts)?;
             reports.push(report)?;
             Ok(())
         }
@@ -39,14 +41,16 @@ pub(crate) fn add_uncovered(
 // The warning of a term, with a call that no rule takes, by what a run of it found.
 fn uncovered(
     alloc: Global,
+    files: &Files,
     defs: &[Def],
     lowered: &Lowered,
     lowered_term: &LoweredTerm,
     term: &Term,
     facts: &[Fact],
 ) -> Result<Report, AllocError> {
-    let mut message = String::from_str(alloc, "no rule takes ")?;
-    push_untaken(alloc, lowered, lowered_term, facts, &mut message)?;
+    let untaken = untaken_call(alloc, lowered, lowered_term, term, facts)?;
+    let (call, conditions) = (&untaken.call, &untaken.conditions);
+    let message = format!(in alloc; "no rule takes `{call}`{conditions}")?;
     let mut report = begun(alloc, Warning::Uncovered, message);
     add_place(
         alloc,
@@ -60,6 +64,7 @@ fn uncovered(
         "add a rule that takes it, or declare the term partial",
     )?;
     if let Some(decl) = declaration_of(defs, term) {
+        add_rule_for(alloc, &mut report, files, defs, decl, call)?;
         let name = &decl.term.0;
         let title = format!(in alloc; "Declare `{name}` partial")?;
         let place = Place::Before(decl.term.1);

@@ -55,18 +55,32 @@ impl<'a> Drop for Writing<'a> {
     }
 }
 
-/// Adds a call of a term that a run of the term's tree is for, by what the run found. What the call can't tell is said behind it.
-pub(crate) fn push_untaken(
+/// A call that no rule takes.
+pub(crate) struct Untaken {
+    /// The call, as the left side of a rule.
+    pub call: String,
+    /// What it can't tell, in words behind it.
+    pub conditions: String,
+}
+
+impl Drop for Untaken {
+    fn drop(self) {
+        let Untaken {
+            call: _,
+            conditions: _,
+        } = self;
+    }
+}
+
+/// A call of a term that a run of the term's tree is for, by what the run found.
+pub(crate) fn untaken_call(
     alloc: Global,
     lowered: &Lowered,
     lowered_term: &LoweredTerm,
+    term: &Term,
     facts: &[Fact],
-    out: &mut String,
-) -> Result<(), AllocError> {
+) -> Result<Untaken, AllocError> {
     let terms = &lowered.termenv.terms;
-    let Some(term) = terms.get(lowered_term.id.index()) else {
-        return Ok(());
-    };
     let tyenv = &lowered.tyenv;
     let names = NameTables { tyenv, terms };
     let mut writing = Writing {
@@ -78,8 +92,11 @@ pub(crate) fn push_untaken(
         texts: site_texts(alloc, names, &lowered_term.rules.bindings)?,
         told: Vec::new(alloc),
     };
-    writing.push_call(term, out)?;
-    writing.push_conditions(out)
+    let mut call = String::new(alloc);
+    writing.push_call(term, &mut call)?;
+    let mut conditions = String::new(alloc);
+    writing.push_conditions(&mut conditions)?;
+    Ok(Untaken { call, conditions })
 }
 
 // Whether a constraint has fields: that of a variant or a struct.
@@ -101,14 +118,14 @@ fn place_in(binding: &Binding, of: BindingId) -> Option<usize> {
 
 impl<'a> Writing<'a> {
     fn push_call(&mut self, term: &Term, out: &mut String) -> Result<(), AllocError> {
-        out.push_str("`(")?;
+        out.push('(')?;
         out.push_str(self.names.sym(term.name))?;
         for place in 0..term.arg_tys.len() {
             out.push(' ')?;
             let piece = self.argument(place);
             self.push(piece, out)?;
         }
-        out.push_str(")`")
+        out.push(')')
     }
 
     fn argument(&self, place: usize) -> Piece {

@@ -1,24 +1,25 @@
 //! Variables that nothing uses, and variables that look like something else.
 
 use crate::kinds::{Warning, add_place, begun};
-use cranelift_isle::syntax::Def;
+use cranelift_isle::syntax::{Def, Ident};
 use report_errors::definitions::declaration_of;
 use report_errors::meanings::{Meant, meant_by};
 use report_errors::mentions::{Mention, MentionKind, Mentions, Need};
 use report_print::report::{Place, Report};
 use std::alloc::{AllocError, Global};
 
-/// Adds a warning for each variable of a rule's patterns whose name looks like something else, and for each other variable that
+/// Adds a warning for each variable of a rule's patterns whose name looks like something else, as one of these constants, and for each other variable that
 /// stands nowhere but where it is bound. A variable whose name begins with `_` is meant so. The variable in `(fits_in_64 ty)` is no
 /// more than the name of what is tested.
 pub(crate) fn add_variables(
     alloc: Global,
     reports: &mut Vec<Report>,
     defs: &[Def],
+    constants: &[(&Ident, &Ident)],
     names: &Mentions<'_>,
 ) -> Result<(), AllocError> {
     for mention in names.names.iter().filter(|mention| is_bound_there(mention)) {
-        if let Some(meant) = meant_by(alloc, defs, mention)? {
+        if let Some(meant) = meant_by(alloc, defs, constants, mention)? {
             reports.push(unlike(alloc, mention, &meant)?)?;
         } else if is_alone(names, mention)
             && !is_tested(defs, mention)
