@@ -1,9 +1,10 @@
 //! What a name at a place means, and which other names mean the same.
 
-use crate::mentions::{Mention, MentionKind, mentions_in, mentions_in_spec};
+use crate::spec_mentions::mentions_in_spec;
 use cranelift_isle::sema::BuiltinType;
 use cranelift_isle::syntax::{Def, Ident, Pos, Type};
-use report_errors::definitions::{declaration_of, definition_around, struct_of, variant_with_type};
+use report_errors::definitions::{declaration_of, struct_of, variant_with_type};
+use report_errors::mentions::{Mention, MentionKind, Mentions};
 use std::alloc::{AllocError, Global};
 use text_reader::errors::ReadFault;
 use text_reader::syntax::VerificationForm;
@@ -99,20 +100,20 @@ pub fn mention_at<'a>(
     specs: &'a [(usize, VerificationForm)],
     pos: Pos,
 ) -> Result<Option<Mention<'a>>, AllocError> {
-    if let Some(def) = definition_around(defs, pos) {
-        if let Some(mention) = one_at(mentions_in(alloc, def)?, pos) {
-            return Ok(Some(mention));
-        }
+    let around = Mentions::around(alloc, defs, pos)?;
+    if let Some(mention) = one_at(&around.names, pos) {
+        return Ok(Some(mention));
     }
     for (_, form) in specs {
-        if let Some(mention) = one_at(mentions_in_spec(alloc, form)?, pos) {
+        let names = mentions_in_spec(alloc, form)?;
+        if let Some(mention) = one_at(&names, pos) {
             return Ok(Some(mention));
         }
     }
     Ok(None)
 }
 
-fn one_at<'a>(mentions: Vec<Mention<'a>>, pos: Pos) -> Option<Mention<'a>> {
+fn one_at<'a>(mentions: &[Mention<'a>], pos: Pos) -> Option<Mention<'a>> {
     mentions.iter().find(|mention| mention.is_at(pos)).copied()
 }
 
@@ -176,10 +177,12 @@ pub fn names_of<'a>(
 ) -> Result<Vec<Mention<'a>>, AllocError> {
     let mut found = Vec::new(alloc);
     for def in defs {
-        push_meant(&mut found, mentions_in(alloc, def)?, symbol)?;
+        let mentions = Mentions::of(alloc, def)?;
+        push_meant(&mut found, &mentions.names, symbol)?;
     }
     for (_, form) in specs {
-        push_meant(&mut found, mentions_in_spec(alloc, form)?, symbol)?;
+        let names = mentions_in_spec(alloc, form)?;
+        push_meant(&mut found, &names, symbol)?;
     }
     Ok(found)
 }
@@ -187,12 +190,12 @@ pub fn names_of<'a>(
 // Adds those of some names that mean something.
 fn push_meant<'a>(
     found: &mut Vec<Mention<'a>>,
-    mentions: Vec<Mention<'a>>,
+    mentions: &[Mention<'a>],
     symbol: Symbol<'_>,
 ) -> Result<(), AllocError> {
     for mention in mentions {
-        if symbol.is_meant_by(&mention) {
-            found.push(mention)?;
+        if symbol.is_meant_by(mention) {
+            found.push(*mention)?;
         }
     }
     Ok(())
@@ -200,12 +203,11 @@ fn push_meant<'a>(
 
 /// Whether a definition has a variable of a name.
 pub fn has_variable(alloc: Global, def: &Def, name: &str) -> Result<bool, AllocError> {
-    for mention in mentions_in(alloc, def)? {
-        if mention.kind == MentionKind::Variable && mention.text() == name {
-            return Ok(true);
-        }
-    }
-    Ok(false)
+    let mentions = Mentions::of(alloc, def)?;
+    Ok(
+        mentions.names.iter().any(|mention| mention.kind == MentionKind::Variable
+            && mention.text() == name),
+    )
 }
 
 /// Whether a rule has a name.

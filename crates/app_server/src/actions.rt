@@ -2,7 +2,8 @@
 
 use crate::analysis::Analysis;
 use crate::diagnostics::{Shown, diagnostic_of, place_of};
-use crate::edits::{Edit, changes_value};
+use crate::edits::changes_value;
+use app_messages::edits::Edit;
 use app_messages::messages::{member, range_of};
 use app_messages::refusals::Refusal;
 use report_errors::extents::{end_of_form, piece_of};

@@ -1,25 +1,18 @@
 //! What the files of a workspace mean together.
 
-use crate::readings::{LostForms, Readings, comes_of_lost};
+use crate::diagnostics::{file_of, place_of};
+use crate::readings::{LostForms, Readings, parts_of};
 use crate::sources::Sources;
 use cranelift_isle::lower::{Lowered, lower};
-use cranelift_isle::syntax::{Def, Fault, Files, Pos};
+use cranelift_isle::sema::TypeEnv;
+use cranelift_isle::syntax::{Def, Error, Fault, Files, Pos};
 use report_errors::definitions::definition_around;
-use report_errors::diagnosis::{Reports, reports_of};
+use report_errors::diagnosis::{Amount, Reports, begin_of_error, reports_of};
 use report_errors::extents::end_of_form;
+use report_errors::lost::{LostPart, comes_of_lost, is_of_lost};
 use report_print::report::Report;
-use report_warnings::kinds::Warning;
-use report_warnings::lints::warnings;
+use report_warnings::lints::{warnings, warnings_of_each};
 use std::alloc::{AllocError, Global};
-
-// The warnings that rules without errors don't show by themselves.
-const OF_SEVERAL: [Warning; 5] = [
-    Warning::NeverRun,
-    Warning::Priority,
-    Warning::Uncovered,
-    Warning::Recursion,
-    Warning::Constant,
-];
 
 /// What files mean together.
 pub struct Analysis {
@@ -56,23 +49,14 @@ pub fn analysis_of(
     previous: Option<&Analysis>,
 ) -> Result<Analysis, AllocError> {
     let (defs, mut reports, lost) = Readings::of(alloc, &sources, previous)?.into_found();
+    let parts = parts_of(alloc, &lost)?;
     let lowered = match lower(alloc, &defs, true) {
         Ok(lowered) => {
-            let allowed: &[Warning] = if lost.is_empty() { &[] } else { &OF_SEVERAL };
-            let mut told = warnings(alloc, &sources.files, &defs, &lowered, allowed)?;
-            told.retain(|report| !comes_of_lost(&sources, &defs, &lost, report));
-            reports.append(&mut told)?;
+            add_warnings(alloc, &sources.files, &defs, &parts, &lowered, &mut reports)?;
             Some(lowered)
         }
         Err(Fault::Errors(errors)) => {
-            let mut found = reports_of(alloc, &defs, true, &errors, false)?;
-            tell_rest(alloc, &mut found)?;
-            found
-                .reports
-                .retain(|report| !comes_of_lost(&sources, &defs, &lost, report));
-            let mut beside = warnings_beside(alloc, &sources.files, &defs, &found.reports)?;
-            reports.append(&mut found.reports)?;
-            reports.append(&mut beside)?;
+            add_errors(alloc, &sources.files, &defs, &parts, errors, &mut reports)?;
             None
         }
         Err(Fault::Memory(error)) => return Err(error),
@@ -86,59 +70,135 @@ pub fn analysis_of(
     })
 }
 
-// Tells with the last report how many errors aren't reported.
-fn tell_rest(alloc: Global, found: &mut Reports) -> Result<(), AllocError> {
-    let rest = found.rest;
-    match found.reports.last_mut() {
-        Some(report) if rest > 0 => {
-            let text = format!(in alloc; "{rest} more errors are not shown")?;
-            report.add_note("note", text)
+// Adds the warnings of accepted definitions: where parts of texts are lost, those that rules give by themselves.
+fn add_warnings(
+    alloc: Global,
+    files: &Files,
+    defs: &[Def],
+    lost: &[LostPart],
+    lowered: &Lowered,
+    reports: &mut Vec<Report>,
+) -> Result<(), AllocError> {
+    let told = if lost.is_empty() {
+        warnings(alloc, files, defs, lowered, &[])?
+    } else {
+        warnings_of_each(alloc, files, defs, &lowered.tyenv, &[])?
+    };
+    add_told(files, defs, lost, told, reports)
+}
+
+// Adds those of some warnings that don't come of lost parts of texts.
+fn add_told(
+    files: &Files,
+    defs: &[Def],
+    lost: &[LostPart],
+    told: Vec<Report>,
+    reports: &mut Vec<Report>,
+) -> Result<(), AllocError> {
+    for report in told {
+        if !is_told_of_lost(files, defs, lost, &report) {
+            reports.push(report)?;
         }
-        _ => Ok(()),
+    }
+    Ok(())
+}
+
+fn is_told_of_lost(files: &Files, defs: &[Def], lost: &[LostPart], report: &Report) -> bool {
+    match place_of(report) {
+        Some(pos) => comes_of_lost(&files.texts, defs, lost, pos),
+        None => false,
     }
 }
 
-// The warnings of rules that have no error, where all errors are in rules: what is wrong with one rule by itself.
+// Adds the errors of definitions that don't come of lost parts of texts, and the warnings that rules without errors give by
+// themselves.
+fn add_errors(
+    alloc: Global,
+    files: &Files,
+    defs: &[Def],
+    lost: &[LostPart],
+    mut errors: Vec<Error>,
+    reports: &mut Vec<Report>,
+) -> Result<(), AllocError> {
+    let mut except = places_of_errors(alloc, defs, &errors)?;
+    errors.retain(|error| !is_of_lost(files, defs, lost, error));
+    let mut found = reports_of(alloc, defs, true, &errors, Amount::OfEachFile)?;
+    tell_rest(alloc, &mut found)?;
+    add_places(defs, &found.reports, &mut except)?;
+    reports.append(&mut found.reports)?;
+    let beside = warnings_beside(alloc, files, defs, &except)?;
+    add_told(files, defs, lost, beside, reports)
+}
+
+// Tells with the last report of each file how many errors of the file aren't reported.
+fn tell_rest(alloc: Global, found: &mut Reports) -> Result<(), AllocError> {
+    let mut told: Vec<usize> = Vec::new(alloc);
+    for report in found.reports.iter_mut().rev() {
+        let file = file_of(report);
+        let rest = found.rest.iter().filter(|other| **other == file).count();
+        if rest > 0 && !told.contains(&file) {
+            told.push(file)?;
+            let text = format!(in alloc; "{rest} more errors of this file are not shown")?;
+            report.add_note("note", text)?;
+        }
+    }
+    Ok(())
+}
+
+// The warnings that rules give by themselves, but for those at some places, where the types are right.
 fn warnings_beside(
     alloc: Global,
     files: &Files,
     defs: &[Def],
-    reports: &[Report],
+    except: &[Pos],
 ) -> Result<Vec<Report>, AllocError> {
-    let mut right = Vec::new(alloc);
-    for def in defs {
-        if !is_in_reports(defs, def, reports) {
-            right.push(def.clone()?)?;
-        }
-    }
-    match lower(alloc, &right, true) {
-        Ok(lowered) => warnings(alloc, files, &right, &lowered, &OF_SEVERAL),
+    match TypeEnv::from_ast(alloc, defs) {
+        Ok(tyenv) => warnings_of_each(alloc, files, defs, &tyenv, except),
         Err(Fault::Errors(_)) => Ok(Vec::new(alloc)),
         Err(Fault::Memory(error)) => Err(error),
     }
 }
 
-// Whether reports speak of a rule.
-fn is_in_reports(defs: &[Def], def: &Def, reports: &[Report]) -> bool {
-    matches!(def, Def::Rule(_))
-        && reports.iter().any(|report| {
-            report.labels.iter().any(|label| match definition_around(defs, label.pos) {
-                Some(around) => around.place() == def.place(),
-                None => false,
-            })
-        })
+// The places of the definitions in which errors begin.
+fn places_of_errors(alloc: Global, defs: &[Def], errors: &[Error]) -> Result<Vec<Pos>, AllocError> {
+    let mut places = Vec::new(alloc);
+    for error in errors {
+        if let Some(place) = begin_of_error(error).and_then(|pos| place_around(defs, pos)) {
+            places.push(place)?;
+        }
+    }
+    Ok(places)
+}
+
+// Adds the places of the definitions that reports speak of.
+fn add_places(defs: &[Def], reports: &[Report], places: &mut Vec<Pos>) -> Result<(), AllocError> {
+    for report in reports {
+        for label in &report.labels {
+            if let Some(place) = place_around(defs, label.pos) {
+                places.push(place)?;
+            }
+        }
+    }
+    Ok(())
+}
+
+// Where the definition begins that a place lies in.
+fn place_around(defs: &[Def], pos: Pos) -> Option<Pos> {
+    definition_around(defs, pos)?.place()
 }
 
 impl Analysis {
     /// The forms that can't be read in which a position is.
     pub fn lost_at(&self, pos: Pos) -> Option<&LostForms> {
-        self.lost.iter().find(|forms| forms.has(pos))
+        self.lost.iter().find(|forms| forms.part.has(pos))
     }
 
     /// The form at a position, as it is written, or as it was when it could be read last.
     pub fn form_at(&self, pos: Pos) -> &str {
         let rest = match self.lost_at(pos) {
-            Some(forms) => forms.good.get(pos.offset.saturating_sub(forms.begin)..),
+            Some(forms) => forms
+                .good
+                .get(pos.offset.saturating_sub(forms.part.begin)..),
             None => self.text(pos.file).get(pos.offset..),
         };
         let rest = rest.unwrap_or("");

@@ -7,10 +7,10 @@ use crate::ranges::Ranges;
 use crate::references::position_in;
 use app_messages::messages::{member, text_of};
 use app_messages::refusals::Refusal;
-use app_names::mentions::{MentionKind, mentions_in};
 use app_names::symbols::{Symbol, mention_at, symbol_of};
 use cranelift_isle::syntax::{Decl, Def};
 use report_errors::definitions::declaration_of;
+use report_errors::mentions::{MentionKind, Mentions};
 use serde_json::{Value, json};
 use std::alloc::{AllocError, Global};
 
@@ -118,7 +118,8 @@ fn places_made(
         return Ok(found);
     };
     let root = rule.pattern.root_term();
-    for mention in &mentions_in(alloc, def)? {
+    let mentions = Mentions::of(alloc, def)?;
+    for mention in &mentions.names {
         let is_root = root.is_some_and(|root| root.1 == mention.name.1);
         if mention.kind == MentionKind::Term && mention.text() == term && !is_root {
             found.push(ranges.of_name(mention.name)?)?;

@@ -1,10 +1,10 @@
 //! What the names of a file stand for, as the protocol's semantic tokens.
 
 use crate::analysis::Analysis;
-use crate::ranges::{Ranges, end_of_name};
-use app_names::mentions::{MentionKind, mentions_in};
+use crate::ranges::Ranges;
 use cranelift_isle::syntax::Ident;
 use report_errors::definitions::variant_of;
+use report_errors::mentions::{MentionKind, Mentions};
 use serde_json::{Value, json};
 use std::alloc::{AllocError, Global};
 use text_documents::places::DocumentPosition;
@@ -40,9 +40,9 @@ pub fn colours_of(alloc: Global, analysis: &Analysis, file: usize) -> Result<Val
     for def in &analysis.defs {
         match def.place() {
             Some(pos) if pos.file == file && analysis.lost_at(pos).is_none() => {
-                let mut mentions = mentions_in(alloc, def)?;
-                mentions.sort_by_key(|mention| mention.name.1)?;
-                for mention in &mentions {
+                let mut mentions = Mentions::of(alloc, def)?;
+                mentions.names.sort_by_key(|mention| mention.name.1)?;
+                for mention in &mentions.names {
                     let kind = number_of(analysis, mention.kind, mention.text());
                     colours.add(mention.name, kind, mention.defines)?;
                 }
@@ -80,13 +80,12 @@ impl<'a> Colours<'a> {
     // Adds a token: lines and columns behind the token before, its length, its kind, and whether it is a declaration.
     fn add(&mut self, name: &Ident, kind: u64, defines: bool) -> Result<(), AllocError> {
         let begin = self.ranges.place_near(name.1.file, name.1.offset);
-        let end = self.ranges.place_near(name.1.file, end_of_name(name));
         let lines = begin.line.saturating_sub(self.last.line);
         let before = if lines == 0 { self.last.character } else { 0 };
         let numbers = [
             lines as u64,
             begin.character.saturating_sub(before) as u64,
-            end.character.saturating_sub(begin.character) as u64,
+            length_of(&name.0),
             kind,
             if defines { 1 } else { 0 },
         ];
@@ -96,4 +95,13 @@ impl<'a> Colours<'a> {
         self.last = begin;
         Ok(())
     }
+}
+
+// The length of a name in UTF-16.
+fn length_of(name: &str) -> u64 {
+    let mut length = 0u64;
+    for c in name.chars() {
+        length = length.saturating_add(c.len_utf16() as u64);
+    }
+    length
 }

@@ -4,11 +4,13 @@ use crate::analysis::Analysis;
 use crate::outline::signature_of;
 use crate::ranges::Ranges;
 use crate::references::position_in;
+use crate::signatures::text_of_type;
 use app_messages::refusals::Refusal;
 use app_names::contexts::{Context, context_at};
-use app_names::variables::{argument_type, result_type};
 use cranelift_isle::sema::BuiltinType;
 use cranelift_isle::syntax::{Def, Extern, Pos, Type, TypeValue};
+use report_errors::definitions::result_of;
+use report_errors::mentions::argument_type;
 use report_print::lines::{FileLines, file_name};
 use serde_json::{Value, json};
 use std::alloc::{AllocError, Global};
@@ -80,9 +82,9 @@ fn wanted_at<'a>(defs: &'a [Def], context: &'a Context) -> Wanted<'a> {
     match (context.head(depth.saturating_sub(1)), depth, count) {
         (_, 0, _) => Wanted::Words(&[]),
         (_, 1, 0) => Wanted::Definition,
-        ("rule" | "extractor", 1, _) => Wanted::Value(result_type(defs, context.root())),
+        ("rule" | "extractor", 1, _) => Wanted::Value(result_wanted(defs, context)),
         ("rule" | "extractor", 2, 0) if context.is_behind_root() => {
-            Wanted::Term(result_type(defs, context.root()), &["if-let", "if", "let"])
+            Wanted::Term(result_wanted(defs, context), &["if-let", "if", "let"])
         }
         ("rule" | "extractor", _, 0) => Wanted::Term(
             type_wanted(defs, context, 1),
@@ -100,10 +102,15 @@ fn wanted_at<'a>(defs: &'a [Def], context: &'a Context) -> Wanted<'a> {
     }
 }
 
+// The type of the term that the rule or extractor at a place is of, or the empty text.
+fn result_wanted<'a>(defs: &'a [Def], context: &Context) -> &'a str {
+    text_of_type(result_of(defs, context.root()))
+}
+
 // The type that is wanted of the form at a place, or of the list that is open there where it is 1 level up; or the empty text.
 fn type_wanted<'a>(defs: &'a [Def], context: &Context, up: usize) -> &'a str {
     match context.count(up).checked_sub(up.saturating_add(1)) {
-        Some(number) => argument_type(defs, context.head(up), number),
+        Some(number) => text_of_type(argument_type(defs, context.head(up), number)),
         None => "",
     }
 }

@@ -104,7 +104,8 @@ pub fn place_of(report: &Report) -> Option<Pos> {
     Some(label.pos)
 }
 
-fn file_of(report: &Report) -> usize {
+/// The file in which a report is told.
+pub fn file_of(report: &Report) -> usize {
     match place_of(report) {
         Some(pos) => pos.file,
         None => 0,

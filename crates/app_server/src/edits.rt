@@ -2,21 +2,9 @@
 
 use crate::analysis::Analysis;
 use crate::ranges::Ranges;
+use app_messages::edits::Edit;
 use serde_json::{Value, json};
 use std::alloc::{AllocError, Global};
-
-/// What takes the place of a piece of a file.
-#[derive(Clone, Copy)]
-pub struct Edit<'a> {
-    /// The file.
-    pub file: usize,
-    /// Where the piece begins.
-    pub begin: usize,
-    /// Where it ends.
-    pub end: usize,
-    /// The new text.
-    pub text: &'a str,
-}
 
 /// Edits as a change of the workspace.
 pub fn changes_value(

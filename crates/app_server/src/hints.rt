@@ -4,10 +4,9 @@ use crate::analysis::Analysis;
 use crate::ranges::{Ranges, end_of_name};
 use app_messages::messages::{member, range_of};
 use app_messages::refusals::Refusal;
-use app_names::mentions::{Mention, MentionKind, mentions_in};
-use app_names::variables::type_at;
 use cranelift_isle::syntax::{Def, Rule};
 use report_errors::definitions::root_of;
+use report_errors::mentions::{Mention, MentionKind, Mentions, type_needed};
 use serde_json::{Value, json};
 use std::alloc::{AllocError, Global};
 use text_documents::edits::range_at;
@@ -50,9 +49,10 @@ fn add_hints(
             found.push(json!(in alloc; {"position": place, "label": "0", "paddingRight": true})?)?;
         }
     }
-    for mention in &mentions_in(alloc, def)? {
+    let mentions = Mentions::of(alloc, def)?;
+    for mention in &mentions.names {
         if mention.kind == MentionKind::Variable && mention.defines {
-            add_type(alloc, analysis, ranges, (def, mention), found)?;
+            add_type(alloc, analysis, ranges, mention, found)?;
         }
     }
     Ok(())
@@ -72,12 +72,13 @@ fn add_type(
     alloc: Global,
     analysis: &Analysis,
     ranges: &Ranges<'_>,
-    (def, mention): (&Def, &Mention<'_>),
+    mention: &Mention<'_>,
     found: &mut Vec<Value>,
 ) -> Result<(), AllocError> {
-    let Some(ty) = type_at(alloc, &analysis.defs, def, mention.name.1)? else {
+    let Some(ty) = type_needed(&analysis.defs, mention.need) else {
         return Ok(());
     };
+    let ty = ty.0.as_str();
     let file = mention.name.1.file;
     let end = end_of_name(mention.name);
     let behind = analysis.text(file).get(end..).unwrap_or("");

@@ -5,14 +5,13 @@ use crate::hints::{is_rule_of, rules_text};
 use crate::ranges::Ranges;
 use crate::references::position_in;
 use app_messages::refusals::Refusal;
-use app_names::mentions::Mention;
 use app_names::symbols::{
     Symbol, is_built_in, mention_at, names_of, specs_of, symbol_of, type_named,
 };
-use app_names::variables::type_at;
 use cranelift_isle::syntax::{Def, Extern, Extractor, Ident, Pos, Rule};
 use report_errors::definitions::{declaration_of, definition_around, variant_with_type};
 use report_errors::explanation::explanation;
+use report_errors::mentions::{Mention, Mentions, type_needed};
 use report_print::lines::FileLines;
 use report_witness::conditions::{conditions_of, given_of};
 use serde_json::{Value, json};
@@ -183,11 +182,10 @@ fn variable_text(
     home: Pos,
 ) -> Result<String, AllocError> {
     let name = mention.text();
-    let Some(def) = definition_around(&analysis.defs, mention.name.1) else {
-        return Ok(String::new(alloc));
-    };
-    match type_at(alloc, &analysis.defs, def, home)? {
+    let around = Mentions::around(alloc, &analysis.defs, home)?;
+    match type_needed(&analysis.defs, around.need_at(home)) {
         Some(ty) => {
+            let ty = &ty.0;
             let told = format!(in alloc; "{name}: {ty}")?;
             code(alloc, "isle", &told)
         }

@@ -5,10 +5,10 @@ use crate::ranges::{Ranges, end_of_name};
 use crate::references::location_of;
 use app_messages::messages::text_of;
 use app_messages::refusals::Refusal;
-use app_names::mentions::{MentionKind, mentions_in};
 use cranelift_isle::syntax::{
     Decl, Def, Extern, Fields, Ident, Pos, Rule, StructFields, Type, TypeValue, Variant,
 };
+use report_errors::mentions::{MentionKind, Mentions};
 use serde_json::{Value, json};
 use std::alloc::{AllocError, Global};
 
@@ -104,7 +104,8 @@ fn add_symbols(
     query: &str,
     found: &mut Vec<Value>,
 ) -> Result<(), AllocError> {
-    for mention in &mentions_in(alloc, def)? {
+    let mentions = Mentions::of(alloc, def)?;
+    for mention in &mentions.names {
         let kind = symbol_kind(mention.kind);
         let name = mention.text();
         if mention.defines && kind > 0 && is_like(name, query) {

@@ -69,7 +69,7 @@ impl<'a> Ranges<'a> {
     pub fn end_of_form(&self, pos: Pos) -> usize {
         let end = end_of_form(self.analysis.text(pos.file), pos.offset);
         match self.analysis.lost_at(pos) {
-            Some(forms) => end.min(forms.end),
+            Some(forms) => end.min(forms.part.end),
             None => end,
         }
     }

@@ -2,40 +2,27 @@
 
 use crate::analysis::Analysis;
 use crate::sources::Sources;
-use app_names::contexts::ends_word;
-use app_names::symbols::type_named;
-use cranelift_isle::syntax::{Def, Pos};
-use report_errors::definitions::{place_of_constant, place_of_term};
-use report_errors::extents::end_of_form;
-use report_errors::syntax_report;
+use app_messages::edits::shared_ends;
+use cranelift_isle::syntax::Def;
+use report_errors::lost::{LostPart, add_lost, lost_report};
 use report_print::lines::push_times;
 use report_print::report::Report;
 use std::alloc::{AllocError, Global};
-use text_reader::chunks::{Chunk, chunks};
-use text_reader::errors::{Problem, ReadFault, TextError};
+use text_reader::errors::ReadFault;
 use text_reader::read;
 use text_reader::recovery::{Recovered, recover};
 
-/// Forms that can't be read: a part of a text, up to where the next part begins.
+/// Forms that can't be read.
 pub struct LostForms {
-    /// The file.
-    pub file: usize,
-    /// Where they begin.
-    pub begin: usize,
-    /// Where they end.
-    pub end: usize,
+    /// The part of a text that they are, up to where the next part begins.
+    pub part: LostPart,
     /// Their text when it was last read without a mistake, or the empty text.
     pub good: String,
 }
 
 impl Drop for LostForms {
     fn drop(self) {
-        let LostForms {
-            file: _,
-            begin: _,
-            end: _,
-            good: _,
-        } = self;
+        let LostForms { part: _, good: _ } = self;
     }
 }
 
@@ -103,74 +90,60 @@ impl<'a> Readings<'a> {
     fn add_text(&mut self, number: usize, text: &str) -> Result<(), AllocError> {
         let mut found = recover(self.alloc, number, text)?;
         if !found.errors.is_empty() {
-            self.add_lost(number, text, &mut found)?;
+            self.add_mistakes(number, text, &mut found)?;
         }
         self.defs.append(&mut found.defs)?;
         Ok(())
     }
 
     // Adds what is wrong with a text, and to its definitions the last good ones of what can't be read.
-    fn add_lost(
+    fn add_mistakes(
         &mut self,
         number: usize,
         text: &str,
         found: &mut Recovered,
     ) -> Result<(), AllocError> {
         for error in &found.errors {
-            let mut report = syntax_report(self.alloc, text, error)?;
-            if error.pos.offset < text.len() {
-                drop_end(&mut report);
-            }
-            self.reports.push(report)?;
+            self.reports.push(lost_report(self.alloc, text, error)?)?;
         }
-        for chunk in &chunks(self.alloc, text)? {
-            if found
-                .errors
-                .iter()
-                .any(|error| holds(chunk, begin_of(error)))
-            {
-                self.add_lost_chunk(number, text, chunk, &mut found.defs)?;
-            }
+        let mut parts = Vec::new(self.alloc);
+        add_lost(self.alloc, number, text, &found.errors, &mut parts)?;
+        for part in &parts {
+            self.add_lost_part(text, *part, &mut found.defs)?;
         }
         found.defs.sort_by_key(|def| def.place())
     }
 
-    fn add_lost_chunk(
+    fn add_lost_part(
         &mut self,
-        number: usize,
         text: &str,
-        chunk: &Chunk,
+        part: LostPart,
         defs: &mut Vec<Def>,
     ) -> Result<(), AllocError> {
-        let good = String::from_str(self.alloc, self.good_text(number, text, chunk))?;
-        if !defs.iter().any(|def| is_in(def, chunk)) {
-            add_good(self.alloc, number, chunk, &good, defs)?;
+        let good = String::from_str(self.alloc, self.good_text(text, part))?;
+        if !defs.iter().any(|def| is_in(def, part)) {
+            add_good(self.alloc, part, &good, defs)?;
         }
-        self.lost.push(LostForms {
-            file: number,
-            begin: chunk.offset,
-            end: chunk.end,
-            good,
-        })?;
+        self.lost.push(LostForms { part, good })?;
         Ok(())
     }
 
     // The text of a part of a file when it was last read without a mistake, or the empty text.
-    fn good_text(&self, number: usize, text: &str, chunk: &Chunk) -> &'a str {
-        let (Some(previous), Some(path)) = (self.previous, self.sources.paths.get(number)) else {
+    fn good_text(&self, text: &str, part: LostPart) -> &'a str {
+        let (Some(previous), Some(path)) = (self.previous, self.sources.paths.get(part.file)) else {
             return "";
         };
         let Some(file) = previous.sources.number_of(path) else {
             return "";
         };
         let older = previous.text(file);
-        let Some((begin, end)) = range_before(older, text, (chunk.offset, chunk.end)) else {
+        let Some((begin, end)) = range_before(older, text, (part.begin, part.end)) else {
             return "";
         };
         match previous
             .lost
             .iter()
-            .find(|lost| lost.file == file && lost.begin == begin)
+            .find(|lost| lost.part.file == file && lost.part.begin == begin)
         {
             Some(lost) => lost.good.as_str(),
             None => older.get(begin..end).unwrap_or(""),
@@ -178,28 +151,9 @@ impl<'a> Readings<'a> {
     }
 }
 
-// Takes away where the text ends, of a list that isn't ended: behind a part of a text, others follow.
-fn drop_end(report: &mut Report) {
-    if report.code == "unclosed-list" && report.labels.len() > 1 {
-        report.labels.remove(1);
-    }
-}
-
-// Where an error begins: of a list that isn't ended where the list does.
-fn begin_of(error: &TextError) -> usize {
-    match &error.problem {
-        Problem::Unclosed(begin) => begin.offset,
-        Problem::Expected(_) | Problem::UnknownDefinition(_) => error.pos.offset,
-    }
-}
-
-fn holds(chunk: &Chunk, offset: usize) -> bool {
-    chunk.offset <= offset && offset < chunk.end
-}
-
-fn is_in(def: &Def, chunk: &Chunk) -> bool {
+fn is_in(def: &Def, part: LostPart) -> bool {
     match def.place() {
-        Some(pos) => holds(chunk, pos.offset),
+        Some(pos) => part.has(pos),
         None => false,
     }
 }
@@ -207,17 +161,16 @@ fn is_in(def: &Def, chunk: &Chunk) -> bool {
 // Adds the definitions of the last good text of a part of a file, as if it stood there.
 fn add_good(
     alloc: Global,
-    number: usize,
-    chunk: &Chunk,
+    part: LostPart,
     good: &str,
     defs: &mut Vec<Def>,
 ) -> Result<(), AllocError> {
     let mut text = String::new(alloc);
-    push_times(&mut text, ' ', chunk.offset as u64)?;
+    push_times(&mut text, ' ', part.begin as u64)?;
     text.push_str(good)?;
-    match read(alloc, number, &text) {
+    match read(alloc, part.file, &text) {
         Ok(mut found) => {
-            found.retain(|def| is_in(def, chunk));
+            found.retain(|def| is_in(def, part));
             defs.append(&mut found)?;
             Ok(())
         }
@@ -226,12 +179,8 @@ fn add_good(
     }
 }
 
-/// Where a part of a text stood in an older text, if what was changed doesn't reach over one of its ends.
-pub fn range_before(
-    older: &str,
-    text: &str,
-    (begin, end): (usize, usize),
-) -> Option<(usize, usize)> {
+// Where a part of a text stood in an older text, if what was changed doesn't reach over one of its ends.
+fn range_before(older: &str, text: &str, (begin, end): (usize, usize)) -> Option<(usize, usize)> {
     let (first, last) = shared_ends(older.as_bytes(), text.as_bytes());
     let before = |offset: usize| {
         let behind = text.len().saturating_sub(offset);
@@ -246,73 +195,11 @@ pub fn range_before(
     Some((before(begin)?, before(end)?))
 }
 
-/// How many bytes two texts share at their beginnings, and how many behind these at their ends.
-pub fn shared_ends(left: &[u8], right: &[u8]) -> (usize, usize) {
-    let mut first = 0usize;
-    for (a, b) in left.iter().zip(right) {
-        if *a != *b {
-            break;
-        }
-        first = first.saturating_add(1);
+/// The parts of texts that some forms are.
+pub fn parts_of(alloc: Global, lost: &[LostForms]) -> Result<Vec<LostPart>, AllocError> {
+    let mut parts = Vec::new(alloc);
+    for forms in lost {
+        parts.push(forms.part)?;
     }
-    let most = left.len().min(right.len()).saturating_sub(first);
-    (first, shared_end(left, right).min(most))
-}
-
-fn shared_end(left: &[u8], right: &[u8]) -> usize {
-    let mut last = 0usize;
-    for (a, b) in left.iter().rev().zip(right.iter().rev()) {
-        if *a != *b {
-            break;
-        }
-        last = last.saturating_add(1);
-    }
-    last
-}
-
-/// Whether a report comes of forms that can't be read: it stands in such a form, or its own form has a name that only such a form
-/// may define.
-pub fn comes_of_lost(sources: &Sources, defs: &[Def], lost: &[LostForms], report: &Report) -> bool {
-    let Some(label) = report.labels.first() else {
-        return false;
-    };
-    let pos = label.pos;
-    let text = sources.text(pos.file);
-    let form = text
-        .get(pos.offset..end_of_form(text, pos.offset))
-        .unwrap_or("");
-    lost.iter().any(|forms| forms.has(pos) || forms.may_define(sources, defs, form))
-}
-
-impl LostForms {
-    /// Whether a position is in these forms.
-    pub fn has(&self, pos: Pos) -> bool {
-        self.file == pos.file && self.begin <= pos.offset && pos.offset < self.end
-    }
-
-    // Whether these forms may define a word of another form, or say what the term is that it declares. A rule defines nothing.
-    fn may_define(&self, sources: &Sources, defs: &[Def], form: &str) -> bool {
-        let text = sources.text(self.file);
-        let text = text.get(self.begin..self.end).unwrap_or("").trim_start();
-        let may_be_known = form.starts_with("(decl") || text.starts_with("(ext");
-        let is_rule = text.starts_with("(rule");
-        form.split(ends_word).any(|word| has_word(text, word)
-            && (may_be_known || !is_rule && !is_defined(defs, word)))
-    }
-}
-
-// Whether a text has a word, or one of which it is a variant.
-fn has_word(text: &str, word: &str) -> bool {
-    !word.is_empty()
-        && text.split(ends_word).any(|one| match word.strip_prefix(one) {
-            Some(rest) => rest.is_empty() || !one.is_empty() && rest.starts_with('.'),
-            None => false,
-        })
-}
-
-fn is_defined(defs: &[Def], name: &str) -> bool {
-    let constant = name.strip_prefix('$').unwrap_or(name);
-    place_of_term(defs, name).is_some()
-        || type_named(defs, name).is_some()
-        || place_of_constant(defs, constant).is_some()
+    Ok(parts)
 }

@@ -1,12 +1,14 @@
 //! New names for what has one in the files.
 
+ghost use Rattle.std.specs.Prelude.{◌≡◌, IfOk};
+
 use crate::analysis::Analysis;
-use crate::edits::{Edit, file_changes};
+use crate::edits::file_changes;
 use crate::ranges::{Ranges, end_of_name};
 use crate::references::position_in;
+use app_messages::edits::{Edit, name_edit};
 use app_messages::messages::text_of;
 use app_messages::refusals::Refusal;
-use app_names::mentions::{Mention, MentionKind, mentions_in};
 use app_names::symbols::{
     Specs, Symbol, has_rule, has_variable, is_built_in, mention_at, names_of, specs_of, symbol_of,
     type_named,
@@ -15,6 +17,7 @@ use cranelift_isle::syntax::{Def, Pos, TypeValue};
 use report_errors::definitions::{
     declaration_of, definition_around, place_of_constant, place_of_term,
 };
+use report_errors::mentions::{Mention, MentionKind, Mentions};
 use serde_json::{Value, json};
 use std::alloc::{AllocError, Global};
 
@@ -92,27 +95,32 @@ fn renamed_at(
     }
     let mut edits = Vec::new(alloc);
     for other in &names_of(alloc, &analysis.defs, &specs, symbol)? {
-        let end = end_of_name(other.name);
-        edits.push(edit_of(other, end.saturating_sub(old.len()), end, name))?;
+        let begin = end_of_name(other.name).saturating_sub(old.len());
+        edits.push(edit_of(analysis, other, begin, old, name)?)?;
     }
-    for other in &names_of(alloc, &analysis.defs, &specs, Symbol::MadeOf(old))? {
-        if matches!(symbol, Symbol::Type(_))
-            && declaration_of(&analysis.defs, other.text()).is_none()
-        {
-            let begin = other.name.1.offset;
-            edits.push(edit_of(other, begin, begin.saturating_add(old.len()), name))?;
+    if matches!(symbol, Symbol::Type(_)) {
+        for other in &names_of(alloc, &analysis.defs, &specs, Symbol::MadeOf(old))? {
+            if declaration_of(&analysis.defs, other.text()).is_none() {
+                edits.push(edit_of(analysis, other, other.name.1.offset, old, name)?)?;
+            }
         }
     }
     Ok(file_changes(alloc, analysis, &edits)?)
 }
 
-fn edit_of<'a>(mention: &Mention<'_>, begin: usize, end: usize, text: &'a str) -> Edit<'a> {
-    Edit {
-        file: mention.name.1.file,
-        begin,
-        end,
-        text,
-    }
+// The edit that writes a new name in place of an old one, which begins at an offset in the name of a mention.
+fn edit_of<'a>(
+    analysis: &Analysis,
+    mention: &Mention<'_>,
+    begin: usize,
+    old: &str,
+    new: &'a str,
+) -> Result<Edit<'a>, Refusal>
+    ensures { IfOk result (λ edit. edit.text.now ≡ new.now) }
+{
+    let file = mention.name.1.file;
+    let end = begin.saturating_add(old.len());
+    name_edit(analysis.text(file), file, begin, end, old, new)
 }
 
 // The name at a place, and what it means, if that is defined in a file.
@@ -187,8 +195,11 @@ fn is_type(defs: &[Def], name: &str) -> bool {
 
 // Whether a definition has a field of a name.
 fn has_field(alloc: Global, def: &Def, name: &str) -> Result<bool, AllocError> {
-    let mentions = mentions_in(alloc, def)?;
-    Ok(mentions.iter().any(|mention| mention.kind == MentionKind::Field && mention.text() == name))
+    let mentions = Mentions::of(alloc, def)?;
+    Ok(
+        mentions.names.iter().any(|mention| mention.kind == MentionKind::Field
+            && mention.text() == name),
+    )
 }
 
 // Whether a variant of a type would be another term if the type had this name.
@@ -219,8 +230,9 @@ fn is_unsure(
     };
     let mut count = 0usize;
     for def in &analysis.defs {
-        let mentions = mentions_in(alloc, def)?;
+        let mentions = Mentions::of(alloc, def)?;
         let defined = mentions
+            .names
             .iter()
             .filter(|mention| mention.kind == kind && mention.text() == name)
             .count();

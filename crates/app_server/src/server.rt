@@ -15,12 +15,13 @@ use crate::hover::hover_at;
 use crate::outline::{found_symbols, outline_of};
 use crate::references::{definition_at, highlights_at, references_at};
 use crate::renaming::{prepared_at, renamed_in_lists};
-use crate::session::{ServerStage, Session};
+use crate::session::Session;
 use crate::signatures::signature_at;
 use crate::sources::{Sources, lists_of};
 use crate::structure::{folds_of, selections_at};
 use app_messages::framing::{Frame, Frames};
 use app_messages::messages::{Message, member, message_of, text_of};
+use app_messages::protocol::{Question, Reply, ServerStage, reply_to};
 use app_messages::refusals::Refusal;
 use app_messages::replies::{
     Unsent, send_answer, send_log, send_notification, send_out_of_step, send_refusal,
@@ -288,6 +289,7 @@ impl Server {
         }
     }
 
+    // What a request comes to, by the table of the protocol.
     fn answer<R: std::rt::Files + AllocGlobal, O: Write>(
         &mut self,
         rt: &R,
@@ -295,20 +297,25 @@ impl Server {
         method: &str,
         params: Option<&Value>,
     ) -> Result<Result<Value, Refusal>, Unwritten> {
-        match (self.session.stage, method) {
-            (ServerStage::New, "initialize") => return Ok(self.initialize(params)),
-            (ServerStage::New, _) => return Ok(Err(Refusal::NotInitialized)),
-            (ServerStage::Shut, _) => return Ok(Err(Refusal::ShutDown)),
-            (ServerStage::Open, "initialize") => return Ok(Err(Refusal::InitializedTwice)),
-            (ServerStage::Open, "shutdown") => {
+        match reply_to(self.session.stage, method) {
+            Reply::Begin => Ok(self.initialize(params)),
+            Reply::Shut => {
                 self.session.stage = ServerStage::Shut;
-                return Ok(Ok(Value::Null));
+                Ok(Ok(Value::Null))
             }
-            (ServerStage::Open, _) => {}
+            Reply::Refuse(why) => Ok(Err(why)),
+            Reply::Ask(question) => self.answer_now(rt, out, question, params),
         }
-        let Some(question) = question_of(method) else {
-            return Ok(Err(Refusal::NoMethod));
-        };
+    }
+
+    // The answer to a question, by what the files mean now.
+    fn answer_now<R: std::rt::Files + AllocGlobal, O: Write>(
+        &mut self,
+        rt: &R,
+        out: &mut O,
+        question: Question,
+        params: Option<&Value>,
+    ) -> Result<Result<Value, Refusal>, Unwritten> {
         match self.refresh(rt, out) {
             Ok(()) => Ok(self.answer_to(question, params)),
             Err(Unsent::Memory) => Ok(Err(Refusal::Memory)),
@@ -408,57 +415,4 @@ fn item_uri(params: &Value) -> Result<&str, Refusal> {
 fn refused<O: Write>(out: &mut O, id: &str, why: Refusal) -> Result<Going, Unwritten> {
     send_refusal(out, id, why)?;
     Ok(Going::On)
-}
-
-// What a request asks.
-#[derive(Clone, Copy, PartialEq, Eq)]
-enum Question {
-    Hover,
-    Definition,
-    References,
-    Highlights,
-    Completion,
-    Signature,
-    Selections,
-    Hints,
-    Layout,
-    LayoutIn,
-    Prepare,
-    Rename,
-    Actions,
-    Calls,
-    Callers,
-    Callees,
-    Outline,
-    Folds,
-    Colours,
-    Lenses,
-    Symbols,
-}
-
-fn question_of(method: &str) -> Option<Question> {
-    match method {
-        "textDocument/hover" => Some(Question::Hover),
-        "textDocument/definition" => Some(Question::Definition),
-        "textDocument/references" => Some(Question::References),
-        "textDocument/documentHighlight" => Some(Question::Highlights),
-        "textDocument/completion" => Some(Question::Completion),
-        "textDocument/signatureHelp" => Some(Question::Signature),
-        "textDocument/selectionRange" => Some(Question::Selections),
-        "textDocument/inlayHint" => Some(Question::Hints),
-        "textDocument/formatting" => Some(Question::Layout),
-        "textDocument/rangeFormatting" => Some(Question::LayoutIn),
-        "textDocument/prepareRename" => Some(Question::Prepare),
-        "textDocument/rename" => Some(Question::Rename),
-        "textDocument/codeAction" => Some(Question::Actions),
-        "textDocument/prepareCallHierarchy" => Some(Question::Calls),
-        "callHierarchy/incomingCalls" => Some(Question::Callers),
-        "callHierarchy/outgoingCalls" => Some(Question::Callees),
-        "textDocument/documentSymbol" => Some(Question::Outline),
-        "textDocument/foldingRange" => Some(Question::Folds),
-        "textDocument/semanticTokens/full" => Some(Question::Colours),
-        "textDocument/codeLens" => Some(Question::Lenses),
-        "workspace/symbol" => Some(Question::Symbols),
-        _ => None,
-    }
 }

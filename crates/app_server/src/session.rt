@@ -3,22 +3,12 @@
 use crate::documents::{Documents, OpenDocument};
 use crate::sources::Workspace;
 use app_messages::messages::{changes_of, document_uri, member, text_of};
+use app_messages::protocol::ServerStage;
 use app_messages::refusals::Refusal;
 use app_messages::uris::name_of;
 use serde_json::{Value, json};
 use std::alloc::{AllocError, Global};
 use text_documents::documents::Document;
-
-/// Where server and client are.
-#[derive(Clone, Copy, PartialEq, Eq)]
-pub enum ServerStage {
-    /// Before `initialize`.
-    New,
-    /// Between `initialize` and `shutdown`.
-    Open,
-    /// After `shutdown`.
-    Shut,
-}
 
 /// What the server knows of its client.
 pub struct Session {

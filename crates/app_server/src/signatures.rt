@@ -4,8 +4,9 @@ use crate::analysis::Analysis;
 use crate::references::position_in;
 use app_messages::refusals::Refusal;
 use app_names::contexts::{Context, context_at};
-use app_names::variables::{argument_type, result_type};
-use cranelift_isle::syntax::Def;
+use cranelift_isle::syntax::{Def, Ident};
+use report_errors::definitions::result_of;
+use report_errors::mentions::argument_type;
 use serde_json::{Value, json};
 use std::alloc::{AllocError, Global};
 
@@ -34,7 +35,7 @@ pub fn signature_at(
 fn term_around<'a>(defs: &[Def], context: &'a Context) -> Option<(&'a str, usize)> {
     for up in 0..context.depth() {
         let head = context.head(up);
-        if !result_type(defs, head).is_empty() {
+        if result_of(defs, head).is_some() {
             let behind = if up == 0 { 1 } else { 2 };
             return Some((head, context.count(up).saturating_sub(behind)));
         }
@@ -52,20 +53,27 @@ fn signature_value(
     let mut label = format!(in alloc; "({term}")?;
     let mut arguments = Vec::new(alloc);
     for number in 0..MOST_ARGUMENTS {
-        let ty = argument_type(defs, term, number);
-        if ty.is_empty() {
+        let Some(ty) = argument_type(defs, term, number) else {
             break;
-        }
+        };
         label.push(' ')?;
         let begin = label.len();
-        label.push_str(ty)?;
+        label.push_str(&ty.0)?;
         arguments.push(json!(in alloc; {"label": [begin, label.len()]})?)?;
     }
-    let result = result_type(defs, term);
-    write!(label, ") {result}")?;
+    label.push_str(") ")?;
+    label.push_str(text_of_type(result_of(defs, term)))?;
     json!(in alloc; {
         "signatures": [{"label": label, "parameters": arguments}],
         "activeSignature": 0,
         "activeParameter": number
     })
+}
+
+/// The name of a type, or the empty text.
+pub fn text_of_type(ty: Option<&Ident>) -> &str {
+    match ty {
+        Some(name) => name.0.as_str(),
+        None => "",
+    }
 }
