@@ -142,7 +142,7 @@ impl<'a> Shown<'a> {
     }
 }
 
-// Adds the diagnostics of a file that aren't there.
+// Adds the diagnostics of a file that no earlier list gave.
 fn add_diagnostics(
     alloc: Global,
     analysis: &Analysis,
@@ -157,15 +157,21 @@ fn add_diagnostics(
         return Ok(());
     }
     let shown = Shown::new(alloc, analysis)?;
+    let count = found.len();
     for report in &analysis.reports {
         if file_of(report) == file {
             let diagnostic = diagnostic_of(alloc, &shown, report)?;
-            if !found.contains(&diagnostic) {
+            if !is_among(&diagnostic, found, count) {
                 found.push(diagnostic)?;
             }
         }
     }
     Ok(())
+}
+
+// Whether a diagnostic is one of the first so many.
+fn is_among(diagnostic: &Value, found: &[Value], count: usize) -> bool {
+    found.iter().take(count).any(|other| *other == *diagnostic)
 }
 
 /// A report as a diagnostic. Where `--all` shows more is left out: an editor hasn't it.
