@@ -2,8 +2,8 @@
 """Edits the examples at random, and compares what the server shows with what `isle check` says.
 
 Some edits are made one behind another, and then the file is as it was again. Where all texts can be read, the server has to show what
-`isle check` says. Where one can't, it has to show mistakes in the files in which `isle check` finds one, and the mistakes that a server
-shows which begins anew.
+`isle check` says. Where one can't, it has to show the mistakes that `isle check` finds, and a server that begins anew has to show
+its errors.
 """
 
 import argparse
@@ -70,8 +70,8 @@ def is_shown(wanted, got):
     return got == wanted or errors and errors_in(got) == errors
 
 
-def files_of(found):
-    return {one[1] for one in found}
+def mistakes_in(found):
+    return [one for one in found if one[0] == 'syntax']
 
 
 def wait(client, uri):
@@ -112,6 +112,7 @@ def main():
                 wait(client, uri)
                 wanted = said(asked.program, folder, names)
                 got = shown(client, uris)
+                anew = got
                 if any(one[0] == 'syntax' for one in wanted):
                     unread += 1
                     fresh = Client(asked.program, folder)
@@ -121,13 +122,12 @@ def main():
                     anew = shown(fresh, uris)
                     fresh.end()
                     kept += got != anew
-                    mistakes = [one for one in got if one[0] == 'syntax']
-                    is_right = mistakes == [one for one in anew if one[0] == 'syntax'] and files_of(mistakes) == files_of(wanted)
+                    is_right = mistakes_in(got) == mistakes_in(anew) == mistakes_in(wanted) and is_shown(wanted, anew)
                 else:
                     is_right = is_shown(wanted, got)
                 if not is_right:
                     wrong += 1
-                    print(f'FAIL {pattern}: check says {wanted}, and the server shows {got}')
+                    print(f'FAIL {pattern}: check says {wanted}, and the server shows {got}, and one that begins anew {anew}')
             wrong += client.end() != 0
     print(f'{asked.count} edits, {unread} of them to texts that cannot be read, {kept} shown otherwise by what was kept, {wrong} wrong')
     sys.exit(1 if wrong else 0)

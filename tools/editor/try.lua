@@ -216,7 +216,7 @@ local function try()
   end), diagnostics())
   range = { start = { line = 4, character = 0 }, ['end'] = { line = 4, character = 20 } }
   actions = ask('textDocument/codeAction', { range = range, context = { diagnostics = {} } })
-  check('an action is offered', actions and #actions == 1, actions)
+  check('two actions are offered', actions and #actions == 2 and actions[2].title == 'Declare `addd`', actions)
   if actions and actions[1] then
     vim.lsp.util.apply_workspace_edit(actions[1].edit, 'utf-16')
   end

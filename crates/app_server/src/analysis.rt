@@ -9,7 +9,7 @@ use cranelift_isle::syntax::{Def, Error, Fault, Files, Pos};
 use report_errors::definitions::definition_around;
 use report_errors::diagnosis::{Amount, Reports, begin_of_error, reports_of};
 use report_errors::extents::end_of_form;
-use report_errors::lost::{LostPart, comes_of_lost, is_of_lost};
+use report_errors::lost::{LostPart, comes_of_lost, errors_beside, is_of_lost};
 use report_print::report::Report;
 use report_warnings::lints::{warnings, warnings_of_each};
 use std::alloc::{AllocError, Global};
@@ -56,7 +56,7 @@ pub fn analysis_of(
             Some(lowered)
         }
         Err(Fault::Errors(errors)) => {
-            add_errors(alloc, &sources.files, &defs, &parts, errors, &mut reports)?;
+            add_errors(alloc, &sources.files, &defs, &parts, &errors, &mut reports)?;
             None
         }
         Err(Fault::Memory(error)) => return Err(error),
@@ -110,20 +110,49 @@ fn is_told_of_lost(files: &Files, defs: &[Def], lost: &[LostPart], report: &Repo
     }
 }
 
-// Adds the errors of definitions that don't come of lost parts of texts, and the warnings that rules without errors give by
-// themselves.
+// Adds the errors of definitions that don't come of lost parts of texts, as `isle check` tells them: without the definitions of
+// those that do, if there are some.
 fn add_errors(
     alloc: Global,
     files: &Files,
     defs: &[Def],
     lost: &[LostPart],
-    mut errors: Vec<Error>,
+    errors: &[Error],
     reports: &mut Vec<Report>,
 ) -> Result<(), AllocError> {
-    let mut except = places_of_errors(alloc, defs, &errors)?;
-    errors.retain(|error| !is_of_lost(files, defs, lost, error));
-    let mut found = reports_of(alloc, defs, true, &errors, Amount::OfEachFile)?;
+    if !errors
+        .iter()
+        .any(|error| is_of_lost(files, defs, lost, error))
+    {
+        return add_reports(alloc, files, defs, lost, errors, reports);
+    }
+    let mut kept = copied(alloc, defs)?;
+    let mut parts = Vec::new(alloc);
+    parts.extend_from_slice(lost)?;
+    let errors = errors_beside(alloc, files, &mut kept, &mut parts, true)?;
+    add_reports(alloc, files, &kept, &parts, &errors, reports)
+}
+
+fn copied(alloc: Global, defs: &[Def]) -> Result<Vec<Def>, AllocError> {
+    let mut copied = Vec::new(alloc);
+    for def in defs {
+        copied.push(def.clone()?)?;
+    }
+    Ok(copied)
+}
+
+// Adds the reports of errors, and the warnings that rules without errors give by themselves.
+fn add_reports(
+    alloc: Global,
+    files: &Files,
+    defs: &[Def],
+    lost: &[LostPart],
+    errors: &[Error],
+    reports: &mut Vec<Report>,
+) -> Result<(), AllocError> {
+    let mut found = reports_of(alloc, defs, true, errors, Amount::OfEachFile)?;
     tell_rest(alloc, &mut found)?;
+    let mut except = places_of_errors(alloc, defs, errors)?;
     add_places(defs, &found.reports, &mut except)?;
     reports.append(&mut found.reports)?;
     let beside = warnings_beside(alloc, files, defs, &except)?;
@@ -138,11 +167,18 @@ fn tell_rest(alloc: Global, found: &mut Reports) -> Result<(), AllocError> {
         let rest = found.rest.iter().filter(|other| **other == file).count();
         if rest > 0 && !told.contains(&file) {
             told.push(file)?;
-            let text = format!(in alloc; "{rest} more errors of this file are not shown")?;
-            report.add_note("note", text)?;
+            report.add_note("note", rest_text(alloc, rest)?)?;
         }
     }
     Ok(())
+}
+
+// How many errors of a file aren't reported, in words.
+fn rest_text(alloc: Global, rest: usize) -> Result<String, AllocError> {
+    match rest {
+        1 => String::from_str(alloc, "1 more error of this file is not shown"),
+        _ => format!(in alloc; "{rest} more errors of this file are not shown"),
+    }
 }
 
 // The warnings that rules give by themselves, but for those at some places, where the types are right.
