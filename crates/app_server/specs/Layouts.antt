@@ -1,5 +1,5 @@
 -- What does a layout change in a document?
-use Rattle.std.specs.Prelude.{◌×◌, ℕ, List, Option}
+use Rattle.std.specs.Prelude.{ℕ, List, Option}
 use Rattle.app_messages.specs.Edits.{Makes}
 use Rattle.app_messages.specs.declared.edits.PlacedEdit.{PlacedEdit}
 use Rattle.text_reader.specs.Solid.{HaveSameTokens}
