@@ -15,7 +15,6 @@ mod rust_names;
 mod source;
 mod trial;
 mod type_sizes;
-mod typed;
 mod value_texts;
 mod values;
 mod words;
