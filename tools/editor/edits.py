@@ -41,7 +41,9 @@ def said(program, folder, names):
     done = subprocess.run([program, 'check', *names], cwd=folder, capture_output=True, text=True, check=False)
     if done.returncode not in (0, 1):
         raise SystemExit(f'check ended with {done.returncode}: {done.stderr}')
-    reports = re.findall(r'^(error|warning)\[(.*?)\]: (.*)\n *--> (.*?):(\d+):\d+$', done.stdout + done.stderr, re.MULTILINE)
+    # a long message has further lines, four spaces in
+    told = re.sub(r'\n    (?! *(?:-->|\||=))', ' ', done.stdout + done.stderr)
+    reports = re.findall(r'^(error|warning)\[(.*?)\]: (.*)\n *--> (.*?):(\d+):\d+$', told, re.MULTILINE)
     return sorted((kind, file, int(line), message, level == 'error') for level, kind, message, file, line in reports)
 
 

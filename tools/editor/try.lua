@@ -78,6 +78,15 @@ local function try_reading()
   check('a term has a count of its rules', found and #found == 1 and found[1].command.title == '3 rules', found)
   found = ask('textDocument/inlayHint', { range = { start = { line = 4, character = 0 }, ['end'] = { line = 4, character = 9 } } })
   check('variables have types', names(found, 'label') == ': Operand : Operand', found)
+  go_to('add (Operand Operand')
+  found = ask('textDocument/prepareCallHierarchy')
+  check('a term is an item of the call hierarchy', names(found) == 'add', found)
+  local calls = ask('callHierarchy/incomingCalls', { item = found and found[1] })
+  check('no rule makes it', calls and #calls == 0, calls)
+  calls = ask('callHierarchy/outgoingCalls', { item = found and found[1] })
+  check('and its rules make no declared term', calls and #calls == 0, calls)
+  found = ask('textDocument/prepareRename')
+  check('its name can change', found and found.placeholder == 'add', found)
   go_to('Inst.Add a b')
   vim.fn.cursor(vim.fn.line('.'), vim.fn.col('.') + 11)
   found = ask('textDocument/signatureHelp')
@@ -123,6 +132,27 @@ local function try_writing()
   check('and the rules are right again', comes(function()
     return #diagnostics() == 0
   end), diagnostics())
+end
+
+-- The server loses the text of a document, since a change of it is in no line, and gets it again.
+local function try_losing(client)
+  local is_lost = false
+  local open_anew = client.handlers['isle/outOfStep']
+  client.handlers['isle/outOfStep'] = function(...)
+    is_lost = true
+    return open_anew(...)
+  end
+  local place = { line = 999, character = 0 }
+  client.notify('textDocument/didChange', {
+    textDocument = { uri = vim.uri_from_bufnr(0), version = 999 },
+    contentChanges = { { range = { start = place, ['end'] = place }, text = 'x' } },
+  })
+  check('a change that is refused is told', comes(function()
+    return is_lost
+  end), is_lost)
+  check('and the document is opened anew', comes(function()
+    return #(ask('textDocument/documentSymbol', whole_file()) or {}) == 4
+  end), {})
 end
 
 -- A type gets another name in both files.
@@ -235,6 +265,7 @@ local function try()
   check('a name that is taken is refused', refused ~= nil and refused.code == -32803, refused)
   try_reading()
   try_writing()
+  try_losing(get_clients()[1])
   try_renaming()
 
   vim.cmd('write')

@@ -8,15 +8,18 @@ import subprocess
 import sys
 import tempfile
 
-# A solver that does what stands behind its name in each text: answers so, says something else, dies, or hangs. It tells where a text ends.
+# A solver that does what stands behind its name in each text: answers so, says something else, dies (`late` only behind another text), or
+# hangs. It tells where a text ends.
 SOLVER = """#!%(python)s
 import os, re, signal, sys, time
 open(%(room)r + "/started", "a").write("%(name)s\\n")
-what = "unsat"
+what, is_first = "unsat", True
 for line in sys.stdin:
     found = re.match("; %(name)s ([^(\\n]*)", line)
     what = found.group(1) if found else what
     end = re.match('\\\\(echo "(.*)"\\\\)$', line)
+    if end and what == "late":
+        what = "unsat" if is_first else "die"
     if end and what in ("die", "fail"):
         print("unsat", flush=True)
         os.kill(os.getpid(), signal.SIGSEGV) if what == "die" else sys.exit(1)
@@ -26,10 +29,10 @@ for line in sys.stdin:
         sys.stdout.write(what + "\\n" if what != "nothing" else "")
         print(end.group(1), flush=True)
     if line == "(reset)\\n":
-        what = "unsat"
+        what, is_first = "unsat", False
 """
 
-# Which texts lack an answer, and at last the records.
+# Which texts lack an answer, and then the records, each line behind `told `.
 ISLE = """#!%(python)s
 import json, re, sys
 words = sys.argv[1:]
@@ -43,14 +46,13 @@ for line in open(path, encoding="utf-8"):
     elif line.startswith("< "):
         records.setdefault(text, []).append(line[2:].strip())
     behind = not line.startswith("> ")
-if "--format" in words:
-    for text in json.load(open(asked, encoding="utf-8")):
-        text = "".join("> %%s\\n" %% line for line in text.split("\\n"))
-        if words[words.index("--format") + 1] == "asked" or not set(records.get(text, [])) & {"sat", "unsat"}:
-            print(text)
-else:
-    sys.stdout.write(open(path, encoding="utf-8").read())
-    sys.exit(1 if "--deny" in words else 0)
+for text in json.load(open(asked, encoding="utf-8")):
+    text = "".join("> %%s\\n" %% line for line in text.split("\\n"))
+    if "--asked" in words or "--open" in words and not set(records.get(text, [])) & {"sat", "unsat"}:
+        print(text)
+for line in open(path, encoding="utf-8"):
+    print("told " + line.rstrip("\\n"))
+sys.exit(1 if "--deny" in words else 0)
 """
 
 
@@ -75,6 +77,9 @@ ROWS = [
     ("the second one isn't asked", [{"z3": "unknown", "cvc5": "unsat"}], ["--solver", "z3"], ["= z3 20", "< unknown"]),
     ("both are asked", [{"z3": "sat", "cvc5": "unsat"}], ["--solver", "both", "--jobs", "1"], ["= z3 20", "< sat", "= cvc5 20", "< unsat"]),
     ("one text twice", ["unsat", "unsat"], [], ["= z3 20", "< unsat"]),
+    ("dies behind another text, and is asked again", ["sat", "late"], ["--solver", "z3", "--jobs", "1"], ["= z3 20", "< sat", "= z3 20", "< unsat"]),
+    ("dies behind another text, and alone", ["sat", "die"], ["--solver", "z3", "--jobs", "1"],
+     ["= z3 20", "< sat", "= z3 20", "< nothing: it ended with the status -11"]),
     ("dies, and starts again", ["die", "sat"], ["--solver", "z3", "--jobs", "1"], ["= z3 20", "< nothing: it ended with the status -11", "= z3 20", "< sat"]),
 ]
 
@@ -88,7 +93,7 @@ def write(path, words, mode=0o644):
 def run(script, room, words, path=None):
     env = dict(os.environ, ISLE_PROGRAM=os.path.join(room, "isle"), PATH=path or room + os.pathsep + os.environ["PATH"])
     found = subprocess.run([sys.executable, script] + words, env=env, stdout=subprocess.PIPE, stderr=subprocess.STDOUT, timeout=120)
-    return found.stdout.decode("utf-8").splitlines(), found.returncode
+    return [line.removeprefix("told ") for line in found.stdout.decode("utf-8").splitlines()], found.returncode
 
 
 def ask(script, room, texts, words):

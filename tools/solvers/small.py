@@ -1,6 +1,8 @@
 #!/usr/bin/env python3
 """Asks about the small files in small/: each alone, those that are accepted all in one file, and that with all rules on one line.
-small/TABLE.md says what must be told of each rule, and why. Usage: small.py [--jobs N] SOLVER.., each z3, cvc5 or both."""
+small/TABLE.md says what must be told of each rule, and why. `isle run` has to take each call that shows that a rule is wrong, and the
+status has to be 1 where a rule is wrong or partly, and with --ci where one isn't right.
+Usage: small.py [--jobs N] [--answers FILE] SOLVER.., each z3, cvc5 or both. FILE keeps the answers for the next run; FILE.SOLVER is its name."""
 import itertools
 import os
 import re
@@ -11,6 +13,7 @@ import tempfile
 HERE = os.path.dirname(os.path.realpath(__file__))
 SMALL = os.path.join(HERE, "small")
 SCRIPT = os.path.join(os.path.dirname(HERE), "try-smt")
+ISLE = os.environ.get("ISLE_PROGRAM") or os.path.join(os.path.dirname(os.path.dirname(HERE)), "isle")
 
 # What may be told of the rules of each file, by their terms: a word, or several with bars between them.
 TOLD = {
@@ -46,6 +49,7 @@ TOLD = {
     "unmet-spec": "f right, g right",
     "lower-wide": "f right",
     "internal-extractor": "lower right",
+    "internal-extractor-unused": "lower right",
     "opaque": "f right, f right, f wrong",
     "below-match": "f right, f wrong|unknown",
     "below-numbers": "g right, g wrong|unknown",
@@ -63,8 +67,9 @@ REFUSED = {
     "constant-model": "spec-model",
     "state": "spec-unsupported",
 }
-# Lines that have to name widths.
+# What has to stand in lines: widths, and a warning.
 NAMED = {
+    "internal-extractor-unused": ["warning: the spec of `iadd` at "],
     "extractor-signature": ["(arg0 of 8 bits)", "never taken (arg0 of 16 bits)"],
     "extractor-spec": ["(arg0 of 8 bits)", "never taken (arg0 of 16 bits)"],
     "lower-wide": ["(arg0 of %d bits)" % width for width in (8, 16, 32, 64)],
@@ -91,13 +96,41 @@ def renamed(text, mark):
 
 
 def run(solver, jobs, answers, text):
+    """What is told of a text, with a line for each fault behind it, and the status."""
     with tempfile.TemporaryDirectory() as room:
         path = os.path.join(room, "a.isle")
         with open(path, "w", encoding="utf-8") as file:
             file.write(text)
         command = [sys.executable, SCRIPT, "--solver", solver, "--seconds", "20", "--jobs", jobs, "--answers", answers, path]
-        found = subprocess.run(command, stdout=subprocess.PIPE, stderr=subprocess.STDOUT)
+        told, status = output_of(command)
+        words = [word for told_of_term in words_by_term(told).values() for word in told_of_term]
+        faults = ["fault: isle run refuses %s" % call for call in calls_in(told) if output_of([ISLE, "run", path, "--"] + call)[1]]
+        if words and status != int("wrong" in words or "partly" in words):
+            faults.append("fault: the status is %d" % status)
+        if words and output_of(command + ["--ci"])[1] != int(set(words) != {"right"}):
+            faults.append("fault: the status with --ci")
+    return told + "".join(fault + "\n" for fault in faults), status
+
+
+def output_of(command):
+    found = subprocess.run(command, stdout=subprocess.PIPE, stderr=subprocess.STDOUT)
     return found.stdout.decode("utf-8"), found.returncode
+
+
+def calls_in(told):
+    """The calls that are told, each as its words."""
+    return [words_of(call) for call in re.findall(r"^  call: \((.*)\)$", told, re.M)]
+
+
+def words_of(call):
+    """The words of a call, where each value with parentheses is one."""
+    words = []
+    for part in call.split(" "):
+        if words and words[-1].count("(") > words[-1].count(")"):
+            words[-1] += " " + part
+        else:
+            words.append(part)
+    return words
 
 
 def words_by_term(told, mark=""):
@@ -122,9 +155,13 @@ def fits(name, told, mark=""):
 
 
 def main(arguments):
-    jobs = "1"
-    if arguments[:1] == ["--jobs"]:
-        jobs, arguments = arguments[1], arguments[2:]
+    jobs, kept = "1", None
+    while arguments[:1] in (["--jobs"], ["--answers"]):
+        if arguments[0] == "--jobs":
+            jobs = arguments[1]
+        else:
+            kept = os.path.abspath(arguments[1])
+        arguments = arguments[2:]
     failed = []
 
     def check(name, is_so, told):
@@ -135,11 +172,12 @@ def main(arguments):
 
     for solver in arguments or ["z3"]:
         with tempfile.TemporaryDirectory() as room:
-            answers = os.path.join(room, "answers")
+            answers = kept + "." + solver if kept else os.path.join(room, "answers")
             for name in TOLD:
                 for how, text in (("as it stands", text_of(name)), ("on one line", bare(text_of(name)))):
                     told, _ = run(solver, jobs, answers, text)
-                    check("%s %s, %s" % (solver, name, how), fits(name, told) and all(part in told for part in NAMED.get(name, [])), told)
+                    is_so = fits(name, told) and all(part in told for part in NAMED.get(name, [])) and "fault: " not in told
+                    check("%s %s, %s" % (solver, name, how), is_so, told)
             for name, code in REFUSED.items():
                 told, status = run(solver, jobs, answers, text_of(name))
                 check("%s %s is refused" % (solver, name), status == 1 and "error[%s]" % code in told, told)

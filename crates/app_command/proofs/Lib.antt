@@ -1,4 +1,7 @@
+mod RecoveredTexts
+mod RustCode
 mod TaskStatuses
 mod Texts
 mod TextsRead
 pub mod AllRead
+pub mod CodeMade

@@ -1,5 +1,5 @@
 -- What the status of an answer says, and what lowered definitions are answered.
-use Rattle.std.proofs.Common.{◌≡◌, ◌≢◌, ◌≤◌, ◌⊎◌, ℕ, Bool, true, false, List, inl, inr, refl, subst, arith, Result, Ok, Err, IfOk, MatchResult}
+use Rattle.std.proofs.Common.{◌≡◌, ◌≢◌, ◌≤◌, ◌⊎◌, ℕ, Bool, true, false, List, inl, inr, refl, arith, Result, Ok, Err, IfOk, MatchResult}
 use Rattle.std.specs.declared.alloc.AllocError.{AllocError}
 use Rattle.cranelift_isle.specs.Syntax.{Definition}
 use Rattle.cranelift_isle.specs.declared.lower.Lowered.{Lowered}
@@ -13,7 +13,7 @@ use Rattle.app_command.specs.declared.words.Request.{Request}
 use Rattle.app_command.specs.declared.words.Task.{Task}
 use Rattle.app_command.specs.declared.words.Task.TheVariants as T
 use Rattle.app_command.specs.Codes.{IsAnswerOfCode}
-use Rattle.app_command.specs.TaskAnswers.{lowered_terms, IsAnswerBy, IsAnswerToBoth, IsAnswerToDefinitions, IsAnswerToReading, IsAnswerToTexts, IsPrintOfReading}
+use Rattle.app_command.specs.TaskAnswers.{IsAnswerBy, IsAnswerToBoth, IsAnswerToDefinitions, IsAnswerToReading, IsAnswerToTexts, IsPrintOfReading}
 use Rattle.app_command.specs.Statuses.{may_fail, IsStatusFor, IsStatusOfReading, IsWritten}
 
 -- code is answered with the status 0, and that there is none with the status 1
@@ -22,24 +22,24 @@ status_of_code (Text text) answer done = inl done.0
 status_of_code (Names why) answer failed = inr (failed.0, refl)
 
 -- what a task answers has the status 1 only where it may fail
-pub status_of_task : (task : Task) (asked : Request) (terms : List ℕ) (answer : Answer)
-    → IsAnswerBy task asked terms answer → (answer.status ≡ 0) ⊎ ((answer.status ≡ 1) × (may_fail task asked ≡ true))
-status_of_task T.Lower asked terms answer (inl done) = inl done.0.0
-status_of_task T.Lower asked terms answer (inr failed) = inr (failed.1.0, failed.0)
-status_of_task T.Rust asked terms answer told = status_of_code told.0 answer told.2
-status_of_task T.Check asked terms answer told = elim told.1 [ inl none ↦ inl none.0 | inr denied ↦ inr (denied.1, denied.0) ]
-status_of_task T.Explain asked terms answer (inl done) = inl done.0.0
-status_of_task T.Explain asked terms answer (inr failed) = inr (failed.0, refl)
-status_of_task T.Stats asked terms answer done = inl done.0.0
-status_of_task T.Compare asked terms answer (inl done) = inl done.0.0
-status_of_task T.Compare asked terms answer (inr failed) = inr (failed.0, refl)
-status_of_task T.Diff asked terms answer done = inl done.0.0
-status_of_task T.Print asked terms answer done = inl done.0.0
-status_of_task T.Samples asked terms answer done = inl done.0.0
-status_of_task T.Run asked terms answer (inl done) = inl done.0.0
-status_of_task T.Run asked terms answer (inr failed) = inr (failed.0, refl)
-status_of_task T.Why asked terms answer (inl done) = inl done.0.0
-status_of_task T.Why asked terms answer (inr failed) = inr (failed.0, refl)
+pub status_of_task : (task : Task) (asked : Request) (l : Lowered) (answer : Answer)
+    → IsAnswerBy task asked l answer → (answer.status ≡ 0) ⊎ ((answer.status ≡ 1) × (may_fail task asked ≡ true))
+status_of_task T.Lower asked l answer (inl done) = inl done.0.0
+status_of_task T.Lower asked l answer (inr failed) = inr (failed.1.0, failed.0)
+status_of_task T.Rust asked l answer told = status_of_code told.1.0 answer told.1.2
+status_of_task T.Check asked l answer told = elim told.1 [ inl none ↦ inl none.0 | inr denied ↦ inr (denied.1, denied.0) ]
+status_of_task T.Explain asked l answer (inl done) = inl done.0.0
+status_of_task T.Explain asked l answer (inr failed) = inr (failed.0, refl)
+status_of_task T.Stats asked l answer done = inl done.0.0
+status_of_task T.Compare asked l answer (inl done) = inl done.0.0
+status_of_task T.Compare asked l answer (inr failed) = inr (failed.0, refl)
+status_of_task T.Diff asked l answer done = inl done.0.0
+status_of_task T.Print asked l answer done = inl done.0.0
+status_of_task T.Samples asked l answer done = inl done.0.0
+status_of_task T.Run asked l answer (inl done) = inl done.0.0
+status_of_task T.Run asked l answer (inr failed) = inr (failed.0, refl)
+status_of_task T.Why asked l answer (inl done) = inl done.0.0
+status_of_task T.Why asked l answer (inr failed) = inr (failed.0, refl)
 
 -- a status that is 0 or 1 is at most 1
 at_most_one : (status : ℕ) (P : Type 0) → (status ≡ 0) ⊎ ((status ≡ 1) × P) → status ≤ 1
@@ -55,10 +55,10 @@ may_be_one status b (inr e) one not = cc
 pub status_of_answer : (asked : Request) (reading : Reading) (answer : Answer)
     → IsAnswerToReading asked reading answer → IsStatusOfReading asked reading answer.status
 status_of_answer asked (Defs defs) answer (inl accepted) =
-    let status = status_of_task asked.task asked _ answer accepted.2 in
+    let status = status_of_task asked.task asked accepted.0 answer accepted.2 in
     record {
       known = at_most_one answer.status _ status;
-      done = λ _. (accepted.0, accepted.1);
+      done = λ _. (accepted.1.0, accepted.1.1.accepted);
       refused = λ one not _. may_be_one answer.status _ status one not;
     }
 status_of_answer asked (Defs defs) answer (inr refused) =
@@ -74,11 +74,10 @@ status_of_answer asked (Unread mistakes) answer refused =
       refused = λ _ _ h. h;
     }
 
--- lowered definitions are accepted, and their terms with rules are those that were lowered
+-- lowered definitions are answered
 pub answer_of_lowered : (defs : List Definition) (asked : Request) (l : Lowered) (answer : Answer)
-    → IsLowered defs asked.expand l → IsAnswerBy asked.task asked (lowered_terms l) answer → IsAnswerToDefinitions defs asked answer
-answer_of_lowered defs asked l answer lowered by =
-    inl (lowered.0, lowered.1.accepted, subst (λ terms. IsAnswerBy asked.task asked terms answer) lowered.1.trees.each by)
+    → IsLowered defs asked.expand l → IsAnswerBy asked.task asked l answer → IsAnswerToDefinitions defs asked answer
+answer_of_lowered defs asked l answer lowered by = inl (l, lowered, by)
 
 -- an answer that is written has its status, and one that isn't made the status of refused memory
 pub status_written : (asked : Request) (texts : List (List ℕ)) (answer : Result Answer AllocError) (status : ℕ)

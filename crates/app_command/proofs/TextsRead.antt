@@ -37,7 +37,7 @@ abbrev pub AreBefore : (has_none : ℕ → Bool) (texts : List (List ℕ)) (numb
 AreBefore has_none texts number before =
     (others : List Definition) → AreOfTexts has_none number (drop number texts) others → AreOfTexts has_none 0 texts (before ++ others)
 
-dropped : (texts : List (List ℕ)) (number : ℕ) (text : List ℕ) → slice_get texts number ≡ Some text → drop number texts ≡ text ∷ drop (number + 1) texts
+pub dropped : (texts : List (List ℕ)) (number : ℕ) (text : List ℕ) → slice_get texts number ≡ Some text → drop number texts ≡ text ∷ drop (number + 1) texts
 dropped texts number text at =
     drop_more texts number text (slice_get_within texts number text at) ∙ ap (λ t. t ∷ drop (number + 1) texts) (get_or_from_slice_get texts number text text at)
 

@@ -9,6 +9,7 @@ use Rattle.text_reader.specs.Faults.{FaultIsWithin}
 use Rattle.text_reader.specs.Lexemes.{Wrong}
 use Rattle.text_reader.specs.Views.{complaint}
 use Rattle.text_reader.specs.Definitions.{Spells, reading}
+use Rattle.text_reader.specs.Recovering.{Recovery, beside, nothing, recovering}
 use Rattle.core_syntax.specs.SyntaxViews.{position}
 use Rattle.text_reader.specs.Within.{DefinitionIsWithin}
 use Rattle.app_command.specs.declared.reading.Reading.{Reading}
@@ -72,6 +73,16 @@ abbrev pub mistakes_of_texts : (has_none : ℕ → Bool) (number : ℕ) → List
 mistakes_of_texts has_none number [] = []
 mistakes_of_texts has_none number (text ∷ texts) =
     mistake_of_text (has_none number) number text ++ mistakes_of_texts has_none (number + 1) texts
+
+-- what can be read of one text, which may have no definitions
+abbrev pub recovered_text : (has_none : Bool) (number : ℕ) (text : List ℕ) → Recovery
+recovered_text true number text = nothing
+recovered_text false number text = recovering number text
+
+-- what can be read of texts, from this number on: of each, in order
+abbrev pub recovered_texts : (has_none : ℕ → Bool) (number : ℕ) → List (List ℕ) → Recovery
+recovered_texts has_none number [] = nothing
+recovered_texts has_none number (text ∷ texts) = beside (recovered_text (has_none number) number text) (recovered_texts has_none (number + 1) texts)
 
 -- the definitions are those of the texts, and lie in them; or there are mistakes, exactly those of the texts, and they stand in
 -- them

@@ -1,18 +1,14 @@
 -- What the command answers to definitions, by what it is asked.
 use Rattle.std.specs.Prelude.{ℕ, ◌≡◌, ◌≢◌, ◌≤◌, ◌⊎◌, ◌||◌, ⊤, Bool, true, false, List, [], ◌∷◌, drop, is_none, is_some, length, map, None, Option, Some, string_bytes, take}
 use Rattle.cranelift_isle.specs.SyntaxViews.{definition_views}
-use Rattle.cranelift_isle.specs.Layers.{own_program, IsAccepted}
-use Rattle.cranelift_isle.specs.Elaborated.{TypedRules}
 use Rattle.cranelift_isle.specs.Syntax.{Definition}
-use Rattle.cranelift_isle.specs.Program.{terms_with_rules}
 use Rattle.cranelift_isle.specs.declared.lower.Lowered.{Lowered}
-use Rattle.cranelift_isle.specs.Lowerings.{lowered_views, AreAccepted}
+use Rattle.cranelift_isle.specs.Lowerings.{lowered_views, AreAccepted, IsLowered}
 use Rattle.core_syntax.specs.declared.syntax.Pos.{Pos}
 use Rattle.report_print.specs.declared.report.Report.{Report}
 use Rattle.text_writer.specs.Spellable.{first_unspelled}
 use Rattle.text_writer.specs.Texts.{printed}
 use Rattle.app_command.specs.declared.answers.Answer.{Answer}
-use Rattle.app_command.specs.declared.code.Code.{Code}
 use Rattle.app_command.specs.declared.reading.Reading.{Reading}
 use Rattle.app_command.specs.declared.reading.Reading.TheVariants.{Defs, Unread}
 use Rattle.app_command.specs.declared.words.Format.{Format}
@@ -20,7 +16,7 @@ use Rattle.app_command.specs.declared.words.Format.TheVariants as F
 use Rattle.app_command.specs.declared.words.Request.{Request}
 use Rattle.app_command.specs.declared.words.Task.{Task}
 use Rattle.app_command.specs.declared.words.Task.TheVariants as T
-use Rattle.app_command.specs.Codes.{IsAnswerOfCode, IsCode}
+use Rattle.app_command.specs.Codes.{IsAnswerOfRust}
 use Rattle.app_command.specs.Readings.{has_no_definitions, IsAcceptedReading, IsReadingOf}
 
 -- nothing stands on standard error
@@ -112,26 +108,25 @@ IsStatusOfWarnings asked answer =
     ((answer.status ≡ 0) × (asked.deny ≡ true → HasNoReport asked.format answer))
     ⊎ ((denies asked ≡ true) × (answer.status ≡ 1) × HasReport asked.format answer)
 
--- what accepted definitions with these terms with rules are answered, by the task. A task that may fail may do so on all of
--- them: when it does isn't said
-abbrev pub IsAnswerBy : Task → Request → (terms : List ℕ) → Answer → Type 0
-IsAnswerBy T.Lower asked terms answer =
-    (IsDone answer × HasTrees asked terms (string_bytes answer.out)) ⊎ (AsksByName asked × IsFailed answer)
-IsAnswerBy T.Rust asked terms answer = (code : Code) × IsCode code × IsAnswerOfCode code answer
-IsAnswerBy T.Check asked terms answer = AreReports asked.format answer × IsStatusOfWarnings asked answer
-IsAnswerBy T.Explain asked terms answer = IsDoneWithText answer ⊎ IsFailed answer
-IsAnswerBy T.Stats asked terms answer = IsDoneWithText answer
-IsAnswerBy T.Compare asked terms answer = IsDoneWithoutText answer ⊎ IsFailed answer
-IsAnswerBy T.Diff asked terms answer = IsDoneWithoutText answer
-IsAnswerBy T.Print asked terms answer = IsDoneWithoutText answer
-IsAnswerBy T.Samples asked terms answer = IsDoneWithoutText answer
-IsAnswerBy T.Run asked terms answer = IsDoneWithText answer ⊎ IsFailed answer
-IsAnswerBy T.Why asked terms answer = IsDoneWithText answer ⊎ IsFailed answer
+-- what lowered definitions are answered, by the task. A task that may fail may do so on all of them: when it does isn't said
+abbrev pub IsAnswerBy : Task → Request → Lowered → Answer → Type 0
+IsAnswerBy T.Lower asked l answer =
+    (IsDone answer × HasTrees asked (lowered_terms l) (string_bytes answer.out)) ⊎ (AsksByName asked × IsFailed answer)
+IsAnswerBy T.Rust asked l answer = IsAnswerOfRust l asked.code asked.stubs answer
+IsAnswerBy T.Check asked l answer = AreReports asked.format answer × IsStatusOfWarnings asked answer
+IsAnswerBy T.Explain asked l answer = IsDoneWithText answer ⊎ IsFailed answer
+IsAnswerBy T.Stats asked l answer = IsDoneWithText answer
+IsAnswerBy T.Compare asked l answer = IsDoneWithoutText answer ⊎ IsFailed answer
+IsAnswerBy T.Diff asked l answer = IsDoneWithoutText answer
+IsAnswerBy T.Print asked l answer = IsDoneWithoutText answer
+IsAnswerBy T.Samples asked l answer = IsDoneWithoutText answer
+IsAnswerBy T.Run asked l answer = IsDoneWithText answer ⊎ IsFailed answer
+IsAnswerBy T.Why asked l answer = IsDoneWithText answer ⊎ IsFailed answer
 
 -- definitions are accepted and the task is done or fails, or they aren't and are refused
 abbrev pub IsAnswerToDefinitions : List Definition → Request → Answer → Type 0
 IsAnswerToDefinitions defs asked answer =
-    ((rules : TypedRules) × IsAccepted defs asked.expand rules × IsAnswerBy asked.task asked (terms_with_rules (own_program defs rules)) answer)
+    ((l : Lowered) × IsLowered defs asked.expand l × IsAnswerBy asked.task asked l answer)
     ⊎ ((AreAccepted defs asked.expand → ⊥) × IsRefusal asked answer)
 
 -- what was read is answered: definitions, or mistakes of texts, which are told

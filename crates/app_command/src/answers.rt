@@ -1,37 +1,38 @@
 //! What the command answers to texts.
 
-ghost use Rattle.std.specs.Prelude.{◌≡◌, ◌≢◌, ◌⊎◌, ◌≤◌, ◌<◌, true, false, [], length, is_none, map, string_bytes, string_len, IfOk, OnOk};
+ghost use Rattle.std.specs.Prelude.{◌≡◌, ◌==◌, ◌≢◌, ◌⊎◌, ◌≤◌, ◌<◌, true, false, [], length, is_none, map, string_bytes, string_len, IfOk, OnOk};
 ghost use Rattle.cranelift_isle.specs.SyntaxViews.{definition_views};
-ghost use Rattle.app_command.specs.declared.code.Code.{Code};
 ghost use Rattle.app_command.specs.declared.words.Task.TheVariants.{Lower};
-ghost use Rattle.app_command.specs.Codes.{IsAnswerOfCode, IsCode};
+ghost use Rattle.app_command.specs.Codes.{IsAnswerOfCode, IsAnswerOfRust};
+ghost use Rattle.app_command.specs.Compared.{last_has_trees};
 ghost use Rattle.app_command.specs.TaskAnswers.{AreReports, AreTrees, HasNoReport, HasReport, IsDoneWithText, IsDoneWithoutText, IsFailed, IsRefusal, IsStatusOfWarnings, denies};
-ghost use Rattle.app_command.specs.TaskAnswers.{lowered_terms, AsksForAll, IsAnswerBy, IsAnswerToDefinitions, IsAnswerToOneReading, IsAnswerToReading, IsAnswerToTexts};
+ghost use Rattle.app_command.specs.TaskAnswers.{AsksForAll, IsAnswerBy, IsAnswerToDefinitions, IsAnswerToOneReading, IsAnswerToReading, IsAnswerToTexts};
 ghost use Rattle.app_command.specs.Statuses.{IsStatusOfReading};
+ghost use Rattle.report_queries.specs.TermTexts.{term_text};
 
 use crate::calls::{Told, ran, told_why};
 use crate::code::{Code, code_or_stubs};
-use crate::comparison::{difference, differences};
 use crate::graphs::graph_of;
 use crate::printing::printed_texts;
 use crate::progress::Teller;
 use crate::reading::{Reading, reading_of};
-use crate::unread::refusal_of_texts;
+use crate::unread::{refusal_of_forms, refusal_of_texts};
 use crate::versions::answer_to_versions;
 use crate::words::{Format, Request, Task};
 use cranelift_isle::lower::{Lowered, LoweredTerm, lower};
 use cranelift_isle::syntax::{Def, Error, Fault, Files};
+use report_compare::departures;
 use report_errors::diagnosis::reports_of;
-use report_errors::explanation::{explanation, with_rules};
+use report_errors::explanation::explanation;
 use report_errors::term_sizes::stats;
 use report_json::documents::{
     DocumentPurpose, document_of_reports, document_of_sizes, document_of_terms,
     document_of_warnings,
 };
 use report_print::layout::push_reports;
-use report_print::lines::FileLines;
-use report_print::print::{TreeNames, print_bindings, print_block};
+use report_print::lines::{FileLines, file_name};
 use report_print::report::Report;
+use report_queries::trees::push_tree;
 use report_warnings::kinds::is_one_of;
 use report_warnings::lints::warnings;
 use std::alloc::{AllocError, Global};
@@ -58,8 +59,8 @@ impl Drop for Answer {
     }
 }
 
-/// What is answered to files. All errors of the first pass that finds some are told: of reading, one for each file. It is told
-/// on `err` what is being done, where that is asked for or `err` is a terminal.
+/// What is answered to files. All errors of the first pass that finds some are told: of reading, one for each file, but by
+/// `check` one for each form that can't be read, and the errors of the others. It is told on `err` what is being done, where that is asked for or `err` is a terminal.
 pub fn answer_to<E: Write>(
     alloc: Global,
     asked: &Request<'_>,
@@ -106,7 +107,12 @@ fn answer_to_texts<E: Write>(
     ensures { IfOk result (IsAnswerToOneReading asked.now (map string_bytes files.now.texts.items)) }
 {
     let reading = reading_of(alloc, asked, files, teller)?;
-    answer_to_reading(alloc, asked, files, &reading, teller)
+    match &reading {
+        Reading::Unread(_) if asked.task == Task::Check => refusal_of_forms(
+            alloc, asked, files, teller,
+        ),
+        _ => answer_to_reading(alloc, asked, files, &reading, teller),
+    }
 }
 
 /// What is answered to what the texts of files were read as.
@@ -216,7 +222,7 @@ fn answer_to_lowered<E: Write>(
     lowered: &Lowered,
     teller: &mut Teller<'_, E>,
 ) -> Result<Answer, AllocError>
-    ensures { IfOk result (IsAnswerBy asked.now.task asked.now (lowered_terms lowered.now)) }
+    ensures { IfOk result (IsAnswerBy asked.now.task asked.now lowered.now) }
 {
     match asked.task {
         Task::Lower => trees(alloc, asked, files, defs, lowered, teller),
@@ -252,7 +258,7 @@ fn coded(
     files: &Files,
     lowered: &Lowered,
 ) -> Result<Answer, AllocError>
-    ensures { IfOk result (λ a. (code : Code) × IsCode code × IsAnswerOfCode code a) }
+    ensures { IfOk result (IsAnswerOfRust lowered.now asked.now.code asked.now.stubs) }
 {
     let code = code_or_stubs(alloc, files, lowered, &asked.code, asked.stubs)?;
     Ok(answer_of_code(alloc, code))
@@ -433,16 +439,15 @@ fn compared<E: Write>(
 
 // Where the trees of the last file depart from these: in all terms, or the first line.
 fn compared_with(alloc: Global, all: bool, files: &Files, trees: &str) -> Result<Answer, AllocError>
-    ensures { IfOk result (λ a. IsDoneWithoutText a ⊎ IsFailed a) }
+    ensures answer { IfOk result (λ a. IsDoneWithoutText a ⊎ IsFailed a) }
+    // the status is 0 exactly where the file has just these trees
+    ensures same { IfOk result (λ a. (a.status == 0) ≡ last_has_trees (map string_bytes files.now.texts.items) trees.now) }
 {
-    let (Some(name), Some(text)) = (files.names.last(), files.texts.last()) else {
+    let Some(text) = files.texts.last() else {
         return Ok(accepted(alloc, String::new(alloc)));
     };
-    let err = if all {
-        differences(alloc, name, text, trees)?
-    } else {
-        difference(alloc, name, text, trees)?
-    };
+    let name = file_name(files, files.texts.len().saturating_sub(1));
+    let err = departures(alloc, name, text, trees, all)?;
     let status = if err.is_empty() { 0 } else { 1 };
     Ok(Answer {
         status,
@@ -459,7 +464,7 @@ fn trees<E: Write>(
     lowered: &Lowered,
     teller: &mut Teller<'_, E>,
 ) -> Result<Answer, AllocError>
-    ensures { IfOk result (IsAnswerBy Lower asked.now (lowered_terms lowered.now)) }
+    ensures { IfOk result (IsAnswerBy Lower asked.now lowered.now) }
 {
     if let Some(name) = missing_term(asked.terms, lowered) {
         return missing(alloc, "term with rules", name);
@@ -536,19 +541,13 @@ fn tree(
     lowered: &Lowered,
     term: &LoweredTerm,
 ) -> Result<String, AllocError>
-    ensures { IfOk result (λ text. 0 < string_len text) }
+    ensures some { IfOk result (λ text. 0 < string_len text) }
+    // exactly the text of the term
+    ensures text { IfOk result (λ text. string_bytes text ≡ term_text lines.now.files.now lowered.now term.now) }
 {
-    let names = TreeNames {
-        syms: &lowered.tyenv.syms,
-        types: &lowered.tyenv.types,
-        terms: &lowered.termenv.terms,
-    };
-    let mut printed = String::new(alloc);
-    print_bindings(&mut printed, names, &term.rules.bindings)?;
-    print_block(&mut printed, names, 2, &term.block)?;
-    let steps = with_rules(alloc, lines, lowered, term, &printed)?;
-    let name = term_name(lowered, term);
-    format!(in alloc; "term {name}\n{steps}")
+    let mut out = String::new(alloc);
+    push_tree(&mut out, lines, lowered, term)?;
+    Ok(out)
 }
 
 fn term_name<'a>(lowered: &'a Lowered, term: &LoweredTerm) -> &'a str {

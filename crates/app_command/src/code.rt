@@ -1,15 +1,16 @@
 //! The Rust code of files.
 
-ghost use Rattle.std.specs.Prelude.{◌≡◌, ◌≢◌, [], string_bytes, IfErr, IfOk, Ok};
+ghost use Rattle.std.specs.Prelude.{◌≡◌, IfErr, IfOk, Ok};
 ghost use Rattle.cranelift_isle.specs.SyntaxViews.{definition_views};
-ghost use Rattle.cranelift_isle.specs.Lowerings.{AreAccepted};
 ghost use Rattle.app_command.specs.declared.code.Code.TheVariants.{Text};
-ghost use Rattle.app_command.specs.Codes.{IsCode, IsCodedBy, IsCodeOf, IsNames};
+ghost use Rattle.app_command.specs.RustCode.{RustCodeIsOfTexts};
+ghost use Rattle.app_command.specs.Codes.{AreNames, AreStubs, IsCode, IsCodedBy, IsCodeOf, IsCodeOrStubs};
 
 use crate::reading::Reading;
 use cranelift_isle::lower::{Lowered, lower};
 use cranelift_isle::syntax::{Def, Fault, Files};
 use rust_text::code::{CodeError, CodegenOptions, rust_code_with};
+use rust_text::each_term_is_in_its_code;
 use rust_text::stubs::stubs_with;
 use std::alloc::{AllocError, Global};
 
@@ -35,7 +36,7 @@ pub fn code_of(
     reading: &Reading,
     options: &CodegenOptions,
 ) -> Result<Option<Code>, AllocError>
-    ensures { IfOk result (IsCodeOf expand reading.now) }
+    ensures { IfOk result (IsCodeOf expand reading.now files.now options.now) }
 {
     match reading {
         Reading::Defs(defs) => code_of_defs(alloc, expand, files, defs, options),
@@ -51,7 +52,7 @@ fn code_of_defs(
     defs: &[Def],
     options: &CodegenOptions,
 ) -> Result<Option<Code>, AllocError>
-    ensures { IfOk result (IsCodedBy (AreAccepted (definition_views defs.now) expand)) }
+    ensures { IfOk result (IsCodedBy (definition_views defs.now) expand files.now options.now) }
 {
     match lower(alloc, defs, expand) {
         Ok(lowered) => Ok(Some(code_of_lowered(alloc, files, &lowered, options)?)),
@@ -71,9 +72,10 @@ pub fn code_of_lowered(
     lowered: &Lowered,
     options: &CodegenOptions,
 ) -> Result<Code, AllocError>
-    ensures { IfOk result IsCode }
+    ensures { IfOk result (IsCode lowered.now files.now options.now) }
 {
-    code_by(alloc, rust_code_with(alloc, lowered, files, options))
+    let made = rust_code_with(alloc, lowered, files, options);
+    code_by(alloc, made)
 }
 
 /// The same, or in its place stubs of what it asks for.
@@ -88,25 +90,43 @@ pub(crate) fn code_or_stubs(
     options: &CodegenOptions,
     stubs: bool,
 ) -> Result<Code, AllocError>
-    ensures { IfOk result IsCode }
+    ensures { IfOk result (IsCodeOrStubs stubs lowered.now files.now options.now) }
 {
     if stubs {
-        return code_by(alloc, stubs_with(alloc, lowered, files, options));
+        stubs_of_lowered(alloc, files, lowered, options)
+    } else {
+        code_of_lowered(alloc, files, lowered, options)
     }
-    code_of_lowered(alloc, files, lowered, options)
+}
+
+fn stubs_of_lowered(
+    alloc: Global,
+    files: &Files,
+    lowered: &Lowered,
+    options: &CodegenOptions,
+) -> Result<Code, AllocError>
+    ensures { IfOk result AreStubs }
+{
+    let made = stubs_with(alloc, lowered, files, options);
+    code_by(alloc, made)
 }
 
 // What comes of making code.
 fn code_by(alloc: Global, made: Result<String, CodeError>) -> Result<Code, AllocError>
-    requires { IfOk made (λ text. string_bytes text ≢ []) }
-    ensures code { IfOk result IsCode }
     // the code that was made is the answer; where none was made, a line says why
     ensures made { IfOk made (λ text. result ≡ Ok (Text text)) }
-    ensures none { IfErr made (λ _. IfOk result IsNames) }
+    ensures none { IfErr made (λ e. IfOk result (AreNames e)) }
 {
     match made {
         Ok(text) => Ok(Code::Text(text)),
         Err(CodeError::Names(why)) => Ok(Code::Names(format!(in alloc; "error[names]: {why}\n")?)),
         Err(CodeError::Memory) => Err(AllocError),
     }
+}
+
+/// Where `isle rust` ends with the status 0, standard output is code of what the texts of its files spell. A law, without code.
+pub fn rust_code_is_of_texts()
+    ensures { RustCodeIsOfTexts }
+{
+    each_term_is_in_its_code();
 }

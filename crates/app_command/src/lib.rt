@@ -4,7 +4,6 @@
 pub mod answers;
 mod calls;
 pub mod code;
-mod comparison;
 pub mod formatting;
 mod graphs;
 mod help;

@@ -1,12 +1,15 @@
 //! What the texts of files are read as.
 
-ghost use Rattle.std.specs.Prelude.{◌≡◌, ◌++◌, ℕ, All, Bool, [], List, length, map, string_bytes, IfOk, OnOk};
+ghost use Rattle.std.specs.Prelude.{◌≡◌, ◌++◌, ℕ, All, Bool, [], List, length, map, string_bytes, IfOk, OnOk, String};
+ghost use Rattle.std.specs.declared.alloc.Global.{Global};
 ghost use Rattle.cranelift_isle.specs.SyntaxViews.{definition_views};
 ghost use Rattle.cranelift_isle.specs.Syntax.{Definition};
 ghost use Rattle.text_reader.specs.Within.{DefinitionsAreWithin};
 ghost use Rattle.text_reader.specs.Definitions.{Spells, reading};
+ghost use Rattle.text_reader.specs.Recovering.{beside, recovering};
+ghost use Rattle.text_reader.specs.RecoveryViews.{recovery_view};
 ghost use Rattle.text_reader.specs.declared.errors.TextError.{TextError};
-ghost use Rattle.app_command.specs.Readings.{has_no_definitions, error_view, mistake_in, mistakes_of_texts, AreOfTexts, IsReadingOf, StandsIn};
+ghost use Rattle.app_command.specs.Readings.{has_no_definitions, error_view, mistake_in, mistakes_of_texts, recovered_texts, AreOfTexts, IsReadingOf, StandsIn};
 
 use crate::progress::Teller;
 use crate::words::Request;
@@ -15,8 +18,9 @@ use report_print::lines::file_name;
 use std::alloc::{AllocError, Global};
 use std::io::Write;
 use text_reader::errors::{ReadFault, TextError};
-use text_reader::laws::spelled_texts_are_read;
+use text_reader::laws::{read_texts_are_recovered, spelled_texts_are_read};
 use text_reader::read;
+use text_reader::recovery::{Recovered, recover};
 
 /// What the texts of files are read as.
 pub enum Reading {
@@ -86,6 +90,48 @@ fn read_text(
         }
         Err(ReadFault::Memory(error)) => Err(error),
     }
+}
+
+/// What can be read of the texts of files, but for those that have no definitions.
+pub fn recovered_of(
+    alloc: Global,
+    asked: &Request<'_>,
+    files: &Files,
+) -> Result<Recovered, AllocError>
+    ensures { IfOk result (λ found. recovery_view found ≡ recovered_texts (has_no_definitions asked.now) 0 (map string_bytes files.now.texts.items)) }
+{
+    let mut found = Recovered {
+        defs: Vec::new(alloc),
+        errors: Vec::new(alloc),
+    };
+    for (number, text) in files.texts.iter().enumerate() {
+        if !asked.has_no_definitions(number) {
+            add_recovered(alloc, number, text, &mut found)?;
+        }
+    }
+    Ok(found)
+}
+
+// Adds what can be read of a text.
+fn add_recovered(
+    alloc: Global,
+    number: usize,
+    text: &str,
+    found: &mut Recovered,
+) -> Result<(), AllocError>
+    ensures { OnOk result (recovery_view found.new ≡ beside (recovery_view found.old) (recovering number text.now)) }
+{
+    let mut more = recover(alloc, number, text)?;
+    found.defs.append(&mut more.defs)?;
+    found.errors.append(&mut more.errors)?;
+    Ok(())
+}
+
+/// Texts of which all can be read have no mistake.
+pub fn recovered_texts_have_no_mistake()
+    ensures { (has_none : ℕ → Bool) (texts : List (String Global)) → (recovered_texts has_none 0 (map string_bytes texts)).mistakes ≡ [] → mistakes_of_texts has_none 0 (map string_bytes texts) ≡ [] }
+{
+    read_texts_are_recovered();
 }
 
 /// Texts that spell definitions have no mistake.

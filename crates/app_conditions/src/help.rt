@@ -14,8 +14,9 @@ Options:
   --deny                 status 1 unless each rule is right at all widths
   --expect FILE          status 1 unless each rule is right but those that FILE names: each of its lines begins the line
                          that is told of one, as 'wrong: rule at a.isle:7 of f'
-  --format FORMAT        json: all questions, as without this option; or with --answers what is said of each rule. open: the
-                         texts that lack an answer, as records. asked: all texts that are asked, as records
+  --format json          what is told of each rule, as one JSON object
+  --open                 before what is told of each rule, the texts that lack an answer, as records
+  --asked                before that, all texts that it rests on so far, as records
   -C FOLDER              looks for files in this folder
   --help
 

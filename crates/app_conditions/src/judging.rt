@@ -4,7 +4,7 @@ use crate::told::{Teller, count_of_values, push_given, text_for_solver};
 use cranelift_isle::sema::{RuleId, TermId};
 use cranelift_isle::syntax::Pos;
 use spec_questions::above::left_out_above;
-use spec_questions::answers::{Answer, push_text};
+use spec_questions::answers::{Answers, push_text};
 use spec_questions::questions::{LeftOut, Question, Questions, RuleQuestions, Without};
 use spec_questions::replies::{Reply, reply_in};
 use spec_questions::verdicts::{Verdict, is_answered, is_possible, is_refuted, verdict_of};
@@ -19,7 +19,7 @@ pub(crate) struct Judge<'a, 'f> {
     /// What is expected to be told of rules that aren't right, a line each.
     pub(crate) expected: &'a str,
     /// What solvers answered.
-    pub(crate) answers: &'a [Answer],
+    pub(crate) answers: &'a Answers,
     /// What is asked of rules.
     pub(crate) asked: &'a Questions,
     /// What is asked of those that are wrong by themselves, where no rule of greater priority matches.
@@ -30,7 +30,7 @@ pub(crate) struct Judge<'a, 'f> {
 pub(crate) fn wrong_places(
     teller: Teller<'_, '_>,
     asked: &Questions,
-    answers: &[Answer],
+    answers: &Answers,
 ) -> Result<Vec<Pos>, AllocError> {
     let mut places = Vec::new(teller.alloc);
     for rule in &asked.rules {
@@ -279,7 +279,7 @@ impl<'a, 'f> Judge<'a, 'f> {
     ) -> Result<(), AllocError> {
         let alloc = self.teller.alloc;
         let text = text_for_solver(alloc, question)?;
-        for answer in self.answers {
+        for answer in &self.answers.list {
             if answer.text.as_str() == text.as_str() {
                 let reply = reply_in(alloc, &answer.written, count_of_values(question))?;
                 if let Reply::Sat(given) = &reply {
@@ -311,7 +311,7 @@ impl<'a, 'f> Judge<'a, 'f> {
     // Adds what solvers said that were asked a text.
     fn push_said(self, out: &mut String, text: &str) -> Result<(), AllocError> {
         let mut is_asked = false;
-        for answer in self.answers {
+        for answer in &self.answers.list {
             if answer.text.as_str() == text {
                 out.push_str(if is_asked { "; " } else { ": " })?;
                 let said = word_of(&answer.reply);
@@ -385,6 +385,7 @@ impl<'a, 'f> Judge<'a, 'f> {
         if all
             || !self
                 .answers
+                .list
                 .iter()
                 .any(|answer| answer.text.as_str() == text.as_str())
         {

@@ -10,7 +10,7 @@ use crate::help::HELP;
 use crate::judging::{Judge, wrong_places};
 use crate::reading::{Said, Texts, definitions_in, said_in, texts_of};
 use crate::told::Teller;
-use crate::words::{ConditionsRequest, QuestionFormat, ask_for_help, conditions_by};
+use crate::words::{ConditionsRequest, WrittenTexts, ask_for_help, conditions_by};
 use app_command::project::find_files;
 use app_command::reading::Reading;
 use app_command::run::cannot_read;
@@ -25,7 +25,7 @@ use report_print::lines::FileLines;
 use report_print::report::{Level, Report};
 use report_queries::answers::{end, no_memory, write_text};
 use spec_formulas::faults::SpecError;
-use spec_questions::answers::{Answer, answers_in};
+use spec_questions::answers::{Answers, answers_in};
 use spec_questions::questions::{QuestionFault, Questions, Wanted, questions_about};
 use std::alloc::{AllocError, Global};
 use std::io::{Read, Write};
@@ -289,15 +289,13 @@ fn made_with(
         lines: &lines,
         lowered,
     };
-    match (asked.answers, asked.format) {
-        (None, None | Some(QuestionFormat::Json)) => {
-            Ok(Made::Text(document_of_questions(alloc, files, lowered, forms, found)?))
-        }
-        _ => made_by_answers(teller, asked, texts, forms, found),
+    if asked.answers.is_none() && asked.texts.is_none() {
+        return Ok(Made::Text(document_of_questions(alloc, files, lowered, forms, found)?));
     }
+    made_by_answers(teller, asked, texts, forms, found)
 }
 
-// What records of answers say of rules, or the texts that are asked.
+// What records of answers say of rules, behind the texts that are wanted.
 fn made_by_answers(
     teller: Teller<'_, '_>,
     asked: &ConditionsRequest<'_>,
@@ -323,7 +321,7 @@ fn above_wrong(
     asked: &ConditionsRequest<'_>,
     forms: &[VerificationForm],
     found: &Questions,
-    answers: &[Answer],
+    answers: &Answers,
 ) -> Result<Questions, AllocError> {
     let alloc = teller.alloc;
     let none = Questions {
@@ -345,20 +343,20 @@ fn above_wrong(
     }
 }
 
-// What is written of rules that are judged.
+// What is written of rules that are judged: the texts that are wanted, and then what is told of each rule.
 fn judged(
     judge: Judge<'_, '_>,
     asked: &ConditionsRequest<'_>,
     forms: &[VerificationForm],
 ) -> Result<Made, AllocError> {
     let mut text = String::new(judge.teller.alloc);
-    if let Some(format @ (QuestionFormat::Open | QuestionFormat::Asked)) = asked.format {
-        judge.push_texts(&mut text, format == QuestionFormat::Asked)?;
-        return Ok(Made::Text(text));
+    if let Some(wanted) = asked.texts {
+        judge.push_texts(&mut text, wanted == WrittenTexts::All)?;
     }
-    let counts = match asked.format {
-        Some(QuestionFormat::Json) => document_of_verdicts(judge, &mut text)?,
-        _ => judge.push_lines(&mut text, forms)?,
+    let counts = if asked.json {
+        document_of_verdicts(judge, &mut text)?
+    } else {
+        judge.push_lines(&mut text, forms)?
     };
     let is_pass = match asked.expected {
         Some(_) => judge.are_expected(&counts),

@@ -3,15 +3,13 @@
 use app_command::words::{Unasked, wrong, wrong_as};
 use std::alloc::Global;
 
-/// The form that questions are written in.
+/// Which texts for solvers are written.
 #[derive(Clone, Copy, PartialEq, Eq)]
-pub enum QuestionFormat {
-    /// All that are asked about, as one JSON object: docs/JSON.md.
-    Json,
-    /// The texts that lack an answer, as lines of a file of records.
+pub enum WrittenTexts {
+    /// Those that lack an answer.
     Open,
-    /// All texts that verdicts rest on, in the same form.
-    Asked,
+    /// All that verdicts rest on.
+    All,
 }
 
 /// What `conditions` is asked.
@@ -22,8 +20,10 @@ pub struct ConditionsRequest<'a> {
     pub above: bool,
     /// What the rules are called that are asked about, as by `explain`; all where nothing is said.
     pub rule: Option<&'a str>,
-    /// The form that questions are written in, where it is said.
-    pub format: Option<QuestionFormat>,
+    /// Whether what is told of rules is written as JSON: docs/JSON.md. Questions always are.
+    pub json: bool,
+    /// The texts that are written before what is told of rules, as lines of a file of records.
+    pub texts: Option<WrittenTexts>,
     /// The file of records with what solvers answered, or `-`: what that says of rules is written then.
     pub answers: Option<&'a str>,
     /// Whether each rule has to be right.
@@ -40,7 +40,8 @@ impl<'a> Drop for ConditionsRequest<'a> {
             folder: _,
             above: _,
             rule: _,
-            format: _,
+            json: _,
+            texts: _,
             answers: _,
             deny: _,
             expected: _,
@@ -68,8 +69,8 @@ pub fn ask_for_help(words: &[String]) -> bool {
         .any(|word| word.as_str() == "--help" || word.as_str() == "-h")
 }
 
-/// What the words behind `conditions` ask: `-C FOLDER`, `--above`, `--rule RULE`, `--format FORMAT`, `--answers FILE`, `--deny`,
-/// `--expect FILE`, and files.
+/// What the words behind `conditions` ask: `-C FOLDER`, `--above`, `--rule RULE`, `--format json`, `--answers FILE`, `--open`,
+/// `--asked`, `--deny`, `--expect FILE`, and files.
 ///
 /// # Errors
 ///
@@ -82,7 +83,8 @@ pub fn conditions_by<'a>(
         folder: "",
         above: false,
         rule: None,
-        format: None,
+        json: false,
+        texts: None,
         answers: None,
         deny: false,
         expected: None,
@@ -98,15 +100,11 @@ pub fn conditions_by<'a>(
     }
 }
 
-// The form of a word.
-fn format_of(alloc: Global, word: &str) -> Result<QuestionFormat, Unasked> {
+// Whether a word is the format that there is.
+fn is_json(alloc: Global, word: &str) -> Result<bool, Unasked> {
     match word {
-        "json" => Ok(QuestionFormat::Json),
-        "open" => Ok(QuestionFormat::Open),
-        "asked" => Ok(QuestionFormat::Asked),
-        _ => Err(wrong(format!(in alloc;
-            "conditions has no format '{word}', but json, open and asked"
-        ))),
+        "json" => Ok(true),
+        _ => Err(wrong(format!(in alloc; "conditions has no format '{word}', but json"))),
     }
 }
 
@@ -128,7 +126,7 @@ impl<'a> ConditionsRequest<'a> {
         match awaited {
             Awaited::Folder => self.folder = word,
             Awaited::Rule => self.rule = Some(word),
-            Awaited::Format => self.format = Some(format_of(alloc, word)?),
+            Awaited::Format => self.json = is_json(alloc, word)?,
             Awaited::Answers => self.answers = Some(word),
             Awaited::Expected => self.expected = Some(word),
             Awaited::Any => return self.read_any(alloc, word),
@@ -144,6 +142,8 @@ impl<'a> ConditionsRequest<'a> {
             "--format" => return Ok(Awaited::Format),
             "--answers" => return Ok(Awaited::Answers),
             "--expect" => return Ok(Awaited::Expected),
+            "--open" => self.texts = Some(WrittenTexts::Open),
+            "--asked" => self.texts = Some(WrittenTexts::All),
             "--above" => self.above = true,
             "--deny" => self.deny = true,
             "" => return Err(wrong_as(alloc, "a file without a name")),

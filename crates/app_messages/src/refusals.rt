@@ -1,5 +1,8 @@
 //! Why a request has no answer: the errors of the protocol.
 
+ghost use Rattle.std.specs.Prelude.{◌≡◌};
+ghost use Rattle.app_messages.specs.Refusals.{number_of};
+
 use std::alloc::{AllocError, AllocFailed};
 
 /// Why a request has no answer.
@@ -42,22 +45,24 @@ pub enum Refusal {
 }
 
 impl Refusal {
-    /// The error's number in the protocol.
-    pub fn code(self) -> i64 {
+    /// The error's number in the protocol, as text.
+    pub fn number(self) -> &'static str
+        ensures { result.now ≡ number_of self }
+    {
         match self {
-            Refusal::NoJson => -32700,
+            Refusal::NoJson => "-32700",
             Refusal::NoHead | Refusal::NoMessage | Refusal::InitializedTwice | Refusal::ShutDown =>
-                -32600,
-            Refusal::NoMethod => -32601,
-            Refusal::NoParameter | Refusal::NotOpen | Refusal::Outside => -32602,
-            Refusal::Memory => -32603,
-            Refusal::Cancelled => -32800,
-            Refusal::NotInitialized => -32002,
+                "-32600",
+            Refusal::NoMethod => "-32601",
+            Refusal::NoParameter | Refusal::NotOpen | Refusal::Outside => "-32602",
+            Refusal::Memory => "-32603",
+            Refusal::Cancelled => "-32800",
+            Refusal::NotInitialized => "-32002",
             Refusal::NoName
             | Refusal::Taken
             | Refusal::NotRenamed
             | Refusal::Unread
-            | Refusal::Unsure => -32803,
+            | Refusal::Unsure => "-32803",
         }
     }
 

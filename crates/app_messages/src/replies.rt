@@ -69,7 +69,7 @@ pub fn send_answer<W: Write>(
 
 /// Writes that the request of an id has no answer. It needs no memory.
 pub fn send_refusal<W: Write>(out: &mut W, id: &str, why: Refusal) -> io::Result<()> {
-    send_error(out, id, code_text(why), why.text())
+    send_error(out, id, why.number(), why.text())
 }
 
 // Writes the parts of an error of a request.
@@ -91,20 +91,6 @@ fn send_error<'a, W: Write>(
             "\"}}",
         ],
     )
-}
-
-// The number of an error, as text.
-fn code_text<'a>(why: Refusal) -> &'a str {
-    match why.code() {
-        -32700 => "-32700",
-        -32600 => "-32600",
-        -32601 => "-32601",
-        -32602 => "-32602",
-        -32002 => "-32002",
-        -32803 => "-32803",
-        -32800 => "-32800",
-        _ => "-32603",
-    }
 }
 
 /// Writes a notification.
@@ -131,9 +117,9 @@ pub fn send_notification<W: Write>(
 /// Tells the client why a notification was passed over. It needs no memory.
 pub fn send_log<W: Write>(out: &mut W, method: &str, why: Refusal) -> io::Result<()> {
     if is_plain(method) {
-        send_note(out, method, why.text(), code_text(why))
+        send_note(out, method, why.text(), why.number())
     } else {
-        send_note(out, "a notification", why.text(), code_text(why))
+        send_note(out, "a notification", why.text(), why.number())
     }
 }
 

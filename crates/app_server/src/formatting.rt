@@ -25,8 +25,7 @@ pub fn layout_of(alloc: Global, analysis: &Analysis, file: usize) -> Result<Valu
     Ok(Value::Array(edits))
 }
 
-/// The edits that lay out those forms of a document of which a part stands in a range: all that begin in the line where such a
-/// form begins. What can't be read stays.
+/// The edits that lay out those forms of a document of which a part stands in a range. What can't be read stays.
 pub fn layout_in(
     alloc: Global,
     analysis: &Analysis,
@@ -42,12 +41,13 @@ pub fn layout_in(
     let mut edits = Vec::new(alloc);
     let mut behind = 0usize;
     for chunk in &chunks(alloc, text)? {
+        let form_begin = form_offset(chunk);
         let old = form_in(text, chunk);
-        let form_end = chunk.offset.saturating_add(old.len());
-        if behind <= chunk.offset && chunk.offset <= end && begin < form_end {
+        let form_end = form_begin.saturating_add(old.len());
+        if behind <= form_begin && form_begin <= end && begin < form_end {
             if let Some(made) = laid_out(alloc, old)? {
                 let change = (old, made.trim_end());
-                push_change(alloc, &ranges, (file, chunk.offset), change, &mut edits)?;
+                push_change(alloc, &ranges, (file, form_begin), change, &mut edits)?;
                 behind = form_end;
             }
         }
@@ -55,11 +55,17 @@ pub fn layout_in(
     Ok(Value::Array(edits))
 }
 
-// The form that a part of a text begins with, which may have lines that begin other parts, or else the whole part.
+/// Where the form of a part of a text begins, behind white space.
+pub fn form_offset(chunk: &Chunk) -> usize {
+    chunk.end.saturating_sub(chunk.text.trim_start().len())
+}
+
+// The form of a part of a text, which may have lines that begin other parts, or else the whole part.
 fn form_in<'a>(text: &'a str, chunk: &Chunk) -> &'a str {
+    let begin = form_offset(chunk);
     let end = chunk.offset.saturating_add(chunk.text.trim_end().len());
-    let end = end_of_form(text, chunk.offset).max(end);
-    text.get(chunk.offset..end).unwrap_or("")
+    let end = end_of_form(text, begin).max(end);
+    text.get(begin..end).unwrap_or("")
 }
 
 // A text in the usual layout, or None where it can't be read.

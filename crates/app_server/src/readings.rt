@@ -16,7 +16,7 @@ use text_reader::errors::{Problem, ReadFault, TextError};
 use text_reader::read;
 use text_reader::recovery::{Recovered, recover};
 
-/// Forms that can't be read: what begins in the first column of a line, up to where the next such forms begin.
+/// Forms that can't be read: a part of a text, up to where the next part begins.
 pub struct LostForms {
     /// The file.
     pub file: usize,
@@ -293,7 +293,7 @@ impl LostForms {
     // Whether these forms may define a word of another form, or say what the term is that it declares. A rule defines nothing.
     fn may_define(&self, sources: &Sources, defs: &[Def], form: &str) -> bool {
         let text = sources.text(self.file);
-        let text = text.get(self.begin..self.end).unwrap_or("");
+        let text = text.get(self.begin..self.end).unwrap_or("").trim_start();
         let may_be_known = form.starts_with("(decl") || text.starts_with("(ext");
         let is_rule = text.starts_with("(rule");
         form.split(ends_word).any(|word| has_word(text, word)

@@ -1,6 +1,7 @@
 //! The forms of a text, as ranges: to fold, and to select.
 
 use crate::analysis::Analysis;
+use crate::formatting::form_offset;
 use crate::ranges::Ranges;
 use app_messages::messages::{member, place_of};
 use app_messages::refusals::Refusal;
@@ -18,11 +19,12 @@ pub fn folds_of(alloc: Global, analysis: &Analysis, file: usize) -> Result<Value
     let ranges = Ranges::new(alloc, analysis)?;
     let mut found = Vec::new(alloc);
     for chunk in &chunks(alloc, text)? {
-        let end = end_of_form(&chunk.text, 0).saturating_add(chunk.offset);
-        let begin = ranges.place_near(file, chunk.offset).line;
-        let end = ranges.place_near(file, end).line;
-        if begin < end {
-            found.push(json!(in alloc; {"startLine": begin, "endLine": end})?)?;
+        let begin = form_offset(chunk);
+        let end = end_of_form(text.get(..chunk.end).unwrap_or(""), begin);
+        let first = ranges.place_near(file, begin).line;
+        let last = ranges.place_near(file, end).line;
+        if first < last {
+            found.push(json!(in alloc; {"startLine": first, "endLine": last})?)?;
         }
     }
     Ok(Value::Array(found))

@@ -1,1 +1,2 @@
+mod LentVisitors
 mod TypesAfterRefusal

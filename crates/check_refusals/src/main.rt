@@ -10,6 +10,7 @@ mod asked;
 mod claims;
 mod containers;
 mod environments;
+mod recorder;
 mod visits;
 
 use asked::{Fixture, containers_answer, sites_answer, tables_answer, trees_answer};

@@ -16,7 +16,8 @@ use text_reader::read;
 /// Adds the Rust code of a row's files, or what is wrong with them, below the status.
 ///
 /// The first of the row's words is `code`. Words behind it are options of the code: `--with-allows`, `--log` and
-/// `--prefix=FROM=TO`. In place of the traits that all code has behind `Context`, the answer has a line of two points.
+/// `--prefix=FROM=TO`; with `--no-expand` internal extractors stay as they are. In place of the traits that all code has behind
+/// `Context`, the answer has a line of two points.
 pub fn push_code(
     alloc: Global,
     words: &[String],
@@ -46,7 +47,8 @@ fn answer_to_defs(
     files: &Files,
     defs: &[Def],
 ) -> Result<TreesOrErrors, AllocError> {
-    match lower(alloc, defs, true) {
+    let stays = words.iter().any(|word| word.as_str() == "--no-expand");
+    match lower(alloc, defs, !stays) {
         Ok(lowered) => code_of(alloc, words, files, &lowered),
         Err(Fault::Errors(errors)) => {
             let lines = error_lines(alloc, &errors, Places::Files)?;

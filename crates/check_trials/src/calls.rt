@@ -1,10 +1,10 @@
 //! The calls that are made of a term.
 
+use crate::chance::Chance;
 use crate::fitting::why_left_out;
 use crate::trial::Trial;
 use crate::type_sizes::has_endless;
 use crate::values::Makings;
-use check_support::chance::Chance;
 use cranelift_isle::lower::LoweredTerm;
 use cranelift_isle::sema::TypeId;
 use run_terms::values::Value;

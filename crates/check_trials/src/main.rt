@@ -1,12 +1,12 @@
 //! Trials of generated code beside the run of trees: `check_trials [--outcomes] SEED COUNT` reads definitions from standard input,
 //! and prints a program in Rust that makes so many calls of each term with rules and tells what they come to, or with
-//! `--outcomes` what the same calls come to by the run of the term's tree. `--list SEED` prints definitions to try, and
-//! `--sample NAME` those of a sample.
+//! `--outcomes` what the same calls come to by the run of the term's tree. `--sample NAME` prints the definitions of a sample.
 #![tactic(auto)]
 
 mod answers;
 mod bound;
 mod calls;
+mod chance;
 mod context;
 mod fitting;
 mod given;
@@ -45,14 +45,14 @@ fn run<R: Read + Drop, O: Write, E: Write>(
     err: &mut E,
 ) -> u8 {
     match asked_by(words) {
-        Some(Job::Text(wanted)) => write_answer(text_of(alloc, wanted), out, err),
+        Some(Job::Sample(name)) => write_answer(text_of(alloc, name), out, err),
         Some(Job::Trials(wanted)) => match io::read_to_string(alloc, input) {
             Ok(text) => write_answer(answer(alloc, &text, wanted), out, err),
             Err(error) => cannot_read(error.kind(), err),
         },
         None => end(
             err,
-            "usage: check_trials [--outcomes] SEED COUNT < DEFINITIONS, --list SEED, or --sample NAME\n",
+            "usage: check_trials [--outcomes] SEED COUNT < DEFINITIONS, or --sample NAME\n",
             2,
         ),
     }

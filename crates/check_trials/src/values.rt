@@ -1,7 +1,7 @@
 //! Values of types, made by chance.
 
 use crate::answers::WITHHELD;
-use check_support::chance::Chance;
+use crate::chance::Chance;
 use core_typed::checks::literal_number;
 use cranelift_isle::lower::Lowered;
 use cranelift_isle::sema::{BuiltinType, IntType, Sym, Type, TypeId, Variant};

@@ -3,7 +3,6 @@
 use crate::outcomes::outcomes;
 use crate::source::source;
 use crate::trial::{Trial, trials};
-use check_support::{one_term, two_terms};
 use cranelift_isle::lower::lower;
 use cranelift_isle::syntax::{Def, Error, Fault, Files};
 use report_queries::answers::TreesOrErrors;
@@ -18,19 +17,10 @@ use text_reader::read;
 /// What is asked for.
 #[derive(Clone, Copy)]
 pub enum Job<'a> {
-    /// Definitions.
-    Text(WantedDefinitions<'a>),
+    /// The definitions of the sample of this name.
+    Sample(&'a str),
     /// Trials of definitions.
     Trials(Trials),
-}
-
-/// Definitions that are wanted.
-#[derive(Clone, Copy)]
-pub enum WantedDefinitions<'a> {
-    /// The list of this number.
-    List(u64),
-    /// The sample of this name.
-    Sample(&'a str),
 }
 
 /// Trials that are wanted.
@@ -55,11 +45,7 @@ pub fn asked_by(words: &[String]) -> Option<Job<'_>> {
             }
         }
         [first, second] => match first.as_str() {
-            "--list" => match second.parse::<u64>() {
-                Ok(seed) => Some(Job::Text(WantedDefinitions::List(seed))),
-                Err(_) => None,
-            },
-            "--sample" => Some(Job::Text(WantedDefinitions::Sample(second.as_str()))),
+            "--sample" => Some(Job::Sample(second.as_str())),
             _ => trials_by(false, first, second),
         },
         _ => None,
@@ -78,27 +64,15 @@ fn trials_by<'a>(outcomes: bool, seed: &str, count: &str) -> Option<Job<'a>> {
     }
 }
 
-/// Definitions that are wanted.
+/// The definitions of a sample, or that there is no such sample.
 ///
 /// # Errors
 ///
 /// Where memory is refused.
-pub fn text_of(alloc: Global, wanted: WantedDefinitions<'_>) -> Result<TreesOrErrors, AllocError> {
-    match wanted {
-        WantedDefinitions::List(seed) => Ok(TreesOrErrors::Trees(list_of(alloc, seed)?)),
-        WantedDefinitions::Sample(name) => match sample_text(name) {
-            Some(text) => Ok(TreesOrErrors::Trees(String::from_str(alloc, text)?)),
-            None => Ok(TreesOrErrors::Errors(String::from_str(alloc, "no such sample\n")?)),
-        },
-    }
-}
-
-// The list of a seed: the even ones are those of the judge's tests, the odd ones have more types and two terms.
-fn list_of(alloc: Global, seed: u64) -> Result<String, AllocError> {
-    if seed % 2 == 0 {
-        one_term::list(alloc, seed / 2)
-    } else {
-        two_terms::list(alloc, seed / 2)
+pub fn text_of(alloc: Global, name: &str) -> Result<TreesOrErrors, AllocError> {
+    match sample_text(name) {
+        Some(text) => Ok(TreesOrErrors::Trees(String::from_str(alloc, text)?)),
+        None => Ok(TreesOrErrors::Errors(String::from_str(alloc, "no such sample\n")?)),
     }
 }
 

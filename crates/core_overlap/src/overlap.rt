@@ -558,7 +558,12 @@ fn take_away(counts: &mut BTreeMap<Pos, usize>, found: &[Pos]) -> Result<(), All
     Ok(())
 }
 
-fn overlap_error(alloc: Global, place: Pos, others: &[Pos]) -> Result<Error, AllocError>
+/// The error of a rule with others that it overlaps.
+///
+/// # Errors
+///
+/// Where memory is refused.
+pub fn overlap_error(alloc: Global, place: Pos, others: &[Pos]) -> Result<Error, AllocError>
     ensures says { IfOk result (λ e. error_view e ≡ overlapping (position place ∷ positions others.now)) }
     ensures single { IfOk result HasSingleSpans }
 {
@@ -570,8 +575,12 @@ fn overlap_error(alloc: Global, place: Pos, others: &[Pos]) -> Result<Error, All
     Ok(Error::OverlapError { msg, rules })
 }
 
-// Reports a rule with those that it overlaps and that aren't reported: their overlaps with it are then reported too.
-fn report(
+/// Reports a rule with those that it overlaps and that aren't reported: their overlaps with it are then reported too.
+///
+/// # Errors
+///
+/// Where memory is refused.
+pub fn report(
     alloc: Global,
     others: &BTreeMap<Pos, Vec<Pos>>,
     counts: &mut BTreeMap<Pos, usize>,

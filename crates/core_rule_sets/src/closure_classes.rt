@@ -37,11 +37,11 @@ pub(crate) fn class_of(classes: &DisjointSets<BindingId>, site: BindingId) -> Bi
 
 /// A field of a site: the variant that it is a field of (none for a struct's), its place, and its own site.
 #[derive(Clone, Copy)]
-pub(crate) struct Part {
-    pub(crate) source: BindingId,
-    pub(crate) variant: Option<VariantId>,
-    pub(crate) place: TupleIndex,
-    pub(crate) field: BindingId,
+pub struct Part {
+    pub source: BindingId,
+    pub variant: Option<VariantId>,
+    pub place: TupleIndex,
+    pub field: BindingId,
 }
 
 // The field of a site, of a variant or of a struct.

@@ -135,7 +135,7 @@ fn take_class(
 /// # Errors
 ///
 /// Where memory is refused.
-pub(crate) fn has_cycle(
+pub fn has_cycle(
     alloc: Global,
     classes: &DisjointSets<BindingId>,
     parts: &[Part],

@@ -2,6 +2,6 @@
 #![tactic(auto)]
 
 mod term_env;
-mod typing;
+pub mod typing;
 
 pub use term_env::TermEnv;

@@ -10,7 +10,7 @@ mod limits;
 mod pattern_leaves;
 mod pattern_uses;
 mod patterns;
-mod progress;
+pub mod progress;
 mod rule;
 mod rule_lists;
 mod rules;

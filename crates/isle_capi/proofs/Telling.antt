@@ -5,7 +5,10 @@ use Rattle.std.specs.declared.alloc.AllocError.{AllocError}
 use Rattle.app_command.specs.declared.answers.Answer.{Answer}
 use Rattle.app_command.specs.declared.reading.Reading.{Reading}
 use Rattle.app_command.specs.declared.words.Request.{Request}
-use Rattle.app_command.specs.Codes.{IsNamesLine}
+use Rattle.app_command.specs.declared.code.Code.{Code}
+use Rattle.app_command.specs.declared.code.Code.TheVariants.{Names, Text}
+use Rattle.app_command.specs.Codes.{IsCodeOfReading}
+use Rattle.app_command.proofs.CodeMade.{accepted_of_code}
 use Rattle.app_command.specs.Readings.{IsAcceptedReading}
 use Rattle.app_command.specs.Statuses.{may_fail, IsStatusOfReading}
 use Rattle.app_command.specs.TaskAnswers.{denies, has_one, IsAnswerToReading}
@@ -14,7 +17,7 @@ use Rattle.isle_capi.specs.declared.options.CallTask.{CallTask}
 use Rattle.isle_capi.specs.declared.options.CallTask.TheVariants as A
 use Rattle.isle_capi.specs.declared.output.Sizes.{Sizes}
 use Rattle.isle_capi.specs.declared.statuses.TheConstants.{DONE, ERRORS, NO_CODE}
-use Rattle.isle_capi.specs.Told.{command_task, status_of, text_of, HandsOver, IsCommandAnswer, IsRequestOf, IsSaidTo, IsTextOf, IsToldOf, StatusSays}
+use Rattle.isle_capi.specs.Told.{command_task, status_of, text_of, HandsOver, IsCommandAnswer, IsRequestOf, IsSaidTo, IsTextOf, IsTextOfCode, IsToldOf, StatusSays}
 
 -- an answer of the command to a request for a call
 pub command_answer : (asked : CallRequest) (reading : Reading) (request : Request) (answer : Result Answer AllocError)
@@ -117,18 +120,31 @@ module _ (asked : CallRequest) (reading : Reading) (out out' : List ℕ) (sizes 
       )
 
   -- Rust code is told
-  pub told_of_code : (text : List ℕ) → asked.task ≡ A.Code → IsAcceptedReading asked.expand reading → text ≢ []
-      → HandsOver out out' sizes DONE text result → IsToldOf asked reading out out' sizes result
-  told_of_code text code accepted some hands =
-      inr (DONE, text, (says_done asked reading accepted, subst (λ t. IsTextOf t asked reading DONE text) (sym code) (inr (inl (refl, some)))), hands)
+  pub told_of_code : (code : Code) (text : _) → asked.task ≡ A.Code → IsCodeOfReading asked.expand reading code → code ≡ Text text
+      → HandsOver out out' sizes DONE (string_bytes text) result → IsToldOf asked reading out out' sizes result
+  told_of_code code text task made is hands =
+      inr (
+        DONE,
+        string_bytes text,
+        (
+          says_done asked reading (accepted_of_code asked.expand reading code made),
+          subst (λ t. IsTextOf t asked reading DONE (string_bytes text)) (sym task)
+              (inr (code, made, subst (λ c. IsTextOfCode c DONE (string_bytes text)) (sym is) (refl, refl))),
+        ),
+        hands,
+      )
 
   -- and that there is none
-  pub told_of_names : (text : List ℕ) → asked.task ≡ A.Code → IsAcceptedReading asked.expand reading → IsNamesLine text
-      → HandsOver out out' sizes NO_CODE text result → IsToldOf asked reading out out' sizes result
-  told_of_names text code accepted names hands =
+  pub told_of_names : (code : Code) (why : _) → asked.task ≡ A.Code → IsCodeOfReading asked.expand reading code → code ≡ Names why
+      → HandsOver out out' sizes NO_CODE (string_bytes why) result → IsToldOf asked reading out out' sizes result
+  told_of_names code why task made is hands =
       inr (
         NO_CODE,
-        text,
-        (says_no_code asked reading code accepted, subst (λ t. IsTextOf t asked reading NO_CODE text) (sym code) (inr (inr (refl, names)))),
+        string_bytes why,
+        (
+          says_no_code asked reading task (accepted_of_code asked.expand reading code made),
+          subst (λ t. IsTextOf t asked reading NO_CODE (string_bytes why)) (sym task)
+              (inr (code, made, subst (λ c. IsTextOfCode c NO_CODE (string_bytes why)) (sym is) (refl, refl))),
+        ),
         hands,
       )

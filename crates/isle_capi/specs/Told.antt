@@ -1,5 +1,5 @@
 -- What a call answers to what the texts of files were read as, and with which text.
-use Rattle.std.specs.Prelude.{ℕ, ◌<◌, ◌≤◌, ◌≡◌, ◌≢◌, ◌⊎◌, false, true, List, [], ◌∷◌, is_none, length, nat_eq, string_bytes, take, if◌then◌else◌}
+use Rattle.std.specs.Prelude.{ℕ, ◌<◌, ◌≤◌, ◌≡◌, ◌⊎◌, false, true, List, [], ◌∷◌, is_none, length, nat_eq, string_bytes, take, if◌then◌else◌}
 use Rattle.app_command.specs.declared.answers.Answer.{Answer}
 use Rattle.app_command.specs.declared.reading.Reading.{Reading}
 use Rattle.app_command.specs.declared.words.Format as CommandFormat
@@ -7,7 +7,9 @@ use Rattle.app_command.specs.declared.words.Format.TheVariants as C
 use Rattle.app_command.specs.declared.words.Request.{Request}
 use Rattle.app_command.specs.declared.words.Task as CommandTask
 use Rattle.app_command.specs.declared.words.Task.TheVariants as T
-use Rattle.app_command.specs.Codes.{IsNamesLine}
+use Rattle.app_command.specs.declared.code.Code.{Code}
+use Rattle.app_command.specs.declared.code.Code.TheVariants.{Names, Text}
+use Rattle.app_command.specs.Codes.{IsCodeOfReading}
 use Rattle.app_command.specs.Readings.{none_without, IsAcceptedReading, IsReadingOf}
 use Rattle.app_command.specs.Statuses.{IsStatusOfReading}
 use Rattle.app_command.specs.TaskAnswers.{IsAnswerToReading}
@@ -76,13 +78,18 @@ pub record StatusSays (asked : CallRequest) (reading : Reading) (status : ℕ) :
   pub errors : status ≡ ERRORS → IsAcceptedReading asked.expand reading → ⊥
   pub no_code : status ≡ NO_CODE → IsAcceptedReading asked.expand reading × (asked.task ≡ A.Code)
 
+-- code comes with its text, and that there is none with the line that says why
+abbrev pub IsTextOfCode : Code → (status : ℕ) → (text : List ℕ) → Type 0
+IsTextOfCode (Text code) status text = (status ≡ DONE) × (text ≡ string_bytes code)
+IsTextOfCode (Names why) status text = (status ≡ NO_CODE) × (text ≡ string_bytes why)
+
 -- the text that comes with a status
 abbrev pub IsTextOf : CallTask → CallRequest → Reading → (status : ℕ) → (text : List ℕ) → Type 0
 IsTextOf A.Trees asked reading status text = IsToldByCommand asked reading status text
 IsTextOf A.Check asked reading status text = IsToldByCommand asked reading status text
 IsTextOf A.Code asked reading status text =
     ((IsAcceptedReading asked.expand reading → ⊥) × IsToldByCommand asked reading status text)
-    ⊎ (((status ≡ DONE) × (text ≢ [])) ⊎ ((status ≡ NO_CODE) × IsNamesLine text))
+    ⊎ ((code : Code) × IsCodeOfReading asked.expand reading code × IsTextOfCode code status text)
 
 -- a status and a text are made of what was read
 abbrev pub IsMadeOfReading : CallRequest → Reading → (status : ℕ) → (text : List ℕ) → Type 0

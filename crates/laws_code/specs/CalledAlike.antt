@@ -6,7 +6,9 @@ use Rattle.model.specs.trees.Trees.{Tree}
 use Rattle.laws_sites.specs.BuiltSets.{OfBuiltSets}
 use Rattle.laws_trees.specs.TotalLaws.{can_be_matched, can_be_called}
 use Rattle.model_code.specs.TreeCode.{Passes, tree_code}
-use Rattle.model_code.specs.Notation.{Notation, extractor_of, constructor_of}
+use Rattle.model_code.specs.Notation.{Notation, ReturnForm, extractor_of, constructor_of}
+use Rattle.model_code.specs.ProgramNotation.{notation_of}
+use Rattle.model_code.specs.PureAlike.{ArePureAlike, is_impure_number}
 use Rattle.laws_code.specs.AcceptedCode.{OfBestTrees}
 use Rattle.laws_code.specs.TypedTrees.{code_by_types}
 use Rattle.laws_code.specs.ShownLaws.{calls_as}
@@ -17,6 +19,10 @@ pub record AreCalledAlike (p : Program) (n : Notation) (is_impure : ℕ → Bool
   pub extractors : (t : ℕ) (e : TermEntry) → slice_get p.terms t ≡ Some e → can_be_matched e.kind ≡ true → is_impure (n.function (extractor_of t)) ≡ false
   pub constructors : (t : ℕ) (e : TermEntry) (flags : Flags) (infallible : Bool) → slice_get p.terms t ≡ Some e → can_be_called e.kind ≡ true → kind p t ≡ a_call flags infallible
       → is_impure (n.function (constructor_of t)) ≡ not flags.pure
+
+-- where what is one function from outside is pure alike, functions are impure as their terms are
+abbrev pub PureFunctionsCallAlike : Type 0
+PureFunctionsCallAlike = (p : Program) → ArePureAlike p → (kind : ReturnForm) (is_logged : Bool) → AreCalledAlike p (notation_of p kind is_logged) (is_impure_number p)
 
 -- then each call in the code of a tree of a built set is impure as its function is
 abbrev pub TreesCallAlike : Type 0

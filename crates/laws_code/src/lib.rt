@@ -13,7 +13,7 @@ ghost use Rattle.laws_code.specs.TypedSamples.{ConstraintsAreJudged};
 ghost use Rattle.laws_code.specs.TypedTrees.{BuiltSetsAreTyped, BuiltSetsConstrainByTypes, CodeOfAcceptedIsWellMade, CodeOfEachTermIsWellMade, TypedSetsHaveTypedTrees};
 ghost use Rattle.laws_code.specs.TextSamples.{WritableCodeIsJudged};
 ghost use Rattle.laws_code.specs.WritableCode.{CodeOfAcceptedIsWritable, CodeOfBuiltSetsIsWritable, TextOfAcceptedIsReadBack};
-ghost use Rattle.laws_code.specs.CalledAlike.{CodeCallsAlike, TreesCallAlike};
+ghost use Rattle.laws_code.specs.CalledAlike.{CodeCallsAlike, PureFunctionsCallAlike, TreesCallAlike};
 ghost use Rattle.laws_code.specs.Meanings.{ShownCodeRunsUnderItsMeaning, TextRunsUnderItsMeaning};
 ghost use Rattle.laws_code.specs.Samples.{ShownRunsAreJudged};
 ghost use Rattle.laws_code.specs.ShownLaws.{ShownCodeRunsAsCode};
@@ -187,6 +187,12 @@ pub fn code_calls_alike()
 {
     trees_call_alike();
 }
+
+/// Functions are impure as their terms are, where what is one function from outside is pure for all its terms or for none.
+#[tactic(auto, using(crate::proofs::PureFunctions::pure_functions_call_alike_lem))]
+pub fn pure_functions_call_alike()
+    ensures { PureFunctionsCallAlike }
+{}
 
 /// So the text of a term of accepted definitions is read as code that has the outcome of the matching source rule of greatest
 /// priority, or of a multi term the bag of its rules' results.

@@ -33,6 +33,7 @@ mod SetStages
 mod ShadowedRules
 mod ShownCounts
 mod SmallestInputs
+mod TextPremises
 mod TotalMeanings
 mod TreeStages
 mod TwoLiterals

@@ -21,7 +21,7 @@ use Rattle.laws_examples.specs.MeaningForms.{given, v}
 use Rattle.laws_examples.specs.TotalMeanings.{echo, EchoIsTotal, MisfitIsNotTotal, EchoIsTotalWithAConstant, EchoServes, EchoGives}
 
 -- the rules use the extractor alone
-abbrev term_of : Use → ℕ
+abbrev pub term_of : Use → ℕ
 term_of (a_term t) = t
 term_of (a_constant name) = 0
 
@@ -29,16 +29,16 @@ abbrev is_a_term : Use → Type 0
 is_a_term (a_term t) = Unit {0}
 is_a_term (a_constant name) = ⊥
 
-only_e : (u : Use) → Contains (a_term 0 ∷ a_term 0 ∷ []) u → a_term 0 ≡ u
+pub only_e : (u : Use) → Contains (a_term 0 ∷ a_term 0 ∷ []) u → a_term 0 ≡ u
 only_e u c = elim (in_cases (a_term 0) u (a_term 0 ∷ []) c) [ inl e ↦ e | inr i ↦ in_alone (a_term 0) u i ]
 
-no_constant : (name : ℕ) → Contains (a_term 0 ∷ a_term 0 ∷ []) (a_constant name) → ⊥
+pub no_constant : (name : ℕ) → Contains (a_term 0 ∷ a_term 0 ∷ []) (a_constant name) → ⊥
 no_constant name c = subst is_a_term (only_e (a_constant name) c) tt
 
 entry_e : TermEntry → (e : TermEntry) → slice_get extract_program.terms 0 ≡ Some e → (x : Value) → well_typed extract_program.types e.ret_ty x ≡ true → well_typed extract_program.types 1 x ≡ true
 entry_e d e h x w = subst (λ (o : TermEntry). well_typed extract_program.types o.ret_ty x ≡ true) (sym (same_Some _ e h)) w
 
-echo_fits : (t : ℕ) (e : TermEntry) (x : Value) → 0 ≡ t → slice_get extract_program.terms t ≡ Some e → well_typed extract_program.types e.ret_ty x ≡ true → fits_extractor extract_program t (kind extract_program t) (just (one x)) ≡ true
+pub echo_fits : (t : ℕ) (e : TermEntry) (x : Value) → 0 ≡ t → slice_get extract_program.terms t ≡ Some e → well_typed extract_program.types e.ret_ty x ≡ true → fits_extractor extract_program t (kind extract_program t) (just (one x)) ≡ true
 echo_fits t e x q h w =
     subst (λ n. fits_extractor extract_program n (kind extract_program n) (just (one x)) ≡ true) q
     (entry_e e e (subst (λ n. slice_get extract_program.terms n ≡ Some e) (sym q) h) x w)

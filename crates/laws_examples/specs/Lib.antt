@@ -43,6 +43,7 @@ pub mod ShownCounts
 pub mod SmallestInputs
 pub mod Stages
 pub mod Ties
+pub mod TextPremises
 pub mod TotalMeanings
 pub mod TwoLiterals
 pub mod TypedForms

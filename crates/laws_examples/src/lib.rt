@@ -36,6 +36,7 @@ ghost use Rattle.laws_examples.specs.Multi.{LoopsMayBindAgain, MultiCollects, Mu
 ghost use Rattle.laws_examples.specs.MultiCalls.{DemandsGatesThough, GivesResults, LeavesACallUnused, OneCallIsServed, UnusedGateGives, call_in_call, calls_program, extracted_twice, impure_twice, pure_twice, unused_condition, unused_let, used_condition};
 ghost use Rattle.laws_examples.specs.NamedConstants.{ConstantsAreServed};
 ghost use Rattle.laws_examples.specs.NearRefusals.{NoOverlapOfAcceptedRules, OnlyPassedLimitsAreNamed, TermsAreRefused};
+ghost use Rattle.laws_examples.specs.TextPremises.{TextPremisesHold};
 ghost use Rattle.laws_examples.specs.TwoLiterals.{OneOrTwoHoldsOnce, OneOrTwoIsServed, one_or_two_sample};
 ghost use Rattle.laws_examples.specs.Partial.{PartialEnds, PartialIsServed, g_of_one, partial_mute, partial_program};
 ghost use Rattle.laws_examples.specs.PickOrders.{OrderDoesNotMatter, OuterCallDoesNot, ResultIsOfPlaces, SecondCallComesFirst};
@@ -60,6 +61,8 @@ ghost use Rattle.laws_examples.specs.VariantIds.{VariantsStandAtTheirIds};
 ghost use Rattle.laws_examples.specs.VisitableRules.{OthersAreNotVisitable, RulesAreVisitable};
 ghost use Rattle.laws_examples.specs.Ranges.{NumbersAreReduced};
 ghost use Rattle.laws_examples.specs.WrappedCalls.{NothingIsAskedAboveCalls, wrapped_defs, wrapped_rules};
+
+use laws_code::pure_functions_call_alike;
 
 /// A list may name a type that is handed in, and its names go on after all that were met before; a type that a list
 /// defines isn't known to its terms unless it is handed in. Types that break one demand each are not well formed.
@@ -632,4 +635,11 @@ pub fn asked_premises_hold()
     best_trees_keep_the_headline();
     questions_ask_enough();
     refuted_programs_compute_as_said();
+}
+
+/// What the law on generated texts asks of its user holds together, of the sample with an extractor, on each number.
+pub fn text_premises_hold()
+    ensures { TextPremisesHold }
+{
+    pure_functions_call_alike();
 }

@@ -13,6 +13,7 @@ mod Unlogged
 mod Uses
 mod Values
 pub mod BestCode
+pub mod Callees
 pub mod Closed
 pub mod CodeCut
 pub mod CodeRunning

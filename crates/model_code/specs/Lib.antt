@@ -16,6 +16,7 @@ pub mod Pieces
 pub mod PrintedCode
 pub mod PrintedNames
 pub mod ProgramNotation
+pub mod PureAlike
 pub mod ReadTexts
 pub mod Reading
 pub mod ReadsBack

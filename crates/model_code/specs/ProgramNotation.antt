@@ -52,14 +52,20 @@ outside_of_entry None f = None
 abbrev pub outside_of : Program → Callee → Option ℕ
 outside_of p f = outside_of_entry (slice_get p.terms (term_of f)) f
 
+-- the same function of the same term: an internal extractor isn't the constructor of its term
+abbrev pub is_same_callee : Callee → Callee → Bool
+is_same_callee (extractor_of t) (extractor_of u) = t == u
+is_same_callee (constructor_of t) (constructor_of u) = t == u
+is_same_callee _ _ = false
+
 -- one function: of one name from outside, or of one term
-abbrev pub same_names : Option ℕ → Option ℕ → (same_terms : Bool) → Bool
-same_names (Some m) (Some n) same_terms = m == n
-same_names None None same_terms = same_terms
-same_names _ _ same_terms = false
+abbrev pub same_names : Option ℕ → Option ℕ → (same_callees : Bool) → Bool
+same_names (Some m) (Some n) same_callees = m == n
+same_names None None same_callees = same_callees
+same_names _ _ same_callees = false
 
 abbrev pub is_same_function : Program → Callee → Callee → Bool
-is_same_function p f g = same_names (outside_of p f) (outside_of p g) (term_of f == term_of g)
+is_same_function p f g = same_names (outside_of p f) (outside_of p g) (is_same_callee f g)
 
 abbrev pub callees_from : ℕ → List TermEntry → List Callee
 callees_from t [] = []

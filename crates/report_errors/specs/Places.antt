@@ -22,3 +22,15 @@ AreAtError error labels = (others : List Pos) × (places_of labels ≡ begin_of 
 
 abbrev pub IsAtError : TextError → Report → Type 0
 IsAtError error report = AreAtError error report.labels.items
+
+-- where a mistake is told first: of a list that isn't ended where that begins
+abbrev pub first_of : Problem → Pos → Pos
+first_of (P.Expected mistake) pos = pos
+first_of (P.Unclosed begin) pos = begin
+first_of (P.UnknownDefinition word) pos = pos
+
+abbrev pub BeginsAt : Pos → Report → Type 0
+BeginsAt pos report = (others : List Pos) × (places_of report.labels.items ≡ pos ∷ others)
+
+abbrev pub BeginsAtError : TextError → Report → Type 0
+BeginsAtError error report = BeginsAt (first_of error.problem error.pos) report

@@ -3,17 +3,15 @@
 use crate::indented_lines::push_line;
 use crate::meant_rules::Called;
 use crate::names::{NameTables, rule_at};
-use crate::tree_sizes::push_returns;
 use crate::way_text::Sites;
 use crate::ways::Search;
 use cranelift_isle::lower::{Lowered, LoweredTerm};
-use cranelift_isle::syntax::{self, Def, Pos};
+use cranelift_isle::syntax::{self, Def};
 use cranelift_isle::trie_again::{Overlap, Rule};
 use report_print::layout::push_place;
 use report_print::lines::FileLines;
 use report_witness::conditions::{Conditions, conditions_of, given_of};
 use std::alloc::{AllocError, Global};
-use std::collections::BTreeMap;
 
 /// What is said of a rule that is called by its name, by that of its term, by the number of a line that it stands in, or by
 /// the end of its file's path, a colon and that number: its place, what it demands of the term's arguments, in its own words,
@@ -189,60 +187,4 @@ fn overlaps(rule: &Rule, other: &Rule) -> bool {
         Overlap::No => false,
         Overlap::Yes { .. } => true,
     }
-}
-
-/// The printed text of a term's tree with the rule that it takes behind each return: its name, where it has one, and its
-/// place.
-pub fn with_rules(
-    alloc: Global,
-    lines: &FileLines<'_>,
-    lowered: &Lowered,
-    term: &LoweredTerm,
-    printed: &str,
-) -> Result<String, AllocError> {
-    let mut places = Vec::new(alloc);
-    push_returns(&term.block, &mut places)?;
-    let mut places = places.into_iter();
-    let names = rule_names(alloc, lowered, term)?;
-    let mut out = String::new(alloc);
-    for line in printed.lines() {
-        out.push_str(line)?;
-        if line.trim_start().starts_with("return ") {
-            if let Some(pos) = places.next() {
-                push_origin(&mut out, lines, names.get(&pos).copied(), pos)?;
-            }
-        }
-        out.push('\n')?;
-    }
-    Ok(out)
-}
-
-// The names of the rules of a term that have one, by their positions.
-fn rule_names<'a>(
-    alloc: Global,
-    lowered: &'a Lowered,
-    term: &LoweredTerm,
-) -> Result<BTreeMap<Pos, &'a str>, AllocError> {
-    let mut names = BTreeMap::new(alloc);
-    for rule in &term.rules.rules {
-        let name = rule_name(lowered, rule);
-        if !name.is_empty() {
-            names.insert(rule.pos, name)?;
-        }
-    }
-    Ok(names)
-}
-
-// Adds the name of a rule, where it has one, and its place.
-fn push_origin(
-    out: &mut String,
-    lines: &FileLines<'_>,
-    name: Option<&str>,
-    pos: Pos,
-) -> Result<(), AllocError> {
-    out.push_str("  ; ")?;
-    if let Some(name) = name {
-        push_two(out, name, " at ")?;
-    }
-    push_place(out, lines, pos)
 }

@@ -140,8 +140,8 @@ fn length_of_word(text: &str) -> usize {
     length
 }
 
-// Whether a word ends before this character.
-fn ends_word(c: char) -> bool {
+/// Whether a word ends before this character.
+pub(crate) fn ends_word(c: char) -> bool {
     c.is_whitespace() || matches!(c, '(' | ')' | ';' | '@')
 }
 

@@ -22,6 +22,7 @@ pub mod error_order;
 pub mod explanation;
 pub mod extents;
 pub mod indented_lines;
+pub mod lost;
 pub mod meanings;
 pub mod meant_rules;
 pub mod mentions;

@@ -119,14 +119,14 @@ fn begins_with_type(defs: &[Def], mention: &Mention<'_>) -> bool {
     }
 }
 
-// Whether a variable has the name of a constant of its type.
+// Whether a variable has the name of a constant of its type. Most names are no constant's, so the type is looked for last.
 fn is_constant(defs: &[Def], mention: &Mention<'_>) -> bool {
-    match (
-        constant_of(defs, mention.text()),
-        type_needed(defs, mention.need),
-    ) {
-        (Some(Extern::Const { ty, .. }), Some(needed)) => ty.0.as_str() == needed.0.as_str(),
-        _ => false,
+    let Some(Extern::Const { ty, .. }) = constant_of(defs, mention.text()) else {
+        return false;
+    };
+    match type_needed(defs, mention.need) {
+        Some(needed) => ty.0.as_str() == needed.0.as_str(),
+        None => false,
     }
 }
 

@@ -1,8 +1,6 @@
 //! What trees have: tests, arms and returns.
 
 use cranelift_isle::serialize::{Block, ControlFlow, EvalStep, MatchArm};
-use cranelift_isle::syntax::Pos;
-use std::alloc::{AllocError, Global};
 
 /// How large a tree is.
 #[derive(Clone, Copy)]
@@ -83,33 +81,4 @@ fn size_of_arms(arms: &[MatchArm]) -> TreeSize {
         size = beside(size, in_arm(size_of_tree(&arm.body)));
     }
     size
-}
-
-/// Adds the place of each rule that a return of a tree takes, in the order in which the tree is printed.
-#[cycle(returns)]
-pub fn push_returns(block: &Block, out: &mut Vec<Pos>) -> Result<(), AllocError> {
-    for step in &block.steps {
-        push_returns_of_step(step, out)?;
-    }
-    Ok(())
-}
-
-#[cycle(returns)]
-fn push_returns_of_step(step: &EvalStep, out: &mut Vec<Pos>) -> Result<(), AllocError> {
-    match &step.check {
-        ControlFlow::Match { arms, .. } => push_returns_of_arms(arms, out),
-        ControlFlow::Equal { body, .. } | ControlFlow::Loop { body, .. } => push_returns(body, out),
-        ControlFlow::Return { pos, .. } => {
-            out.push(*pos)?;
-            Ok(())
-        }
-    }
-}
-
-#[cycle(returns)]
-fn push_returns_of_arms(arms: &[MatchArm], out: &mut Vec<Pos>) -> Result<(), AllocError> {
-    for arm in arms {
-        push_returns(&arm.body, out)?;
-    }
-    Ok(())
 }

@@ -1,6 +1,8 @@
 //! How reports are laid out: as rustc's, or each in one line.
 
-ghost use Rattle.std.specs.Prelude.{◌≡◌, ◌≢◌, [], OnOk, string_bytes};
+ghost use Rattle.std.specs.Prelude.{◌≡◌, ◌≢◌, ◌++◌, [], OnOk, string_bytes};
+ghost use Rattle.core_syntax.specs.SyntaxViews.{position};
+ghost use Rattle.report_print.specs.PlaceTexts.{place_text};
 
 use crate::lines::{FileLines, Line, file_name, push_spaces, push_times};
 use crate::report::{Label, Level, Note, Report};
@@ -42,7 +44,9 @@ pub fn push_reports(
 }
 
 /// Adds a place: the file's name, the line and the column.
-pub fn push_place(out: &mut String, lines: &FileLines<'_>, pos: Pos) -> Result<(), AllocError> {
+pub fn push_place(out: &mut String, lines: &FileLines<'_>, pos: Pos) -> Result<(), AllocError>
+    ensures { OnOk result (string_bytes out.new ≡ string_bytes out.old ++ place_text lines.now.files.now (position pos)) }
+{
     let name = file_name(lines.files(), pos.file);
     let place = lines.place(pos);
     let (line, column) = (place.line, place.column);

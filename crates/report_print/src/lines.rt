@@ -1,5 +1,10 @@
 //! Lines of text, and the columns that characters take.
 
+ghost use Rattle.std.specs.Prelude.{◌≡◌, ◌||◌, IfOk, map, nat_eq, nat_lt, not, slice_get, string_bytes};
+ghost use Rattle.std.specs.List.{starts_with};
+ghost use Rattle.core_syntax.specs.Places.{line_of};
+ghost use Rattle.report_print.specs.PlaceTexts.{byte_order_mark, column_in, known_name, shown_column, shown_line, texts_of};
+
 use core_syntax::syntax::{Files, Pos};
 use std::alloc::{AllocError, Global};
 use text_lines::{LinePlace, LineTable};
@@ -19,8 +24,10 @@ const CUT: &str = "..";
 
 const CUT_COLUMNS: u64 = 2;
 
-// Marks the beginning of some texts, and is no part of their first line.
+// Marks the beginning of some texts, and is no part of their first line; and its bytes.
 const BYTE_ORDER_MARK: char = '\u{feff}';
+
+const MARK_BYTES: [u8; 3] = [0xef, 0xbb, 0xbf];
 
 /// The line that an offset lies in.
 #[derive(Clone, Copy)]
@@ -34,7 +41,9 @@ pub struct Line<'a> {
 }
 
 /// The name of a file by its number, or `?` where there is none.
-pub fn file_name(files: &Files, file: usize) -> &str {
+pub fn file_name(files: &Files, file: usize) -> &str
+    ensures { result.now ≡ known_name (map string_bytes files.now.names.items) file }
+{
     match files.names.get(file) {
         Some(name) => name.as_str(),
         None => "?",
@@ -53,6 +62,7 @@ pub fn file_text(files: &Files, file: usize) -> &str {
 pub struct FileLines<'a> {
     files: &'a Files,
     tables: Vec<LineTable<'a>>,
+    ghost tabled: { map (λ table. table.text.now) tables.items ≡ texts_of files.now },
 }
 
 impl<'a> Drop for FileLines<'a> {
@@ -70,7 +80,9 @@ impl<'a> FileLines<'a> {
     /// # Errors
     ///
     /// If memory is refused.
-    pub fn new(alloc: Global, files: &'a Files) -> Result<FileLines<'a>, AllocError> {
+    pub fn new(alloc: Global, files: &'a Files) -> Result<FileLines<'a>, AllocError>
+        ensures { IfOk result (λ lines. lines.files.now ≡ files.now) }
+    {
         let mut tables = Vec::new(alloc);
         for text in &files.texts {
             tables.push(LineTable::new(alloc, text)?)?;
@@ -79,23 +91,21 @@ impl<'a> FileLines<'a> {
     }
 
     /// The files.
-    pub fn files(&self) -> &'a Files {
+    pub fn files(&self) -> &'a Files
+        ensures { result.now ≡ self.now.files.now }
+    {
         self.files
     }
 
     /// The line and the column of a position, both from 1, the column in characters. A byte order mark at the beginning of the
     /// file is none. In a file that isn't there each position is at its beginning.
-    pub fn place(&self, pos: Pos) -> LinePlace {
-        let Some(table) = self.tables.get(pos.file) else {
-            return LinePlace { line: 1, column: 1 };
-        };
-        let place = table.place(pos.offset);
-        if place.line > 1 || !table.text().starts_with(BYTE_ORDER_MARK) {
-            return place;
-        }
-        LinePlace {
-            line: 1,
-            column: place.column.saturating_sub(1).max(1),
+    pub fn place(&self, pos: Pos) -> LinePlace
+        ensures line { result.line ≡ shown_line (slice_get (texts_of self.now.files.now) pos.file) pos.offset }
+        ensures column { result.column ≡ shown_column (slice_get (texts_of self.now.files.now) pos.file) pos.offset }
+    {
+        match self.tables.get(pos.file) {
+            Some(table) => place_in(table, pos.offset),
+            None => LinePlace { line: 1, column: 1 },
         }
     }
 
@@ -114,6 +124,34 @@ impl<'a> FileLines<'a> {
             at: pos.offset.saturating_sub(begin),
         }
     }
+}
+
+// The place of an offset in a text, where a byte order mark at the beginning takes no column.
+fn place_in(table: &LineTable<'_>, offset: usize) -> LinePlace
+    ensures line { result.line ≡ line_of table.now.text.now offset }
+    ensures column { result.column ≡ column_in table.now.text.now offset }
+{
+    let place = table.place(offset);
+    if counts_columns(table.text(), place.line) {
+        return place;
+    }
+    LinePlace {
+        line: place.line,
+        column: place.column.saturating_sub(1).max(1),
+    }
+}
+
+// Whether each character before a place in this line takes a column.
+fn counts_columns(text: &str, line: usize) -> bool
+    ensures { result ≡ (nat_lt 1 line || not (starts_with nat_eq text.now byte_order_mark)) }
+{
+    line > 1 || !has_mark(text)
+}
+
+fn has_mark(text: &str) -> bool
+    ensures { result ≡ starts_with nat_eq text.now byte_order_mark }
+{
+    text.as_bytes().starts_with(&MARK_BYTES)
 }
 
 impl<'a> Line<'a> {

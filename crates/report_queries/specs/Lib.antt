@@ -3,4 +3,5 @@ pub mod NameTexts
 pub mod Premises
 pub mod Samples
 pub mod Statuses
+pub mod TermTexts
 pub mod Walks

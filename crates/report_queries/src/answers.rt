@@ -1,6 +1,7 @@
 //! What is answered to definitions: the text of their trees, or of what is wrong with them.
 
-ghost use Rattle.std.specs.Prelude.{◌≡◌, ◌≢◌, ◌≤◌, ◌⊎◌, IfOk, Bool, List};
+ghost use Rattle.std.specs.Io.KnownBytes.{Appends};
+ghost use Rattle.std.specs.Prelude.{◌≡◌, ◌≢◌, ◌≤◌, ◌⊎◌, IfOk, OnOk, Bool, List};
 ghost use Rattle.cranelift_isle.specs.SyntaxViews.{definition_views};
 ghost use Rattle.cranelift_isle.specs.Syntax.{Definition};
 ghost use Rattle.report_queries.specs.Statuses.{IsAnswerTo, IsStatusOf};
@@ -101,8 +102,16 @@ pub fn end<E: Write>(err: &mut E, text: &str, status: u8) -> u8
     status
 }
 
-// Writes a text and flushes it.
-fn write_whole<O: Write>(out: &mut O, text: &str) -> io::Result<()> {
+/// Writes a text and flushes it.
+///
+/// # Errors
+///
+/// Why it can't be written, as that nobody reads any more.
+#[tactic(auto, using(crate::proofs::NameSteps::appends_kept))]
+pub fn write_whole<O: Write>(out: &mut O, text: &str) -> io::Result<()>
+    // a sink whose bytes are known has those that it had, and the text
+    ensures { OnOk result (Appends (O.contents out.old) (O.contents out.new) text.now) }
+{
     out.write_all(text.as_bytes())?;
     out.flush()
 }

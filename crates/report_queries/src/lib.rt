@@ -12,7 +12,7 @@ pub mod rules;
 pub mod sample_run;
 pub mod samples;
 pub mod texts;
-mod trees;
+pub mod trees;
 pub mod variable_sites;
 pub mod walk;
 pub mod words;

@@ -6,7 +6,7 @@ use cranelift_isle::lower::{Lowered, LoweredTerm};
 use cranelift_isle::syntax::{Def, Rule};
 use report_errors::names::{name_of, priority_of};
 use report_print::layout::push_place;
-use report_queries::texts::{names_of, print_term};
+use report_queries::texts::{Comments, names_of, print_term};
 use report_witness::rule_text::rule_text;
 use report_witness::witness::term_of;
 use std::alloc::{AllocError, Global};
@@ -90,7 +90,15 @@ fn push_term(
 fn tree_text(alloc: Global, lowered: &Lowered, term: &LoweredTerm) -> Result<String, AllocError> {
     let mut text = String::new(alloc);
     let names = names_of(lowered);
-    print_term(&mut text, names, term.id, &term.rules.bindings, &term.block)?;
+    let (bindings, block) = (&term.rules.bindings, &term.block);
+    print_term(
+        &mut text,
+        names,
+        Comments::Nothing,
+        term.id,
+        bindings,
+        block,
+    )?;
     Ok(text)
 }
 

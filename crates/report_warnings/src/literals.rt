@@ -20,12 +20,20 @@ pub(crate) fn add_outside(
     names: &Mentions<'_>,
 ) -> Result<(), AllocError> {
     for literal in &names.literals {
-        if let LiteralValue::Integer(val) = literal.value {
-            let ty = int_needed(defs, lowered, literal.need);
-            add_literal(alloc, reports, ty, val, literal.pos)?;
+        match literal.value {
+            LiteralValue::Integer(val) if !is_in_all(val) => {
+                let ty = int_needed(defs, lowered, literal.need);
+                add_literal(alloc, reports, ty, val, literal.pos)?;
+            }
+            _ => {}
         }
     }
     Ok(())
+}
+
+// Whether a number is one of each integer type, so that no type is looked for.
+fn is_in_all(val: i128) -> bool {
+    0 <= val && val <= 127
 }
 
 // The built-in integer type that is needed.

@@ -8,7 +8,7 @@ use report_errors::diagnosis::{ONE_OF_ALIKE, add_first, add_help, add_rule, are_
 use report_errors::names::rule_at;
 use report_print::report::{Place, Report, Word};
 use std::alloc::{AllocError, Global};
-use std::collections::BTreeMap;
+use std::collections::{BTreeMap, BTreeSet};
 
 /// Adds a warning for each rule of a term that never runs, in a block of its tree. A return ends its block: what stands behind it
 /// in the block, and inside that, never runs. Where the whole block never runs, the rule of the return before it is given.
@@ -120,11 +120,11 @@ impl<'a> Drop for Groups<'a> {
 }
 
 impl<'a> Groups<'a> {
-    // The rules by what they ask of the first site of which one asks something.
+    // The rules by what they ask of a site that tells many apart.
     fn of(alloc: Global, rules: &'a [Rule]) -> Result<Groups<'a>, AllocError> {
         let mut groups = Groups {
             rules,
-            site: first_site(rules),
+            site: telling_site(alloc, rules)?,
             groups: BTreeMap::new(alloc),
         };
         for rule in rules {
@@ -167,14 +167,31 @@ impl<'a> Groups<'a> {
     }
 }
 
-// The first site of which some rule asks something.
-fn first_site(rules: &[Rule]) -> Option<BindingId> {
-    for rule in rules {
-        if let Some((site, _)) = rule.constraints().first() {
-            return Some(*site);
-        }
+// The site of which some rules, evenly taken, ask the most different things, if they ask any.
+fn telling_site(alloc: Global, rules: &[Rule]) -> Result<Option<BindingId>, AllocError> {
+    let mut asked = BTreeMap::new(alloc);
+    for rule in rules.iter().step_by(rules.len() / LOOKED_AT + 1) {
+        add_asked(&mut asked, rule)?;
     }
-    None
+    Ok(
+        asked
+            .iter()
+            .max_by_key(|(_, different)| different.len())
+            .map(|(site, _)| *site),
+    )
+}
+
+// About as many rules are looked at.
+const LOOKED_AT: usize = 64;
+
+fn add_asked(
+    asked: &mut BTreeMap<BindingId, BTreeSet<Constraint>>,
+    rule: &Rule,
+) -> Result<(), AllocError> {
+    for (site, constraint) in rule.constraints() {
+        asked.entry(*site)?.or_default().insert(*constraint)?;
+    }
+    Ok(())
 }
 
 // Whether two different rules may match together.

@@ -90,6 +90,15 @@ fn has_fields(constraint: &Constraint) -> bool {
     )
 }
 
+// The place of a site's field, if a binding is one.
+fn place_in(binding: &Binding, of: BindingId) -> Option<usize> {
+    match binding {
+        Binding::MatchVariant { source, field, .. } | Binding::ExtractStruct { source, field }
+            if *source == of => { Some(field.index()) }
+        _ => None,
+    }
+}
+
 impl<'a> Writing<'a> {
     fn push_call(&mut self, term: &Term, out: &mut String) -> Result<(), AllocError> {
         out.push_str("`(")?;
@@ -165,12 +174,28 @@ impl<'a> Writing<'a> {
     ) -> Result<(), AllocError> {
         waiting.push(Piece::Close)?;
         let fields = constraint.bindings_for(self.alloc, site)?;
-        for field in fields.iter().rev() {
-            let piece = self.piece_of(field);
-            waiting.push(piece)?;
+        let pieces = self.pieces_of(site, &fields)?;
+        for piece in pieces.iter().rev() {
+            waiting.push(*piece)?;
             waiting.push(Piece::Blank)?;
         }
         Ok(())
+    }
+
+    // The pieces of a site's fields. All are found in one walk.
+    fn pieces_of(&self, source: BindingId, fields: &[Binding]) -> Result<Vec<Piece>, AllocError> {
+        let mut pieces = vec![in self.alloc; Piece::Any; fields.len()]?;
+        for (number, binding) in self.set.bindings.iter().enumerate() {
+            let Some(place) = place_in(binding, source) else {
+                continue;
+            };
+            if let Some(piece) = pieces.get_mut(place) {
+                if fields.get(place) == Some(binding) {
+                    *piece = Piece::Site(number);
+                }
+            }
+        }
+        Ok(pieces)
     }
 
     // A constraint that a site meets in this call: as it was found, or one that none of the rules asks for.

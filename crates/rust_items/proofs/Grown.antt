@@ -1,5 +1,5 @@
 -- Lists that grow, turn by turn of a loop over another list, by what each element gives.
-use Rattle.std.proofs.Common.{◌≡◌, ℕ, ◌+◌, ◌<◌, ◌≤◌, List, [], ◌∷◌, ◌++◌, length, get_or, take, map, codes, refl, sym, ap, ap₂, ◌∙◌, arith}
+use Rattle.std.proofs.Common.{◌≡◌, ℕ, ◌+◌, ◌<◌, ◌≤◌, List, [], ◌∷◌, ◌++◌, length, get_or, take, map, codes, refl, sym, ap, ap₂, subst, ◌∙◌, arith}
 use Rattle.std.specs.Prelude.{string_bytes}
 use Rattle.std.specs.List.{flat_map, range_with_len}
 use Rattle.std.proofs.lemmas.Grind.{flat_map-append}
@@ -33,6 +33,14 @@ module _ {X Y Z : Type 0} (v : X → Y) (xs : List X) (i : ℕ) where
 
   pub grown_ones : (g : Y → Z) (base old : List Z) → length xs ≤ i → old ≡ base ++ map g (map v (take i xs)) → old ≡ base ++ map g (map v xs)
   grown_ones g base old h is = is ∙ ap (λ ys. base ++ map g (map v ys)) (take_all i xs h)
+
+-- over a list that is another one, as of a vector
+module _ {X Y Z : Type 0} (v : X → Y) (xs ys : List X) (same : ys ≡ xs) (i : ℕ) where
+  pub grown_in : (f : Y → List Z) (base : List Z) (x : X) (old new : List Z) → i < length ys → x ≡ get_or ys i x → old ≡ base ++ flat_map f (map v (take i xs)) → new ≡ old ++ f (v x) → new ≡ base ++ flat_map f (map v (take (i + 1) xs))
+  grown_in f base x old new h e is more = grown_by v xs i f base x old new (subst (λ l. i < length l) same h) (e ∙ ap (λ l. get_or l i x) same) is more
+
+  pub grown_through : (f : Y → List Z) (base old : List Z) → length ys ≤ i → old ≡ base ++ flat_map f (map v (take i xs)) → old ≡ base ++ flat_map f (map v xs)
+  grown_through f base old h is = grown_all v xs i f base old (subst (λ l. length l ≤ i) same h) is
 
 map_same : {X : Type 0} (xs : List X) → map (λ x. x) xs ≡ xs
 map_same [] = refl

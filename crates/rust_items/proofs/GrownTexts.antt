@@ -4,12 +4,11 @@ use Rattle.std.specs.Char.{is_ascii_alphanumeric}
 use Rattle.std.proofs.lemmas.List.{append_assoc, append-nil, at_drop_all, at_drop_more, nil_from_length}
 use Rattle.std.proofs.lemmas.Bool.Decides.{nat_tests}
 use Rattle.std.proofs.lemmas.Str.{encode_ascii, chars-nil, chars_past_char}
-use Rattle.std.specs.Prelude.{is_some, not}
-use Rattle.std.specs.Prelude.{codes}
+use Rattle.std.specs.Prelude.{Result, Ok, Err, OnOk, is_ok, is_some, not}
 use Rattle.model.specs.lists.Tables.{TypeEntry}
 use Rattle.core_types.specs.declared.ids.TypeId.{TypeId}
 use Rattle.rust_items.specs.RustNames.{is_blank, word_for}
-use Rattle.rust_items.specs.WrittenTypes.{listed_type, listed_types, outputs_written, parameter_written, parameters_written}
+use Rattle.rust_items.specs.WrittenTypes.{listed_type, listed_types, parameter_written, parameters_written}
 
 -- what is left of a text, by its next character
 pub next_char : {A : Type 0} (f : List ℕ → A) (whole : A) (c : ℕ) (bytes rest : List ℕ) → IsUtf8 bytes → bytes ≡ encode_utf8 c ++ rest → f (chars bytes) ≡ whole → f (c ∷ chars rest) ≡ whole
@@ -21,6 +20,15 @@ no_char f whole bytes e w = ap f (sym (ap chars (nil_from_length bytes e) ∙ ch
 -- a text with one more piece that is written already
 pub moved_over : (old new piece rest whole : List ℕ) → new ≡ old ++ piece → old ++ (piece ++ rest) ≡ whole → new ++ rest ≡ whole
 moved_over old new piece rest whole e w = ap (λ x. x ++ rest) e ∙ append_assoc old piece rest ∙ w
+
+-- a text that a call that succeeds adds to
+pub on_ok_text : {T E : Type 0} (r : Result T E) (new longer old : List ℕ) → new ≡ cond (is_ok r) longer old → OnOk r (new ≡ longer)
+on_ok_text (Ok x) new longer old e = e
+on_ok_text (Err x) new longer old e = tt
+
+-- one text behind another
+pub then_more : (old mid new a b : List ℕ) → mid ≡ old ++ a → new ≡ mid ++ b → new ≡ old ++ (a ++ b)
+then_more old mid new a b e h = h ∙ ap (λ x. x ++ b) e ∙ append_assoc old a b
 
 pub word_small : (c : ℕ) → word_for c < 128
 word_small c = grind (arith, nat_tests)
@@ -46,7 +54,7 @@ module _ {X : Type 0} (w : ℕ → List X → List ℕ) (piece : ℕ → X → L
   pub places_written : (xs : List X) (i : ℕ) (old whole : List ℕ) → length xs ≤ i → old ++ w i (drop i xs) ≡ whole → old ≡ whole
   places_written xs i old whole h is = sym (append-nil old) ∙ ap (λ r. old ++ r) (sym (at_drop_all (w i) xs i h ∙ none i)) ∙ is
 
-next_place : {X : Type 0} (f : ℕ → X) (i : ℕ) → f (suc i) ≡ f (i + 1)
+pub next_place : {X : Type 0} (f : ℕ → X) (i : ℕ) → f (suc i) ≡ f (i + 1)
 next_place f i = let e : suc i ≡ i + 1 = omega arith in ap f e
 
 module _ (names : List (List ℕ)) (types : List TypeEntry) where
@@ -67,9 +75,3 @@ module _ (names : List (List ℕ)) (types : List TypeEntry) where
 
   pub one_parameter : (i : ℕ) (ty : TypeId) (tys : List TypeId) → parameters_of i (ty ∷ tys) ≡ parameter_of i ty ++ parameters_of (i + 1) tys
   one_parameter i ty tys = next_place (λ k. parameter_of i ty ++ parameters_of k tys) i
-
-  -- several are a tuple
-  pub no_single : (tys : List TypeId) → ((ty : TypeId) → tys ≡ ty ∷ [] → ⊥) → outputs_written names types (map (λ (t : TypeId). t.0) tys) ≡ codes "(" ++ (listed_ids 0 tys ++ codes ")")
-  no_single [] h = refl
-  no_single (ty ∷ []) h = absurd (h ty refl)
-  no_single (ty ∷ (other ∷ tys)) h = refl

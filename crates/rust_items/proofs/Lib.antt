@@ -1,9 +1,12 @@
 mod FileLines
+mod Firsts
 mod FreeVariables
 mod Grown
-mod GrownTexts
+mod GrownFields
+pub mod GrownTexts
 mod HeldNames
+mod PureFunctions
 mod Segments
 mod Spellings
-mod Turns
+pub mod Turns
 mod Variables

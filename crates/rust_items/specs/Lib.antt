@@ -2,6 +2,7 @@ pub mod ClaimViews
 pub mod Claims
 pub mod Faults
 pub mod FilePlaces
+pub mod ItemViews
 pub mod LineViews
 pub mod NameLaws
 pub mod NamedPrograms
@@ -9,4 +10,5 @@ pub mod OwnNames
 pub mod ProgramViews
 pub mod RustNames
 pub mod SourceViews
+pub mod WrittenItems
 pub mod WrittenTypes

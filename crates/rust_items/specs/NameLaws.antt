@@ -1,8 +1,10 @@
 -- What written names are like.
 use Rattle.std.specs.Prelude.{◌≡◌, ◌≢◌, ◌⊎◌, ◌<◌, ◌^◌, ℕ, Bool, true, false, ◌&&◌, List, ◌++◌, All, Contains, IsUtf8, codes, not}
+use Rattle.model.specs.rules.Program.{Program}
 use Rattle.model_code.specs.PrintedNames.{PrintedName, number_in, printed_name}
+use Rattle.model_code.specs.PureAlike.{ArePureAlike}
 use Rattle.rust_items.specs.Claims.{Claim, IsWellNamed}
-use Rattle.rust_items.specs.NamedPrograms.{NamedProgram, constants_kind, kinds, terms_kind, types_kind}
+use Rattle.rust_items.specs.NamedPrograms.{NamedProgram, constants_kind, functions_kind, kinds, terms_kind, types_kind}
 use Rattle.rust_items.specs.OwnNames.{is_variable}
 use Rattle.rust_items.specs.RustNames.{is_among, is_identifier, part, path_keywords, raw_keywords, spelled}
 
@@ -28,6 +30,10 @@ pub record VariablesArePlain : Type 0 where
   pub plain : (v : PrintedName) → number_in v < 2 ^ 64 → is_plain (printed_name v) ≡ true
   pub told : (v : PrintedName) → number_in v < 2 ^ 64 → is_variable (printed_name v) ≡ true
   pub no_function : (v : PrintedName) (name : List ℕ) → printed_name v ≢ codes "constructor_" ++ part name
+
+-- where functions are told apart, what is one function from outside is pure alike
+abbrev pub FunctionsApartArePureAlike : Type 0
+FunctionsApartArePureAlike = (n : NamedProgram) (p : Program) → p.terms ≡ n.terms → IsWellNamed (functions_kind n) → ArePureAlike p
 
 -- where names are told apart, nothing that the definitions name in values is written as a variable or a parameter
 abbrev pub VariablesAreFree : Type 0

@@ -2,7 +2,7 @@
 //!
 //! A function here has no code: its clause is a law.
 
-ghost use Rattle.rust_items.specs.NameLaws.{IdentifiersStayApart, NamesAreIdentifiers, VariablesAreFree, VariablesArePlain};
+ghost use Rattle.rust_items.specs.NameLaws.{FunctionsApartArePureAlike, IdentifiersStayApart, NamesAreIdentifiers, VariablesAreFree, VariablesArePlain};
 
 /// Whatever a name is, it is written as an identifier.
 #[tactic(auto, using(crate::proofs::Spellings::names_are_identifiers_lem))]
@@ -20,6 +20,12 @@ pub fn identifiers_stay_apart()
 #[tactic(auto, using(crate::proofs::Variables::variables_are_plain_lem))]
 pub fn variables_are_plain()
     ensures { VariablesArePlain }
+{}
+
+/// Where functions of `Context` are told apart, what is one of them is pure for each of its terms, or for none.
+#[tactic(auto, using(crate::proofs::PureFunctions::functions_apart_are_pure_alike_lem))]
+pub fn functions_apart_are_pure_alike()
+    ensures { FunctionsApartArePureAlike }
 {}
 
 /// Where names are told apart, no type, no constant and no term of the definitions is written as a variable or a parameter.

@@ -7,6 +7,7 @@ pub mod claims;
 pub mod context;
 pub mod faults;
 pub mod head;
+pub mod items;
 pub mod laws;
 pub mod lines;
 pub mod names;

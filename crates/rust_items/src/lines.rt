@@ -5,6 +5,7 @@ ghost use Rattle.std.specs.List.Sorted.{IsNonDecreasingBy};
 ghost use Rattle.core_syntax.specs.SyntaxViews.{position};
 ghost use Rattle.rust_items.specs.FilePlaces.{begin_if, file_or_unknown, file_written, line_begins, line_number, number_lists, on_line, on_line_char, place_written};
 ghost use Rattle.rust_items.specs.SourceViews.{beginning_view, sources_view};
+ghost use Rattle.rust_items.specs.WrittenItems.{file_line, file_lines};
 
 use crate::options::Prefix;
 use cranelift_isle::syntax::{Files, Pos};
@@ -50,13 +51,22 @@ impl<'a> Lines<'a> {
     }
 
     /// Adds a line of a comment for each file, with its name.
-    pub fn push_files(&self, out: &mut String) -> Result<(), AllocError> {
+    pub fn push_files(&self, out: &mut String) -> Result<(), AllocError>
+        ensures { OnOk result (string_bytes out.new ≡ string_bytes out.old ++ file_lines (sources_view self.now.files.now self.now.prefixes.now)) }
+    {
         for name in &self.files.names {
-            out.push_str("// - ")?;
-            self.push_file(out, name)?;
-            out.push('\n')?;
+            self.push_file_line(out, name)?;
         }
         Ok(())
+    }
+
+    // Adds a line of a comment, with the name of a file.
+    fn push_file_line(&self, out: &mut String, name: &str) -> Result<(), AllocError>
+        ensures { OnOk result (string_bytes out.new ≡ string_bytes out.old ++ file_line (map beginning_view self.now.prefixes.now) name.now) }
+    {
+        out.push_str("// - ")?;
+        self.push_file(out, name)?;
+        out.push('\n')
     }
 
     /// Adds the name of the file that a place is in, the word `line`, and the number of its line, from 1.

@@ -1,6 +1,6 @@
 //! How code is written, and why a program has none.
 
-ghost use Rattle.std.specs.Prelude.{◌≡◌, [], false};
+ghost use Rattle.std.specs.Prelude.{◌≡◌, [], false, true};
 
 pub use crate::faults::CodeError;
 use std::alloc::Global;
@@ -42,6 +42,7 @@ impl Drop for Prefix {
 impl CodegenOptions {
     /// The options for code that `include!` takes in: no attributes of the file, whole file names, and no logging.
     pub fn included(alloc: Global) -> CodegenOptions
+        ensures excluded { result.exclude_global_allow_pragmas ≡ true }
         ensures prefixes { result.prefixes.items ≡ [] }
         ensures emit_logging { result.emit_logging ≡ false }
     {

@@ -4,7 +4,9 @@ use crate::context::push_context;
 use crate::names::{push_constant, push_name};
 use crate::options::CodeError;
 use crate::program::{ALLOWED, Program};
-use crate::types::{is_without_fields, push_attributes, push_head, push_struct, push_variants};
+use crate::types::{
+    has_any_field, have_fields, push_attributes, push_head, push_struct, push_variants,
+};
 use cranelift_isle::sema::{BuiltinType, Sym, Type, TypeId};
 use std::alloc::{AllocError, Global};
 use std::collections::BTreeMap;
@@ -223,9 +225,7 @@ fn push_composed(out: &mut String, program: Program<'_>, ty: &Type) -> Result<()
             pos,
             ..
         } if !is_integer(ty) => {
-            let has_fields = variants
-                .iter()
-                .any(|variant| !is_without_fields(&variant.fields));
+            let has_fields = have_fields(variants);
             let lacks_debug = *is_nodebug || (*is_extern && has_fields);
             if *is_extern {
                 push_attributes(out, program, has_fields, has_fields, *pos)?;
@@ -242,7 +242,7 @@ fn push_composed(out: &mut String, program: Program<'_>, ty: &Type) -> Result<()
             pos,
             ..
         } => {
-            let has_fields = !is_without_fields(fields);
+            let has_fields = has_any_field(fields);
             let lacks_debug = *is_nodebug || (*is_extern && has_fields);
             if *is_extern {
                 push_attributes(out, program, has_fields, has_fields, *pos)?;

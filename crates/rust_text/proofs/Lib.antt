@@ -1,8 +1,11 @@
 mod AddedSteps
 mod CalleeNumbers
+mod CodeOfTerms
 mod FieldSteps
 mod FieldTypes
+mod Fronts
 mod HexDigits
+mod InsideCalls
 mod IntegerTexts
 mod LabelSteps
 mod LoweredCode
@@ -10,6 +13,8 @@ mod PieceSteps
 mod PieceTexts
 mod PrintedTexts
 mod ProgramSteps
+mod WholeCode
 mod WholeNames
+mod WrittenFunctions
 mod WrittenSteps
 pub mod ClosedNames

@@ -1,6 +1,5 @@
 -- Pieces by a notation of other types and terms that are the same.
-use Rattle.std.proofs.Common.{◌≡◌, ℕ, ◌+◌, ◌<◌, Bool, cond, ◌≤◌, List, [], ◌∷◌, ◌++◌, length, get_or, drop, slice_get, refl, sym, ap, ◌∙◌}
-use Rattle.std.specs.Prelude.{Result, Ok, Err, OnOk, is_ok}
+use Rattle.std.proofs.Common.{◌≡◌, ℕ, ◌+◌, ◌<◌, Bool, ◌≤◌, List, [], ◌∷◌, ◌++◌, length, get_or, drop, slice_get, refl, sym, ap, ◌∙◌}
 use Rattle.std.proofs.lemmas.List.{append_assoc, append-nil, at_drop_more, at_drop_all}
 use Rattle.model.specs.rules.Program.{Program}
 use Rattle.model_code.specs.Notation as N
@@ -15,11 +14,6 @@ use Rattle.rust_text.specs.declared.tokens.Piece.{Piece}
 use Rattle.rust_text.specs.declared.tokens.Piece.TheVariants as S
 use Rattle.rust_text.specs.ProgramNames.{NameSetting, IsProgramOf, program_in, notation_in}
 use Rattle.rust_text.specs.TokenViews.{callee_view, token_view, piece_view, piece_views}
-
--- a text that a call that succeeds adds to
-pub on_ok_text : {T E : Type 0} (r : Result T E) (new longer old : List ℕ) → new ≡ cond (is_ok r) longer old → OnOk r (new ≡ longer)
-on_ok_text (Ok x) new longer old e = e
-on_ok_text (Err x) new longer old e = tt
 
 module _ (s : NameSetting) (p : Program) (kind : ReturnForm) (is_logged : Bool) (of : IsProgramOf s p) where
   same_function : (f : N.Callee) → function_number p f ≡ function_number (program_in s) f

@@ -28,7 +28,7 @@ use Rattle.rust_text.specs.ProgramNames.{NameSetting, program_in, variant_in, va
 use Rattle.rust_text.specs.WholeNames.{NamesAreClosed, NamesAreWhole}
 
 -- 1. texts that stay on their line
-abbrev is_on_line : List ℕ → Bool
+abbrev pub is_on_line : List ℕ → Bool
 is_on_line [] = true
 is_on_line (c ∷ cs) = not (c == 10) && is_on_line cs
 
@@ -73,7 +73,7 @@ chars_stay (c ∷ cs) = stay_together (on_line_bytes c) (flat_map on_line_bytes 
 text_stays : (text : List ℕ) → is_on_line (on_line text) ≡ true
 text_stays text = chars_stay (chars text)
 
-file_stays : (bs : List Beginning) (name : List ℕ) → is_on_line (file_written bs name) ≡ true
+pub file_stays : (bs : List Beginning) (name : List ℕ) → is_on_line (file_written bs name) ≡ true
 file_stays [] name = text_stays name
 file_stays (b ∷ bs) name = by (starts_with nat_eq name b.text) (file_stays bs name)
   where
@@ -85,7 +85,7 @@ known_stays : (bs : List Beginning) (o : Option (List ℕ)) → is_on_line (file
 known_stays bs None = refl
 known_stays bs (Some name) = file_stays bs name
 
-place_stays : (s : Sources) (at : Position) → is_on_line (place_written s at) ≡ true
+pub place_stays : (s : Sources) (at : Position) → is_on_line (place_written s at) ≡ true
 place_stays s at =
     let file : List ℕ = file_or_unknown s.beginnings (slice_get s.names at.file) in
     let line : List ℕ = decimal (line_number (slice_get s.texts at.file) at.offset) in
@@ -101,10 +101,10 @@ named_letters (x ∷ xs) (suc n) h = named_letters xs n (and_parts (all_letters 
 builtin_closed : (place : ℕ) → is_closed (text_of builtin_names place) ≡ true
 builtin_closed place = closed_letters (text_of builtin_names place) (named_letters builtin_names place refl)
 
-part_closed : (name : List ℕ) → is_closed (part name) ≡ true
+pub part_closed : (name : List ℕ) → is_closed (part name) ≡ true
 part_closed name = closed_letters (part name) (written.part name)
 
-type_closed : (names : List (List ℕ)) (o : Option TypeEntry) → is_closed (type_written names o) ≡ true
+pub type_closed : (names : List (List ℕ)) (o : Option TypeEntry) → is_closed (type_written names o) ≡ true
 type_closed names None = refl
 type_closed names (Some (builtin_type place)) = builtin_closed place
 type_closed names (Some (primitive_type id name at)) = written.path (text_of names name)

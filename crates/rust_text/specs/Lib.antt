@@ -1,6 +1,9 @@
 pub mod Adding
 pub mod ClosedNames
+pub mod CodeOfTerms
+pub mod Expanded
 pub mod Fields
+pub mod Fronts
 pub mod LoweredCode
 pub mod Margins
 pub mod PrintedTexts
@@ -9,6 +12,8 @@ pub mod ProgramNames
 pub mod SettingViews
 pub mod Settings
 pub mod TokenViews
+pub mod WholeCode
 pub mod WholeNames
 pub mod Writers
 pub mod WrittenBodies
+pub mod WrittenFunctions

@@ -10,6 +10,8 @@ ghost use Rattle.std.specs.Prelude.{IfOk};
 ghost use Rattle.laws_code.specs.CodeChoices.{MeansItsSource};
 ghost use Rattle.laws_code.specs.TypedTrees.{IsWellMade};
 ghost use Rattle.rust_code.specs.CodeViews.{block_view};
+ghost use Rattle.rust_text.specs.CodeOfTerms.{EachTermIsInItsCode};
+ghost use Rattle.rust_text.specs.Fronts.{FrontsAreClosed};
 ghost use Rattle.rust_text.specs.LoweredCode.{IsItsCode, OfLowered};
 ghost use Rattle.rust_text.specs.PrintedTexts.{EachTermHasItsPrintedText, PrintedTextsAreReadBack};
 ghost use Rattle.rust_text.specs.WholeNames.{NamesAreClosed, NamesAreWhole};
@@ -17,18 +19,20 @@ ghost use Rattle.rust_text.specs.WholeNames.{NamesAreClosed, NamesAreWhole};
 use cranelift_isle::lower::{Lowered, LoweredTerm};
 use laws_code::{
     code_chooses_as_source, code_of_each_term_is_well_made, each_term_has_its_text,
-    text_of_accepted_is_read_back,
+    pure_functions_call_alike, text_of_accepted_is_read_back, text_of_accepted_says_its_source,
 };
 use model_code::with_moves_says_same;
 use rust_code::code::CodeBlock;
 use rust_code::code_of::code_of;
 use rust_code::types::Tables;
+use rust_items::laws::functions_apart_are_pure_alike;
 use std::alloc::{AllocError, Global};
 
 mod added;
 mod blocks;
 pub mod code;
 mod conditions;
+mod expanded;
 mod expressions;
 mod functions;
 mod labels;
@@ -109,4 +113,22 @@ pub fn each_term_has_its_printed_text()
 {
     each_term_has_its_text();
     names_are_whole();
+}
+
+/// What stands before the functions leaves no comment and no quotes open, whatever the definitions and files call their things.
+#[tactic(auto, using(crate::proofs::Fronts::fronts_are_closed_lem))]
+pub fn fronts_are_closed()
+    ensures { FrontsAreClosed }
+{}
+
+/// So the code of what lowering answers has, behind such a front, one function of each term with rules, in order, and nothing else.
+/// Its first lines are the term's signature, and its text, read back, gives what trying the term's rules by priority gives.
+pub fn each_term_is_in_its_code()
+    ensures { EachTermIsInItsCode }
+{
+    text_of_accepted_says_its_source();
+    names_are_whole();
+    functions_apart_are_pure_alike();
+    pure_functions_call_alike();
+    fronts_are_closed();
 }

@@ -4,8 +4,16 @@
 //! the solver wrote. Several solvers may be asked one text. A line `> ..` behind an answer begins another text, as does one behind an
 //! empty line.
 
+ghost use Rattle.std.specs.Prelude.{ℕ, ◌≡◌, ◌&&◌, ◌||◌, List, IfOk, OnOk, string_bytes};
+ghost use Rattle.std.specs.HashSet.{contains_text};
+ghost use Rattle.std.specs.List.{list_any};
+ghost use Rattle.std.specs.Str.{bytes_eq};
+ghost use Rattle.spec_questions.specs.Refuting as Refuting;
+ghost use Rattle.spec_questions.specs.Refuting.{says_sat, says_unsat};
+
 use crate::replies::{Reply, reply_in};
 use std::alloc::{AllocError, Global};
+use std::collections::HashSet;
 use std::mem;
 
 /// What a solver wrote that was asked a text.
@@ -31,6 +39,83 @@ impl Drop for Answer {
     }
 }
 
+impl Answer {
+    // Whether it says `unsat`.
+    fn is_unsat(&self) -> bool
+        ensures { result ≡ Refuting.is_unsat self.now.reply }
+    {
+        matches!(&self.reply, Reply::Unsat)
+    }
+
+    // Whether it says `sat`.
+    fn is_sat(&self) -> bool
+        ensures { result ≡ Refuting.is_sat self.now.reply }
+    {
+        matches!(&self.reply, Reply::Sat(_))
+    }
+}
+
+/// Answers, which are found by the texts that solvers were asked.
+pub struct Answers {
+    /// All answers, in order.
+    pub list: Vec<Answer>,
+    // The texts to which an answer says `unsat`.
+    unsat: HashSet<String>,
+    // The texts to which an answer says `sat`.
+    sat: HashSet<String>,
+    ghost unsat_texts: { (text : List ℕ) → contains_text unsat text ≡ list_any (says_unsat text) list.items },
+    ghost sat_texts: { (text : List ℕ) → contains_text sat text ≡ list_any (says_sat text) list.items },
+}
+
+impl Drop for Answers {
+    fn drop(self) {
+        let Answers {
+            list: _,
+            unsat: _,
+            sat: _,
+        } = self;
+    }
+}
+
+impl Answers {
+    /// These answers.
+    pub fn of(alloc: Global, list: Vec<Answer>) -> Result<Answers, AllocError>
+        ensures { IfOk result (λ answers. answers.list ≡ list) }
+    {
+        let mut unsat = HashSet::new(alloc);
+        let mut sat = HashSet::new(alloc);
+        for answer in &list {
+            add_if(&mut unsat, &answer.text, answer.is_unsat())?;
+            add_if(&mut sat, &answer.text, answer.is_sat())?;
+        }
+        Ok(Answers { list, unsat, sat })
+    }
+
+    /// Whether an answer to a text says `unsat`.
+    pub fn say_unsat(&self, text: &str) -> bool
+        ensures { result ≡ list_any (says_unsat text.now) self.now.list.items }
+    {
+        self.unsat.contains(text)
+    }
+
+    /// Whether an answer to a text says `sat`.
+    pub fn say_sat(&self, text: &str) -> bool
+        ensures { result ≡ list_any (says_sat text.now) self.now.list.items }
+    {
+        self.sat.contains(text)
+    }
+}
+
+// Adds a text to others, if it is one of them.
+fn add_if(texts: &mut HashSet<String>, text: &String, is_one: bool) -> Result<(), AllocError>
+    ensures { OnOk result ((other : List ℕ) → contains_text texts.new other ≡ (contains_text texts.old other || (bytes_eq (string_bytes text.now) other && is_one))) }
+{
+    if is_one {
+        texts.insert(text.clone()?)?;
+    }
+    Ok(())
+}
+
 // Reads records, a line at a time.
 struct Reader {
     alloc: Global,
@@ -53,7 +138,7 @@ impl Drop for Reader {
 }
 
 /// The answers of a file of records, in order. Lines of another form are passed over.
-pub fn answers_in(alloc: Global, records: &str) -> Result<Vec<Answer>, AllocError> {
+pub fn answers_in(alloc: Global, records: &str) -> Result<Answers, AllocError> {
     let mut reader = Reader {
         alloc,
         answers: Vec::new(alloc),
@@ -64,7 +149,7 @@ pub fn answers_in(alloc: Global, records: &str) -> Result<Vec<Answer>, AllocErro
         reader.read(line)?;
     }
     reader.end_answer()?;
-    Ok(reader.into_answers())
+    Answers::of(alloc, reader.into_answers())
 }
 
 impl Reader {

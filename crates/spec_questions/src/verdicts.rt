@@ -3,11 +3,10 @@
 ghost use Rattle.std.specs.Prelude.{◌≡◌, IsTrue};
 ghost use Rattle.std.specs.List.{list_all, list_any};
 ghost use Rattle.spec_questions.specs.Refuting as Refuting;
-ghost use Rattle.spec_questions.specs.Refuting.{is_possible_by, is_refuted_by, is_right_by, is_shown, is_taken_by, is_untaken_by, is_wrong_by, says_sat, says_unsat};
+ghost use Rattle.spec_questions.specs.Refuting.{is_possible_by, is_refuted_by, is_right_by, is_shown, is_taken_by, is_untaken_by, is_wrong_by};
 
-use crate::answers::Answer;
+use crate::answers::Answers;
 use crate::questions::{LeftOut, Question};
-use crate::replies::Reply;
 
 /// What is shown of a rule.
 #[derive(Clone, Copy, PartialEq, Eq)]
@@ -38,9 +37,9 @@ impl Verdict {
 }
 
 /// What answers say of a rule, by its questions and by the choices of widths at which it isn't asked.
-pub fn verdict_of(questions: &[Question], left_out: &[LeftOut], answers: &[Answer]) -> Verdict
+pub fn verdict_of(questions: &[Question], left_out: &[LeftOut], answers: &Answers) -> Verdict
     // what the verdict says is so
-    ensures shown { IsTrue (is_shown answers.now questions.now left_out.now result) }
+    ensures shown { IsTrue (is_shown answers.now.list.items questions.now left_out.now result) }
 {
     if is_wrong(questions, answers) {
         Verdict::Wrong
@@ -56,8 +55,8 @@ pub fn verdict_of(questions: &[Question], left_out: &[LeftOut], answers: &[Answe
 }
 
 // Whether a rule is wrong at one of these choices of widths.
-fn is_wrong(questions: &[Question], answers: &[Answer]) -> bool
-    ensures { result ≡ list_any (is_wrong_by answers.now) questions.now }
+fn is_wrong(questions: &[Question], answers: &Answers) -> bool
+    ensures { result ≡ list_any (is_wrong_by answers.now.list.items) questions.now }
 {
     questions
         .iter()
@@ -65,8 +64,8 @@ fn is_wrong(questions: &[Question], answers: &[Answer]) -> bool
 }
 
 // Whether a rule is as specs say at each of these choices of widths, and answers tell whether a call takes it.
-fn are_answered(questions: &[Question], answers: &[Answer]) -> bool
-    ensures { result ≡ Refuting.are_answered answers.now questions.now }
+fn are_answered(questions: &[Question], answers: &Answers) -> bool
+    ensures { result ≡ Refuting.are_answered answers.now.list.items questions.now }
 {
     !questions.is_empty()
         && are_right(questions, answers)
@@ -74,8 +73,8 @@ fn are_answered(questions: &[Question], answers: &[Answer]) -> bool
 }
 
 // Whether answers refute that a rule is wrong at each of these choices of widths.
-fn are_right(questions: &[Question], answers: &[Answer]) -> bool
-    ensures { result ≡ list_all (is_right_by answers.now) questions.now }
+fn are_right(questions: &[Question], answers: &Answers) -> bool
+    ensures { result ≡ list_all (is_right_by answers.now.list.items) questions.now }
 {
     questions
         .iter()
@@ -83,8 +82,8 @@ fn are_right(questions: &[Question], answers: &[Answer]) -> bool
 }
 
 // Whether a call may take a rule at one of these choices of widths.
-fn is_taken(questions: &[Question], answers: &[Answer]) -> bool
-    ensures { result ≡ list_any (is_taken_by answers.now) questions.now }
+fn is_taken(questions: &[Question], answers: &Answers) -> bool
+    ensures { result ≡ list_any (is_taken_by answers.now.list.items) questions.now }
 {
     questions
         .iter()
@@ -92,8 +91,8 @@ fn is_taken(questions: &[Question], answers: &[Answer]) -> bool
 }
 
 // Whether no call takes a rule at these choices of widths.
-fn is_untaken(questions: &[Question], answers: &[Answer]) -> bool
-    ensures { result ≡ list_all (is_untaken_by answers.now) questions.now }
+fn is_untaken(questions: &[Question], answers: &Answers) -> bool
+    ensures { result ≡ list_all (is_untaken_by answers.now.list.items) questions.now }
 {
     questions
         .iter()
@@ -108,50 +107,20 @@ fn are_never_taken(left_out: &[LeftOut]) -> bool
 }
 
 /// Whether a solver said `unsat` to a text, and none `sat`.
-pub fn is_refuted(answers: &[Answer], text: &str) -> bool
-    ensures { result ≡ is_refuted_by answers.now text.now }
+pub fn is_refuted(answers: &Answers, text: &str) -> bool
+    ensures { result ≡ is_refuted_by answers.now.list.items text.now }
 {
-    is_unsat(answers, text) && !is_sat(answers, text)
+    answers.say_unsat(text) && !answers.say_sat(text)
 }
 
 /// Whether a solver said `sat` to a text, and none `unsat`.
-pub fn is_possible(answers: &[Answer], text: &str) -> bool
-    ensures { result ≡ is_possible_by answers.now text.now }
+pub fn is_possible(answers: &Answers, text: &str) -> bool
+    ensures { result ≡ is_possible_by answers.now.list.items text.now }
 {
-    is_sat(answers, text) && !is_unsat(answers, text)
+    answers.say_sat(text) && !answers.say_unsat(text)
 }
 
 /// Whether a solver said `sat` or `unsat` to a text.
-pub fn is_answered(answers: &[Answer], text: &str) -> bool {
-    is_sat(answers, text) || is_unsat(answers, text)
-}
-
-// Whether a solver said `unsat` to a text.
-fn is_unsat(answers: &[Answer], text: &str) -> bool
-    ensures { result ≡ list_any (says_unsat text.now) answers.now }
-{
-    answers.iter().any(|answer| answer.is_unsat_to(text))
-}
-
-// Whether a solver said `sat` to a text.
-fn is_sat(answers: &[Answer], text: &str) -> bool
-    ensures { result ≡ list_any (says_sat text.now) answers.now }
-{
-    answers.iter().any(|answer| answer.is_sat_to(text))
-}
-
-impl Answer {
-    // Whether it says `unsat` to this text.
-    fn is_unsat_to(&self, text: &str) -> bool
-        ensures { result ≡ says_unsat text.now self.now }
-    {
-        self.text.as_str() == text && matches!(&self.reply, Reply::Unsat)
-    }
-
-    // Whether it says `sat` to this text.
-    fn is_sat_to(&self, text: &str) -> bool
-        ensures { result ≡ says_sat text.now self.now }
-    {
-        self.text.as_str() == text && matches!(&self.reply, Reply::Sat(_))
-    }
+pub fn is_answered(answers: &Answers, text: &str) -> bool {
+    answers.say_sat(text) || answers.say_unsat(text)
 }

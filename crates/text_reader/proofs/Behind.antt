@@ -1,6 +1,6 @@
 -- What tokens, forms and definitions are behind others.
-use Rattle.std.proofs.Common.{◌≡◌, ℕ, ◌+◌, Bool, true, false, List, [], ◌∷◌, ◌++◌, length, refl, sym, ap, ◌∙◌, subst, arith, append_assoc, append-nil}
-use Rattle.std.specs.Prelude.{Result, Ok, Err, Option, Some, None, option_map, nat_le, if◌then◌else◌}
+use Rattle.std.proofs.Common.{◌≡◌, ℕ, ◌+◌, Bool, true, false, List, [], ◌∷◌, ◌++◌, length, refl, sym, ap, ◌∙◌, append_assoc}
+use Rattle.std.specs.Prelude.{Result, Ok, Option, Some, None, option_map, nat_le, if◌then◌else◌}
 use Rattle.model.specs.lists.Syntax.{Position, Name, Definition}
 use Rattle.text_reader.specs.declared.errors.Mistake.TheVariants as M
 use Rattle.text_reader.specs.Lexemes.{Lexeme, begin_list, end_list, word, dash, binder, number, constant, Wrong, ◌>>=◌, word_token, last_bound, or_mistake}

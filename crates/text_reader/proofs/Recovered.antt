@@ -1,6 +1,6 @@
 -- What is read one after another, where it lies in memory.
 use Rattle.std.proofs.Common.{◌≡◌, ℕ, suc, ◌+◌, ◌<◌, List, [], ◌∷◌, ◌++◌, drop, get_or, length, map, refl, sym, ap, ◌∙◌, subst, arith, append_assoc, append-nil, chars, encode_utf8, encode_utf8_all, IsUtf8, String}
-use Rattle.std.specs.Prelude.{Bool, true, false, if◌then◌else◌, Result, Ok, Err, string_bytes}
+use Rattle.std.specs.Prelude.{true, false, if◌then◌else◌, Result, Ok, string_bytes}
 use Rattle.std.proofs.lemmas.List.{map-append, nil_from_length}
 use Rattle.std.proofs.lemmas.Str.{encodes-chars, encodes-append, chars_from_encodes, chars_past_char, chars-nil, IsUtf8-string_bytes}
 use Rattle.std.proofs.Math.Seq.{drop-cons}
@@ -12,8 +12,7 @@ use Rattle.text_reader.specs.declared.errors.ReadFault.{ReadFault}
 use Rattle.text_reader.specs.declared.errors.TextError.{TextError}
 use Rattle.text_reader.specs.Lexemes.{Wrong, ◌>>=◌}
 use Rattle.text_reader.specs.Pieces.{size, pieces_from}
-use Rattle.text_reader.specs.Lexing.{Tokens, between, run, tokens_after}
-use Rattle.text_reader.specs.FormTrees.{FormTree, form_and, FormTrees}
+use Rattle.text_reader.specs.Lexing.{Tokens, between, run}
 use Rattle.text_reader.specs.Forming.{forms_of}
 use Rattle.text_reader.specs.FormViews.{form_view, all_view}
 use Rattle.text_reader.specs.Definitions.{definition_of}

@@ -1,5 +1,5 @@
 -- What is recovered of a text, without where it lies in memory.
-use Rattle.std.specs.Prelude.{◌≡◌, ◌+◌, ℕ, List, All, length, map, string_bytes, string_len}
+use Rattle.std.specs.Prelude.{◌≡◌, ◌+◌, List, length, map, string_bytes}
 use Rattle.std.specs.Str.{chars}
 use Rattle.core_syntax.specs.SyntaxViews.{definition_views, position}
 use Rattle.text_reader.specs.declared.chunks.Chunk.{Chunk}

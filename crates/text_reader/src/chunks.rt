@@ -1,9 +1,10 @@
-//! A text in chunks: what begins in the first column of a line, outside of block comments, begins a chunk.
+//! A text in chunks: the end of an outermost list ends a chunk, and what begins in the first column of a line, outside of block
+//! comments, begins one.
 
 ghost use Rattle.std.specs.Prelude.{◌≡◌, ◌+◌, ◌++◌, List, All, IfOk, length, string_bytes};
 ghost use Rattle.std.specs.Char.{encode_utf8};
 ghost use Rattle.std.specs.Str.{chars};
-ghost use Rattle.text_reader.specs.Chunks.{Part, begins_chunk, chunks_of, empty_at, longer, moved, moved_between, moved_in_block, next_parts};
+ghost use Rattle.text_reader.specs.Chunks.{Part, begins_chunk, begins_line, chunks_of, deeper, empty_at, longer, moved, moved_between, moved_in_block, next_parts};
 ghost use Rattle.text_reader.specs.RecoveryViews.{Ends, part_view, part_views};
 
 use crate::tokens::DEEPEST;
@@ -20,18 +21,20 @@ pub struct Chunk {
     pub text: String,
 }
 
-/// Where the next character of a text stands.
+/// Where the next character of a text stands, and how many lists of its chunk are begun and not ended.
 #[derive(Clone, Copy)]
 pub enum CharacterPlace {
     /// In the first column of a line.
-    LineBegin,
-    Within,
-    /// Behind a parenthesis, which begins a comment if `;` follows.
-    Opened,
+    LineBegin(usize),
+    /// Behind the parenthesis that ends an outermost list, or that ends none.
+    Ended,
+    Within(usize),
+    /// Behind a parenthesis, which begins a comment if `;` follows, and a list if not.
+    Opened(usize),
     /// In a comment to the end of the line.
-    Line,
-    /// In a block comment: how many are open, and the last character.
-    Block(usize, char),
+    Line(usize),
+    /// In a block comment: how many comments are open, and the last character.
+    Block(usize, usize, char),
     /// In a comment that nests too deep.
     Lost,
 }
@@ -43,7 +46,7 @@ pub fn chunks(alloc: Global, text: &str) -> Result<Vec<Chunk>, AllocError>
 {
     let mut chunks = Vec::new(alloc);
     let mut chunk = chunk_at(alloc, 0);
-    let mut place = CharacterPlace::Within;
+    let mut place = CharacterPlace::Within(0);
     for (offset, c) in text.char_indices() {
         let end = offset + c.len_utf8();
         match next(chunk_at(alloc, offset), place, c, end, chunk, &mut chunks) {
@@ -112,13 +115,21 @@ fn begins_chunk(place: CharacterPlace, c: char) -> bool
     ensures { result ≡ begins_chunk place c }
 {
     match place {
-        CharacterPlace::LineBegin => !(c.is_whitespace() || c == ')' || c == ';'),
-        CharacterPlace::Within
-        | CharacterPlace::Opened
-        | CharacterPlace::Line
-        | CharacterPlace::Block(_, _)
+        CharacterPlace::LineBegin(_) => begins_line(c),
+        CharacterPlace::Ended => true,
+        CharacterPlace::Within(_)
+        | CharacterPlace::Opened(_)
+        | CharacterPlace::Line(_)
+        | CharacterPlace::Block(_, _, _)
         | CharacterPlace::Lost => false,
     }
+}
+
+// Whether a character in the first column begins a chunk.
+fn begins_line(c: char) -> bool
+    ensures { result ≡ begins_line c }
+{
+    !(c.is_whitespace() || c == ')' || c == ';')
 }
 
 // The place behind a character.
@@ -126,43 +137,57 @@ fn moved(place: CharacterPlace, c: char) -> CharacterPlace
     ensures { result ≡ moved place c }
 {
     match place {
-        CharacterPlace::LineBegin | CharacterPlace::Within => moved_between(c),
-        CharacterPlace::Opened if c == ';' => CharacterPlace::Block(1, ' '),
-        CharacterPlace::Opened => moved_between(c),
-        CharacterPlace::Line if c == '\n' => CharacterPlace::LineBegin,
-        CharacterPlace::Line => CharacterPlace::Line,
-        CharacterPlace::Block(depth, last) => moved_in_block(depth, last, c),
+        CharacterPlace::LineBegin(_) if begins_line(c) => moved_between(0, c),
+        CharacterPlace::Ended => moved_between(0, c),
+        CharacterPlace::LineBegin(lists) | CharacterPlace::Within(lists) => moved_between(lists, c),
+        CharacterPlace::Opened(lists) if c == ';' => CharacterPlace::Block(lists, 1, ' '),
+        CharacterPlace::Opened(lists) => moved_between(deeper(lists), c),
+        CharacterPlace::Line(lists) if c == '\n' => CharacterPlace::LineBegin(lists),
+        CharacterPlace::Line(lists) => CharacterPlace::Line(lists),
+        CharacterPlace::Block(lists, depth, last) => moved_in_block(lists, depth, last, c),
         CharacterPlace::Lost => CharacterPlace::Lost,
     }
 }
 
+// One more list is begun. More than a thousand, which is a mistake, count as a thousand.
+fn deeper(lists: usize) -> usize
+    ensures { result ≡ deeper lists }
+{
+    if lists >= DEEPEST {
+        return lists;
+    }
+    lists + 1
+}
+
 // The place behind a character outside of comments.
-fn moved_between(c: char) -> CharacterPlace
-    ensures { result ≡ moved_between c }
+fn moved_between(lists: usize, c: char) -> CharacterPlace
+    ensures { result ≡ moved_between lists c }
 {
     match c {
-        '\n' => CharacterPlace::LineBegin,
-        '(' => CharacterPlace::Opened,
-        ';' => CharacterPlace::Line,
-        _ => CharacterPlace::Within,
+        '\n' => CharacterPlace::LineBegin(lists),
+        '(' => CharacterPlace::Opened(lists),
+        ';' => CharacterPlace::Line(lists),
+        ')' if lists <= 1 => CharacterPlace::Ended,
+        ')' => CharacterPlace::Within(lists - 1),
+        _ => CharacterPlace::Within(lists),
     }
 }
 
 // The place behind a character of a block comment. A character that began or ended a comment does neither again.
-fn moved_in_block(depth: usize, last: char, c: char) -> CharacterPlace
-    ensures { result ≡ moved_in_block depth last c }
+fn moved_in_block(lists: usize, depth: usize, last: char, c: char) -> CharacterPlace
+    ensures { result ≡ moved_in_block lists depth last c }
 {
     if last == '(' && c == ';' {
         if depth >= DEEPEST {
             return CharacterPlace::Lost;
         }
-        return CharacterPlace::Block(depth + 1, ' ');
+        return CharacterPlace::Block(lists, depth + 1, ' ');
     }
     if last == ';' && c == ')' {
         if depth <= 1 {
-            return CharacterPlace::Within;
+            return CharacterPlace::Within(lists);
         }
-        return CharacterPlace::Block(depth - 1, ' ');
+        return CharacterPlace::Block(lists, depth - 1, ' ');
     }
-    CharacterPlace::Block(depth, c)
+    CharacterPlace::Block(lists, depth, c)
 }

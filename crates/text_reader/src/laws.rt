@@ -1,10 +1,10 @@
 //! What holds of the notation, whatever reads it.
 
-ghost use Rattle.std.specs.Prelude.{◌≡◌, ◌+◌, ◌++◌, ℕ, List, [], Err, Ok, true, ◌⊎◌};
+ghost use Rattle.std.specs.Prelude.{◌≡◌, ◌+◌, ◌++◌, ℕ, List, [], ◌∷◌, Err, Ok, true, ◌⊎◌};
 ghost use Rattle.std.specs.Str.{IsUtf8};
 ghost use Rattle.model.specs.lists.Syntax.{Definition, Position};
 ghost use Rattle.text_reader.specs.declared.errors.Mistake.TheVariants.{CommentEnd};
-ghost use Rattle.text_reader.specs.Chunks.{EndsLine, begins, chunks_at};
+ghost use Rattle.text_reader.specs.Chunks.{EndsLine, EndsList, begins, chunks_at};
 ghost use Rattle.text_reader.specs.Definitions.{IsOfDefinitions, IsOfLists, IsOfTokens, Spells, forms_in, reading, tokens_in};
 ghost use Rattle.text_reader.specs.Examples.{SkippedAreRead, IntegersAreRead, NamesAreRead, ConstantsAreRead, PrimitivesAreRead, EnumerationsAreRead, StructuresAreRead, DeclarationsAreRead, RulesAreRead, ExtractorsAreRead, ExternalConstructorsAreRead, ExternalExtractorsAreRead, ExternalConstantsAreRead, ConversionsAreRead, OthersAreRead, VariantTextsAreRead, FieldTextsAreRead, PatternsAreRead, StatementsAreRead, ExpressionsAreRead};
 ghost use Rattle.text_reader.specs.FormTrees.{FormTrees, all_spelled};
@@ -72,11 +72,13 @@ pub fn read_texts_are_recovered()
     ensures fine { (file : ℕ) (text : List ℕ) → IsUtf8 text → (recovering file text).mistakes ≡ [] → reading file text ≡ Ok (recovering file text).definitions }
 {}
 
-/// What begins in the first column is read apart: what stands before it gives what it gives alone, and it gives what it gives
-/// alone at that offset.
+/// What begins in the first column is read apart, and so is what follows the end of an outermost list: what stands before it
+/// gives what it gives alone, and it gives what it gives alone at that offset.
 pub fn chunks_are_read_apart()
-    ensures { (file offset : ℕ) (front rest : List ℕ) → EndsLine front → begins rest ≡ true
+    ensures lines { (file offset : ℕ) (front rest : List ℕ) → EndsLine front → begins rest ≡ true
         → of_parts file (chunks_at offset (front ++ rest)) ≡ beside (of_parts file (chunks_at offset front)) (of_parts file (chunks_at (offset + size front) rest)) }
+    ensures lists { (file offset c : ℕ) (front rest : List ℕ) → EndsList front
+        → of_parts file (chunks_at offset (front ++ c ∷ rest)) ≡ beside (of_parts file (chunks_at offset front)) (of_parts file (chunks_at (offset + size front) (c ∷ rest))) }
 {}
 
 /// Each row of the grammar of docs/NOTATION.md has a text that is read as it says.

@@ -35,10 +35,11 @@ pub struct Recovered {
 
 /// The definitions that can be read of a text, and what is wrong with the rest of it.
 ///
-/// A text that `read` reads gives the same definitions, and nothing is wrong. Any other is read in chunks: what begins in the
-/// first column of a line, outside of block comments, begins a chunk, whatever is not ended before it. A list's end begins none,
-/// nor does white space or a comment to the end of the line. A mistake among the tokens or the lists of a chunk costs this chunk;
-/// of a chunk with neither each form by itself is a definition, or has a mistake.
+/// A text that `read` reads gives the same definitions, and nothing is wrong. Any other is read in chunks: the end of an outermost
+/// list ends a chunk, and what begins in the first column of a line, outside of block comments, begins one, whatever is not ended
+/// before it. A list's end in the first column begins none, nor does white space or a comment to the end of the line. A mistake
+/// among the tokens or the lists of a chunk costs this chunk; of a chunk with neither each form by itself is a definition, or has
+/// a mistake.
 ///
 /// # Errors
 ///

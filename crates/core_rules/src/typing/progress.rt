@@ -15,7 +15,7 @@ use std::alloc::{AllocError, AllocFailed, Global};
 pub(crate) const MOST_EXPANSIONS: usize = 65_536;
 
 /// Why the work on a rule ended before its end.
-pub(crate) enum Stop {
+pub enum Stop {
     /// The allocator refused.
     Memory(AllocError),
     /// More expansions are nested in one another than may be.
@@ -52,7 +52,7 @@ impl Drop for Stop {
 }
 
 /// What typing a rule has come to. Stands for upstream's `Bindings`.
-pub(crate) struct Progress {
+pub struct Progress {
     /// All variables bound so far, those of lets too: the place of each is its id.
     pub seen: Vec<BoundVar>,
     /// What each name stands for now, where it was ever bound: looked up, so that a rule of many variables takes
@@ -125,7 +125,7 @@ impl Progress {
     /// # Errors
     ///
     /// Where none may, and then where the rule took as many as it may.
-    pub(crate) fn expand(&mut self, nesting: usize) -> Result<usize, Stop>
+    pub fn expand(&mut self, nesting: usize) -> Result<usize, Stop>
         ensures { Counts nesting self.old self.new result }
     {
         if nesting == 0 {

@@ -7,7 +7,7 @@ use Rattle.core_syntax.specs.SyntaxViews.{position}
 use Rattle.rust_items.specs.FilePlaces.{place_written}
 use Rattle.rust_text.specs.ProgramNames.{told}
 use Rattle.rust_text.specs.SettingViews.{setting_of}
-use Rattle.rust_text.proofs.PieceTexts.{on_ok_text}
+use Rattle.rust_items.proofs.GrownTexts.{on_ok_text}
 use Rattle.rust_text.proofs.names.Names.push_log.Goals as goal
 
 pub returns : goal.returns

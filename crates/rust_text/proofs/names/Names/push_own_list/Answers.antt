@@ -5,7 +5,7 @@ use Rattle.std.proofs.lemmas.Result.{on_ok_weaker}
 use Rattle.model.specs.lists.Signatures.{text_of}
 use Rattle.rust_items.specs.RustNames.{part}
 use Rattle.rust_text.specs.SettingViews.{setting_of}
-use Rattle.rust_text.proofs.PieceTexts.{on_ok_text}
+use Rattle.rust_items.proofs.GrownTexts.{on_ok_text}
 use Rattle.rust_text.proofs.names.Names.push_own_list.Goals as goal
 
 pub returns : goal.returns

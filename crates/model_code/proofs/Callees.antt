@@ -1,0 +1,54 @@
+-- The functions of terms, listed, and the first of a list that passes a test.
+use Rattle.std.proofs.Common.{◌≡◌, ℕ, zero, suc, ◌+◌, Bool, true, false, not, cond, List, [], ◌∷◌, Option, Some, None, slice_get, refl, sym, ap, ◌∙◌, ◌⊎◌, inl, inr, arith}
+use Rattle.std.specs.Prelude.{◌==◌}
+use Rattle.std.specs.List.{position_or_len}
+use Rattle.std.proofs.lemmas.Bool.{eqb-true, eq-eqb}
+use Rattle.model.specs.lists.Tables.{TermEntry}
+use Rattle.model_code.specs.Alike.{term_of}
+use Rattle.model_code.specs.Notation.{Callee, extractor_of, constructor_of}
+use Rattle.model_code.specs.ProgramNotation.{callees_from, is_same_callee, same_names}
+
+-- the first that passes, or none does
+module _ {X : Type 0} (q : X → Bool) where
+  abbrev pub First : List X → Type 0
+  First xs = ((x : X) × (slice_get xs (position_or_len q xs) ≡ Some x) × (q x ≡ true)) ⊎ ((slice_get xs (position_or_len q xs) ≡ None) × ((i : ℕ) (x : X) → slice_get xs i ≡ Some x → q x ≡ false))
+
+  none_at : (x : X) (xs : List X) → q x ≡ false → ((i : ℕ) (y : X) → slice_get xs i ≡ Some y → q y ≡ false) → (i : ℕ) (y : X) → slice_get (x ∷ xs) i ≡ Some y → q y ≡ false
+  none_at x xs e h zero y s = let z : x ≡ y = cc in ap q (sym z) ∙ e
+  none_at x xs e h (suc i) y s = h i y s
+
+  here : (x : X) (xs : List X) (b : Bool) → q x ≡ b → slice_get (x ∷ xs) (position_or_len q (x ∷ xs)) ≡ slice_get (x ∷ xs) (cond (not b) (1 + position_or_len q xs) 0)
+  here x xs b e = ap (λ c. slice_get (x ∷ xs) (cond (not c) (1 + position_or_len q xs) 0)) e
+
+  later : (x : X) (xs : List X) (n : ℕ) → slice_get (x ∷ xs) (1 + n) ≡ slice_get xs n
+  later x xs n = let e : 1 + n ≡ suc n = omega arith in ap (slice_get (x ∷ xs)) e
+
+  first_step : (x : X) (xs : List X) (b : Bool) → q x ≡ b → First xs → First (x ∷ xs)
+  first_step x xs true e f = inl (x, here x xs true e, e)
+  first_step x xs false e (inl w) = inl (w.0, here x xs false e ∙ later x xs (position_or_len q xs) ∙ w.1, w.2)
+  first_step x xs false e (inr w) = inr (here x xs false e ∙ later x xs (position_or_len q xs) ∙ w.0, none_at x xs e w.1)
+
+  pub first : (xs : List X) → First xs
+  first [] = inr (refl, λ i x e. absurd (cc))
+  first (x ∷ xs) = first_step x xs (q x) refl (first xs)
+
+-- each function of a term is listed
+pub listed : (t k : ℕ) (ts : List TermEntry) (e : TermEntry) (f : Callee) → slice_get ts k ≡ Some e → term_of f ≡ t + k → (i : ℕ) × (slice_get (callees_from t ts) i ≡ Some f)
+listed t k [] e f s h = absurd (cc)
+listed t zero (x ∷ ts) e (extractor_of a) s h = let z : t ≡ a = omega arith in (0, ap (λ n. Some (extractor_of n)) z)
+listed t zero (x ∷ ts) e (constructor_of a) s h = let z : t ≡ a = omega arith in (1, ap (λ n. Some (constructor_of n)) z)
+listed t (suc k) (x ∷ ts) e f s h = let w = listed (suc t) k ts e f s (omega arith) in (suc (suc w.0), w.1)
+
+callee_self : (f : Callee) → is_same_callee f f ≡ true
+callee_self (extractor_of t) = eq-eqb t t refl
+callee_self (constructor_of t) = eq-eqb t t refl
+
+pub callee_same : (f g : Callee) → is_same_callee f g ≡ true → f ≡ g
+callee_same (extractor_of t) (extractor_of u) e = ap extractor_of (eqb-true t u e)
+callee_same (constructor_of t) (constructor_of u) e = ap constructor_of (eqb-true t u e)
+callee_same (extractor_of t) (constructor_of u) e = absurd (cc)
+callee_same (constructor_of t) (extractor_of u) e = absurd (cc)
+
+pub same_self : (o : Option ℕ) (f : Callee) → same_names o o (is_same_callee f f) ≡ true
+same_self (Some m) f = eq-eqb m m refl
+same_self None f = callee_self f
