@@ -1,7 +1,9 @@
 mod Alike
 mod FlatWritable
+mod InOrder
 mod Lengths
 mod MovesWritable
+mod OneReading
 mod Parted
 mod Patterns
 mod ReadTexts

@@ -11,6 +11,7 @@ pub mod MoveSamples
 pub mod MovedOnce
 pub mod Moves
 pub mod Notation
+pub mod OneReading
 pub mod Parted
 pub mod Pieces
 pub mod PrintedCode

@@ -19,6 +19,7 @@ ghost use Rattle.model_code.specs.CodeLaws.{BestTreesBindNoneInPlace, CodeOfBest
 ghost use Rattle.model_code.specs.Alike.{ShownIsAll};
 ghost use Rattle.model_code.specs.Closed.{ClosedNamesAreWhole, ClosedTexts};
 ghost use Rattle.model_code.specs.Lexing.{OwnTokensAreWords, TextHasTokens};
+ghost use Rattle.model_code.specs.OneReading.{OneReading, PrintedTextHasOneReading, PrintedTokensAreInOrder, WordsTellTokens};
 ghost use Rattle.model_code.specs.Parted.{TokensAreParted};
 ghost use Rattle.model_code.specs.ReadsBack.{CodeIsRead, FlatKeepsWritable, FunctionIsRead, MovesKeepWritable, ReadsBack, TextShowsCode};
 ghost use Rattle.model_code.specs.ReadTexts.{TextIsReadBack, UnloggedTextIsItsTokens};
@@ -230,6 +231,30 @@ pub fn text_is_read_back()
 #[tactic(auto, using(crate::proofs::Unlogged::unlogged_text_is_its_tokens_lem))]
 pub fn unlogged_text_is_its_tokens()
     ensures { UnloggedTextIsItsTokens }
+{}
+
+/// Where names are apart, the words and marks of tokens that stand in order tell the tokens.
+#[tactic(auto, using(crate::proofs::OneReading::words_tell_tokens_lem))]
+pub fn words_tell_tokens()
+    ensures { WordsTellTokens }
+{}
+
+/// So a text is read as one code by tokens in order.
+#[tactic(auto, using(crate::proofs::OneReading::one_reading_lem))]
+pub fn one_reading()
+    ensures { OneReading }
+{}
+
+/// The tokens of a function's text stand in order, where what is written out in its code has no fields with names.
+#[tactic(auto, using(crate::proofs::InOrder::printed_tokens_are_in_order_lem))]
+pub fn printed_tokens_are_in_order()
+    ensures { PrintedTokensAreInOrder }
+{}
+
+/// So the text of a function is read as what it shows of the function's code, and as no other code.
+#[tactic(auto, using(crate::proofs::OneReading::printed_text_has_one_reading_lem))]
+pub fn printed_text_has_one_reading()
+    ensures { PrintedTextHasOneReading }
 {}
 
 /// Samples are closed, and functions read back; near ones aren't.
