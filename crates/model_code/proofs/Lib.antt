@@ -1,4 +1,5 @@
 mod Alike
+mod ApartNames
 mod FlatWritable
 mod InOrder
 mod Lengths

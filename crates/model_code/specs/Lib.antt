@@ -1,4 +1,5 @@
 pub mod Alike
+pub mod ApartNames
 pub mod Closed
 pub mod Code
 pub mod CodeLaws

@@ -17,6 +17,7 @@ ghost use Rattle.model_code.specs.Scopes.{FlatKeepsScopes, PrintedCodeIsScoped};
 ghost use Rattle.model_code.specs.TypeSamples.{TypesAreThose};
 ghost use Rattle.model_code.specs.CodeLaws.{BestTreesBindNoneInPlace, CodeOfBestTreesRuns, CodeRunsAsTree, CodeStopsAtBound};
 ghost use Rattle.model_code.specs.Alike.{ShownIsAll};
+ghost use Rattle.model_code.specs.ApartNames.{NamesApartMakeTokensApart};
 ghost use Rattle.model_code.specs.Closed.{ClosedNamesAreWhole, ClosedTexts};
 ghost use Rattle.model_code.specs.Lexing.{OwnTokensAreWords, TextHasTokens};
 ghost use Rattle.model_code.specs.OneReading.{OneReading, PrintedTextHasOneReading, PrintedTokensAreInOrder, WordsTellTokens};
@@ -255,6 +256,12 @@ pub fn printed_tokens_are_in_order()
 #[tactic(auto, using(crate::proofs::OneReading::printed_text_has_one_reading_lem))]
 pub fn printed_text_has_one_reading()
     ensures { PrintedTextHasOneReading }
+{}
+
+/// Names that are apart in their words, from each other and from the code's own tokens, make all tokens apart.
+#[tactic(auto, using(crate::proofs::ApartNames::names_apart_make_tokens_apart_lem))]
+pub fn names_apart_make_tokens_apart()
+    ensures { NamesApartMakeTokensApart }
 {}
 
 /// Samples are closed, and functions read back; near ones aren't.
