@@ -14,25 +14,25 @@ use Rattle.model_code.specs.Spelling.{Names, word_text, token_text}
 use Rattle.model_code.specs.Lexing.{lexed, OwnTokensAreWords}
 use Rattle.model_code.specs.Reading.{order_of, same_word, same_owner}
 use Rattle.model_code.specs.OneReading.{Sign, a_token, a_log, told, sign_words, signs_words, Next, anything, is_free, a_method, a_brace, a_field, an_opening, a_closing, is_method, is_word, is_name_of_method, is_field_or_end, may_stand, may_be, behind_told, is_known_sign, stands, follow, AreApart}
-use Rattle.model_code.specs.ApartNames.{OwnToken, an_own_word, a_variable, a_parameter, a_label, own_text, is_own_method, IsOfNames, is_named, AreNamesApart, NamesApartMakeTokensApart}
+use Rattle.model_code.specs.ApartNames.{OwnToken, an_own_word, a_variable, a_parameter, a_label, own_text, is_own_method, IsSmallToken, IsOfNames, is_named, AreNamesApart, NamesApartMakeTokensApart}
 use Rattle.model_code.proofs.Lexing.{own_tokens_are_words_lem}
 
 -- 1. words by their numbers and by their texts
-abbrev all_words : List Word
+abbrev pub all_words : List Word
 all_words =
     let_word ∷ mut_word ∷ ref_word ∷ if_word ∷ else_word ∷ match_word ∷ while_word ∷ return_word ∷ break_word ∷ some_word ∷ none_word ∷ true_word ∷ false_word
     ∷ ctx_word ∷ returns_word ∷ extend_word ∷ len_word ∷ most_word ∷ clone_word ∷ iter_word ∷ next_word ∷ unreachable_word
     ∷ opening ∷ closing ∷ opening_brace ∷ closing_brace ∷ comma ∷ colon ∷ semicolon ∷ dot ∷ two_dots ∷ underscore ∷ arrow
     ∷ equals ∷ equal_to ∷ unlike ∷ at_least ∷ ampersand ∷ star ∷ []
 
-abbrev word_of : List ℕ → Option Word
+abbrev pub word_of : List ℕ → Option Word
 word_of text = find (λ w. bytes_eq (word_text w) text) all_words
 
 -- a word is found by its text, and stands at its number
-abbrev IsFound : Word → Type 0
+abbrev pub IsFound : Word → Type 0
 IsFound w = (word_of (word_text w) ≡ Some w) × (slice_get all_words (order_of w) ≡ Some w)
 
-found : (w : Word) → IsFound w
+pub found : (w : Word) → IsFound w
 found let_word = (refl, refl)
 found mut_word = (refl, refl)
 found ref_word = (refl, refl)
@@ -105,7 +105,7 @@ abbrev first_letter : List ℕ → ℕ
 first_letter xs = get_or xs 0 0
 
 -- a text that is none of them
-not_own : (t : OwnToken) (c : ℕ) (cs : List ℕ) → word_of (c ∷ cs) ≡ None → c ≢ 118 → c ≢ 97 → c ≢ 39 → own_text t ≢ c ∷ cs
+pub not_own : (t : OwnToken) (c : ℕ) (cs : List ℕ) → word_of (c ∷ cs) ≡ None → c ≢ 118 → c ≢ 97 → c ≢ 39 → own_text t ≢ c ∷ cs
 not_own (an_own_word w) c cs n v a l e = (let s : Some w ≡ None = sym (found w).0 ∙ ap word_of e ∙ n in cc)
 not_own (a_variable k) c cs n v a l e = v (ap first_letter (sym e))
 not_own (a_parameter k) c cs n v a l e = a (ap first_letter (sym e))
@@ -126,13 +126,7 @@ own_token (a_variable n) = variable_name n
 own_token (a_parameter n) = parameter_name n
 own_token (a_label n) = label_name n
 
-abbrev IsSmall : OwnToken → Type 0
-IsSmall (an_own_word w) = Unit {0}
-IsSmall (a_variable n) = n < 2 ^ 64
-IsSmall (a_parameter n) = n < 2 ^ 64
-IsSmall (a_label n) = n < 2 ^ 64
-
-own_apart : (t u : OwnToken) → IsSmall t → IsSmall u → own_text t ≡ own_text u → t ≡ u
+own_apart : (t u : OwnToken) → IsSmallToken t → IsSmallToken u → own_text t ≡ own_text u → t ≡ u
 own_apart (an_own_word w) (an_own_word v) h k e = ap an_own_word (same_text w v e)
 own_apart (an_own_word w) (a_variable n) h k e = absurd (let s : Some w ≡ None = sym (found w).0 ∙ ap word_of e in cc)
 own_apart (an_own_word w) (a_parameter n) h k e = absurd (let s : Some w ≡ None = sym (found w).0 ∙ ap word_of e in cc)
@@ -170,10 +164,10 @@ no_method n h next_word m e = no_digits n h 110 (codes "ext") (omega arith) (sym
 no_method n h w m e = false≢true m
 
 -- 3. lists
-first_words : {X : Type 0} (x y : X) (xs ys : List X) → x ∷ xs ≡ y ∷ ys → x ≡ y
+pub first_words : {X : Type 0} (x y : X) (xs ys : List X) → x ∷ xs ≡ y ∷ ys → x ≡ y
 first_words x y xs ys e = cc
 
-more_words : {X : Type 0} (x y : X) (xs ys : List X) → x ∷ xs ≡ y ∷ ys → xs ≡ ys
+pub more_words : {X : Type 0} (x y : X) (xs ys : List X) → x ∷ xs ≡ y ∷ ys → xs ≡ ys
 more_words x y xs ys e = cc
 
 -- where one list begins another, their first parts are the same, and the rests go on so
@@ -183,12 +177,12 @@ heads ws vs rest c d cs ds h k e = first_words c d (cs ++ rest) ds (ap (λ z. z 
 tails : {X : Type 0} (ws vs rest : List X) (c d : X) (cs ds : List X) → ws ≡ c ∷ cs → vs ≡ d ∷ ds → vs ≡ ws ++ rest → ds ≡ cs ++ rest
 tails ws vs rest c d cs ds h k e = sym (more_words c d (cs ++ rest) ds (ap (λ z. z ++ rest) (sym h) ∙ sym e ∙ k))
 
-nothing_more : {X : Type 0} (xs rest : List X) → xs ≡ xs ++ rest → rest ≡ []
+pub nothing_more : {X : Type 0} (xs rest : List X) → xs ≡ xs ++ rest → rest ≡ []
 nothing_more xs rest e = sym (append_cancel_left xs [] rest (append-nil xs ∙ e))
 
 -- 4. the words of a sign where anything may stand
 data Look (names : Names) (known : Token → Bool) (o : Option Token) (ws : List (List ℕ)) : Type 0 where
-  an_own : (t : OwnToken) → IsSmall t → is_own_method t ≡ false → o ≡ Some (own_token t) → ws ≡ own_text t ∷ [] → Look names known o ws
+  an_own : (t : OwnToken) → IsSmallToken t → is_own_method t ≡ false → o ≡ Some (own_token t) → ws ≡ own_text t ∷ [] → Look names known o ws
   a_break : o ≡ Some (word unreachable_word) → ws ≡ codes "unreachable" ∷ (codes "!" ∷ []) → Look names known o ws
   a_part : (i : ℕ) → i < 2 ^ 64 → o ≡ Some (part_name i) → ws ≡ codes "." ∷ (decimal i ∷ []) → Look names known o ws
   a_panic : (w : List ℕ) (vs : List (List ℕ)) → o ≡ Some no_match → ws ≡ lexed names.panic → ws ≡ codes "unreachable" ∷ (codes "!" ∷ (codes "(" ∷ (w ∷ vs))) → w ≢ codes ")" → Look names known o ws
@@ -318,7 +312,7 @@ module _ (names : Names) (p : Notation) (known : Token → Bool) (a : AreNamesAp
             (s ∙ ap (λ z. z ++ more) (sym (on f g))))
     pair (an_own t h m x f) (a_panic w us y k g n) = absurd (not_unreachable t (same f g))
     pair (an_own t h m x f) (a_name u w us y n k l g i) =
-        let r = i.own t m (same f g) in inr (λ xs more c s. no_path (behind_told p (anything inside) o) xs (r.0 ++ more) c (s ∙ ap (λ b. b ++ more) (sym (on f g) ∙ r.1)))
+        let r = i.own t h m (same f g) in inr (λ xs more c s. no_path (behind_told p (anything inside) o) xs (r.0 ++ more) c (s ∙ ap (λ b. b ++ more) (sym (on f g) ∙ r.1)))
     pair (an_own t h m x f) (a_told at us y l g) = absurd (not_log t (same f g))
     pair (a_break x f) (an_own u k m y g) = absurd (not_unreachable u (sym (same f g)))
     pair (a_break x f) (a_break y g) = inl (nothing_more ws rest (f ∙ sym g ∙ e), x ∙ sym y)
@@ -336,7 +330,7 @@ module _ (names : Names) (p : Notation) (known : Token → Bool) (a : AreNamesAp
         inl (sym (more_words (decimal j) (decimal i) [] rest z), x ∙ ap (λ n. Some (part_name n)) (sym (decimal_injective j i k h (first_words (decimal j) (decimal i) [] rest z))) ∙ sym y)
     pair (a_part i h x f) (a_panic w us y k g n) = absurd (other_letters 46 117 _ _ (λ z. omega (arith, z)) (same f g))
     pair (a_part i h x f) (a_name u w us y n k l g m) =
-        let r = m.own (an_own_word dot) refl (same f g) in
+        let r = m.own (an_own_word dot) tt refl (same f g) in
         absurd (no_digits i h 58 (codes ":") (omega arith) (sym (first_words (codes "::") (decimal i) r.0 rest (sym r.1 ∙ on f g))))
     pair (a_part i h x f) (a_told at us y l g) = absurd (other_letters 46 108 _ _ (λ z. omega (arith, z)) (same f g))
     pair (a_panic w us x h f n) (an_own u k m y g) = absurd (not_unreachable u (sym (same f g)))
@@ -346,10 +340,10 @@ module _ (names : Names) (p : Notation) (known : Token → Bool) (a : AreNamesAp
     pair (a_panic w us x h f n) (a_name u v ys y m k l g i) = absurd (i.unreachable (sym (same f g)))
     pair (a_panic w us x h f n) (a_told at ys y l g) = absurd (other_letters 117 108 _ _ (λ z. omega (arith, z)) (same f g))
     pair (a_name t w us x n h l f i) (an_own u k m y g) =
-        let r = i.own u m (sym (same f g)) in absurd (let z : [] ≡ codes "::" ∷ (r.0 ++ rest) = on f g ∙ ap (λ b. b ++ rest) r.1 in cc)
+        let r = i.own u k m (sym (same f g)) in absurd (let z : [] ≡ codes "::" ∷ (r.0 ++ rest) = on f g ∙ ap (λ b. b ++ rest) r.1 in cc)
     pair (a_name t w us x n h l f i) (a_break y g) = absurd (i.unreachable (same f g))
     pair (a_name t w us x n h l f i) (a_part j k y g) =
-        let r = i.own (an_own_word dot) refl (sym (same f g)) in
+        let r = i.own (an_own_word dot) tt refl (sym (same f g)) in
         absurd (no_digits j k 58 (codes ":") (omega arith) (first_words (decimal j) (codes "::") [] (r.0 ++ rest) (on f g ∙ ap (λ b. b ++ rest) r.1)))
     pair (a_name t w us x n h l f i) (a_panic v ys y k g m) = absurd (i.unreachable (same f g))
     pair (a_name t w us x n h l f i) (a_name u v ys y m k r g j) =

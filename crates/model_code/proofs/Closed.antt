@@ -231,7 +231,7 @@ pub named_before : (x y : List ℕ) → all_named x ≡ true → all_named y ≡
 named_before [] y h k = k
 named_before (c ∷ x) y h k = let hs = and_parts (is_letter c || c == 35) (all_named x) h in and_from _ _ hs.0 (named_before x y hs.1 k)
 
-named_whole : (text : List ℕ) → all_named text ≡ true → IsWholeWord text
+pub named_whole : (text : List ℕ) → all_named text ≡ true → IsWholeWord text
 named_whole text h rest r = (named_read rest r text h).0
 
 -- 6. the laws

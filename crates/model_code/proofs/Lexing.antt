@@ -32,7 +32,7 @@ word_stops w (c ∷ cs) h =
 pub word_ends : (w rest : List ℕ) → starts_apart rest ≡ true → lexed_from rest (in_word w) ≡ w ∷ lexed rest
 word_ends w rest h = word_stops w rest (ends_before rest h)
 
-letters_go_on : (ds w rest : List ℕ) → all_letters ds ≡ true → lexed_from (ds ++ rest) (in_word w) ≡ lexed_from rest (in_word (w ++ ds))
+pub letters_go_on : (ds w rest : List ℕ) → all_letters ds ≡ true → lexed_from (ds ++ rest) (in_word w) ≡ lexed_from rest (in_word (w ++ ds))
 letters_go_on [] w rest h = ap (λ x. lexed_from rest (in_word x)) (sym (append-nil w))
 letters_go_on (d ∷ ds) w rest h =
     let hs = and_parts (is_letter d) (all_letters ds) h in
@@ -105,7 +105,7 @@ unfolding digits
 hexadecimal_letters n = more_digits 16 (λ m. omega arith) 64 n [] refl
 
 -- a number begins with a digit
-abbrev begins_letter : List ℕ → Bool
+abbrev pub begins_letter : List ℕ → Bool
 begins_letter [] = false
 begins_letter (c ∷ cs) = is_letter c
 
@@ -453,7 +453,7 @@ pub text_has_tokens_lem : TextHasTokens
 text_has_tokens_lem names p code whole = pieces_read names whole (function_body p code) (tokens_are_parted_lem p code)
 
 -- 8. the code's own tokens
-one_word : (ds : List ℕ) → begins_letter ds ≡ true → all_letters ds ≡ true → lexed ds ≡ ds ∷ []
+pub one_word : (ds : List ℕ) → begins_letter ds ≡ true → all_letters ds ≡ true → lexed ds ≡ ds ∷ []
 one_word [] b h = absurd (false≢true b)
 one_word (c ∷ ds) b h = ap lexed (sym (append-nil (c ∷ ds))) ∙ word_read c ds [] h refl
 

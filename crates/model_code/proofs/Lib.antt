@@ -1,5 +1,4 @@
 mod Alike
-mod ApartNames
 mod FlatWritable
 mod InOrder
 mod Lengths
@@ -15,6 +14,7 @@ mod TextSamples
 mod Unlogged
 mod Uses
 mod Values
+pub mod ApartNames
 pub mod BestCode
 pub mod Callees
 pub mod Closed

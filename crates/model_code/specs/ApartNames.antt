@@ -1,5 +1,5 @@
 -- Names that are apart in their words, from each other and from the code's own tokens.
-use Rattle.std.specs.Prelude.{◌≡◌, ◌≢◌, ◌⊎◌, ◌<◌, ◌^◌, ◌++◌, [], ◌∷◌, ℕ, Bool, true, false, List, codes, decimal}
+use Rattle.std.specs.Prelude.{◌≡◌, ◌≢◌, ◌⊎◌, ◌<◌, ◌^◌, ◌++◌, [], ◌∷◌, ⊤, ℕ, Bool, true, false, List, codes, decimal}
 use Rattle.model.specs.lists.Syntax.{Position}
 use Rattle.model_code.specs.Tokens.{Word, Owner, Token, word, variable_name, parameter_name, part_name, number, constant_name, owner_name, field_name, function_name, list_name, label_name}
 use Rattle.model_code.specs.Notation.{Notation}
@@ -22,10 +22,17 @@ abbrev pub is_own_method : OwnToken → Bool
 is_own_method (an_own_word w) = is_method w
 is_own_method _ = false
 
+-- numbers that fit
+abbrev pub IsSmallToken : OwnToken → Type 0
+IsSmallToken (an_own_word w) = ⊤
+IsSmallToken (a_variable n) = n < 2 ^ 64
+IsSmallToken (a_parameter n) = n < 2 ^ 64
+IsSmallToken (a_label n) = n < 2 ^ 64
+
 -- a name's words: the first is none of the code's own, but for the name of a method, or `::` follows it. Nor is it the first word of
 -- `unreachable!`, of the panic, and of what tells the log a rule; nor `::`
 pub record IsOfNames (w : List ℕ) (ws : List (List ℕ)) : Type 0 where
-  pub own : (t : OwnToken) → is_own_method t ≡ false → own_text t ≡ w → (vs : List (List ℕ)) × (ws ≡ codes "::" ∷ vs)
+  pub own : (t : OwnToken) → IsSmallToken t → is_own_method t ≡ false → own_text t ≡ w → (vs : List (List ℕ)) × (ws ≡ codes "::" ∷ vs)
   pub unreachable : w ≢ codes "unreachable"
   pub log : w ≢ codes "log"
   pub path : w ≢ codes "::"

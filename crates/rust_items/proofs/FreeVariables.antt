@@ -13,7 +13,7 @@ use Rattle.rust_items.specs.NamedPrograms.{NamedProgram, constants_kind, constru
 use Rattle.rust_items.specs.OwnNames.{is_own_type, is_own_value, is_variable, own_types, own_values}
 use Rattle.rust_items.specs.RustNames.{is_among, part}
 
-found_not : {X : Type 0} (p : X → Bool) (xs : List X) (x : X) → find p xs ≡ None → In xs x → p x ≡ true → ⊥
+pub found_not : {X : Type 0} (p : X → Bool) (xs : List X) (x : X) → find p xs ≡ None → In xs x → p x ≡ true → ⊥
 found_not p [] x none i passes = absurd i
 found_not p (y ∷ ys) x none i passes =
     elim (p y) as (λ b. p y ≡ b → ⊥) [
@@ -25,10 +25,10 @@ found_not p (y ∷ ys) x none i passes =
     ] refl
 
 -- a variable is a value of the code's own
-own_value : (name : List ℕ) → is_variable name ≡ true → is_own_value name ≡ true
+pub own_value : (name : List ℕ) → is_variable name ≡ true → is_own_value name ≡ true
 own_value name e = or_right (is_among own_values name) (is_variable name) e
 
-own_type : (name : List ℕ) → is_variable name ≡ true → is_own_type name ≡ true
+pub own_type : (name : List ℕ) → is_variable name ≡ true → is_own_type name ≡ true
 own_type name e = or_right (is_among own_types name) (is_own_value name) (own_value name e)
 
 -- the function of a term isn't written so

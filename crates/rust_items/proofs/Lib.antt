@@ -1,12 +1,12 @@
 mod FileLines
 mod Firsts
-mod FreeVariables
+pub mod FreeVariables
 mod Grown
 mod GrownFields
 pub mod GrownTexts
 mod HeldNames
-mod PureFunctions
+pub mod PureFunctions
 mod Segments
-mod Spellings
+pub mod Spellings
 pub mod Turns
-mod Variables
+pub mod Variables

@@ -15,7 +15,7 @@ use Rattle.rust_items.specs.Claims.{Claim, IsWellNamed}
 use Rattle.rust_items.specs.NamedPrograms.{NamedProgram, function_claim, functions_kind, functions_of, functions_of_kind, purely}
 use Rattle.rust_items.specs.NameLaws.{FunctionsApartArePureAlike}
 
-placed : {X : Type 0} (xs : List X) (x : X) → In xs x → (i : ℕ) × (slice_get xs i ≡ Some x)
+pub placed : {X : Type 0} (xs : List X) (x : X) → In xs x → (i : ℕ) × (slice_get xs i ≡ Some x)
 placed [] x i = absurd i
 placed (y ∷ ys) x (inl e) = (0, ap Some e)
 placed (y ∷ ys) x (inr i) = let r = placed ys x i in (suc r.0, r.1)
@@ -54,7 +54,7 @@ module _ (n : NamedProgram) (p : Program) (same : p.terms ≡ n.terms) where
       in_flat_map (functions_of n.names) p.terms e _ (in_slice p.terms (term_of f) e at)
       (subst (λ b. In (functions_of n.names e) (function_claim n.names b name)) (told_so p f e at) (of_kind n.names e name f e.kind h))
 
-  claimed : (f : Callee) (name : ℕ) → outside_of p f ≡ Some name → In (functions_kind n).claims (function_claim n.names (not (is_impure_callee p f)) name)
+  pub claimed : (f : Callee) (name : ℕ) → outside_of p f ≡ Some name → In (functions_kind n).claims (function_claim n.names (not (is_impure_callee p f)) name)
   claimed f name h = subst (λ ts. In (flat_map (functions_of n.names) ts) (function_claim n.names (not (is_impure_callee p f)) name)) same (claimed_by f name (slice_get p.terms (term_of f)) refl h)
 
 longer : (x : List ℕ) → length (codes "pure " ++ x) ≡ 5 + length x

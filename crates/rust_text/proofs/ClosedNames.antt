@@ -34,10 +34,10 @@ front_letters : (b : Bool) → all_letters (cond b (codes "_") []) ≡ true
 front_letters true = refl
 front_letters false = refl
 
-part_letters : (name : List ℕ) → all_letters (part name) ≡ true
+pub part_letters : (name : List ℕ) → all_letters (part name) ≡ true
 part_letters name = letters_before (front name) (map word_for (chars name)) (front_letters (needs_front name)) (words_letters (chars name))
 
-mark_plain : (name : List ℕ) → all_plain (raw_mark name) ≡ true
+pub mark_plain : (name : List ℕ) → all_plain (raw_mark name) ≡ true
 mark_plain name = either_plain (is_among raw_keywords name) (codes "r#") [] refl refl
 
 spelled_plain : (name : List ℕ) → all_plain (spelled name) ≡ true
@@ -57,7 +57,7 @@ spelled_named name =
     (either_named (is_among path_keywords name || is_blank (chars name)) (codes "_") [] refl refl)
 
 -- 3. paths
-identifier_plain : (name : List ℕ) → list_all is_word name ≡ true → all_letters name ≡ true
+pub identifier_plain : (name : List ℕ) → list_all is_word name ≡ true → all_letters name ≡ true
 identifier_plain [] h = refl
 identifier_plain (c ∷ cs) h = let hs = and_parts (is_word c) (list_all is_word cs) h in and_from _ _ hs.0 (identifier_plain cs hs.1)
 
@@ -160,7 +160,7 @@ escaped_stays c = by (c == 34) (c == 92) refl refl
     by false true e f = refl
     by false false e f = encoded_stays c e f
 
-all_stay : (cs : List ℕ) → stays_quoted (flat_map escaped cs) ≡ true
+pub all_stay : (cs : List ℕ) → stays_quoted (flat_map escaped cs) ≡ true
 all_stay [] = refl
 all_stay (c ∷ cs) = stays_together (escaped c) (flat_map escaped cs) (escaped_stays c) (all_stay cs)
 

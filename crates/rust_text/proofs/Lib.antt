@@ -9,12 +9,16 @@ mod InsideCalls
 mod IntegerTexts
 mod LabelSteps
 mod LoweredCode
+mod NameWords
+mod OneReading
 mod PieceSteps
 mod PieceTexts
 mod PrintedTexts
 mod ProgramSteps
+mod ProgramTokens
 mod WholeCode
 mod WholeNames
 mod WrittenFunctions
+mod WrittenOnce
 mod WrittenSteps
 pub mod ClosedNames

@@ -93,7 +93,7 @@ place_stays s at =
     (letters_stay line (decimal_letters (line_number (slice_get s.texts at.file) at.offset)))
 
 -- 2. names
-named_letters : (names : List (List ℕ)) (n : ℕ) → list_all all_letters names ≡ true → all_letters (text_of names n) ≡ true
+pub named_letters : (names : List (List ℕ)) (n : ℕ) → list_all all_letters names ≡ true → all_letters (text_of names n) ≡ true
 named_letters [] n h = refl
 named_letters (x ∷ xs) zero h = (and_parts (all_letters x) (list_all all_letters xs) h).0
 named_letters (x ∷ xs) (suc n) h = named_letters xs n (and_parts (all_letters x) (list_all all_letters xs) h).1

@@ -6,9 +6,11 @@ pub mod Fields
 pub mod Fronts
 pub mod LoweredCode
 pub mod Margins
+pub mod OneReading
 pub mod PrintedTexts
 pub mod ProgramFields
 pub mod ProgramNames
+pub mod ProgramTokens
 pub mod SettingViews
 pub mod Settings
 pub mod TokenViews
@@ -17,3 +19,4 @@ pub mod WholeNames
 pub mod Writers
 pub mod WrittenBodies
 pub mod WrittenFunctions
+pub mod WrittenOnce

@@ -13,15 +13,20 @@ ghost use Rattle.rust_code.specs.CodeViews.{block_view};
 ghost use Rattle.rust_text.specs.CodeOfTerms.{EachTermIsInItsCode};
 ghost use Rattle.rust_text.specs.Fronts.{FrontsAreClosed};
 ghost use Rattle.rust_text.specs.LoweredCode.{IsItsCode, OfLowered};
+ghost use Rattle.rust_text.specs.OneReading.{CodeIsReadOnce, TextsAreReadOnce};
 ghost use Rattle.rust_text.specs.PrintedTexts.{EachTermHasItsPrintedText, PrintedTextsAreReadBack};
+ghost use Rattle.rust_text.specs.ProgramTokens.{WellNamedAreWrittenOnce};
 ghost use Rattle.rust_text.specs.WholeNames.{NamesAreClosed, NamesAreWhole};
+ghost use Rattle.rust_text.specs.WrittenOnce.{WrittenOnceAreApart};
 
 use cranelift_isle::lower::{Lowered, LoweredTerm};
 use laws_code::{
     code_chooses_as_source, code_of_each_term_is_well_made, each_term_has_its_text,
     pure_functions_call_alike, text_of_accepted_is_read_back, text_of_accepted_says_its_source,
 };
-use model_code::with_moves_says_same;
+use model_code::{
+    names_apart_make_tokens_apart, one_reading, printed_text_has_one_reading, with_moves_says_same,
+};
 use rust_code::code::CodeBlock;
 use rust_code::code_of::code_of;
 use rust_code::types::Tables;
@@ -131,4 +136,35 @@ pub fn each_term_is_in_its_code()
     functions_apart_are_pure_alike();
     pure_functions_call_alike();
     fronts_are_closed();
+}
+
+/// Things of a program that are written differently have names that are apart in their words.
+pub fn written_once_are_apart()
+    ensures { WrittenOnceAreApart }
+{}
+
+/// Where names are told apart and tell what they name, different things are written differently.
+pub fn well_named_are_written_once()
+    ensures { WellNamedAreWrittenOnce }
+{}
+
+/// So a text is read as one code at most, by tokens of the program in order.
+pub fn texts_are_read_once()
+    ensures { TextsAreReadOnce }
+{
+    one_reading();
+    names_apart_make_tokens_apart();
+    written_once_are_apart();
+    well_named_are_written_once();
+}
+
+/// And the text of code whose tokens are the program's is read as what it shows of the code, and as no other code.
+pub fn code_is_read_once()
+    ensures { CodeIsReadOnce }
+{
+    printed_text_has_one_reading();
+    names_apart_make_tokens_apart();
+    written_once_are_apart();
+    well_named_are_written_once();
+    names_are_whole();
 }
