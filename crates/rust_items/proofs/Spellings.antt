@@ -279,3 +279,39 @@ names_are_identifiers_lem name u =
     unmarked : (name : List ℕ) → is_among raw_keywords name ≡ false → is_among path_keywords name ≡ false → spelled name ≡ part name ++ cond (is_blank (chars name)) (codes "_") []
     unmarked name r p =
         ap (λ b. cond b (codes "r#") [] ++ part name ++ end_mark name) r ∙ ap (λ b. part name ++ cond (b || is_blank (chars name)) (codes "_") []) p
+
+-- ---- parts tell names as they are written
+
+raw_same : list_all (λ k. bytes_eq (part k) k) raw_keywords ≡ true
+unfolding chars
+raw_same = refl
+
+path_same : list_all (λ k. bytes_eq (part k) k) path_keywords ≡ true
+unfolding chars
+path_same = refl
+
+-- a part is a keyword exactly if the name is
+among_part : (words : List (List ℕ)) (name : List ℕ) → IsUtf8 name → list_all (λ k. list_all is_ascii_alphanumeric k) words ≡ true → list_all (λ k. bytes_eq (part k) k) words ≡ true → is_among words name ≡ is_among words (part name)
+among_part words name u letters same =
+    elim (is_among words name) as (λ b. is_among words name ≡ b → b ≡ is_among words (part name)) [
+      | true ↦ λ e. sym (ap (is_among words) (same_bytes (part name) name (among_all words (λ k. bytes_eq (part k) k) name same e)) ∙ e)
+      | false ↦ λ e. sym (part_among words name u letters e)
+    ] refl
+
+blank_part : (name : List ℕ) → IsUtf8 name → is_blank (chars name) ≡ bytes_eq (part name) (codes "_")
+blank_part name u =
+    elim (is_blank (chars name)) as (λ b. is_blank (chars name) ≡ b → b ≡ bytes_eq (part name) (codes "_")) [
+      | true ↦ λ e. sym (ap (λ x. bytes_eq x (codes "_")) (part_by_chars name u ∙ part_blank (chars name) e))
+      | false ↦ λ e. sym (identified (part name) (ap is_identifier (part_by_chars name u) ∙ part_identified (chars name) e)).longer
+    ] refl
+
+-- names with one part are written as one
+pub parts_spell : (a b : List ℕ) → IsUtf8 a → IsUtf8 b → part a ≡ part b → spelled a ≡ spelled b
+parts_spell a b u v e =
+    let raw : is_among raw_keywords a ≡ is_among raw_keywords b = among_part raw_keywords a u raw_letters raw_same ∙ ap (is_among raw_keywords) e ∙ sym (among_part raw_keywords b v raw_letters raw_same) in
+    let path : is_among path_keywords a ≡ is_among path_keywords b = among_part path_keywords a u path_letters path_same ∙ ap (is_among path_keywords) e ∙ sym (among_part path_keywords b v path_letters path_same) in
+    let blank : is_blank (chars a) ≡ is_blank (chars b) = blank_part a u ∙ ap (λ x. bytes_eq x (codes "_")) e ∙ sym (blank_part b v) in
+    ap (λ t. cond t (codes "r#") [] ++ part a ++ end_mark a) raw
+    ∙ ap (λ x. raw_mark b ++ x ++ end_mark a) e
+    ∙ ap (λ t. raw_mark b ++ part b ++ cond (t || is_blank (chars a)) (codes "_") []) path
+    ∙ ap (λ t. raw_mark b ++ part b ++ cond (is_among path_keywords b || t) (codes "_") []) blank

@@ -7,6 +7,7 @@ mod Fronts
 mod HexDigits
 mod InsideCalls
 mod IntegerTexts
+mod IntegersTold
 mod LabelSteps
 mod LoweredCode
 mod NameWords

@@ -61,6 +61,14 @@ pub data WordShape (text : List ℕ) : Type 0 where
   a_number : (d : List ℕ) → lexed text ≡ d ∷ [] → text ≡ d → begins_digit d ≡ true → WordShape text
   a_negative : (d : List ℕ) → lexed text ≡ codes "-" ∷ (d ∷ []) → text ≡ 45 ∷ d → WordShape text
 
+pub data ListWords (text : List ℕ) : Type 0 where
+  made : (w : List ℕ) → lexed text ≡ codes "C" ∷ (codes "::" ∷ (w ∷ list_end)) → text ≡ together (codes "C" ∷ (codes "::" ∷ (w ∷ list_end))) → ListWords text
+  of_own : text ≡ any_list_text → ListWords text
+
+list_as_shape : (text : List ℕ) → ListWords text → WordShape text
+list_as_shape text (made w f t) = a_list w f t
+list_as_shape text (of_own t) = any_list t
+
 -- 2. identifiers are one word
 raw_word : (k : List ℕ) → all_letters k ≡ true → lexed (codes "r#" ++ k) ≡ (codes "r#" ++ k) ∷ []
 raw_word k h = ap (λ x. lexed_from x (in_word (codes "r#"))) (sym (append-nil k)) ∙ letters_go_on k (codes "r#") [] h
@@ -115,14 +123,14 @@ segment_one name h = by (is_among raw_keywords name)
     by false = identifier_one name h
 
 -- 3. paths
-one_path : (text : List ℕ) → OneWord text → WordShape text
-one_path text o = a_path text [] o.word (sym (append-nil text)) o.begins refl
-
 -- an identifier before a path
-abbrev PathWords : List ℕ → Type 0
+abbrev pub PathWords : List ℕ → Type 0
 PathWords text = (w : List ℕ) × (more : List (List ℕ)) × (lexed text ≡ w ∷ more) × (text ≡ together (w ∷ more)) × (begins_name w ≡ true) × (is_path_tail more ≡ true)
 
-path_shape : (text : List ℕ) → PathWords text → WordShape text
+one_words : (text : List ℕ) → OneWord text → PathWords text
+one_words text o = (text, [], o.word, sym (append-nil text), o.begins, refl)
+
+pub path_shape : (text : List ℕ) → PathWords text → WordShape text
 path_shape text p = a_path p.0 p.1 p.2 p.3 p.4 p.5
 
 path_before : (x text : List ℕ) → OneWord x → PathWords text → PathWords (x ++ codes "::" ++ text)
@@ -153,12 +161,12 @@ several_words (x ∷ (y ∷ names)) h k =
     ap lexed (append_assoc (raw_segment x) (codes "::") (joined (map raw_segment (y ∷ names)))) ∙ named_whole (raw_segment x) o.named (codes "::" ++ joined (map raw_segment (y ∷ names))) refl
     ∙ ap (λ ws. ws ++ lexed (codes "::" ++ joined (map raw_segment (y ∷ names)))) o.word ∙ ap (λ ws. raw_segment x ∷ (codes "::" ∷ ws)) p.2)
 
-pub constant_shape : (name : List ℕ) → IsUtf8 name → is_among truths name ≡ false → WordShape (spelled_constant name)
-constant_shape name u t = subst (λ b. WordShape (cond b name (spelled_path name))) (sym t) (by (is_path name) refl)
+pub constant_path : (name : List ℕ) → IsUtf8 name → is_among truths name ≡ false → PathWords (spelled_constant name)
+constant_path name u t = subst (λ b. PathWords (cond b name (spelled_path name))) (sym t) (by (is_path name) refl)
   where
-    by : (b : Bool) → is_path name ≡ b → WordShape (cond b (joined (map raw_segment (segments name))) (spelled name))
-    by true e = let es = and_parts (are_several (segments name)) (list_all is_identifier (segments name)) e in path_shape _ (segments_path (segments name) es.0 es.1)
-    by false e = one_path (spelled name) (spelled_one name u)
+    by : (b : Bool) → is_path name ≡ b → PathWords (cond b (joined (map raw_segment (segments name))) (spelled name))
+    by true e = let es = and_parts (are_several (segments name)) (list_all is_identifier (segments name)) e in segments_path (segments name) es.0 es.1
+    by false e = one_words (spelled name) (spelled_one name u)
 
 -- the function that makes the list for the answers of a function
 list_word : (p : List ℕ) → all_letters p ≡ true → (lexed (p ++ codes "_returns") ≡ (p ++ codes "_returns") ∷ []) × (all_named (p ++ codes "_returns") ≡ true)
@@ -168,38 +176,50 @@ list_word (c ∷ cs) h =
     let all : all_letters ((c ∷ cs) ++ codes "_returns") ≡ true = letters_before (c ∷ cs) (codes "_returns") h refl in
     (one_word ((c ∷ cs) ++ codes "_returns") hs.0 all, letters_named ((c ∷ cs) ++ codes "_returns") all)
 
-list_of_letters : (p : List ℕ) → all_letters p ≡ true → WordShape (codes "C::" ++ p ++ codes "_returns::default()")
+list_of_letters : (p : List ℕ) → all_letters p ≡ true → ListWords (codes "C::" ++ p ++ codes "_returns::default()")
 list_of_letters p h =
     let w : List ℕ = p ++ codes "_returns" in
     let parts : codes "C::" ++ p ++ codes "_returns::default()" ≡ codes "C::" ++ (w ++ codes "::default()") = ap (λ z. codes "C::" ++ z) (sym (append_assoc p (codes "_returns") (codes "::default()"))) in
     let one = list_word p h in
-    a_list w
+    made w
     (ap lexed parts ∙ ap (λ ws. codes "C" ∷ (codes "::" ∷ ws)) (named_whole w one.1 (codes "::default()") refl ∙ ap (λ ws. ws ++ lexed (codes "::default()")) one.0)) parts
 
+-- a path begins with a letter
+begins_behind : (x y : List ℕ) → begins_name x ≡ true → begins_name (x ++ y) ≡ true
+begins_behind [] y h = absurd (false≢true h)
+begins_behind (c ∷ x) y h = h
+
+pub path_begins_so : (text : List ℕ) → PathWords text → begins_name text ≡ true
+path_begins_so text p = ap begins_name p.3 ∙ begins_behind p.0 (together p.1) p.4
+
 -- 4. types, variants, fields
-spelled_path_words : (name : List ℕ) → IsUtf8 name → PathWords (spelled name)
-spelled_path_words name u = let o = spelled_one name u in (spelled name, [], o.word, sym (append-nil (spelled name)), o.begins, refl)
+term_letters : (names : List (List ℕ)) (entry : Option TermEntry) → all_letters (term_part names entry) ≡ true
+term_letters names None = refl
+term_letters names (Some e) = part_letters (text_of names e.name)
+
+pub own_function_one : (names : List (List ℕ)) (entry : Option TermEntry) → OneWord (codes "constructor_" ++ term_part names entry)
+own_function_one names entry = letters_one (codes "constructor_" ++ term_part names entry) refl (letters_before (codes "constructor_") (term_part names entry) refl (term_letters names entry))
 
 module _ (s : NameSetting) (utf8 : (name : ℕ) → IsUtf8 (text_of s.names name)) where
-  struct_shape : (o : Option TypeEntry) → is_struct_entry o ≡ true → WordShape (type_written s.names o)
-  struct_shape (Some (struct_type name id is_extern is_nodebug fields at)) h = one_path _ (spelled_one (text_of s.names name) (utf8 name))
-  struct_shape None h = absurd (false≢true h)
-  struct_shape (Some (builtin_type place)) h = absurd (false≢true h)
-  struct_shape (Some (primitive_type id name at)) h = absurd (false≢true h)
-  struct_shape (Some (enum_type name id is_extern is_nodebug variants at)) h = absurd (false≢true h)
+  struct_path : (o : Option TypeEntry) → is_struct_entry o ≡ true → PathWords (type_written s.names o)
+  struct_path (Some (struct_type name id is_extern is_nodebug fields at)) h = one_words _ (spelled_one (text_of s.names name) (utf8 name))
+  struct_path None h = absurd (false≢true h)
+  struct_path (Some (builtin_type place)) h = absurd (false≢true h)
+  struct_path (Some (primitive_type id name at)) h = absurd (false≢true h)
+  struct_path (Some (enum_type name id is_extern is_nodebug variants at)) h = absurd (false≢true h)
 
-  variant_shape : (entry : Option TypeEntry) (variant : ℕ) (v : Option VariantEntry) → variant_in entry variant ≡ v → is_some v ≡ true → WordShape (type_written s.names entry ++ codes "::" ++ variant_written s.names v)
-  variant_shape entry variant None e h = absurd (false≢true h)
-  variant_shape (Some (enum_type name id is_extern is_nodebug variants at)) variant (Some v) e h =
-      path_shape _ (path_before (spelled (text_of s.names name)) (spelled (text_of s.names v.name)) (spelled_one (text_of s.names name) (utf8 name)) (spelled_path_words (text_of s.names v.name) (utf8 v.name)))
-  variant_shape None variant (Some v) e h = absurd (cc)
-  variant_shape (Some (builtin_type place)) variant (Some v) e h = absurd (cc)
-  variant_shape (Some (primitive_type id name at)) variant (Some v) e h = absurd (cc)
-  variant_shape (Some (struct_type name id is_extern is_nodebug fields at)) variant (Some v) e h = absurd (cc)
+  variant_path : (entry : Option TypeEntry) (variant : ℕ) (v : Option VariantEntry) → variant_in entry variant ≡ v → is_some v ≡ true → PathWords (type_written s.names entry ++ codes "::" ++ variant_written s.names v)
+  variant_path entry variant None e h = absurd (false≢true h)
+  variant_path (Some (enum_type name id is_extern is_nodebug variants at)) variant (Some v) e h =
+      (path_before (spelled (text_of s.names name)) (spelled (text_of s.names v.name)) (spelled_one (text_of s.names name) (utf8 name)) (one_words (spelled (text_of s.names v.name)) (spelled_one (text_of s.names v.name) (utf8 v.name))))
+  variant_path None variant (Some v) e h = absurd (cc)
+  variant_path (Some (builtin_type place)) variant (Some v) e h = absurd (cc)
+  variant_path (Some (primitive_type id name at)) variant (Some v) e h = absurd (cc)
+  variant_path (Some (struct_type name id is_extern is_nodebug fields at)) variant (Some v) e h = absurd (cc)
 
-  pub owner_shape : (o : Owner) → is_declared s o ≡ true → WordShape (owner_written s o)
-  owner_shape (variant_owner ty variant) h = variant_shape (slice_get s.types ty) variant (variant_in (slice_get s.types ty) variant) refl h
-  owner_shape (struct_owner ty) h = struct_shape (slice_get s.types ty) h
+  pub owner_path : (o : Owner) → is_declared s o ≡ true → PathWords (owner_written s o)
+  owner_path (variant_owner ty variant) h = variant_path (slice_get s.types ty) variant (variant_in (slice_get s.types ty) variant) refl h
+  owner_path (struct_owner ty) h = struct_path (slice_get s.types ty) h
 
   one_field : (o : Option FieldEntry) → one_field_written s.names o ≢ [] → OneWord (one_field_written s.names o)
   one_field None n = absurd (n refl)
@@ -211,23 +231,22 @@ module _ (s : NameSetting) (utf8 : (name : ℕ) → IsUtf8 (text_of s.names name
   field_one (tuple_entries fields) i n = absurd (n refl)
 
   -- 5. functions, and lists for their answers
-  function_shape : (o : Option ℕ) (entry : Option TermEntry) → WordShape (function_text s.names o entry)
-  function_shape (Some name) entry =
+  function_path : (o : Option ℕ) (entry : Option TermEntry) → PathWords (function_text s.names o entry)
+  function_path (Some name) entry =
       let o = spelled_one (text_of s.names name) (utf8 name) in
-      a_path (codes "C") (codes "::" ∷ (spelled (text_of s.names name) ∷ [])) (ap (λ ws. codes "C" ∷ (codes "::" ∷ ws)) o.word) (ap (λ z. codes "C::" ++ z) (sym (append-nil (spelled (text_of s.names name))))) refl (and_from _ _ o.begins refl)
-  function_shape None entry = one_path _ (letters_one (codes "constructor_" ++ term_part s.names entry) refl (letters_before (codes "constructor_") (term_part s.names entry) refl (term_letters entry)))
-    where
-      term_letters : (entry : Option TermEntry) → all_letters (term_part s.names entry) ≡ true
-      term_letters None = refl
-      term_letters (Some e) = part_letters (text_of s.names e.name)
+      (codes "C", codes "::" ∷ (spelled (text_of s.names name) ∷ []), ap (λ ws. codes "C" ∷ (codes "::" ∷ ws)) o.word, ap (λ z. codes "C::" ++ z) (sym (append-nil (spelled (text_of s.names name)))), refl, and_from _ _ o.begins refl)
+  function_path None entry = one_words _ (own_function_one s.names entry)
 
-  pub known_function_shape : (o : Option Callee) → WordShape (function_or_none s o)
-  known_function_shape None = one_path (codes "constructor_") (letters_one (codes "constructor_") refl refl)
-  known_function_shape (Some f) = function_shape (outside_of (program_in s) f) (slice_get s.terms (term_of f))
+  pub known_function_path : (o : Option Callee) → PathWords (function_or_none s o)
+  known_function_path None = one_words (codes "constructor_") (letters_one (codes "constructor_") refl refl)
+  known_function_path (Some f) = function_path (outside_of (program_in s) f) (slice_get s.terms (term_of f))
+
+  pub list_made : (o : Option ℕ) → ListWords (list_text s.names o)
+  list_made None = of_own refl
+  list_made (Some name) = list_of_letters (part (text_of s.names name)) (part_letters (text_of s.names name))
 
   pub list_shape : (o : Option ℕ) → WordShape (list_text s.names o)
-  list_shape None = any_list refl
-  list_shape (Some name) = list_of_letters (part (text_of s.names name)) (part_letters (text_of s.names name))
+  list_shape o = list_as_shape (list_text s.names o) (list_made o)
 
   pub list_known_shape : (o : Option Callee) → is_some o ≡ true → WordShape (list_or_none s o)
   list_known_shape None h = absurd (false≢true h)

@@ -1,10 +1,11 @@
 -- Where names are told apart and tell what they name, different things are written differently.
 use Rattle.std.proofs.Common.{◌≡◌, ◌≢◌, ◌+◌, ◌<◌, ◌^◌, ◌⊎◌, ◌&&◌, ◌||◌, ◌++◌, ◌==◌, ◌∷◌, [], ℕ, zero, suc, ℤ, Bool, true, false, not, cond, List, Option, Some, None, get_or, drop, map, slice_get, codes, decimal, refl, ap, ◌∙◌, sym, subst, inl, inr, ⊎_elim, eqb-true, arith}
 use Rattle.std.specs.Prelude.{All, is_some, nat_lt, option_map, find}
+use Rattle.std.specs.Char.{is_ascii_digit}
 use Rattle.std.specs.List.{flat_map, list_all, position_or_len}
 use Rattle.std.specs.Str.{bytes_eq}
 use Rattle.std.proofs.lemmas.Bool.{and_parts, false≢true, not-true, ltb-true}
-use Rattle.std.proofs.lemmas.List.{append_assoc}
+use Rattle.std.proofs.lemmas.List.{append_assoc, append_cancel_right}
 use Rattle.std.proofs.lemmas.List.Elements.{All-contains}
 use std.Path.{fun_ext}
 use Rattle.model.specs.lists.Signatures.{text_of}
@@ -20,7 +21,7 @@ use Rattle.model_code.specs.PrintedNames.{of_variable, of_parameter}
 use Rattle.model_code.specs.ProgramNotation.{callees, callees_from, fields_of, fields_in, fields_of_variant, type_of_owner, function_number, is_same_callee, is_same_function, outside_of, same_names}
 use Rattle.model_code.specs.PureAlike.{is_impure_callee}
 use Rattle.model_code.specs.Spelling.{Names, token_text, word_text}
-use Rattle.model_code.specs.Lexing.{lexed, words_of_word}
+use Rattle.model_code.specs.Lexing.{is_letter, lexed}
 use Rattle.model_code.specs.OneReading.{is_method}
 use Rattle.model_code.specs.ApartNames.{AreSmall, OwnToken, an_own_word, a_variable, a_parameter, a_label, IsSmallToken, is_named, is_own_method, own_text}
 use Rattle.model_code.proofs.ApartNames.{found, not_own, word_of, first_words, more_words}
@@ -33,13 +34,14 @@ use Rattle.rust_items.specs.OwnNames.{is_own_type, is_own_value, is_variable, ow
 use Rattle.rust_items.specs.RustNames.{are_several, is_among, is_identifier, is_path, joined, part, raw_segment, segments, spelled, spelled_constant, spelled_path, truths}
 use Rattle.rust_items.proofs.PureFunctions.{placed, claimed}
 use Rattle.rust_items.proofs.FreeVariables.{found_not, own_type, own_value}
-use Rattle.rust_items.proofs.Spellings.{names_are_identifiers_lem}
+use Rattle.rust_items.proofs.Spellings.{names_are_identifiers_lem, parts_spell}
 use Rattle.rust_items.proofs.Variables.{variables_are_plain_lem}
 use Rattle.rust_items.specs.WrittenTypes.{type_written}
 use Rattle.rust_text.specs.ProgramNames.{NameSetting, names_of, program_in, variant_in, variant_written, owner_written, one_field_written, field_written, term_part, function_text, function_written, function_or_none, list_text, list_or_none, int_at}
 use Rattle.rust_text.specs.WrittenOnce.{AreWrittenOnce, is_declared, is_struct_entry}
-use Rattle.rust_text.specs.ProgramTokens.{NamesTell, WellNamedAreWrittenOnce, field_text, field_text_in, is_called, is_clear, is_function, is_list_path, is_of_program, is_there, named_by, sort_of, type_text, type_text_in, variant_text, variants_in}
-use Rattle.rust_text.proofs.NameWords.{OneWord, begins_integer, begins_name, integer_begins, several_words, spelled_one}
+use Rattle.rust_text.specs.ProgramTokens.{NamesTell, WellNamedAreWrittenOnce, fits, has_list, is_ending, is_integer_place, field_text, field_text_in, is_called, is_clear, is_function, is_list_path, is_of_program, is_there, named_by, type_text, type_text_in, variant_text, variants_in}
+use Rattle.rust_text.proofs.IntegersTold.{IsPlace, as_fits, same_integer}
+use Rattle.rust_text.proofs.NameWords.{ListWords, OneWord, PathWords, begins_integer, begins_name, constant_path, integer_begins, is_path_tail, known_function_path, list_end, list_made, made, of_own, own_function_one, owner_path, path_begins_so, several_words, spelled_one}
 
 -- 1. things of a kind
 pub kind_apart : (k : Namespace) → IsWellNamed k → (a b : Claim) → In k.claims a → In k.claims b → a.written ≡ b.written → a.owner ≡ b.owner
@@ -154,6 +156,27 @@ no_integer (a_label k) = refl
 word_words : (w : Word) → (lexed (word_text w) ≡ word_text w ∷ []) ⊎ (lexed (word_text w) ≡ codes "unreachable" ∷ (codes "!" ∷ []))
 word_words unreachable_word = inr (own_tokens_are_words_lem.words unreachable_word)
 word_words w = inl (own_tokens_are_words_lem.words w)
+
+-- tokens that are written as paths
+abbrev is_a_path : Token → Bool
+is_a_path (constant_name c) = true
+is_a_path (owner_name o) = true
+is_a_path (function_name f) = true
+is_a_path t = false
+
+integer_or_name : (x : List ℕ) → begins_integer x ≡ true → begins_name x ≡ true → ⊥
+integer_or_name [] h k = false≢true h
+integer_or_name (c ∷ cs) h k =
+    let ks = and_parts (is_letter c) (not (is_ascii_digit c)) k in
+    let minus : (c == 45) ≡ true = sym (ap (λ b. b || c == 45) (not-true (is_ascii_digit c) ks.1)) ∙ h in
+    false≢true (ap is_letter (sym (eqb-true c 45 minus)) ∙ ks.0)
+
+-- a list is no path
+no_list_words : (x : List ℕ) → ListWords x → PathWords x → ⊥
+no_list_words x (made w f t) p =
+    let m : p.0 ∷ p.1 ≡ codes "C" ∷ (codes "::" ∷ (w ∷ list_end)) = sym p.2 ∙ f in
+    false≢true (and_parts (begins_name w) false (ap is_path_tail (sym (more_words p.0 (codes "C") p.1 (codes "::" ∷ (w ∷ list_end)) m)) ∙ p.5)).1
+no_list_words x (of_own t) p = false≢true (ap is_path_tail (sym (more_words p.0 (codes "ContextIterWrapper") p.1 _ (sym p.2 ∙ ap lexed t))) ∙ p.5)
 
 module _ (names : Names) where
   own_words_of : (own : OwnToken) → (lexed (own_text own) ≡ own_text own ∷ []) ⊎ (lexed (own_text own) ≡ codes "unreachable" ∷ (codes "!" ∷ []))
@@ -339,13 +362,17 @@ module _ (s : NameSetting) (constants with_rules : List ℕ) (named : All IsWell
   entry_of : (f : ℕ) (g : Callee) → slice_get (callees (program_in s)) f ≡ Some g → (e : TermEntry) × (slice_get s.terms (term_of g) ≡ Some e)
   entry_of f g h = let r = callee_entry 0 s.terms f g h in (r.1, ap (slice_get s.terms) (r.3 ∙ (let z : 0 + r.0 ≡ r.0 = omega arith in z)) ∙ r.2)
 
-  same_function : (f k : ℕ) (a : FunctionThere f) (b : FunctionThere k) (m l : Option ℕ) → outside_of (program_in s) a.g ≡ m → outside_of (program_in s) b.g ≡ l
-      → function_text s.names m (slice_get s.terms (term_of a.g)) ≡ function_text s.names l (slice_get s.terms (term_of b.g)) → f ≡ k
-  same_function f k a b (Some m) (Some l) x y e =
+  same_outside : (f k : ℕ) (a : FunctionThere f) (b : FunctionThere k) (m l : ℕ) → outside_of (program_in s) a.g ≡ Some m → outside_of (program_in s) b.g ≡ Some l
+      → spelled (name_text m) ≡ spelled (name_text l) → f ≡ k
+  same_outside f k a b m l x y e =
       let c = claimed n (program_in s) refl a.g m x in
       let d = claimed n (program_in s) refl b.g l y in
-      let told : m ≡ l = tell.outside_told a.g b.g m l _ _ x y (kind_apart (functions_kind n) (well_behind (functions_kind n) (inl refl)) _ _ c d (ap (drop 3) e)) in
+      let told : m ≡ l = tell.outside_told a.g b.g m l _ _ x y (kind_apart (functions_kind n) (well_behind (functions_kind n) (inl refl)) _ _ c d e) in
       sym a.number_so ∙ one_number a.g b.g l (x ∙ ap Some told) y ∙ b.number_so
+
+  same_function : (f k : ℕ) (a : FunctionThere f) (b : FunctionThere k) (m l : Option ℕ) → outside_of (program_in s) a.g ≡ m → outside_of (program_in s) b.g ≡ l
+      → function_text s.names m (slice_get s.terms (term_of a.g)) ≡ function_text s.names l (slice_get s.terms (term_of b.g)) → f ≡ k
+  same_function f k a b (Some m) (Some l) x y e = same_outside f k a b m l x y (ap (drop 3) e)
   same_function f k a b (Some m) None x y e = absurd (let z : 67 ≡ 99 = ap (letter_at 0) e in omega (arith, z))
   same_function f k a b None (Some l) x y e = absurd (let z : 99 ≡ 67 = ap (letter_at 0) e in omega (arith, z))
   same_function f k a b None None x y e =
@@ -368,6 +395,11 @@ module _ (s : NameSetting) (constants with_rules : List ℕ) (named : All IsWell
       let a = function_there f (slice_get (callees (program_in s)) f) refl (there (function_name f) h) in
       let b = function_there k (slice_get (callees (program_in s)) k) refl (there (function_name k) l) in
       same_function f k a b (outside_of (program_in s) a.g) (outside_of (program_in s) b.g) refl refl (sym (function_shown f a) ∙ e ∙ function_shown k b)
+
+  listed_there : (f : ℕ) → known (list_name (Some f)) ≡ true → FunctionThere f
+  listed_there f k =
+      function_there f (slice_get (callees (program_in s)) f) refl
+      (and_parts (is_function s with_rules f (slice_get (callees (program_in s)) f)) (has_list s (slice_get (callees (program_in s)) f)) (there (list_name (Some f)) k)).0
 
   -- 6. things of all kinds
   data Thing : Type 0 where
@@ -398,38 +430,145 @@ module _ (s : NameSetting) (constants with_rules : List ℕ) (named : All IsWell
   thing (label_name k) h = absurd (false≢true h)
   thing no_match h = absurd (false≢true h)
 
-  same_thing : (x y : Thing) → known (thing_token x) ≡ true → known (thing_token y) ≡ true → text (thing_token x) ≡ text (thing_token y) → sort_of (thing_token x) ≡ sort_of (thing_token y) → thing_token x ≡ thing_token y
-  same_thing (an_integer y d) (an_integer z e) h k t z1 = tell.numbers_told y z d e h k t
-  same_thing (a_constant c) (a_constant d) h k t z = ap constant_name (same_constant c d h k t)
-  same_thing (an_owner o) (an_owner q) h k t z = ap owner_name (same_owner_text o q (there (owner_name o) h) (there (owner_name q) k) t)
-  same_thing (a_function f) (a_function g) h k t z = ap function_name (same_functions f g h k t)
-  same_thing (a_list l) (a_list m) h k t z = ap list_name (tell.lists_told l m h k t)
-  same_thing (an_integer y d) (a_constant q) h k t z = absurd (omega (arith, z))
-  same_thing (an_integer y d) (an_owner q) h k t z = absurd (omega (arith, z))
-  same_thing (an_integer y d) (a_function q) h k t z = absurd (omega (arith, z))
-  same_thing (an_integer y d) (a_list q) h k t z = absurd (omega (arith, z))
-  same_thing (a_constant c) (an_integer w v) h k t z = absurd (omega (arith, z))
-  same_thing (a_constant c) (an_owner q) h k t z = absurd (omega (arith, z))
-  same_thing (a_constant c) (a_function q) h k t z = absurd (omega (arith, z))
-  same_thing (a_constant c) (a_list q) h k t z = absurd (omega (arith, z))
-  same_thing (an_owner o) (an_integer w v) h k t z = absurd (omega (arith, z))
-  same_thing (an_owner o) (a_constant q) h k t z = absurd (omega (arith, z))
-  same_thing (an_owner o) (a_function q) h k t z = absurd (omega (arith, z))
-  same_thing (an_owner o) (a_list q) h k t z = absurd (omega (arith, z))
-  same_thing (a_function f) (an_integer w v) h k t z = absurd (omega (arith, z))
-  same_thing (a_function f) (a_constant q) h k t z = absurd (omega (arith, z))
-  same_thing (a_function f) (an_owner q) h k t z = absurd (omega (arith, z))
-  same_thing (a_function f) (a_list q) h k t z = absurd (omega (arith, z))
-  same_thing (a_list l) (an_integer w v) h k t z = absurd (omega (arith, z))
-  same_thing (a_list l) (a_constant q) h k t z = absurd (omega (arith, z))
-  same_thing (a_list l) (an_owner q) h k t z = absurd (omega (arith, z))
-  same_thing (a_list l) (a_function q) h k t z = absurd (omega (arith, z))
+  thing_path : (t : Token) → is_a_path t ≡ true → known t ≡ true → PathWords (text t)
+  thing_path (constant_name c) h k =
+      constant_path (name_text c) (tell.utf8 c) (not-true (is_among truths (name_text c)) (and_parts (is_in c constants) (not (is_among truths (name_text c))) (there (constant_name c) k)).1)
+  thing_path (owner_name o) h k = owner_path s tell.utf8 o (there (owner_name o) k)
+  thing_path (function_name f) h k = known_function_path s tell.utf8 (slice_get (callees (program_in s)) f)
+  thing_path (number z ending) h k = absurd (false≢true h)
+  thing_path (list_name l) h k = absurd (false≢true h)
+  thing_path (word w) h k = absurd (false≢true h)
+  thing_path (variable_name v) h k = absurd (false≢true h)
+  thing_path (parameter_name i) h k = absurd (false≢true h)
+  thing_path (part_name i) h k = absurd (false≢true h)
+  thing_path (field_name o i) h k = absurd (false≢true h)
+  thing_path (label_name l) h k = absurd (false≢true h)
+  thing_path no_match h k = absurd (false≢true h)
+
+  -- neither an integer nor a list is written as a path, and no integer as a list
+  no_number : (z : ℤ) (ending : ℕ) (x : List ℕ) → begins_name x ≡ true → text (number z ending) ≡ x → ⊥
+  no_number z ending x h e = integer_or_name x (ap begins_integer (sym e) ∙ integer_begins z (int_at s ending)) h
+
+  list_begins : (o : Option ℕ) → begins_name (list_text s.names o) ≡ true
+  list_begins None = refl
+  list_begins (Some name) = refl
+
+  list_words : (l : Option ℕ) → known (list_name l) ≡ true → (m : Option ℕ) × (text (list_name l) ≡ list_text s.names m)
+  list_words None k = (None, refl)
+  list_words (Some f) k = let a = listed_there f k in (outside_of (program_in s) a.g, ap (list_or_none s) a.at_so)
+
+  no_path_list : (t : Token) (l : Option ℕ) → is_a_path t ≡ true → known t ≡ true → known (list_name l) ≡ true → text t ≡ text (list_name l) → ⊥
+  no_path_list t l h k j e =
+      let m = list_words l j in no_list_words (list_text s.names m.0) (list_made s tell.utf8 m.0) (subst PathWords (e ∙ m.1) (thing_path t h k))
+
+  no_number_list : (z : ℤ) (ending : ℕ) (l : Option ℕ) → known (list_name l) ≡ true → text (number z ending) ≡ text (list_name l) → ⊥
+  no_number_list z ending l j e = let m = list_words l j in no_number z ending (list_text s.names m.0) (list_begins m.0) (e ∙ m.1)
+
+  no_number_path : (z : ℤ) (ending : ℕ) (t : Token) → is_a_path t ≡ true → known t ≡ true → text (number z ending) ≡ text t → ⊥
+  no_number_path z ending t h k e = no_number z ending (text t) (path_begins_so (text t) (thing_path t h k)) e
+
+  -- a variant isn't written as a function: `C` is no enum
+  no_variant_function : (ty i f : ℕ) → known (owner_name (variant_owner ty i)) ≡ true → known (function_name f) ≡ true → text (owner_name (variant_owner ty i)) ≡ text (function_name f) → ⊥
+  no_variant_function ty i f h k e =
+      let a = variant_there ty i (slice_get s.types ty) (variant_in (slice_get s.types ty) i) refl refl (there (owner_name (variant_owner ty i)) h) in
+      let b = function_there f (slice_get (callees (program_in s)) f) refl (there (function_name f) k) in
+      by a (outside_of (program_in s) b.g) (slice_get s.terms (term_of b.g)) (sym a.words_so ∙ ap lexed (e ∙ function_shown f b))
+    where
+      by : (a : VariantThere ty i) (o : Option ℕ) (t : Option TermEntry) → spelled (name_text a.name) ∷ (codes "::" ∷ (spelled (name_text a.v.name) ∷ [])) ≡ lexed (function_text s.names o t) → ⊥
+      by a (Some m) t w =
+          let c : spelled (name_text a.name) ≡ codes "C" = first_words _ (codes "C") _ _ w in
+          found_not (λ (x : Claim). is_own_type x.written) (types_kind n).claims (identified s.names a.name) (well (types_kind n) (inl refl)).free a.claimed_so (ap is_own_type c)
+      by a None t w =
+          let one = own_function_one s.names t in (let z : spelled (name_text a.name) ∷ (codes "::" ∷ (spelled (name_text a.v.name) ∷ [])) ≡ (codes "constructor_" ++ term_part s.names t) ∷ [] = w ∙ one.word in cc)
+
+  -- lists for the answers of functions from outside
+  record ListedThere (f : ℕ) : Type 0 where
+    function : FunctionThere f
+    m : ℕ
+    is : outside_of (program_in s) function.g ≡ Some m
+    shown_so : text (list_name (Some f)) ≡ list_text s.names (Some m)
+
+  listed_outside : (f : ℕ) → known (list_name (Some f)) ≡ true → ListedThere f
+  listed_outside f k =
+      let a = listed_there f k in
+      let h : has_list s (Some a.g) ≡ true = sym (ap (has_list s) a.at_so) ∙ (and_parts (is_function s with_rules f (slice_get (callees (program_in s)) f)) (has_list s (slice_get (callees (program_in s)) f)) (there (list_name (Some f)) k)).1 in
+      by a (outside_of (program_in s) a.g) refl h
+    where
+      by : (a : FunctionThere f) (o : Option ℕ) → outside_of (program_in s) a.g ≡ o → is_some (outside_of (program_in s) a.g) ≡ true → ListedThere f
+      by a None e h = absurd (false≢true (sym (ap is_some e) ∙ h))
+      by a (Some m) e h = record { function = a; m = m; is = e; shown_so = ap (list_or_none s) a.at_so ∙ ap (list_text s.names) e }
+
+  same_list : (l m : Option ℕ) → known (list_name l) ≡ true → known (list_name m) ≡ true → text (list_name l) ≡ text (list_name m) → l ≡ m
+  same_list None None h k e = refl
+  same_list None (Some g) h k e = absurd (let z : 111 ≡ 58 = ap (letter_at 1) (e ∙ (listed_outside g k).shown_so) in omega (arith, z))
+  same_list (Some f) None h k e = absurd (let z : 111 ≡ 58 = ap (letter_at 1) (sym e ∙ (listed_outside f h).shown_so) in omega (arith, z))
+  same_list (Some f) (Some g) h k e =
+      let a = listed_outside f h in
+      let b = listed_outside g k in
+      let parts : part (name_text a.m) ≡ part (name_text b.m)
+          = ap (drop 3) (append_cancel_right (codes "C::" ++ part (name_text a.m)) (codes "C::" ++ part (name_text b.m)) (codes "_returns::default()") (sym a.shown_so ∙ e ∙ b.shown_so)) in
+      ap Some (same_outside f g a.function b.function a.m b.m a.is b.is (parts_spell (name_text a.m) (name_text b.m) (tell.utf8 a.m) (tell.utf8 b.m) parts))
+
+  -- integers
+  is_place : (ending : ℕ) → is_ending s ending ≡ true → IsPlace (int_at s ending)
+  is_place zero h = tt
+  is_place (suc ty) h = by (int_at s (suc ty)) h
+    where
+      by : (o : Option ℕ) → is_integer_place o ≡ true → IsPlace o
+      by None h = tt
+      by (Some p) h = ltb-true p 13 h
+
+  same_ending : (d e : ℕ) → is_ending s d ≡ true → is_ending s e ≡ true → int_at s d ≡ int_at s e → d ≡ e
+  same_ending zero zero h k x = refl
+  same_ending zero (suc e) h k x = absurd (false≢true (ap is_integer_place x ∙ k))
+  same_ending (suc d) zero h k x = absurd (false≢true (ap is_integer_place (sym x) ∙ h))
+  same_ending (suc d) (suc e) h k x = by (int_at s (suc d)) refl h
+    where
+      by : (o : Option ℕ) → int_at s (suc d) ≡ o → is_integer_place o ≡ true → suc d ≡ suc e
+      by None f g = absurd (false≢true g)
+      by (Some p) f g = tell.integers_told (suc d) (suc e) p f (sym x ∙ f)
+
+  same_number : (y z : ℤ) (d e : ℕ) → known (number y d) ≡ true → known (number z e) ≡ true → text (number y d) ≡ text (number z e) → number y d ≡ number z e
+  same_number y z d e h k t =
+      let hs = and_parts (fits y) (is_ending s d) (there (number y d) h) in
+      let ks = and_parts (fits z) (is_ending s e) (there (number z e) k) in
+      let r = same_integer y z (int_at s d) (int_at s e) (as_fits y hs.0) (as_fits z ks.0) (is_place d hs.1) (is_place e ks.1) t in
+      ap (λ x. number x d) r.number ∙ ap (number z) (same_ending d e hs.1 ks.1 r.ending)
+
+  same_thing : (x y : Thing) → known (thing_token x) ≡ true → known (thing_token y) ≡ true → text (thing_token x) ≡ text (thing_token y) → thing_token x ≡ thing_token y
+  same_thing (an_integer y d) (an_integer z e) h k t = same_number y z d e h k t
+  same_thing (an_integer y d) (a_constant c) h k t = absurd (no_number_path y d (constant_name c) refl k t)
+  same_thing (an_integer y d) (an_owner o) h k t = absurd (no_number_path y d (owner_name o) refl k t)
+  same_thing (an_integer y d) (a_function f) h k t = absurd (no_number_path y d (function_name f) refl k t)
+  same_thing (an_integer y d) (a_list l) h k t = absurd (no_number_list y d l k t)
+  same_thing (a_constant c) (an_integer y d) h k t = absurd (no_number_path y d (constant_name c) refl h (sym t))
+  same_thing (a_constant c) (a_constant d) h k t = ap constant_name (same_constant c d h k t)
+  same_thing (a_constant c) (an_owner o) h k t = absurd (tell.constants_apart c (owner_name o) h k refl t)
+  same_thing (a_constant c) (a_function f) h k t = absurd (tell.constants_apart c (function_name f) h k refl t)
+  same_thing (a_constant c) (a_list l) h k t = absurd (no_path_list (constant_name c) l refl h k t)
+  same_thing (an_owner o) (an_integer y d) h k t = absurd (no_number_path y d (owner_name o) refl h (sym t))
+  same_thing (an_owner o) (a_constant c) h k t = absurd (tell.constants_apart c (owner_name o) k h refl (sym t))
+  same_thing (an_owner o) (an_owner q) h k t = ap owner_name (same_owner_text o q (there (owner_name o) h) (there (owner_name q) k) t)
+  same_thing (an_owner (struct_owner ty)) (a_function f) h k t = absurd (tell.structs_apart ty f h k t)
+  same_thing (an_owner (variant_owner ty i)) (a_function f) h k t = absurd (no_variant_function ty i f h k t)
+  same_thing (an_owner o) (a_list l) h k t = absurd (no_path_list (owner_name o) l refl h k t)
+  same_thing (a_function f) (an_integer y d) h k t = absurd (no_number_path y d (function_name f) refl h (sym t))
+  same_thing (a_function f) (a_constant c) h k t = absurd (tell.constants_apart c (function_name f) k h refl (sym t))
+  same_thing (a_function f) (an_owner (struct_owner ty)) h k t = absurd (tell.structs_apart ty f k h (sym t))
+  same_thing (a_function f) (an_owner (variant_owner ty i)) h k t = absurd (no_variant_function ty i f k h (sym t))
+  same_thing (a_function f) (a_function g) h k t = ap function_name (same_functions f g h k t)
+  same_thing (a_function f) (a_list l) h k t = absurd (no_path_list (function_name f) l refl h k t)
+  same_thing (a_list l) (an_integer y d) h k t = absurd (no_number_list y d l h (sym t))
+  same_thing (a_list l) (a_constant c) h k t = absurd (no_path_list (constant_name c) l refl k h (sym t))
+  same_thing (a_list l) (an_owner o) h k t = absurd (no_path_list (owner_name o) l refl k h (sym t))
+  same_thing (a_list l) (a_function f) h k t = absurd (no_path_list (function_name f) l refl k h (sym t))
+  same_thing (a_list l) (a_list m) h k t = ap list_name (same_list l m h k t)
 
   same_by : (t u : Token) → is_named t ≡ true → known t ≡ true → is_named u ≡ true → known u ≡ true → text t ≡ text u → t ≡ u
   same_by t u m h l k e =
       let x = thing t m in
       let y = thing u l in
-      x.1 ∙ same_thing x.0 y.0 (ap known (sym x.1) ∙ h) (ap known (sym y.1) ∙ k) (ap text (sym x.1) ∙ e ∙ ap text y.1) (ap sort_of (sym x.1) ∙ tell.kinds_told t u h k m l e ∙ ap sort_of y.1) ∙ sym y.1
+      x.1 ∙ same_thing x.0 y.0 (ap known (sym x.1) ∙ h) (ap known (sym y.1) ∙ k) (ap text (sym x.1) ∙ e ∙ ap text y.1) ∙ sym y.1
 
   -- 7. fields
   field_there : (fields : FieldEntries) (i : ℕ) (x : List ℕ) → field_text_in s.names fields i ≡ Some x
@@ -550,7 +689,7 @@ module _ (s : NameSetting) (constants with_rules : List ℕ) (named : All IsWell
       subst IsFree (sym (function_shown f a)) (function_free (outside_of (program_in s) a.g) (slice_get s.terms (term_of a.g)))
   thing_free (a_list None) k = list_free None
   thing_free (a_list (Some f)) k =
-      let a = function_there f (slice_get (callees (program_in s)) f) refl (there (list_name (Some f)) k) in
+      let a = listed_there f k in
       subst IsFree (sym (ap (list_or_none s) a.at_so)) (list_free (outside_of (program_in s) a.g))
 
   free_by : (t : Token) (own : OwnToken) → is_named t ≡ true → known t ≡ true → IsSmallToken own → is_own_method own ≡ false → own_text own ≢ text t
@@ -577,7 +716,7 @@ module _ (s : NameSetting) (constants with_rules : List ℕ) (named : All IsWell
   }
 
   list_by : (f : ℕ) → known (list_name (Some f)) ≡ true → is_some (slice_get (callees (program_in s)) f) ≡ true
-  list_by f k = ap is_some (function_there f (slice_get (callees (program_in s)) f) refl (there (list_name (Some f)) k)).at_so
+  list_by f k = ap is_some (listed_there f k).at_so
 
 pub well_named_are_written_once_lem : WellNamedAreWrittenOnce
 well_named_are_written_once_lem s constants with_rules named tell = record {

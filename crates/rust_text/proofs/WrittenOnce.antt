@@ -22,7 +22,7 @@ use Rattle.rust_items.specs.RustNames.{escaped, quoted}
 use Rattle.rust_text.specs.ProgramNames.{NameSetting, names_of, program_in, int_at, told}
 use Rattle.rust_text.specs.WrittenOnce.{AreWrittenOnce, WrittenOnceAreApart}
 use Rattle.rust_text.proofs.ClosedNames.{all_stay, written_names_are_closed_lem as written}
-use Rattle.rust_text.proofs.NameWords.{begins_name, begins_digit, is_path_tail, together, list_end, any_list_text, WordShape, a_path, a_list, any_list, a_number, a_negative, OneWord, constant_shape, owner_shape, field_one, known_function_shape, list_shape, list_known_shape, integer_shape}
+use Rattle.rust_text.proofs.NameWords.{begins_name, begins_digit, is_path_tail, together, list_end, any_list_text, WordShape, a_path, a_list, any_list, a_number, a_negative, OneWord, path_shape, constant_path, owner_path, field_one, known_function_path, list_shape, list_known_shape, integer_shape}
 
 -- 1. what a word is, told by its first letter
 name_no_digit : (w : List ℕ) → begins_name w ≡ true → begins_digit w ≡ true → ⊥
@@ -230,9 +230,9 @@ module _ (s : NameSetting) (known : Token → Bool) (w : AreWrittenOnce s known)
 
   shape : (t : Token) → is_named t ≡ true → known t ≡ true → WordShape (text t)
   shape (number z ending) n k = integer_shape z (int_at s ending)
-  shape (constant_name c) n k = constant_shape (text_of s.names c) (w.utf8 c) (w.constant c k)
-  shape (owner_name o) n k = owner_shape s w.utf8 o (w.owner o k)
-  shape (function_name f) n k = known_function_shape s w.utf8 (slice_get (callees (program_in s)) f)
+  shape (constant_name c) n k = path_shape _ (constant_path (text_of s.names c) (w.utf8 c) (w.constant c k))
+  shape (owner_name o) n k = path_shape _ (owner_path s w.utf8 o (w.owner o k))
+  shape (function_name f) n k = path_shape _ (known_function_path s w.utf8 (slice_get (callees (program_in s)) f))
   shape (list_name l) n k = list_token l k
   shape (word v) n k = absurd (false≢true n)
   shape (variable_name v) n k = absurd (false≢true n)

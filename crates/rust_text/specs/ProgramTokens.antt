@@ -1,10 +1,10 @@
 -- The tokens of a program's code: of what the program has, by names that tell it.
-use Rattle.std.specs.Prelude.{◌≡◌, ◌&&◌, ◌||◌, ◌==◌, ◌∷◌, ◌^◌, [], ℕ, zero, suc, ℤ, pos, negsuc, Bool, true, false, not, nat_lt, is_some, List, Option, Some, None, All, IsUtf8, codes, option_map, slice_get}
+use Rattle.std.specs.Prelude.{◌≡◌, ◌≢◌, ◌&&◌, ◌||◌, ◌==◌, ◌∷◌, ◌^◌, [], ℕ, zero, suc, ℤ, pos, negsuc, Bool, true, false, not, nat_lt, is_some, List, Option, Some, None, All, IsUtf8, codes, option_map, slice_get}
 use Rattle.std.specs.Str.{bytes_eq}
 use Rattle.model.specs.lists.Signatures.{text_of}
 use Rattle.model.specs.lists.Tables.{FieldEntry, FieldEntries, unit_entries, struct_entries, tuple_entries, VariantEntry, TypeEntry, builtin_type, primitive_type, enum_type, struct_type, TermEntry}
 use Rattle.model.specs.trees.Places.{is_in}
-use Rattle.model_code.specs.Tokens.{Owner, Token, word, variable_name, parameter_name, part_name, number, constant_name, owner_name, field_name, function_name, list_name, label_name, no_match}
+use Rattle.model_code.specs.Tokens.{Owner, struct_owner, Token, word, variable_name, parameter_name, part_name, number, constant_name, owner_name, field_name, function_name, list_name, label_name, no_match}
 use Rattle.model_code.specs.Notation.{Callee, extractor_of, constructor_of}
 use Rattle.model_code.specs.ProgramNotation.{callees, fields_of, function_number, outside_of}
 use Rattle.model_code.specs.Spelling.{token_text}
@@ -30,13 +30,21 @@ abbrev pub is_function : NameSetting → (with_rules : List ℕ) → (f : ℕ) �
 is_function s with_rules f None = false
 is_function s with_rules f (Some g) = is_called s with_rules g && (function_number (program_in s) g == f)
 
+abbrev pub has_list : NameSetting → Option Callee → Bool
+has_list s None = false
+has_list s (Some g) = is_some (outside_of (program_in s) g)
+
 abbrev pub fits : ℤ → Bool
 fits (pos n) = nat_lt n (2 ^ 127)
 fits (negsuc n) = nat_lt n (2 ^ 127)
 
+abbrev pub is_integer_place : Option ℕ → Bool
+is_integer_place None = false
+is_integer_place (Some place) = nat_lt place 13
+
 abbrev pub is_ending : NameSetting → ℕ → Bool
 is_ending s zero = true
-is_ending s (suc ty) = is_some (int_at s (suc ty))
+is_ending s (suc ty) = is_integer_place (int_at s (suc ty))
 
 abbrev pub field_text_in : List (List ℕ) → FieldEntries → ℕ → Option (List ℕ)
 field_text_in names unit_entries i = None
@@ -57,7 +65,7 @@ is_there s constants with_rules (owner_name o) = is_declared s o
 is_there s constants with_rules (field_name o i) = is_some (field_text s o i)
 is_there s constants with_rules (function_name f) = is_function s with_rules f (slice_get (callees (program_in s)) f)
 is_there s constants with_rules (list_name None) = true
-is_there s constants with_rules (list_name (Some f)) = is_function s with_rules f (slice_get (callees (program_in s)) f)
+is_there s constants with_rules (list_name (Some f)) = is_function s with_rules f (slice_get (callees (program_in s)) f) && has_list s (slice_get (callees (program_in s)) f)
 is_there s constants with_rules (label_name n) = nat_lt n (2 ^ 64)
 is_there s constants with_rules no_match = true
 
@@ -89,20 +97,17 @@ variants_in entry = []
 abbrev pub variant_text : NameSetting → (ty variant : ℕ) → Option (List ℕ)
 variant_text s ty variant = option_map (λ (v : VariantEntry). text_of s.names v.name) (slice_get (variants_in (slice_get s.types ty)) variant)
 
--- integers, constants, types and variants, functions, lists
-abbrev pub sort_of : Token → ℕ
-sort_of (number z ending) = 1
-sort_of (constant_name c) = 2
-sort_of (owner_name o) = 3
-sort_of (function_name f) = 4
-sort_of (list_name l) = 5
-sort_of t = 0
+abbrev pub is_declared_thing : Token → Bool
+is_declared_thing (owner_name o) = true
+is_declared_thing (function_name f) = true
+is_declared_thing t = false
 
--- the definitions give different things of one kind different names, and nothing is written as a thing of another kind
+-- the definitions give different things of one kind different names; and what isn't asked of names: constants and structs
 pub record NamesTell (s : NameSetting) (constants with_rules : List ℕ) : Type 0 where
   pub utf8 : (name : ℕ) → IsUtf8 (text_of s.names name)
   pub constants_told : (c d : ℕ) → is_in c constants ≡ true → is_in d constants ≡ true → text_of s.names c ≡ text_of s.names d → c ≡ d
   pub types_told : (i j : ℕ) (x : List ℕ) → type_text s i ≡ Some x → type_text s j ≡ Some x → i ≡ j
+  pub integers_told : (i j place : ℕ) → int_at s i ≡ Some place → int_at s j ≡ Some place → i ≡ j
   pub variants_told : (ty i j : ℕ) (x : List ℕ) → variant_text s ty i ≡ Some x → variant_text s ty j ≡ Some x → i ≡ j
   pub fields_told : (o : Owner) (i j : ℕ) (x : List ℕ) → field_text s o i ≡ Some x → field_text s o j ≡ Some x → i ≡ j
   pub outside_told :
@@ -110,15 +115,13 @@ pub record NamesTell (s : NameSetting) (constants with_rules : List ℕ) : Type 
   pub terms_told :
       (t u : ℕ) (a b : TermEntry) → is_in t with_rules ≡ true → is_in u with_rules ≡ true → slice_get s.terms t ≡ Some a → slice_get s.terms u ≡ Some b
       → text_of s.names a.name ≡ text_of s.names b.name → t ≡ u
-  pub kinds_told :
-      (t u : Token) → is_of_program s constants with_rules t ≡ true → is_of_program s constants with_rules u ≡ true → is_named t ≡ true → is_named u ≡ true
-      → token_text (names_of s) t ≡ token_text (names_of s) u → sort_of t ≡ sort_of u
-  pub numbers_told :
-      (y z : ℤ) (d e : ℕ) → is_of_program s constants with_rules (number y d) ≡ true → is_of_program s constants with_rules (number z e) ≡ true
-      → token_text (names_of s) (number y d) ≡ token_text (names_of s) (number z e) → number y d ≡ number z e
-  pub lists_told :
-      (k l : Option ℕ) → is_of_program s constants with_rules (list_name k) ≡ true → is_of_program s constants with_rules (list_name l) ≡ true
-      → token_text (names_of s) (list_name k) ≡ token_text (names_of s) (list_name l) → k ≡ l
+  -- no constant is written as a type, a variant or a function, and no struct as the function of a term
+  pub constants_apart :
+      (c : ℕ) (t : Token) → is_of_program s constants with_rules (constant_name c) ≡ true → is_of_program s constants with_rules t ≡ true → is_declared_thing t ≡ true
+      → token_text (names_of s) (constant_name c) ≢ token_text (names_of s) t
+  pub structs_apart :
+      (ty f : ℕ) → is_of_program s constants with_rules (owner_name (struct_owner ty)) ≡ true → is_of_program s constants with_rules (function_name f) ≡ true
+      → token_text (names_of s) (owner_name (struct_owner ty)) ≢ token_text (names_of s) (function_name f)
 
 -- where names are told apart, as `rust_code` asks, and tell what they name, different things are written differently
 abbrev pub WellNamedAreWrittenOnce : Type 0
