@@ -7,6 +7,7 @@ mod OneReading
 mod Parted
 mod Patterns
 mod ReadTexts
+mod ReadingSamples
 mod ReadsBack
 mod Statements
 mod Tests

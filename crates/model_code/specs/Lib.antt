@@ -20,6 +20,7 @@ pub mod PrintedNames
 pub mod ProgramNotation
 pub mod PureAlike
 pub mod ReadTexts
+pub mod ReadingSamples
 pub mod Reading
 pub mod ReadsBack
 pub mod Samples

@@ -24,6 +24,7 @@ ghost use Rattle.model_code.specs.OneReading.{OneReading, PrintedTextHasOneReadi
 ghost use Rattle.model_code.specs.Parted.{TokensAreParted};
 ghost use Rattle.model_code.specs.ReadsBack.{CodeIsRead, FlatKeepsWritable, FunctionIsRead, MovesKeepWritable, ReadsBack, TextShowsCode};
 ghost use Rattle.model_code.specs.ReadTexts.{TextIsReadBack, UnloggedTextIsItsTokens};
+ghost use Rattle.model_code.specs.ReadingSamples.{ReadingsAreJudged};
 ghost use Rattle.model_code.specs.CodeTextSamples.{SamplesAreWritten};
 ghost use Rattle.model_code.specs.TextSamples.{TextsAreJudged};
 
@@ -268,4 +269,10 @@ pub fn names_apart_make_tokens_apart()
 #[tactic(auto, using(crate::proofs::TextSamples::texts_are_judged_lem))]
 pub fn texts_are_judged()
     ensures { TextsAreJudged }
+{}
+
+/// Two token lists have one text where they don't stand in order, and two codes where names aren't apart.
+#[tactic(auto, using(crate::proofs::ReadingSamples::readings_are_judged_lem))]
+pub fn readings_are_judged()
+    ensures { ReadingsAreJudged }
 {}

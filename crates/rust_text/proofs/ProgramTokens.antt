@@ -29,7 +29,7 @@ use Rattle.model_code.proofs.Closed.{named_whole}
 use Rattle.model_code.proofs.Lexing.{own_tokens_are_words_lem}
 use Rattle.rust_items.specs.Claims.{Claim, IsWellNamed, Namespace, first_taken}
 use Rattle.rust_items.specs.NameLaws.{IsIdentifier, is_plain}
-use Rattle.rust_items.specs.NamedPrograms.{NamedProgram, claim, identified, type_claim, field_claim, field_claims, field_kind, variant_claim, variant_kind, variant_fields, kinds_inside, function_claim, purely, constant_claim, constructor_named, constructors_of, term_claim, types_kind, functions_kind, constants_kind, terms_kind, paths_kind, kinds}
+use Rattle.rust_items.specs.NamedPrograms.{NamedProgram, claim, identified, type_claim, field_claim, field_claims, field_kind, variant_claim, variant_kind, variant_fields, kinds_inside, function_claim, purely, constant_claim, constructor_named, constructors_of, path_behind, struct_path, struct_path_of, term_claim, type_paths, variant_path, variant_path_if, variant_path_of, types_kind, functions_kind, constants_kind, terms_kind, paths_kind, kinds}
 use Rattle.rust_items.specs.OwnNames.{is_own_type, is_own_value, is_variable, own_types, own_values}
 use Rattle.rust_items.specs.RustNames.{are_several, is_among, is_identifier, is_path, joined, part, raw_segment, segments, spelled, spelled_constant, spelled_path, truths}
 use Rattle.rust_items.proofs.PureFunctions.{placed, claimed}
@@ -39,7 +39,7 @@ use Rattle.rust_items.proofs.Variables.{variables_are_plain_lem}
 use Rattle.rust_items.specs.WrittenTypes.{type_written}
 use Rattle.rust_text.specs.ProgramNames.{NameSetting, names_of, program_in, variant_in, variant_written, owner_written, one_field_written, field_written, term_part, function_text, function_written, function_or_none, list_text, list_or_none, int_at}
 use Rattle.rust_text.specs.WrittenOnce.{AreWrittenOnce, is_declared, is_struct_entry}
-use Rattle.rust_text.specs.ProgramTokens.{NamesTell, WellNamedAreWrittenOnce, fits, has_list, is_ending, is_integer_place, field_text, field_text_in, is_called, is_clear, is_function, is_list_path, is_of_program, is_there, named_by, type_text, type_text_in, variant_text, variants_in}
+use Rattle.rust_text.specs.ProgramTokens.{NamesTell, WellNamedAreWrittenOnce, fits, has_fields, has_list, is_ending, is_integer_place, field_text, field_text_in, is_called, is_clear, is_function, is_list_path, is_of_program, is_there, named_by, type_text, type_text_in, variant_text, variants_in}
 use Rattle.rust_text.proofs.IntegersTold.{IsPlace, as_fits, same_integer}
 use Rattle.rust_text.proofs.NameWords.{ListWords, OneWord, PathWords, begins_integer, begins_name, constant_path, integer_begins, is_path_tail, known_function_path, list_end, list_made, made, of_own, own_function_one, owner_path, path_begins_so, several_words, spelled_one}
 
@@ -191,6 +191,10 @@ callee_entry t [] i f h = absurd (cc)
 callee_entry t (x ∷ ts) zero f h = let z : extractor_of t ≡ f = cc in (0, x, refl, sym (ap term_of z) ∙ (let y : t ≡ t + 0 = omega arith in y))
 callee_entry t (x ∷ ts) (suc zero) f h = let z : constructor_of t ≡ f = cc in (0, x, refl, sym (ap term_of z) ∙ (let y : t ≡ t + 0 = omega arith in y))
 callee_entry t (x ∷ ts) (suc (suc i)) f h = let r = callee_entry (suc t) ts i f h in (suc r.0, r.1, r.2, (let y : suc t + r.0 ≡ t + suc r.0 = omega arith in r.3 ∙ y))
+
+abbrev declared_so : Option TypeEntry → Owner → Bool
+declared_so entry (variant_owner ty i) = is_some (variant_in entry i)
+declared_so entry (struct_owner ty) = is_struct_entry entry
 
 module _ (s : NameSetting) (constants with_rules : List ℕ) (named : All IsWellNamed (kinds (named_by s constants with_rules))) (tell : NamesTell s constants with_rules) where
   abbrev n : NamedProgram
@@ -535,6 +539,92 @@ module _ (s : NameSetting) (constants with_rules : List ℕ) (named : All IsWell
       let r = same_integer y z (int_at s d) (int_at s e) (as_fits y hs.0) (as_fits z ks.0) (is_place d hs.1) (is_place e ks.1) t in
       ap (λ x. number x d) r.number ∙ ap (number z) (same_ending d e hs.1 ks.1 r.ending)
 
+  -- constants aren't written as what has no fields, nor as what comes from `Context`
+  abbrev owner_paths : List Claim
+  owner_paths = flat_map (type_paths s.names) s.types
+
+  abbrev function_paths : List Claim
+  function_paths = map (path_behind (codes "C::") (codes "function ")) (functions_kind n).claims
+
+  abbrev constant_paths : List Claim
+  constant_paths = map (path_behind [] (codes "constant ")) (constants_kind n).claims
+
+  no_path_clash : (c : ℕ) (d : Claim) → known (constant_name c) ≡ true → In (owner_paths ++ function_paths) d → text (constant_name c) ≡ d.written → (letter_at 0 d.owner ≡ 99 → ⊥) → ⊥
+  no_path_clash c d k i e other =
+      let inside : is_in c constants ≡ true = (and_parts (is_in c constants) (not (is_among truths (name_text c))) (there (constant_name c) k)).0 in
+      let claim : Claim = path_behind [] (codes "constant ") (constant_claim s.names c) in
+      let clash : claim.owner ≡ d.owner = kind_apart (paths_kind n) (well_behind (paths_kind n) (inr (inr (inr (inl refl))))) claim d
+          (in_left constant_paths (owner_paths ++ function_paths) claim (map_in (path_behind [] (codes "constant ")) (constants_kind n).claims (constant_claim s.names c) (constant_claimed c inside)))
+          (in_right constant_paths (owner_paths ++ function_paths) d i) e in
+      other (ap (letter_at 0) (sym clash))
+
+  record UnitPath (o : Owner) : Type 0 where
+    d : Claim
+    inside : In owner_paths d
+    written_so : owner_written s o ≡ d.written
+    other : letter_at 0 d.owner ≡ 99 → ⊥
+
+  unit_variant : (ty i name : ℕ) (entry : TypeEntry) (variants : List VariantEntry) (v : Option VariantEntry) → slice_get s.types ty ≡ Some entry → type_paths s.names entry ≡ flat_map (variant_path s.names name) variants
+      → type_written s.names (Some entry) ≡ spelled (name_text name) → variant_in (Some entry) i ≡ slice_get variants i → slice_get variants i ≡ v → is_some v ≡ true → fields_of_variant v ≡ unit_entries → UnitPath (variant_owner ty i)
+  unit_variant ty i name entry variants None e p w g h d f = absurd (false≢true d)
+  unit_variant ty i name entry variants (Some v) e p w g h d f = record {
+    d = variant_path_of s.names name v.name;
+    inside = in_flat_map (type_paths s.names) s.types entry (variant_path_of s.names name v.name) (in_slice s.types ty entry e)
+        (subst (λ x. In x (variant_path_of s.names name v.name)) (sym p)
+        (in_flat_map (variant_path s.names name) variants v (variant_path_of s.names name v.name) (in_slice variants i v h)
+        (subst (λ x. In (variant_path_if s.names name v.name x) (variant_path_of s.names name v.name)) (sym f) (inl refl))));
+    written_so =
+        ap (λ x. type_written s.names x ++ codes "::" ++ variant_written s.names (variant_in x i)) e
+        ∙ ap (λ x. x ++ codes "::" ++ variant_written s.names (variant_in (Some entry) i)) w
+        ∙ ap (λ x. spelled (name_text name) ++ codes "::" ++ variant_written s.names x) (g ∙ h)
+        ∙ append_assoc (spelled (name_text name)) (codes "::") (spelled (name_text v.name));
+    other = λ z. omega (arith, z);
+  }
+
+  unit_path : (o : Owner) (entry : Option TypeEntry) → slice_get s.types (type_of_owner o) ≡ entry → declared_so entry o ≡ true → fields_in entry o ≡ unit_entries → UnitPath o
+  unit_path (variant_owner ty i) (Some (enum_type name id is_extern is_nodebug variants at)) e d f =
+      unit_variant ty i name (enum_type name id is_extern is_nodebug variants at) variants (slice_get variants i) e refl refl refl refl d f
+  unit_path (struct_owner ty) (Some (struct_type name id is_extern is_nodebug fields at)) e d f = record {
+    d = struct_path_of s.names name;
+    inside = in_flat_map (type_paths s.names) s.types (struct_type name id is_extern is_nodebug fields at) (struct_path_of s.names name) (in_slice s.types ty _ e)
+        (subst (λ x. In (struct_path s.names name x) (struct_path_of s.names name)) (sym f) (inl refl));
+    written_so = ap (type_written s.names) e;
+    other = λ z. omega (arith, z);
+  }
+  unit_path (variant_owner ty i) None e d f = absurd (false≢true d)
+  unit_path (variant_owner ty i) (Some (builtin_type place)) e d f = absurd (false≢true d)
+  unit_path (variant_owner ty i) (Some (primitive_type id name at)) e d f = absurd (false≢true d)
+  unit_path (variant_owner ty i) (Some (struct_type name id is_extern is_nodebug fields at)) e d f = absurd (false≢true d)
+  unit_path (struct_owner ty) None e d f = absurd (false≢true d)
+  unit_path (struct_owner ty) (Some (builtin_type place)) e d f = absurd (false≢true d)
+  unit_path (struct_owner ty) (Some (primitive_type id name at)) e d f = absurd (false≢true d)
+  unit_path (struct_owner ty) (Some (enum_type name id is_extern is_nodebug variants at)) e d f = absurd (false≢true d)
+
+  declared_here : (o : Owner) → is_declared s o ≡ true → declared_so (slice_get s.types (type_of_owner o)) o ≡ true
+  declared_here (variant_owner ty i) h = h
+  declared_here (struct_owner ty) h = h
+
+  no_constant_owner : (c : ℕ) (o : Owner) → known (constant_name c) ≡ true → known (owner_name o) ≡ true → text (constant_name c) ≡ text (owner_name o) → ⊥
+  no_constant_owner c o h k e = by (fields_of (program_in s) o) refl
+    where
+      by : (fields : FieldEntries) → fields_of (program_in s) o ≡ fields → ⊥
+      by unit_entries f =
+          let u = unit_path o (slice_get s.types (type_of_owner o)) refl (declared_here o (there (owner_name o) k)) f in
+          no_path_clash c u.d h (in_left owner_paths function_paths u.d u.inside) (e ∙ u.written_so) u.other
+      by (struct_entries fields) f = tell.constants_apart c (owner_name o) h k (ap has_fields f) e
+      by (tuple_entries fields) f = tell.constants_apart c (owner_name o) h k (ap has_fields f) e
+
+  no_constant_function : (c f : ℕ) → known (constant_name c) ≡ true → known (function_name f) ≡ true → text (constant_name c) ≡ text (function_name f) → ⊥
+  no_constant_function c f h k e =
+      let a = function_there f (slice_get (callees (program_in s)) f) refl (there (function_name f) k) in by a (outside_of (program_in s) a.g) refl
+    where
+      by : (a : FunctionThere f) (o : Option ℕ) → outside_of (program_in s) a.g ≡ o → ⊥
+      by a (Some m) x =
+          let d : Claim = path_behind (codes "C::") (codes "function ") (function_claim s.names (not (is_impure_callee (program_in s) a.g)) m) in
+          no_path_clash c d h (in_right owner_paths function_paths d (map_in (path_behind (codes "C::") (codes "function ")) (functions_kind n).claims _ (claimed n (program_in s) refl a.g m x)))
+          (e ∙ function_shown f a ∙ ap (λ o. function_text s.names o (slice_get s.terms (term_of a.g))) x) (λ z. omega (arith, z))
+      by a None x = tell.constants_apart c (function_name f) h k (ap (λ o. not (has_list s o)) a.at_so ∙ ap (λ o. not (is_some o)) x) e
+
   same_thing : (x y : Thing) → known (thing_token x) ≡ true → known (thing_token y) ≡ true → text (thing_token x) ≡ text (thing_token y) → thing_token x ≡ thing_token y
   same_thing (an_integer y d) (an_integer z e) h k t = same_number y z d e h k t
   same_thing (an_integer y d) (a_constant c) h k t = absurd (no_number_path y d (constant_name c) refl k t)
@@ -543,17 +633,17 @@ module _ (s : NameSetting) (constants with_rules : List ℕ) (named : All IsWell
   same_thing (an_integer y d) (a_list l) h k t = absurd (no_number_list y d l k t)
   same_thing (a_constant c) (an_integer y d) h k t = absurd (no_number_path y d (constant_name c) refl h (sym t))
   same_thing (a_constant c) (a_constant d) h k t = ap constant_name (same_constant c d h k t)
-  same_thing (a_constant c) (an_owner o) h k t = absurd (tell.constants_apart c (owner_name o) h k refl t)
-  same_thing (a_constant c) (a_function f) h k t = absurd (tell.constants_apart c (function_name f) h k refl t)
+  same_thing (a_constant c) (an_owner o) h k t = absurd (no_constant_owner c o h k t)
+  same_thing (a_constant c) (a_function f) h k t = absurd (no_constant_function c f h k t)
   same_thing (a_constant c) (a_list l) h k t = absurd (no_path_list (constant_name c) l refl h k t)
   same_thing (an_owner o) (an_integer y d) h k t = absurd (no_number_path y d (owner_name o) refl h (sym t))
-  same_thing (an_owner o) (a_constant c) h k t = absurd (tell.constants_apart c (owner_name o) k h refl (sym t))
+  same_thing (an_owner o) (a_constant c) h k t = absurd (no_constant_owner c o k h (sym t))
   same_thing (an_owner o) (an_owner q) h k t = ap owner_name (same_owner_text o q (there (owner_name o) h) (there (owner_name q) k) t)
   same_thing (an_owner (struct_owner ty)) (a_function f) h k t = absurd (tell.structs_apart ty f h k t)
   same_thing (an_owner (variant_owner ty i)) (a_function f) h k t = absurd (no_variant_function ty i f h k t)
   same_thing (an_owner o) (a_list l) h k t = absurd (no_path_list (owner_name o) l refl h k t)
   same_thing (a_function f) (an_integer y d) h k t = absurd (no_number_path y d (function_name f) refl h (sym t))
-  same_thing (a_function f) (a_constant c) h k t = absurd (tell.constants_apart c (function_name f) k h refl (sym t))
+  same_thing (a_function f) (a_constant c) h k t = absurd (no_constant_function c f k h (sym t))
   same_thing (a_function f) (an_owner (struct_owner ty)) h k t = absurd (tell.structs_apart ty f k h (sym t))
   same_thing (a_function f) (an_owner (variant_owner ty i)) h k t = absurd (no_variant_function ty i f k h (sym t))
   same_thing (a_function f) (a_function g) h k t = ap function_name (same_functions f g h k t)

@@ -1,6 +1,7 @@
 pub mod Adding
 pub mod ClosedNames
 pub mod CodeOfTerms
+pub mod CodeReadOnce
 pub mod Expanded
 pub mod Fields
 pub mod Fronts

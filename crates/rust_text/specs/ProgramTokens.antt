@@ -97,10 +97,15 @@ variants_in entry = []
 abbrev pub variant_text : NameSetting → (ty variant : ℕ) → Option (List ℕ)
 variant_text s ty variant = option_map (λ (v : VariantEntry). text_of s.names v.name) (slice_get (variants_in (slice_get s.types ty)) variant)
 
-abbrev pub is_declared_thing : Token → Bool
-is_declared_thing (owner_name o) = true
-is_declared_thing (function_name f) = true
-is_declared_thing t = false
+-- structs and variants with fields, and functions of terms: names of constants aren't compared with theirs
+abbrev pub has_fields : FieldEntries → Bool
+has_fields unit_entries = false
+has_fields fields = true
+
+abbrev pub is_uncompared : NameSetting → Token → Bool
+is_uncompared s (owner_name o) = has_fields (fields_of (program_in s) o)
+is_uncompared s (function_name f) = not (has_list s (slice_get (callees (program_in s)) f))
+is_uncompared s t = false
 
 -- the definitions give different things of one kind different names; and what isn't asked of names: constants and structs
 pub record NamesTell (s : NameSetting) (constants with_rules : List ℕ) : Type 0 where
@@ -115,9 +120,9 @@ pub record NamesTell (s : NameSetting) (constants with_rules : List ℕ) : Type 
   pub terms_told :
       (t u : ℕ) (a b : TermEntry) → is_in t with_rules ≡ true → is_in u with_rules ≡ true → slice_get s.terms t ≡ Some a → slice_get s.terms u ≡ Some b
       → text_of s.names a.name ≡ text_of s.names b.name → t ≡ u
-  -- no constant is written as a type, a variant or a function, and no struct as the function of a term
+  -- no constant is written as a struct or a variant with fields, or as the function of a term, and no struct as that
   pub constants_apart :
-      (c : ℕ) (t : Token) → is_of_program s constants with_rules (constant_name c) ≡ true → is_of_program s constants with_rules t ≡ true → is_declared_thing t ≡ true
+      (c : ℕ) (t : Token) → is_of_program s constants with_rules (constant_name c) ≡ true → is_of_program s constants with_rules t ≡ true → is_uncompared s t ≡ true
       → token_text (names_of s) (constant_name c) ≢ token_text (names_of s) t
   pub structs_apart :
       (ty f : ℕ) → is_of_program s constants with_rules (owner_name (struct_owner ty)) ≡ true → is_of_program s constants with_rules (function_name f) ≡ true

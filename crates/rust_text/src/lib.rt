@@ -11,6 +11,7 @@ ghost use Rattle.laws_code.specs.CodeChoices.{MeansItsSource};
 ghost use Rattle.laws_code.specs.TypedTrees.{IsWellMade};
 ghost use Rattle.rust_code.specs.CodeViews.{block_view};
 ghost use Rattle.rust_text.specs.CodeOfTerms.{EachTermIsInItsCode};
+ghost use Rattle.rust_text.specs.CodeReadOnce.{AnswersCodeIsReadOnce};
 ghost use Rattle.rust_text.specs.Fronts.{FrontsAreClosed};
 ghost use Rattle.rust_text.specs.LoweredCode.{IsItsCode, OfLowered};
 ghost use Rattle.rust_text.specs.OneReading.{CodeIsReadOnce, TextsAreReadOnce};
@@ -167,4 +168,11 @@ pub fn code_is_read_once()
     written_once_are_apart();
     well_named_are_written_once();
     names_are_whole();
+}
+
+/// So the code of an answer has one reading: none of its functions' bodies is read as two codes by tokens of its program.
+pub fn answers_code_is_read_once()
+    ensures { AnswersCodeIsReadOnce }
+{
+    texts_are_read_once();
 }
