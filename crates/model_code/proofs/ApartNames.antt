@@ -308,8 +308,8 @@ module _ (names : Names) (p : Notation) (known : Token → Bool) (a : AreNamesAp
     pair (an_own t h m x f) (a_break y g) = absurd (not_unreachable t (same f g))
     pair (an_own t h m x f) (a_part i k y g) =
         inr (λ xs more w s. behind_dot inside i k xs more
-            (subst (λ z. follow p known (behind_told p (anything inside) z) xs ≡ true) (x ∙ ap (λ z. Some (own_token z)) (only_dot t (same f g))) w)
-            (s ∙ ap (λ z. z ++ more) (sym (on f g))))
+        (subst (λ z. follow p known (behind_told p (anything inside) z) xs ≡ true) (x ∙ ap (λ z. Some (own_token z)) (only_dot t (same f g))) w)
+        (s ∙ ap (λ z. z ++ more) (sym (on f g))))
     pair (an_own t h m x f) (a_panic w us y k g n) = absurd (not_unreachable t (same f g))
     pair (an_own t h m x f) (a_name u w us y n k l g i) =
         let r = i.own t h m (same f g) in inr (λ xs more c s. no_path (behind_told p (anything inside) o) xs (r.0 ++ more) c (s ∙ ap (λ b. b ++ more) (sym (on f g) ∙ r.1)))
@@ -319,8 +319,8 @@ module _ (names : Names) (p : Notation) (known : Token → Bool) (a : AreNamesAp
     pair (a_break x f) (a_part i k y g) = absurd (other_letters 117 46 _ _ (λ z. omega (arith, z)) (same f g))
     pair (a_break x f) (a_panic w us y k g n) =
         inr (λ xs more v s. behind_unreachable w n xs us more
-            (subst (λ z. follow p known (behind_told p (anything inside) z) xs ≡ true) x v)
-            (s ∙ ap (λ z. z ++ more) (sym (more_words (codes "!") (codes "!") (codes "(" ∷ (w ∷ us)) rest (on f g)))))
+        (subst (λ z. follow p known (behind_told p (anything inside) z) xs ≡ true) x v)
+        (s ∙ ap (λ z. z ++ more) (sym (more_words (codes "!") (codes "!") (codes "(" ∷ (w ∷ us)) rest (on f g)))))
     pair (a_break x f) (a_name u w us y n k l g i) = absurd (i.unreachable (sym (same f g)))
     pair (a_break x f) (a_told at us y l g) = absurd (other_letters 117 108 _ _ (λ z. omega (arith, z)) (same f g))
     pair (a_part i h x f) (an_own u k m y g) = absurd (let z : [] ≡ decimal i ∷ rest = on f g in cc)
@@ -375,7 +375,6 @@ module _ (names : Names) (p : Notation) (known : Token → Bool) (a : AreNamesAp
     dots : t ≡ word two_dots → FieldLook o t
     end : t ≡ word closing_brace → FieldLook o t
     that : (i : ℕ) → known (field_name o i) ≡ true → t ≡ field_name o i → FieldLook o t
-
 
   field_look : (o : Owner) (t : Token) → known t ≡ true → is_field_or_end o t ≡ true → FieldLook o t
   field_look o (word two_dots) k h = dots refl

@@ -44,8 +44,8 @@ module _ (names : Names) (p : Notation) (known : Token → Bool) (a : AreApart n
   told_alike (x ∷ xs) [] s f g e = let w = a.some s x (first s x xs f) in absurd (no_words (sign_words names x) (signs_words names xs) w.1 w.0 w.2 (sym e))
   told_alike (x ∷ xs) (y ∷ ys) s f g e =
       let go : told x ≡ told y → signs_words names xs ≡ signs_words names ys → told x ∷ map told xs ≡ told y ∷ map told ys
-          = λ q t. ap (λ o. o ∷ map told xs) q
-          ∙ ap (λ os. told y ∷ os) (told_alike xs ys (behind_told p s (told x)) (later s x xs f) (subst (λ o. follow p known (behind_told p s o) ys ≡ true) (sym q) (later s y ys g)) t) in
+      = λ q t. ap (λ o. o ∷ map told xs) q
+      ∙ ap (λ os. told y ∷ os) (told_alike xs ys (behind_told p s (told x)) (later s x xs f) (subst (λ o. follow p known (behind_told p s o) ys ≡ true) (sym q) (later s y ys g)) t) in
       ⊎_elim
       (λ r. ⊎_elim (λ q. go q.1 (r.2 ∙ ap (λ z. z ++ signs_words names ys) q.0)) (λ no. absurd (no xs (signs_words names ys) (later s x xs f) r.2)) (a.apart s x y r.0 (first s x xs f) (first s y ys g) r.1))
       (λ r. ⊎_elim (λ q. go (sym q.1) (sym (r.2 ∙ ap (λ z. z ++ signs_words names xs) q.0))) (λ no. absurd (no ys (signs_words names xs) (later s y ys g) r.2)) (a.apart s y x r.0 (first s y ys g) (first s x xs f) r.1))
@@ -99,13 +99,13 @@ one_reading_lem names p known apart text a b r q =
     let ys : List CodePiece = q.read.pieces in
     let words : signs_words names (signs_of xs) ≡ signs_words names (signs_of ys) = sym (words_by names xs) ∙ sym r.read.words ∙ q.read.words ∙ words_by names ys in
     let tokens : tokens_of xs ≡ tokens_of ys =
-        words_tell_tokens_lem names p known apart (anything None) xs ys (followed p known xs (anything None) r.all_known r.ordered) (followed p known ys (anything None) q.all_known q.ordered) words in
+    words_tell_tokens_lem names p known apart (anything None) xs ys (followed p known xs (anything None) r.all_known r.ordered) (followed p known ys (anything None) q.all_known q.ordered) words in
     let same : Some a ≡ Some b = sym r.read.read ∙ ap (read_function p) tokens ∙ q.read.read in
     cc
 
 pub printed_text_has_one_reading_lem : PrintedTextHasOneReading
 printed_text_has_one_reading_lem names p known whole apart code w u k =
     let read : IsReadAsCode names p (spelled names (function_body p code)) (shown_code p code)
-        = record { pieces = function_body p code; of_pieces = refl; words = text_has_tokens_lem names p code whole; read = function_is_read_lem p code w } in
+    = record { pieces = function_body p code; of_pieces = refl; words = text_has_tokens_lem names p code whole; read = function_is_read_lem p code w } in
     let own : IsReadInOrder names p known (spelled names (function_body p code)) (shown_code p code) = record { read = read; all_known = k; ordered = printed_tokens_are_in_order_lem p code u } in
     (own, λ other r. one_reading_lem names p known apart _ other _ r own)

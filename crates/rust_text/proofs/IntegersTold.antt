@@ -142,6 +142,6 @@ same_integer y z (Some p) None h k a b e =
     absurd (low_within (digits_written (nat_lt 6 p) y) (text_of builtin_names p) (subst HasNoLow (sym e ∙ append_assoc (digits_written (nat_lt 6 p) y) (codes "_") (text_of builtin_names p)) (signed_no_low z k)))
 same_integer y z (Some p) (Some q) h k a b e =
     let r = cut_low (digits_written (nat_lt 6 p) y) (digits_written (nat_lt 6 q) z) (text_of builtin_names p) (text_of builtin_names q) (written_no_low (nat_lt 6 p) y h) (written_no_low (nat_lt 6 q) z k)
-        (sym (append_assoc (digits_written (nat_lt 6 p) y) (codes "_") (text_of builtin_names p)) ∙ e ∙ append_assoc (digits_written (nat_lt 6 q) z) (codes "_") (text_of builtin_names q)) in
+    (sym (append_assoc (digits_written (nat_lt 6 p) y) (codes "_") (text_of builtin_names p)) ∙ e ∙ append_assoc (digits_written (nat_lt 6 q) z) (codes "_") (text_of builtin_names q)) in
     let places : p ≡ q = same_place p q a b r.back in
     record { number = written_same (nat_lt 6 q) y z h k (ap (λ x. digits_written (nat_lt 6 x) y) (sym places) ∙ r.front); ending = ap Some places }

@@ -17,6 +17,7 @@ mod PieceTexts
 mod PrintedTexts
 mod ProgramSteps
 mod ProgramTokens
+mod ReadOnceSample
 mod WholeCode
 mod WholeNames
 mod WrittenFunctions

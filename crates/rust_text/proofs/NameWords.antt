@@ -134,10 +134,14 @@ pub path_shape : (text : List ℕ) → PathWords text → WordShape text
 path_shape text p = a_path p.0 p.1 p.2 p.3 p.4 p.5
 
 path_before : (x text : List ℕ) → OneWord x → PathWords text → PathWords (x ++ codes "::" ++ text)
-path_before x text o p =
-    (x, codes "::" ∷ (p.0 ∷ p.1),
-    ap lexed (append_assoc x (codes "::") text) ∙ named_whole x o.named (codes "::" ++ text) refl ∙ ap (λ ws. ws ++ lexed (codes "::" ++ text)) o.word ∙ ap (λ ws. x ∷ (codes "::" ∷ ws)) p.2,
-    append_assoc x (codes "::") text ∙ ap (λ z. x ++ (codes "::" ++ z)) p.3, o.begins, and_from _ _ p.4 p.5)
+path_before x text o p = (
+  x,
+  codes "::" ∷ (p.0 ∷ p.1),
+  ap lexed (append_assoc x (codes "::") text) ∙ named_whole x o.named (codes "::" ++ text) refl ∙ ap (λ ws. ws ++ lexed (codes "::" ++ text)) o.word ∙ ap (λ ws. x ∷ (codes "::" ∷ ws)) p.2,
+  append_assoc x (codes "::") text ∙ ap (λ z. x ++ (codes "::" ++ z)) p.3,
+  o.begins,
+  and_from _ _ p.4 p.5,
+)
 
 joined_path : (x : List ℕ) (names : List (List ℕ)) → list_all is_identifier (x ∷ names) ≡ true → PathWords (joined (map raw_segment (x ∷ names)))
 joined_path x [] h = let o = segment_one x (and_parts (is_identifier x) true h).0 in (raw_segment x, [], o.word, sym (append-nil (raw_segment x)), o.begins, refl)
@@ -156,10 +160,13 @@ several_words (x ∷ []) h k = absurd (false≢true h)
 several_words (x ∷ (y ∷ names)) h k =
     let ks = and_parts (is_identifier x) (list_all is_identifier (y ∷ names)) k in
     let o = segment_one x ks.0 in
-    let p = joined_path y names ks.1 in
-    (raw_segment x, p.0, p.1,
-    ap lexed (append_assoc (raw_segment x) (codes "::") (joined (map raw_segment (y ∷ names)))) ∙ named_whole (raw_segment x) o.named (codes "::" ++ joined (map raw_segment (y ∷ names))) refl
-    ∙ ap (λ ws. ws ++ lexed (codes "::" ++ joined (map raw_segment (y ∷ names)))) o.word ∙ ap (λ ws. raw_segment x ∷ (codes "::" ∷ ws)) p.2)
+    let p = joined_path y names ks.1 in (
+      raw_segment x,
+      p.0,
+      p.1,
+      ap lexed (append_assoc (raw_segment x) (codes "::") (joined (map raw_segment (y ∷ names)))) ∙ named_whole (raw_segment x) o.named (codes "::" ++ joined (map raw_segment (y ∷ names))) refl
+          ∙ ap (λ ws. ws ++ lexed (codes "::" ++ joined (map raw_segment (y ∷ names)))) o.word ∙ ap (λ ws. raw_segment x ∷ (codes "::" ∷ ws)) p.2,
+    )
 
 pub constant_path : (name : List ℕ) → IsUtf8 name → is_among truths name ≡ false → PathWords (spelled_constant name)
 constant_path name u t = subst (λ b. PathWords (cond b name (spelled_path name))) (sym t) (by (is_path name) refl)

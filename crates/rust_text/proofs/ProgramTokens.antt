@@ -293,7 +293,7 @@ module _ (s : NameSetting) (constants with_rules : List ℕ) (named : All IsWell
   same_variant ty i j a b e =
       let variants : List VariantEntry = variants_in (slice_get s.types ty) in
       let same : name_text a.v.name ≡ name_text b.v.name = kind_apart (variant_kind s.names variants) a.kind_so (variant_claim s.names a.v) (variant_claim s.names b.v)
-          (map_in (variant_claim s.names) variants a.v (in_slice variants i a.v a.at_so)) (map_in (variant_claim s.names) variants b.v (in_slice variants j b.v b.at_so)) e in
+      (map_in (variant_claim s.names) variants a.v (in_slice variants i a.v a.at_so)) (map_in (variant_claim s.names) variants b.v (in_slice variants j b.v b.at_so)) e in
       let shown : (k : ℕ) (v : VariantEntry) → slice_get variants k ≡ Some v → variant_text s ty k ≡ Some (name_text v.name) = λ k v h. ap (option_map (λ (x : VariantEntry). text_of s.names x.name)) h in
       tell.variants_told ty i j (name_text b.v.name) (shown i a.v a.at_so ∙ ap Some same) (shown j b.v b.at_so)
 
@@ -306,12 +306,12 @@ module _ (s : NameSetting) (constants with_rules : List ℕ) (named : All IsWell
       let a = struct_there ty (slice_get s.types ty) refl h in
       let b = variant_there uy j (slice_get s.types uy) (variant_in (slice_get s.types uy) j) refl refl k in
       absurd (let z : spelled (name_text a.name) ∷ [] ≡ spelled (name_text b.name) ∷ (codes "::" ∷ (spelled (name_text b.v.name) ∷ []))
-          = sym (spelled_one (name_text a.name) (tell.utf8 a.name)).word ∙ ap lexed (sym a.written_so ∙ e) ∙ b.words_so in cc)
+      = sym (spelled_one (name_text a.name) (tell.utf8 a.name)).word ∙ ap lexed (sym a.written_so ∙ e) ∙ b.words_so in cc)
   same_owner_text (variant_owner ty i) (struct_owner uy) h k e =
       let a = struct_there uy (slice_get s.types uy) refl k in
       let b = variant_there ty i (slice_get s.types ty) (variant_in (slice_get s.types ty) i) refl refl h in
       absurd (let z : spelled (name_text a.name) ∷ [] ≡ spelled (name_text b.name) ∷ (codes "::" ∷ (spelled (name_text b.v.name) ∷ []))
-          = sym (spelled_one (name_text a.name) (tell.utf8 a.name)).word ∙ ap lexed (sym a.written_so ∙ sym e) ∙ b.words_so in cc)
+      = sym (spelled_one (name_text a.name) (tell.utf8 a.name)).word ∙ ap lexed (sym a.written_so ∙ sym e) ∙ b.words_so in cc)
   same_owner_text (variant_owner ty i) (variant_owner uy j) h k e =
       let a = variant_there ty i (slice_get s.types ty) (variant_in (slice_get s.types ty) i) refl refl h in
       let b = variant_there uy j (slice_get s.types uy) (variant_in (slice_get s.types uy) j) refl refl k in
@@ -345,7 +345,7 @@ module _ (s : NameSetting) (constants with_rules : List ℕ) (named : All IsWell
   one_number : (g h : Callee) (m : ℕ) → outside_of (program_in s) g ≡ Some m → outside_of (program_in s) h ≡ Some m → function_number (program_in s) g ≡ function_number (program_in s) h
   one_number g h m a b =
       let tests : is_same_function (program_in s) g ≡ is_same_function (program_in s) h
-          = fun_ext (λ x. ap (λ o. same_names o (outside_of (program_in s) x) (is_same_callee g x)) a ∙ one_name m (outside_of (program_in s) x) (is_same_callee g x) (is_same_callee h x) ∙ ap (λ o. same_names o (outside_of (program_in s) x) (is_same_callee h x)) (sym b)) in
+      = fun_ext (λ x. ap (λ o. same_names o (outside_of (program_in s) x) (is_same_callee g x)) a ∙ one_name m (outside_of (program_in s) x) (is_same_callee g x) (is_same_callee h x) ∙ ap (λ o. same_names o (outside_of (program_in s) x) (is_same_callee h x)) (sym b)) in
       ap (λ q. position_or_len q (callees (program_in s))) tests
 
   -- a function that isn't from outside is of a term with rules
@@ -387,9 +387,9 @@ module _ (s : NameSetting) (constants with_rules : List ℕ) (named : All IsWell
       let it : slice_get s.terms c.t ≡ Some i.0 = ap (λ z. slice_get s.terms (term_of z)) (sym c.is) ∙ i.1 in
       let jt : slice_get s.terms d.t ≡ Some j.0 = ap (λ z. slice_get s.terms (term_of z)) (sym d.is) ∙ j.1 in
       let written : codes "constructor_" ++ part (name_text i.0.name) ≡ codes "constructor_" ++ part (name_text j.0.name)
-          = ap (function_text s.names None) (sym i.1) ∙ e ∙ ap (function_text s.names None) j.1 in
+      = ap (function_text s.names None) (sym i.1) ∙ e ∙ ap (function_text s.names None) j.1 in
       let told : name_text i.0.name ≡ name_text j.0.name = kind_apart (terms_kind n) (well_behind (terms_kind n) (inr (inr (inl refl)))) (constructor_named s.names i.0.name) (constructor_named s.names j.0.name)
-          (term_claimed c.t i.0 c.ruled it) (term_claimed d.t j.0 d.ruled jt) written in
+      (term_claimed c.t i.0 c.ruled it) (term_claimed d.t j.0 d.ruled jt) written in
       let terms : c.t ≡ d.t = tell.terms_told c.t d.t i.0 j.0 c.ruled d.ruled it jt told in
       let callees_same : a.g ≡ b.g = c.is ∙ ap constructor_of terms ∙ sym d.is in
       sym a.number_so ∙ ap (function_number (program_in s)) callees_same ∙ b.number_so
@@ -510,7 +510,7 @@ module _ (s : NameSetting) (constants with_rules : List ℕ) (named : All IsWell
       let a = listed_outside f h in
       let b = listed_outside g k in
       let parts : part (name_text a.m) ≡ part (name_text b.m)
-          = ap (drop 3) (append_cancel_right (codes "C::" ++ part (name_text a.m)) (codes "C::" ++ part (name_text b.m)) (codes "_returns::default()") (sym a.shown_so ∙ e ∙ b.shown_so)) in
+      = ap (drop 3) (append_cancel_right (codes "C::" ++ part (name_text a.m)) (codes "C::" ++ part (name_text b.m)) (codes "_returns::default()") (sym a.shown_so ∙ e ∙ b.shown_so)) in
       ap Some (same_outside f g a.function b.function a.m b.m a.is b.is (parts_spell (name_text a.m) (name_text b.m) (tell.utf8 a.m) (tell.utf8 b.m) parts))
 
   -- integers
@@ -554,8 +554,8 @@ module _ (s : NameSetting) (constants with_rules : List ℕ) (named : All IsWell
       let inside : is_in c constants ≡ true = (and_parts (is_in c constants) (not (is_among truths (name_text c))) (there (constant_name c) k)).0 in
       let claim : Claim = path_behind [] (codes "constant ") (constant_claim s.names c) in
       let clash : claim.owner ≡ d.owner = kind_apart (paths_kind n) (well_behind (paths_kind n) (inr (inr (inr (inl refl))))) claim d
-          (in_left constant_paths (owner_paths ++ function_paths) claim (map_in (path_behind [] (codes "constant ")) (constants_kind n).claims (constant_claim s.names c) (constant_claimed c inside)))
-          (in_right constant_paths (owner_paths ++ function_paths) d i) e in
+      (in_left constant_paths (owner_paths ++ function_paths) claim (map_in (path_behind [] (codes "constant ")) (constants_kind n).claims (constant_claim s.names c) (constant_claimed c inside)))
+      (in_right constant_paths (owner_paths ++ function_paths) d i) e in
       other (ap (letter_at 0) (sym clash))
 
   record UnitPath (o : Owner) : Type 0 where
@@ -746,7 +746,7 @@ module _ (s : NameSetting) (constants with_rules : List ℕ) (named : All IsWell
           let w = several_words (segments (name_text c)) es.0 es.1 in several_free _ w.0 w.1 w.2 w.3
       by false e =
           let written : spelled_constant (name_text c) ≡ spelled (name_text c)
-              = ap (λ b. cond b (name_text c) (spelled_path (name_text c))) (not-true (is_among truths (name_text c)) parts.1) ∙ ap (λ b. cond b (joined (map raw_segment (segments (name_text c)))) (spelled (name_text c))) e in
+          = ap (λ b. cond b (name_text c) (spelled_path (name_text c))) (not-true (is_among truths (name_text c)) parts.1) ∙ ap (λ b. cond b (joined (map raw_segment (segments (name_text c)))) (spelled (name_text c))) e in
           identifier_free (spelled (name_text c)) (names_are_identifiers_lem (name_text c) (tell.utf8 c)) (spelled_one (name_text c) (tell.utf8 c)).begins
           (λ own. found_not (λ (x : Claim). is_own_value x.written) (constants_kind n).claims (constant_claim s.names c) (well_behind (constants_kind n) (inr (inl refl))).free (constant_claimed c parts.0) (ap is_own_value written ∙ own))
 

@@ -12,6 +12,7 @@ pub mod PrintedTexts
 pub mod ProgramFields
 pub mod ProgramNames
 pub mod ProgramTokens
+pub mod ReadOnceSample
 pub mod SettingViews
 pub mod Settings
 pub mod TokenViews

@@ -17,6 +17,7 @@ ghost use Rattle.rust_text.specs.LoweredCode.{IsItsCode, OfLowered};
 ghost use Rattle.rust_text.specs.OneReading.{CodeIsReadOnce, TextsAreReadOnce};
 ghost use Rattle.rust_text.specs.PrintedTexts.{EachTermHasItsPrintedText, PrintedTextsAreReadBack};
 ghost use Rattle.rust_text.specs.ProgramTokens.{WellNamedAreWrittenOnce};
+ghost use Rattle.rust_text.specs.ReadOnceSample.{SampleIsReadOnce};
 ghost use Rattle.rust_text.specs.WholeNames.{NamesAreClosed, NamesAreWhole};
 ghost use Rattle.rust_text.specs.WrittenOnce.{WrittenOnceAreApart};
 
@@ -176,3 +177,8 @@ pub fn answers_code_is_read_once()
 {
     texts_are_read_once();
 }
+
+/// A sample's names are told apart and tell what they name, and the tokens of its code are the program's.
+pub fn sample_is_read_once()
+    ensures { SampleIsReadOnce }
+{}
