@@ -13,6 +13,7 @@ mod Statements
 mod Tests
 mod TextSamples
 mod Unlogged
+mod UnnamedCode
 mod Uses
 mod Values
 pub mod ApartNames

@@ -33,5 +33,6 @@ pub mod TextSamples
 pub mod Tokens
 pub mod TreeCode
 pub mod TypeSamples
+pub mod UnnamedCode
 pub mod Written
 pub mod CodeTextSamples

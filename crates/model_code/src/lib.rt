@@ -27,6 +27,7 @@ ghost use Rattle.model_code.specs.ReadTexts.{TextIsReadBack, UnloggedTextIsItsTo
 ghost use Rattle.model_code.specs.ReadingSamples.{ReadingsAreJudged};
 ghost use Rattle.model_code.specs.CodeTextSamples.{SamplesAreWritten};
 ghost use Rattle.model_code.specs.TextSamples.{TextsAreJudged};
+ghost use Rattle.model_code.specs.UnnamedCode.{UnnamedCode};
 
 /// However values are handed on, the code of a tree that binds nothing written in place runs as the tree.
 #[tactic(auto, using(crate::proofs::CodeRunning::code_runs_as_tree_lem))]
@@ -275,4 +276,10 @@ pub fn texts_are_judged()
 #[tactic(auto, using(crate::proofs::ReadingSamples::readings_are_judged_lem))]
 pub fn readings_are_judged()
     ensures { ReadingsAreJudged }
+{}
+
+/// The code of a tree writes out nothing that has fields with names, if none of its sites does, whatever labels and moves it gets.
+#[tactic(auto, using(crate::proofs::UnnamedCode::unnamed_code_lem))]
+pub fn unnamed_code()
+    ensures { UnnamedCode }
 {}
