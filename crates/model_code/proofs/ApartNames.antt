@@ -1,5 +1,5 @@
 -- Where names are apart, so are all tokens that stand in order.
-use Rattle.std.proofs.Common.{◌≡◌, ◌≢◌, ◌⊎◌, ◌<◌, ◌^◌, ◌++◌, ◌&&◌, ◌==◌, ◌∷◌, [], ℕ, Bool, true, false, not, List, Option, Some, None, get_or, drop, slice_get, refl, ap, sym, subst, ◌∙◌, inl, inr, ⊎_elim, eqb-true, codes, decimal, arith}
+use Rattle.std.proofs.Common.{◌≡◌, ◌≢◌, ◌⊎◌, ◌<◌, ◌^◌, ◌++◌, ◌==◌, ◌∷◌, [], ℕ, Bool, true, false, List, Option, Some, None, get_or, drop, slice_get, refl, ap, sym, subst, ◌∙◌, inl, inr, ⊎_elim, eqb-true, codes, decimal, arith}
 use Rattle.std.specs.Prelude.{find}
 use Rattle.std.specs.Str.{bytes_eq}
 use Rattle.std.specs.Str.Parse.{AllDigits}
@@ -11,9 +11,9 @@ use Rattle.model.specs.lists.Syntax.{Position}
 use Rattle.model_code.specs.Tokens.{Word, let_word, mut_word, ref_word, if_word, else_word, match_word, while_word, return_word, break_word, some_word, none_word, true_word, false_word, ctx_word, returns_word, extend_word, len_word, most_word, clone_word, iter_word, next_word, unreachable_word, opening, closing, opening_brace, closing_brace, comma, colon, semicolon, dot, two_dots, underscore, arrow, equals, equal_to, unlike, at_least, ampersand, star, Owner, variant_owner, struct_owner, Token, word, variable_name, parameter_name, part_name, number, constant_name, owner_name, field_name, function_name, list_name, label_name, no_match}
 use Rattle.model_code.specs.Notation.{Notation}
 use Rattle.model_code.specs.Spelling.{Names, word_text, token_text}
-use Rattle.model_code.specs.Lexing.{lexed, OwnTokensAreWords}
+use Rattle.model_code.specs.Lexing.{lexed}
 use Rattle.model_code.specs.Reading.{order_of, same_word, same_owner}
-use Rattle.model_code.specs.OneReading.{Sign, a_token, a_log, told, sign_words, signs_words, Next, anything, is_free, a_method, a_brace, a_field, an_opening, a_closing, is_method, is_word, is_name_of_method, is_field_or_end, may_stand, may_be, behind_told, is_known_sign, stands, follow, AreApart}
+use Rattle.model_code.specs.OneReading.{Sign, a_token, a_log, told, sign_words, signs_words, Next, anything, is_free, a_method, a_brace, a_field, an_opening, a_closing, is_method, is_word, is_name_of_method, is_field_or_end, may_be, behind_told, is_known_sign, stands, follow}
 use Rattle.model_code.specs.ApartNames.{OwnToken, an_own_word, a_variable, a_parameter, a_label, own_text, is_own_method, IsSmallToken, IsOfNames, is_named, AreNamesApart, NamesApartMakeTokensApart}
 use Rattle.model_code.proofs.Lexing.{own_tokens_are_words_lem}
 

@@ -1,12 +1,12 @@
 -- The tokens of a function stand in order.
-use Rattle.std.proofs.Common.{◌≡◌, ◌&&◌, ◌∷◌, [], ℕ, zero, suc, Bool, true, false, List, Option, Some, None, refl, ap, ◌∙◌}
+use Rattle.std.proofs.Common.{◌≡◌, ◌&&◌, ◌∷◌, [], ℕ, zero, suc, Bool, true, false, List, Option, Some, None, refl}
 use Rattle.std.proofs.lemmas.Bool.{and_parts, and_from, false≢true}
 use Rattle.model.specs.lists.Syntax.{Position}
 use Rattle.model.specs.sites.Sites.{Constraint, is_variant, is_struct, is_bool, is_int, is_prim, is_present}
 use Rattle.model_code.specs.Code.{Place, variable, parameter, part_of, int_written, name_written, variant_written, struct_written, Pass, as_it_is, lent, cloned, seen_through, PlaceUse, Expr, truth_written, read, extraction, call, variant_of, struct_of, some_of, Block, no_statement, statement, Statement, bind, bind_some, no_way, match_on, if_equal, for_each_of, give, labelled, unless_let, unless_equal, CodeArms, no_code_arm, code_arm}
 use Rattle.model_code.specs.Tokens.{Word, ampersand, star, closing, closing_brace, comma, colon, else_word, arrow, equal_to, unlike, equals, ref_word, mut_word, opening_brace, Owner, variant_owner, struct_owner, variable_name, field_name}
 use Rattle.model_code.specs.Notation.{Notation, ReturnForm, gives_one, gives_option, gives_many, Shape, no_fields, named_fields, unnamed_fields, Callee, extractor_of, constructor_of}
-use Rattle.model_code.specs.Pieces.{CodePiece, token, space, set_in, line_end, rule_comment, log_line, Margin, inside, in_braces_at, put, put_first, put_first_if, put_between, put_all, put_if, end_line, place_before, clone_call, passed_before, use_before, truth_word, args_before, called_before, gap_before, named_values, unnamed_values, made_before, answer_before, expr_before, binding_before, fields_end, named_bindings, place_in_order, unnamed_bindings, bindings_before, inner_before, constant_before, pattern_before, is_constant, is_seen_through, comparison_before, let_before, condition_before, arm_pattern, break_before, open_body, close_body, one_line, many_lines, call_lines, bind_lines, failure_before, bind_some_line, log_lines, give_lines, equal_head, unless_line, unless_equal_line, is_alone, match_head, arms_at, arm_head, match_end, label_before, is_left, result_ends, is_end, unless_end, block_before, statement_before, arms_before}
+use Rattle.model_code.specs.Pieces.{CodePiece, token, space, set_in, line_end, Margin, inside, in_braces_at, put, put_first, put_first_if, put_between, put_all, put_if, end_line, place_before, clone_call, passed_before, use_before, truth_word, args_before, called_before, gap_before, named_values, unnamed_values, made_before, answer_before, expr_before, binding_before, fields_end, named_bindings, place_in_order, unnamed_bindings, bindings_before, inner_before, constant_before, pattern_before, is_constant, is_seen_through, comparison_before, let_before, condition_before, arm_pattern, break_before, open_body, close_body, one_line, many_lines, call_lines, bind_lines, failure_before, bind_some_line, log_lines, give_lines, equal_head, unless_line, unless_equal_line, is_alone, match_head, arms_at, arm_head, match_end, label_before, is_left, result_ends, is_end, unless_end, block_before, statement_before, arms_before}
 use Rattle.model_code.specs.Written.{no_margin, is_bare, unwrapped, written, written_at, written_arms, has_end, function_end, end_before}
 use Rattle.model_code.specs.Reading.{same_owner}
 use Rattle.model_code.specs.OneReading.{signs_of, Next, anything, a_field, behind_owner, in_order, is_unnamed, place_unnamed, use_unnamed, uses_unnamed, expr_unnamed, unnamed, unnamed_at, unnamed_arms, PrintedTokensAreInOrder}

@@ -1,8 +1,7 @@
 -- Words tell the tokens that stand in order, so a text has one reading.
-use Rattle.std.proofs.Common.{◌≡◌, ◌⊎◌, ◌++◌, ◌&&◌, ◌∷◌, [], ℕ, Bool, true, List, Option, Some, None, map, refl, ap, sym, subst, ◌∙◌, inl, inr, ⊎_elim}
+use Rattle.std.proofs.Common.{◌≡◌, ◌⊎◌, ◌++◌, ◌∷◌, [], Bool, true, List, Option, Some, None, map, refl, ap, sym, subst, ◌∙◌, inl, inr, ⊎_elim}
 use Rattle.std.specs.List.{list_all}
 use Rattle.std.proofs.lemmas.Bool.{and_parts, and_from}
-use Rattle.model_code.specs.Code.{Block}
 use Rattle.model_code.specs.Tokens.{Token}
 use Rattle.model_code.specs.Notation.{Notation}
 use Rattle.model_code.specs.Pieces.{CodePiece, token, space, set_in, line_end, rule_comment, log_line, tokens_of}
@@ -11,7 +10,7 @@ use Rattle.model_code.specs.Spelling.{Names, token_text, spelled}
 use Rattle.model_code.specs.Lexing.{lexed, pieces_lexed}
 use Rattle.model_code.specs.ReadsBack.{read_function}
 use Rattle.model_code.specs.ReadTexts.{IsReadAsCode}
-use Rattle.model_code.specs.OneReading.{Sign, a_token, a_log, signs_of, told, sign_words, signs_words, Next, anything, may_be, may_stand, behind, behind_told, in_order, stands, follow, AreApart, WordsTellTokens, IsReadInOrder, OneReading, PrintedTextHasOneReading}
+use Rattle.model_code.specs.OneReading.{Sign, a_log, signs_of, told, sign_words, signs_words, Next, anything, may_be, may_stand, behind, behind_told, in_order, stands, follow, AreApart, WordsTellTokens, IsReadInOrder, OneReading, PrintedTextHasOneReading}
 use Rattle.model_code.proofs.InOrder.{printed_tokens_are_in_order_lem}
 use Rattle.model_code.proofs.Lexing.{text_has_tokens_lem}
 use Rattle.model_code.proofs.ReadTexts.{function_is_read_lem}

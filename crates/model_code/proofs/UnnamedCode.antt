@@ -1,5 +1,5 @@
 -- Code of trees writes out nothing that has fields with names, if no site does.
-use Rattle.std.proofs.Common.{◌≡◌, ◌&&◌, ◌++◌, ◌∷◌, [], ℕ, suc, Bool, true, false, List, Option, Some, None, map, slice_get, refl}
+use Rattle.std.proofs.Common.{◌≡◌, ◌&&◌, ◌++◌, ◌∷◌, [], ℕ, suc, Bool, true, false, List, Option, Some, map, slice_get, refl}
 use Rattle.std.proofs.lemmas.Bool.{and_parts, and_from}
 use Rattle.model.specs.sites.Sites.{Site, bool_site, extractor_site, constructor_site, make_variant_site, make_struct_site, make_some_site, iterator_site, match_some_site}
 use Rattle.model.specs.trees.Places.{field_sites}
@@ -7,11 +7,11 @@ use Rattle.model.specs.trees.Trees.{Tree, no_step, step, Check, match_at, equal_
 use Rattle.model_code.specs.Code.{Place, PlaceUse, Expr, truth_written, read, extraction, call, variant_of, struct_of, some_of, Block, no_statement, statement, Statement, bind, bind_some, no_way, match_on, if_equal, for_each_of, give, labelled, unless_let, unless_equal, CodeArms, no_code_arm, code_arm}
 use Rattle.model_code.specs.Flat.{within, flat, flat_at, flat_arms, leaving, leaving_last, leaving_match}
 use Rattle.model_code.specs.Modes.{Types}
-use Rattle.model_code.specs.MovedOnce.{beside, unlooked, movable_after, behind, read_no_more}
+use Rattle.model_code.specs.MovedOnce.{unlooked, movable_after, behind, read_no_more}
 use Rattle.model_code.specs.Notation.{Notation}
 use Rattle.model_code.specs.OneReading.{use_unnamed, uses_unnamed, expr_unnamed, unnamed, unnamed_at, unnamed_arms}
-use Rattle.model_code.specs.Saving.{saved_use, all_saved, saved_expr, saved, saved_at, saved_arms}
-use Rattle.model_code.specs.TreeCode.{Taker, to_field, Passes, use_at, arguments_from, bind_code, binds_code, loop_code, tree_code, check_code, arms_code}
+use Rattle.model_code.specs.Saving.{all_saved, saved_expr, saved, saved_at, saved_arms}
+use Rattle.model_code.specs.TreeCode.{to_field, Passes, use_at, arguments_from, bind_code, binds_code, loop_code, tree_code, check_code, arms_code}
 use Rattle.model_code.specs.UnnamedCode.{AreUnnamedSites, UnnamedCode}
 
 -- 1. trees

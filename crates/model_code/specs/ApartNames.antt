@@ -1,7 +1,7 @@
 -- Names that are apart in their words, from each other and from the code's own tokens.
 use Rattle.std.specs.Prelude.{◌≡◌, ◌≢◌, ◌⊎◌, ◌<◌, ◌^◌, ◌++◌, [], ◌∷◌, ⊤, ℕ, Bool, true, false, List, codes, decimal}
 use Rattle.model.specs.lists.Syntax.{Position}
-use Rattle.model_code.specs.Tokens.{Word, Owner, Token, word, variable_name, parameter_name, part_name, number, constant_name, owner_name, field_name, function_name, list_name, label_name}
+use Rattle.model_code.specs.Tokens.{Word, Owner, Token, variable_name, parameter_name, part_name, number, constant_name, owner_name, field_name, function_name, list_name, label_name}
 use Rattle.model_code.specs.Notation.{Notation}
 use Rattle.model_code.specs.Spelling.{Names, word_text, token_text}
 use Rattle.model_code.specs.Lexing.{lexed}

@@ -4,8 +4,8 @@ use Rattle.std.specs.List.{list_all}
 use Rattle.model.specs.lists.Syntax.{Position}
 use Rattle.model_code.specs.Code.{Place, variant_written, struct_written, PlaceUse, Expr, read, extraction, call, variant_of, struct_of, some_of, Block, no_statement, statement, Statement, bind, bind_some, match_on, if_equal, for_each_of, give, labelled, unless_let, unless_equal, CodeArms, no_code_arm, code_arm}
 use Rattle.model_code.specs.Tokens.{Word, extend_word, len_word, clone_word, iter_word, next_word, unreachable_word, opening, closing, opening_brace, closing_brace, comma, dot, two_dots, Owner, variant_owner, struct_owner, Token, word, owner_name, field_name}
-use Rattle.model_code.specs.Notation.{Notation, Shape, no_fields, named_fields, unnamed_fields}
-use Rattle.model_code.specs.Pieces.{CodePiece, token, space, set_in, line_end, rule_comment, log_line, tokens_of}
+use Rattle.model_code.specs.Notation.{Notation, Shape, named_fields}
+use Rattle.model_code.specs.Pieces.{CodePiece, token, log_line, tokens_of}
 use Rattle.model_code.specs.Written.{shown_code, function_body}
 use Rattle.model_code.specs.Spelling.{Names, token_text, spelled}
 use Rattle.model_code.specs.Lexing.{lexed, AreWhole}

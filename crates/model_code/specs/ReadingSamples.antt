@@ -2,7 +2,7 @@
 use Rattle.std.specs.Prelude.{◌≡◌, ◌≢◌, [], ◌∷◌, pos, true, false, List, None, codes}
 use Rattle.model_code.specs.Code.{name_written, as_it_is, truth_written, read, Block, bind}
 use Rattle.model_code.specs.Samples.{use_of, one_statement}
-use Rattle.model_code.specs.Tokens.{dot, struct_owner, Token, word, variable_name, part_name, number, field_name}
+use Rattle.model_code.specs.Tokens.{dot, struct_owner, word, variable_name, part_name, number, field_name}
 use Rattle.model_code.specs.Notation.{gives_one, gives_many}
 use Rattle.model_code.specs.Written.{shown_code, function_body}
 use Rattle.model_code.specs.Spelling.{Names, spelled}
