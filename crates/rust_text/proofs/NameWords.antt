@@ -1,12 +1,12 @@
 -- The words of written names: identifiers with `::` between them, lists for answers, integers.
-use Rattle.std.proofs.Common.{◌≡◌, ◌≢◌, ◌&&◌, ◌||◌, ◌++◌, ◌==◌, ◌/◌, ◌%◌, ◌<◌, ◌∷◌, [], ℕ, zero, suc, ℤ, pos, negsuc, Bool, true, false, not, cond, List, Option, Some, None, map, slice_get, codes, decimal, IsUtf8, refl, ap, ◌∙◌, sym, subst, inl, inr, ⊎_elim, arith}
+use Rattle.std.proofs.Common.{◌≡◌, ◌≢◌, ◌&&◌, ◌||◌, ◌++◌, ◌==◌, ◌/◌, ◌%◌, ◌<◌, ◌∷◌, [], ℕ, zero, suc, ℤ, pos, negsuc, Bool, true, false, not, cond, List, Option, Some, None, map, slice_get, codes, decimal, IsUtf8, refl, ap, ◌∙◌, sym, subst, inl, inr, arith}
 use Rattle.std.specs.Prelude.{is_some, nat_lt}
 use Rattle.std.specs.Char.{is_ascii_digit}
-use Rattle.std.specs.Fmt.{digits, digits_onto, digit_glyph, signed_decimal}
+use Rattle.std.specs.Fmt.{digits, digits_onto, digit_glyph}
 use Rattle.std.specs.Int.{cast_unsigned, w128}
 use Rattle.std.specs.List.{list_all}
 use Rattle.std.specs.Str.{bytes_eq}
-use Rattle.std.proofs.lemmas.Bool.{and_parts, and_from, false≢true, not-true}
+use Rattle.std.proofs.lemmas.Bool.{and_parts, and_from, false≢true}
 use Rattle.std.proofs.lemmas.Bool.Decides.{nat_tests}
 use Rattle.std.proofs.lemmas.List.{append-nil, append_assoc}
 use Rattle.model.specs.lists.Signatures.{text_of}
@@ -16,18 +16,18 @@ use Rattle.model.specs.lists.TypeTable.{builtin_names}
 use Rattle.model_code.specs.Tokens.{Owner, variant_owner, struct_owner}
 use Rattle.model_code.specs.Notation.{Callee}
 use Rattle.model_code.specs.Alike.{term_of}
-use Rattle.model_code.specs.ProgramNotation.{callees, outside_of, fields_of}
+use Rattle.model_code.specs.ProgramNotation.{outside_of}
 use Rattle.model_code.specs.Lexing.{is_letter, in_word, lexed, lexed_from}
 use Rattle.model_code.specs.Closed.{all_letters, all_named}
 use Rattle.model_code.proofs.Lexing.{letters_go_on, one_word, letters_before, decimal_letters, hexadecimal_letters}
-use Rattle.model_code.proofs.Closed.{letters_named, named_before, named_whole}
-use Rattle.rust_items.specs.NameLaws.{IsIdentifier, NamesAreIdentifiers, is_plain}
-use Rattle.rust_items.specs.RustNames.{raw_keywords, path_keywords, is_among, is_word, needs_front, is_identifier, part, raw_mark, spelled, segments, is_path, joined, raw_segment, spelled_path, truths, spelled_constant, are_several}
+use Rattle.model_code.proofs.Closed.{letters_named, named_whole}
+use Rattle.rust_items.specs.NameLaws.{IsIdentifier}
+use Rattle.rust_items.specs.RustNames.{raw_keywords, path_keywords, is_among, is_word, needs_front, is_identifier, part, spelled, segments, is_path, joined, raw_segment, spelled_path, truths, spelled_constant, are_several}
 use Rattle.rust_items.proofs.Spellings.{names_are_identifiers_lem}
 use Rattle.rust_items.specs.WrittenTypes.{type_written}
-use Rattle.rust_text.specs.ProgramNames.{NameSetting, program_in, variant_in, variant_written, owner_written, one_field_written, field_written, term_part, function_text, function_or_none, list_text, list_or_none, list_at, digits_written, integer_written, int_at, number_written}
+use Rattle.rust_text.specs.ProgramNames.{NameSetting, program_in, variant_in, variant_written, owner_written, one_field_written, field_written, term_part, function_text, function_or_none, list_text, list_or_none, digits_written, integer_written}
 use Rattle.rust_text.specs.WrittenOnce.{is_struct_entry, is_declared}
-use Rattle.rust_text.proofs.ClosedNames.{part_letters, identifier_plain, spelled_named}
+use Rattle.rust_text.proofs.ClosedNames.{part_letters, identifier_plain}
 use Rattle.rust_text.proofs.WholeNames.{named_letters}
 
 -- 1. words of names

@@ -1,5 +1,5 @@
 -- Where names are told apart, texts have one reading.
-use Rattle.std.proofs.Common.{◌≡◌, ℕ, List, ap, sym, subst, ◌∙◌}
+use Rattle.std.proofs.Common.{◌≡◌, ap, sym, subst, ◌∙◌}
 use Rattle.std.specs.Prelude.{All}
 use Rattle.model_code.specs.ApartNames.{NamesApartMakeTokensApart}
 use Rattle.model_code.specs.OneReading.{AreApart, OneReading, PrintedTextHasOneReading}

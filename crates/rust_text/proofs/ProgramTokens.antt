@@ -1,6 +1,6 @@
 -- Where names are told apart and tell what they name, different things are written differently.
-use Rattle.std.proofs.Common.{◌≡◌, ◌≢◌, ◌+◌, ◌<◌, ◌^◌, ◌⊎◌, ◌&&◌, ◌||◌, ◌++◌, ◌==◌, ◌∷◌, [], ℕ, zero, suc, ℤ, Bool, true, false, not, cond, List, Option, Some, None, get_or, drop, map, slice_get, codes, decimal, refl, ap, ◌∙◌, sym, subst, inl, inr, ⊎_elim, eqb-true, arith}
-use Rattle.std.specs.Prelude.{All, is_some, nat_lt, option_map, find}
+use Rattle.std.proofs.Common.{◌≡◌, ◌≢◌, ◌+◌, ◌^◌, ◌⊎◌, ◌&&◌, ◌||◌, ◌++◌, ◌==◌, ◌∷◌, [], ℕ, zero, suc, ℤ, Bool, true, false, not, cond, List, Option, Some, None, get_or, drop, map, slice_get, codes, decimal, refl, ap, ◌∙◌, sym, subst, inl, inr, ⊎_elim, eqb-true, arith}
+use Rattle.std.specs.Prelude.{All, is_some, option_map}
 use Rattle.std.specs.Char.{is_ascii_digit}
 use Rattle.std.specs.List.{flat_map, list_all, position_or_len}
 use Rattle.std.specs.Str.{bytes_eq}
@@ -11,7 +11,7 @@ use std.Path.{fun_ext}
 use Rattle.model.specs.lists.Signatures.{text_of}
 use Rattle.model.specs.lists.Tables.{FieldEntry, FieldEntries, unit_entries, struct_entries, tuple_entries, VariantEntry, TypeEntry, builtin_type, primitive_type, enum_type, struct_type, TermEntry}
 use Rattle.model.specs.trees.Places.{is_in}
-use Rattle.model.proofs.Bytes.{same_bytes, same_self}
+use Rattle.model.proofs.Bytes.{same_self}
 use Rattle.model.proofs.Elements.{In, contains_from_in, in_flat_map, in_from_contains, in_left, in_right, in_slice, map_in, or_right}
 use Rattle.model.proofs.Members.{member_found}
 use Rattle.model_code.specs.Tokens.{Word, let_word, mut_word, ref_word, if_word, else_word, match_word, while_word, return_word, break_word, some_word, none_word, true_word, false_word, ctx_word, returns_word, extend_word, len_word, most_word, clone_word, iter_word, next_word, unreachable_word, opening, closing, opening_brace, closing_brace, comma, colon, semicolon, dot, two_dots, underscore, arrow, equals, equal_to, unlike, at_least, ampersand, star, Owner, variant_owner, struct_owner, Token, word, variable_name, parameter_name, part_name, number, constant_name, owner_name, field_name, function_name, list_name, label_name, no_match}
@@ -27,18 +27,18 @@ use Rattle.model_code.specs.ApartNames.{AreSmall, OwnToken, an_own_word, a_varia
 use Rattle.model_code.proofs.ApartNames.{found, not_own, word_of, first_words, more_words}
 use Rattle.model_code.proofs.Closed.{named_whole}
 use Rattle.model_code.proofs.Lexing.{own_tokens_are_words_lem}
-use Rattle.rust_items.specs.Claims.{Claim, IsWellNamed, Namespace, first_taken}
+use Rattle.rust_items.specs.Claims.{Claim, IsWellNamed, Namespace}
 use Rattle.rust_items.specs.NameLaws.{IsIdentifier, is_plain}
-use Rattle.rust_items.specs.NamedPrograms.{NamedProgram, claim, identified, type_claim, field_claim, field_claims, field_kind, variant_claim, variant_kind, variant_fields, kinds_inside, function_claim, purely, constant_claim, constructor_named, constructors_of, path_behind, struct_path, struct_path_of, term_claim, type_paths, variant_path, variant_path_if, variant_path_of, types_kind, functions_kind, constants_kind, terms_kind, paths_kind, kinds}
-use Rattle.rust_items.specs.OwnNames.{is_own_type, is_own_value, is_variable, own_types, own_values}
+use Rattle.rust_items.specs.NamedPrograms.{NamedProgram, identified, type_claim, field_claim, field_claims, field_kind, variant_claim, variant_kind, variant_fields, kinds_inside, function_claim, constant_claim, constructor_named, constructors_of, path_behind, struct_path, struct_path_of, term_claim, type_paths, variant_path, variant_path_if, variant_path_of, types_kind, functions_kind, constants_kind, terms_kind, paths_kind, kinds}
+use Rattle.rust_items.specs.OwnNames.{is_own_type, is_own_value, own_types}
 use Rattle.rust_items.specs.RustNames.{are_several, is_among, is_identifier, is_path, joined, part, raw_segment, segments, spelled, spelled_constant, spelled_path, truths}
 use Rattle.rust_items.proofs.PureFunctions.{placed, claimed}
-use Rattle.rust_items.proofs.FreeVariables.{found_not, own_type, own_value}
+use Rattle.rust_items.proofs.FreeVariables.{found_not, own_value}
 use Rattle.rust_items.proofs.Spellings.{names_are_identifiers_lem, parts_spell}
 use Rattle.rust_items.proofs.Variables.{variables_are_plain_lem}
 use Rattle.rust_items.specs.WrittenTypes.{type_written}
-use Rattle.rust_text.specs.ProgramNames.{NameSetting, names_of, program_in, variant_in, variant_written, owner_written, one_field_written, field_written, term_part, function_text, function_written, function_or_none, list_text, list_or_none, int_at}
-use Rattle.rust_text.specs.WrittenOnce.{AreWrittenOnce, is_declared, is_struct_entry}
+use Rattle.rust_text.specs.ProgramNames.{NameSetting, names_of, program_in, variant_in, variant_written, owner_written, one_field_written, field_written, term_part, function_text, function_or_none, list_text, list_or_none, int_at}
+use Rattle.rust_text.specs.WrittenOnce.{is_declared, is_struct_entry}
 use Rattle.rust_text.specs.ProgramTokens.{NamesTell, WellNamedAreWrittenOnce, fits, has_fields, has_list, is_ending, is_integer_place, field_text, field_text_in, is_called, is_clear, is_function, is_list_path, is_of_program, is_there, named_by, type_text, type_text_in, variant_text, variants_in}
 use Rattle.rust_text.proofs.IntegersTold.{IsPlace, as_fits, same_integer}
 use Rattle.rust_text.proofs.NameWords.{ListWords, OneWord, PathWords, begins_integer, begins_name, constant_path, integer_begins, is_path_tail, known_function_path, list_end, list_made, made, of_own, own_function_one, owner_path, path_begins_so, several_words, spelled_one}

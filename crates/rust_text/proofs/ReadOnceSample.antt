@@ -1,17 +1,17 @@
 -- The sample's names are told apart and tell what they name.
-use Rattle.std.proofs.Common.{◌≡◌, ◌≢◌, ◌&&◌, ◌||◌, ◌+◌, ◌++◌, ◌==◌, ◌∷◌, [], ℕ, zero, suc, Bool, true, false, not, List, Option, Some, None, get_or, length, slice_get, codes, refl, ap, sym, subst, ◌∙◌, arith}
+use Rattle.std.proofs.Common.{◌≡◌, ◌≢◌, ◌&&◌, ◌||◌, ◌++◌, ◌==◌, ◌∷◌, [], ℕ, zero, suc, Bool, true, false, not, List, Option, Some, None, get_or, length, slice_get, codes, refl, ap, sym, subst, ◌∙◌, arith}
 use Rattle.std.specs.Prelude.{All, IsUtf8, is_none}
 use Rattle.std.specs.Fmt.{digits}
 use Rattle.std.specs.List.{list_all}
 use Rattle.std.specs.Str.{bytes_eq, chars, IsAscii}
-use Rattle.std.proofs.lemmas.Bool.{and_parts, and_from, false≢true, not-true}
+use Rattle.std.proofs.lemmas.Bool.{and_parts, false≢true}
 use Rattle.std.proofs.lemmas.List.{length-append}
 use Rattle.std.proofs.lemmas.List.Elements.{All-nil, All-cons}
 use Rattle.std.proofs.lemmas.Str.{IsUtf8-from_ascii}
 use Rattle.std.proofs.lemmas.Str.Ascii.{IsAscii-nil, IsAscii-cons}
 use Rattle.std.proofs.lemmas.Bool.{eqb-true}
 use Rattle.model.specs.lists.Signatures.{text_of}
-use Rattle.model.specs.lists.Tables.{TypeEntry, builtin_type, TermEntry}
+use Rattle.model.specs.lists.Tables.{TypeEntry, builtin_type}
 use Rattle.model.specs.trees.Places.{is_in}
 use Rattle.model.proofs.Bytes.{same_bytes, same_self}
 use Rattle.model_code.specs.Notation.{Callee, extractor_of, constructor_of}
@@ -21,8 +21,8 @@ use Rattle.model_code.specs.ApartNames.{is_named}
 use Rattle.model_code.specs.Lexing.{lexed}
 use Rattle.model_code.specs.Spelling.{token_text}
 use Rattle.model_code.specs.Tokens.{Owner, variant_owner, struct_owner, Token, word, variable_name, parameter_name, part_name, number, constant_name, owner_name, field_name, function_name, list_name, label_name, no_match}
-use Rattle.rust_items.specs.Claims.{Claim, Namespace, AreWrittenApart, IsWellNamed, first_taken}
-use Rattle.rust_items.specs.NamedPrograms.{kinds, purely}
+use Rattle.rust_items.specs.Claims.{Claim, Namespace, IsWellNamed, first_taken}
+use Rattle.rust_items.specs.NamedPrograms.{kinds}
 use Rattle.rust_items.specs.RustNames.{is_among, truths}
 use Rattle.rust_text.specs.ProgramNames.{int_at, names_of, program_in, variant_in, variant_written, function_or_none, function_text}
 use Rattle.rust_items.specs.WrittenTypes.{type_written}

@@ -1,6 +1,5 @@
 -- What is written differently is apart in its words.
-use Rattle.std.proofs.Common.{◌≡◌, ◌≢◌, ◌⊎◌, ◌+◌, ◌&&◌, ◌++◌, ◌==◌, ◌∷◌, [], ℕ, ℤ, Bool, true, false, not, List, Option, Some, None, cond, get_or, length, slice_get, codes, refl, ap, ◌∙◌, sym, subst, inl, inr, ⊎_elim, arith}
-use Rattle.std.specs.Prelude.{is_some}
+use Rattle.std.proofs.Common.{◌≡◌, ◌≢◌, ◌⊎◌, ◌+◌, ◌&&◌, ◌++◌, ◌==◌, ◌∷◌, [], ℕ, Bool, true, false, not, List, Option, Some, None, cond, get_or, length, slice_get, codes, refl, ap, ◌∙◌, sym, subst, inl, inr, ⊎_elim, arith}
 use Rattle.std.specs.Char.{is_ascii_digit}
 use Rattle.std.specs.List.{flat_map}
 use Rattle.std.specs.Str.{bytes_eq, chars}
@@ -9,12 +8,12 @@ use Rattle.std.proofs.lemmas.List.{append-nil, length-append}
 use Rattle.model.specs.lists.Signatures.{text_of}
 use Rattle.model.specs.lists.Syntax.{Position}
 use Rattle.model.proofs.Bytes.{same_bytes}
-use Rattle.model_code.specs.ApartNames.{AreNamesApart, IsOfNames, OwnToken, is_named, is_own_method, IsSmallToken, own_text}
+use Rattle.model_code.specs.ApartNames.{IsOfNames, OwnToken, is_named, is_own_method, IsSmallToken, own_text}
 use Rattle.model_code.specs.Closed.{is_closed, stays_quoted, escape_stays}
 use Rattle.model_code.specs.Lexing.{is_letter, in_quotes, behind_backslash, escapes, lexed, lexed_from, starts_apart}
 use Rattle.model_code.specs.ProgramNotation.{callees, fields_of}
 use Rattle.model_code.specs.Spelling.{token_text}
-use Rattle.model_code.specs.Tokens.{Word, Owner, Token, word, variable_name, parameter_name, part_name, number, constant_name, owner_name, field_name, function_name, list_name, label_name, no_match}
+use Rattle.model_code.specs.Tokens.{Owner, Token, word, variable_name, parameter_name, part_name, number, constant_name, owner_name, field_name, function_name, list_name, label_name, no_match}
 use Rattle.model_code.proofs.ApartNames.{not_own, nothing_more, first_words, more_words}
 use Rattle.model_code.proofs.Closed.{closed_whole, closed_together}
 use Rattle.rust_items.specs.FilePlaces.{place_written}

@@ -2,7 +2,7 @@
 use Rattle.std.specs.Prelude.{◌≡◌, ◌≢◌, ◌&&◌, ◌||◌, ◌==◌, ◌∷◌, ◌^◌, [], ℕ, zero, suc, ℤ, pos, negsuc, Bool, true, false, not, nat_lt, is_some, List, Option, Some, None, All, IsUtf8, codes, option_map, slice_get}
 use Rattle.std.specs.Str.{bytes_eq}
 use Rattle.model.specs.lists.Signatures.{text_of}
-use Rattle.model.specs.lists.Tables.{FieldEntry, FieldEntries, unit_entries, struct_entries, tuple_entries, VariantEntry, TypeEntry, builtin_type, primitive_type, enum_type, struct_type, TermEntry}
+use Rattle.model.specs.lists.Tables.{FieldEntry, FieldEntries, unit_entries, struct_entries, tuple_entries, VariantEntry, TypeEntry, enum_type, struct_type, TermEntry}
 use Rattle.model.specs.trees.Places.{is_in}
 use Rattle.model_code.specs.Tokens.{Owner, struct_owner, Token, word, variable_name, parameter_name, part_name, number, constant_name, owner_name, field_name, function_name, list_name, label_name, no_match}
 use Rattle.model_code.specs.Notation.{Callee, extractor_of, constructor_of}
@@ -13,7 +13,7 @@ use Rattle.model_code.specs.ApartNames.{is_named}
 use Rattle.rust_items.specs.Claims.{IsWellNamed}
 use Rattle.rust_items.specs.NamedPrograms.{NamedProgram, kinds, purely}
 use Rattle.rust_items.specs.RustNames.{is_among, truths}
-use Rattle.rust_text.specs.ProgramNames.{NameSetting, names_of, program_in, variant_in, int_at}
+use Rattle.rust_text.specs.ProgramNames.{NameSetting, names_of, program_in, int_at}
 use Rattle.rust_text.specs.WrittenOnce.{is_declared, AreWrittenOnce}
 
 -- with these constants, by the numbers of their names, and these terms with rules

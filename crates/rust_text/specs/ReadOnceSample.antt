@@ -5,10 +5,10 @@
 --   (extern constructor f f)
 --   (decl t (E) u8)
 --   (rule (t (E.B x)) (f $K))
-use Rattle.std.specs.Prelude.{◌≡◌, ◌∷◌, [], ℕ, pos, true, false, List, Some, None, All, codes}
+use Rattle.std.specs.Prelude.{◌≡◌, ◌∷◌, [], ℕ, true, false, Some, None, All, codes}
 use Rattle.std.specs.List.{list_all}
 use Rattle.model.specs.lists.Syntax.{Position}
-use Rattle.model.specs.lists.Tables.{FieldEntries, unit_entries, struct_entries, VariantEntry, TypeEntry, builtin_type, enum_type, Flags, internal_constructor, external_constructor, declared_term, TermEntry}
+use Rattle.model.specs.lists.Tables.{FieldEntries, unit_entries, struct_entries, VariantEntry, builtin_type, enum_type, Flags, internal_constructor, external_constructor, declared_term}
 use Rattle.model.specs.sites.Sites.{is_variant}
 use Rattle.model_code.specs.Code.{variable, parameter, name_written, as_it_is, call, Block, no_statement, statement, bind, match_on, give, no_code_arm, code_arm}
 use Rattle.model_code.specs.Notation.{Notation, gives_option}
@@ -16,7 +16,7 @@ use Rattle.model_code.specs.OneReading.{unnamed}
 use Rattle.model_code.specs.Pieces.{tokens_of}
 use Rattle.model_code.specs.ProgramNotation.{notation_of}
 use Rattle.model_code.specs.ReadsBack.{writable}
-use Rattle.model_code.specs.Tokens.{struct_owner, variable_name, constant_name, owner_name, function_name}
+use Rattle.model_code.specs.Tokens.{struct_owner, constant_name, owner_name, function_name}
 use Rattle.model_code.specs.Written.{function_body}
 use Rattle.rust_items.specs.Claims.{IsWellNamed}
 use Rattle.rust_items.specs.NamedPrograms.{NamedProgram, kinds}

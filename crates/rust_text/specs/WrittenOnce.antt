@@ -1,7 +1,7 @@
 -- Things of a program that are written differently, and what follows for the words of texts.
-use Rattle.std.specs.Prelude.{◌≡◌, ◌≢◌, ◌||◌, ◌∷◌, [], ℕ, Bool, true, false, not, is_some, List, Option, Some, None, IsUtf8, codes, slice_get}
+use Rattle.std.specs.Prelude.{◌≡◌, ◌≢◌, ◌∷◌, [], ℕ, Bool, true, false, is_some, List, Option, Some, IsUtf8, codes, slice_get}
 use Rattle.model.specs.lists.Signatures.{text_of}
-use Rattle.model.specs.lists.Tables.{TypeEntry, enum_type, struct_type}
+use Rattle.model.specs.lists.Tables.{TypeEntry, struct_type}
 use Rattle.model_code.specs.ApartNames.{AreNamesApart, AreSmall, OwnToken, is_named, is_own_method, IsSmallToken, own_text}
 use Rattle.model_code.specs.Lexing.{lexed}
 use Rattle.model_code.specs.ProgramNotation.{callees}
