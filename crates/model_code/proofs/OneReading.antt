@@ -10,7 +10,7 @@ use Rattle.model_code.specs.Spelling.{Names, token_text, spelled}
 use Rattle.model_code.specs.Lexing.{lexed, pieces_lexed}
 use Rattle.model_code.specs.ReadsBack.{read_function}
 use Rattle.model_code.specs.ReadTexts.{IsReadAsCode}
-use Rattle.model_code.specs.OneReading.{Sign, a_log, signs_of, told, sign_words, signs_words, Next, anything, may_be, may_stand, behind, behind_told, in_order, stands, follow, AreApart, WordsTellTokens, IsReadInOrder, OneReading, PrintedTextHasOneReading}
+use Rattle.model_code.specs.OneReading.{Sign, a_log, signs_of, told, sign_words, signs_words, Next, anything, may_be, may_stand, behind, behind_told, in_order, stands, follow, AreTokensApart, WordsTellTokens, IsReadInOrder, OneReading, PrintedTextHasOneReading}
 use Rattle.model_code.proofs.InOrder.{printed_tokens_are_in_order_lem}
 use Rattle.model_code.proofs.Lexing.{text_has_tokens_lem}
 use Rattle.model_code.proofs.ReadTexts.{function_is_read_lem}
@@ -30,7 +30,7 @@ cut (x ∷ xs) (y ∷ ys) us vs e =
 no_words : {X : Type 0} (ws vs us : List X) (w : X) → ws ≡ w ∷ us → [] ≡ ws ++ vs → ⊥
 no_words ws vs us w h e = (let k : [] ≡ w ∷ (us ++ vs) = e ∙ ap (λ z. z ++ vs) h in cc)
 
-module _ (names : Names) (p : Notation) (known : Token → Bool) (a : AreApart names p known) where
+module _ (names : Names) (p : Notation) (known : Token → Bool) (a : AreTokensApart names p known) where
   first : (s : Next) (x : Sign) (xs : List Sign) → follow p known s (x ∷ xs) ≡ true → stands known s x ≡ true
   first s x xs f = (and_parts (stands known s x) (follow p known (behind_told p s (told x)) xs) f).0
 

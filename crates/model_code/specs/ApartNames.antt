@@ -5,7 +5,7 @@ use Rattle.model_code.specs.Tokens.{Word, Owner, Token, variable_name, parameter
 use Rattle.model_code.specs.Notation.{Notation}
 use Rattle.model_code.specs.Spelling.{Names, word_text, token_text}
 use Rattle.model_code.specs.Lexing.{lexed}
-use Rattle.model_code.specs.OneReading.{is_method, AreApart}
+use Rattle.model_code.specs.OneReading.{is_method, AreTokensApart}
 
 -- the code's own words and marks, variables, parameters and labels
 pub data OwnToken : Type 0 where
@@ -69,4 +69,4 @@ pub record AreNamesApart (names : Names) (known : Token → Bool) : Type 0 where
 
 -- so all tokens that stand in order are apart
 abbrev pub NamesApartMakeTokensApart : Type 0
-NamesApartMakeTokensApart = (names : Names) (p : Notation) (known : Token → Bool) → AreNamesApart names known → AreApart names p known
+NamesApartMakeTokensApart = (names : Names) (p : Notation) (known : Token → Bool) → AreNamesApart names known → AreTokensApart names p known

@@ -137,7 +137,7 @@ abbrev pub follow : Notation → (known : Token → Bool) → Next → List Sign
 follow p known s [] = true
 follow p known s (x ∷ xs) = stands known s x && follow p known (behind_told p s (told x)) xs
 
-pub record AreApart (names : Names) (p : Notation) (known : Token → Bool) : Type 0 where
+pub record AreTokensApart (names : Names) (p : Notation) (known : Token → Bool) : Type 0 where
   pub some : (s : Next) (x : Sign) → stands known s x ≡ true → (w : List ℕ) × (ws : List (List ℕ)) × (sign_words names x ≡ w ∷ ws)
   pub apart :
       (s : Next) (x y : Sign) (rest : List (List ℕ)) → stands known s x ≡ true → stands known s y ≡ true → sign_words names y ≡ sign_words names x ++ rest
@@ -147,7 +147,7 @@ pub record AreApart (names : Names) (p : Notation) (known : Token → Bool) : Ty
 -- so the words of signs that stand in order tell their tokens
 abbrev pub WordsTellTokens : Type 0
 WordsTellTokens =
-    (names : Names) (p : Notation) (known : Token → Bool) → AreApart names p known → (s : Next) (xs ys : List CodePiece)
+    (names : Names) (p : Notation) (known : Token → Bool) → AreTokensApart names p known → (s : Next) (xs ys : List CodePiece)
     → follow p known s (signs_of xs) ≡ true → follow p known s (signs_of ys) ≡ true → signs_words names (signs_of xs) ≡ signs_words names (signs_of ys) → tokens_of xs ≡ tokens_of ys
 
 -- 4. a reading by known tokens in order
@@ -159,7 +159,7 @@ pub record IsReadInOrder (names : Names) (p : Notation) (known : Token → Bool)
 -- a text has one such reading
 abbrev pub OneReading : Type 0
 OneReading =
-    (names : Names) (p : Notation) (known : Token → Bool) → AreApart names p known
+    (names : Names) (p : Notation) (known : Token → Bool) → AreTokensApart names p known
     → (text : List ℕ) (a b : Block) → IsReadInOrder names p known text a → IsReadInOrder names p known text b → a ≡ b
 
 -- 5. code in which what is written out has no fields with names
@@ -216,7 +216,7 @@ PrintedTokensAreInOrder = (p : Notation) (code : Block) → unnamed p code ≡ t
 -- so its text is read as what it shows of the code, and as nothing else
 abbrev pub PrintedTextHasOneReading : Type 0
 PrintedTextHasOneReading =
-    (names : Names) (p : Notation) (known : Token → Bool) → AreWhole names → AreApart names p known
+    (names : Names) (p : Notation) (known : Token → Bool) → AreWhole names → AreTokensApart names p known
     → (code : Block) → writable p false code ≡ true → unnamed p code ≡ true → list_all known (tokens_of (function_body p code)) ≡ true
     → IsReadInOrder names p known (spelled names (function_body p code)) (shown_code p code)
     × ((other : Block) → IsReadInOrder names p known (spelled names (function_body p code)) other → other ≡ shown_code p code)

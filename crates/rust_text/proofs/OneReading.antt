@@ -2,7 +2,7 @@
 use Rattle.std.proofs.Common.{◌≡◌, ap, sym, subst, ◌∙◌}
 use Rattle.std.specs.Prelude.{All}
 use Rattle.model_code.specs.ApartNames.{NamesApartMakeTokensApart}
-use Rattle.model_code.specs.OneReading.{AreApart, OneReading, PrintedTextHasOneReading}
+use Rattle.model_code.specs.OneReading.{AreTokensApart, OneReading, PrintedTextHasOneReading}
 use Rattle.model_code.specs.Notation.{Notation}
 use Rattle.rust_items.specs.Claims.{IsWellNamed}
 use Rattle.rust_items.specs.NamedPrograms.{NamedProgram, kinds}
@@ -19,7 +19,7 @@ module _ (once : WellNamedAreWrittenOnce) (apart : WrittenOnceAreApart) (make : 
       ∙ ap (λ x. record { names = s.names; types = x; terms = n.terms; constants = n.constants; with_rules = n.with_rules }) (sym b.types)
       ∙ ap (λ x. record { names = s.names; types = s.types; terms = x; constants = n.constants; with_rules = n.with_rules }) (sym b.terms)
 
-  tokens_apart : (n : NamedProgram) (s : NameSetting) → All IsWellNamed (kinds n) → IsNamedBy n s → (p : Notation) → AreApart (names_of s) p (is_of_program s n.constants n.with_rules)
+  tokens_apart : (n : NamedProgram) (s : NameSetting) → All IsWellNamed (kinds n) → IsNamedBy n s → (p : Notation) → AreTokensApart (names_of s) p (is_of_program s n.constants n.with_rules)
   tokens_apart n s named b p =
       make (names_of s) p (is_of_program s n.constants n.with_rules)
       (apart s (is_of_program s n.constants n.with_rules) (once s n.constants n.with_rules (subst (λ x. All IsWellNamed (kinds x)) (that_program n s b) named) b.tell))
