@@ -7,6 +7,7 @@ use crate::kinds::{Warning, is_one_of};
 use crate::literals::add_outside;
 use crate::recursion::add_recursion;
 use crate::returns::{add_dead, add_idle_priorities};
+use crate::sample_values::Samples;
 use crate::uncovered::add_uncovered;
 use crate::variables::add_variables;
 use cranelift_isle::lower::{Lowered, LoweredTerm};
@@ -33,7 +34,9 @@ pub fn warnings(
     allowed: &[Warning],
 ) -> Result<Vec<Report>, AllocError> {
     let mut reports = Vec::new(alloc);
+    let mut samples = Samples::new(alloc);
     for term in &lowered.terms {
+        let defs = (defs, &mut samples);
         add_of_term(alloc, &mut reports, files, defs, lowered, term)?;
     }
     add_recursion(alloc, &mut reports, defs, lowered)?;
@@ -116,14 +119,14 @@ fn add_of_term(
     alloc: Global,
     reports: &mut Vec<Report>,
     files: &Files,
-    defs: &[Def],
+    (defs, samples): (&[Def], &mut Samples),
     lowered: &Lowered,
     term: &LoweredTerm,
 ) -> Result<(), AllocError> {
     if !is_multi(&lowered.termenv, term.id) {
         add_dead(alloc, reports, defs, &term.block, None)?;
         add_idle_priorities(alloc, reports, defs, &term.rules.rules)?;
-        add_uncovered(alloc, reports, files, defs, lowered, term)?;
+        add_uncovered(alloc, reports, files, (defs, samples), lowered, term)?;
     }
     add_beside(alloc, reports, defs, lowered, term)
 }

@@ -1,8 +1,9 @@
 //! The rule that is missing where no rule takes a call.
 
-use crate::sample_values::value_of;
+use crate::sample_values::Samples;
 use cranelift_isle::syntax::{Decl, Def, Files, Pos, Rule};
-use report_errors::definitions::root_of;
+use cranelift_isle::trie_again;
+use report_errors::definitions::definition_around;
 use report_errors::extents::end_of_form;
 use report_errors::names::priority_of;
 use report_print::lines::file_text;
@@ -21,18 +22,19 @@ pub(crate) fn add_rule_for(
     alloc: Global,
     report: &mut Report,
     files: &Files,
-    defs: &[Def],
+    (defs, samples): (&[Def], &mut Samples),
     decl: &Decl,
+    rules: &[trie_again::Rule],
     call: &str,
 ) -> Result<(), AllocError> {
-    let rules = rules_of(alloc, defs, &decl.term.0)?;
+    let rules = rules_at(alloc, defs, rules)?;
     let Some(last) = rules.last() else {
         return Ok(());
     };
-    let Some(value) = value_of(alloc, defs, &decl.ret_ty.0)? else {
+    let Some(value) = samples.value_of(alloc, defs, &decl.ret_ty.0)? else {
         return Ok(());
     };
-    let Some(priority) = priority_for(alloc, defs, &rules, call, &value)? else {
+    let Some(priority) = priority_for(alloc, defs, &rules, call, value)? else {
         return Ok(());
     };
     let title = format!(in alloc; "Add a rule for `{call}`")?;
@@ -40,16 +42,19 @@ pub(crate) fn add_rule_for(
     report.add_fix(title, Place::Before(end_of_rule(files, last)), text)
 }
 
-// The rules of a term.
-fn rules_of<'a>(alloc: Global, defs: &'a [Def], term: &str) -> Result<Vec<&'a Rule>, AllocError> {
-    let mut rules = Vec::new(alloc);
-    for def in defs {
-        match def {
-            Def::Rule(rule) if root_of(rule) == term => rules.push(rule)?,
-            _ => {}
+// The rules of a term, as they are written.
+fn rules_at<'a>(
+    alloc: Global,
+    defs: &'a [Def],
+    rules: &[trie_again::Rule],
+) -> Result<Vec<&'a Rule>, AllocError> {
+    let mut written = Vec::new(alloc);
+    for rule in rules {
+        if let Some(Def::Rule(rule)) = definition_around(defs, rule.pos) {
+            written.push(rule)?;
         }
     }
-    Ok(rules)
+    Ok(written)
 }
 
 // Where a rule ends.

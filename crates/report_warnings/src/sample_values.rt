@@ -3,14 +3,43 @@
 use cranelift_isle::sema::BuiltinType;
 use cranelift_isle::syntax::{Decl, Def, Extern, Fields, Ident, Type, TypeValue, Variant};
 use std::alloc::{AllocError, Global};
+use std::collections::HashMap;
 
-/// An expression for some value of a type: a literal, a variant without fields, or a constant; else a variant, a struct or a call of a
-/// function outside whose arguments are such values. None where the definitions have no such value.
-pub(crate) fn value_of(
-    alloc: Global,
-    defs: &[Def],
-    ty: &str,
-) -> Result<Option<String>, AllocError> {
+/// Values of types, as expressions.
+#[derive(Drop)]
+pub(crate) struct Samples {
+    // By the names of the types: a value is looked for once, among all definitions.
+    found: HashMap<String, Option<String>>,
+}
+
+impl Samples {
+    /// None yet.
+    pub(crate) fn new(alloc: Global) -> Samples {
+        Samples {
+            found: HashMap::new(alloc),
+        }
+    }
+
+    /// An expression for some value of a type: a literal, a variant without fields, or a constant; else a variant, a struct or a call
+    /// of a function outside whose arguments are such values. None where the definitions have no such value.
+    pub(crate) fn value_of(
+        &mut self,
+        alloc: Global,
+        defs: &[Def],
+        ty: &str,
+    ) -> Result<Option<&str>, AllocError> {
+        if !self.found.contains_key(ty) {
+            let value = value_of(alloc, defs, ty)?;
+            self.found.insert(String::from_str(alloc, ty)?, value)?;
+        }
+        match self.found.get(ty) {
+            Some(Some(value)) => Ok(Some(value.as_str())),
+            _ => Ok(None),
+        }
+    }
+}
+
+fn value_of(alloc: Global, defs: &[Def], ty: &str) -> Result<Option<String>, AllocError> {
     if let Some(value) = plain_value(alloc, defs, ty)? {
         return Ok(Some(value));
     }

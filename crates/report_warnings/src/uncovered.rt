@@ -3,6 +3,7 @@
 use crate::kinds::{Warning, add_place, begun};
 use crate::missing_rules::add_rule_for;
 use crate::passing::{Fact, passing};
+use crate::sample_values::Samples;
 use crate::untaken::untaken_call;
 use cranelift_isle::lower::{Lowered, LoweredTerm};
 use cranelift_isle::sema::Term;
@@ -17,7 +18,7 @@ pub(crate) fn add_uncovered(
     alloc: Global,
     reports: &mut Vec<Report>,
     files: &Files,
-    defs: &[Def],
+    (defs, samples): (&[Def], &mut Samples),
     lowered: &Lowered,
     lowered_term: &LoweredTerm,
 ) -> Result<(), AllocError> {
@@ -30,6 +31,7 @@ pub(crate) fn add_uncovered(
     let bindings = &lowered_term.rules.bindings;
     match passing(alloc, &lowered.tyenv, bindings, &lowered_term.block)? {
         Some(facts) => {
+            let defs = (defs, samples);
             let report = uncovered(alloc, files, defs, lowered, lowered_term, term, &facts)?;
             reports.push(report)?;
             Ok(())
@@ -42,7 +44,7 @@ pub(crate) fn add_uncovered(
 fn uncovered(
     alloc: Global,
     files: &Files,
-    defs: &[Def],
+    (defs, samples): (&[Def], &mut Samples),
     lowered: &Lowered,
     lowered_term: &LoweredTerm,
     term: &Term,
@@ -64,7 +66,9 @@ fn uncovered(
         "add a rule that takes it, or declare the term partial",
     )?;
     if let Some(decl) = declaration_of(defs, term) {
-        add_rule_for(alloc, &mut report, files, defs, decl, call)?;
+        let rules = &lowered_term.rules.rules;
+        let defs = (defs, samples);
+        add_rule_for(alloc, &mut report, files, defs, decl, rules, call)?;
         let name = &decl.term.0;
         let title = format!(in alloc; "Declare `{name}` partial")?;
         let place = Place::Before(decl.term.1);
