@@ -4,7 +4,7 @@ ghost use Rattle.std.specs.Prelude.{◌≡◌, ◌≢◌, ◌⊎◌, ◌≤◌, 
 
 use crate::inputs::{file_text, path_of, standard_text};
 use crate::run::{cannot_read, say};
-use crate::words::{Unasked, wrong, wrong_as};
+use crate::words::{Unasked, plain, wrong, wrong_as};
 use cranelift_isle::syntax::Files;
 use report_errors::syntax_report;
 use report_print::layout::{Layout, push_reports};
@@ -19,6 +19,8 @@ use text_writer::formatted::formatted;
 pub struct Formatting<'a> {
     /// Whether files only are named that would change.
     pub check: bool,
+    /// Whether then the lines are shown that would change.
+    pub diff: bool,
     /// Where files are looked for whose names don't begin with `/`; the empty text for where the command runs.
     pub folder: &'a str,
     /// The files, where `-` is standard input, whose layout goes to standard output.
@@ -29,6 +31,7 @@ impl<'a> Drop for Formatting<'a> {
     fn drop(self) {
         let Self {
             check: _,
+            diff: _,
             folder: _,
             files: _,
         } = self;
@@ -43,7 +46,7 @@ enum Awaited {
     Any,
 }
 
-/// What the words behind `fmt` ask: `--check`, `-C FOLDER`, and files, of which `-` and `--stdin` are standard input.
+/// What the words behind `fmt` ask: `--check`, `--diff`, `-C FOLDER`, and files, of which `-` and `--stdin` are standard input.
 ///
 /// # Errors
 ///
@@ -51,6 +54,7 @@ enum Awaited {
 pub fn formatting_by<'a>(alloc: Global, words: &'a [String]) -> Result<Formatting<'a>, Unasked> {
     let mut asked = Formatting {
         check: false,
+        diff: false,
         folder: "",
         files: Vec::new(alloc),
     };
@@ -72,15 +76,29 @@ impl<'a> Formatting<'a> {
         }
         match word {
             "--check" => self.check = true,
+            "--diff" => {
+                self.check = true;
+                self.diff = true;
+            }
             "-C" => return Ok(Awaited::Folder),
-            "--stdin" => self.files.push(String::from_str(alloc, "-")?)?,
+            "--stdin" => self.read_file(alloc, "-")?,
             "" => return Err(wrong_as(alloc, "a file without a name")),
             _ if word != "-" && word.starts_with('-') => {
                 return Err(wrong(format!(in alloc; "fmt has no option '{word}'")));
             }
-            _ => self.files.push(String::from_str(alloc, word)?)?,
+            _ => self.read_file(alloc, word)?,
         }
         Ok(Awaited::Any)
+    }
+
+    // Reads the name of a file, which may be given once.
+    fn read_file(&mut self, alloc: Global, word: &str) -> Result<(), Unasked> {
+        let path = plain(word);
+        if self.files.iter().any(|file| plain(file.as_str()) == path) {
+            return Err(wrong(format!(in alloc; "the file '{word}' is given twice")));
+        }
+        self.files.push(String::from_str(alloc, word)?)?;
+        Ok(())
     }
 }
 
@@ -196,7 +214,7 @@ fn hand_over<R: std::rt::Files + AllocGlobal, O: Write, E: Write>(
         return if laid.made == laid.text {
             0
         } else {
-            say_changed(rt.alloc(), laid.name, out, err)
+            say_changed(rt.alloc(), laid, asked.diff, out, err)
         };
     }
     if laid.name == "<stdin>" {
@@ -227,15 +245,62 @@ fn cannot_write<E: Write>(alloc: Global, name: &str, error: &io::Error, err: &mu
     }
 }
 
-// Names a file that would change.
-fn say_changed<O: Write, E: Write>(alloc: Global, name: &str, out: &mut O, err: &mut E) -> u8
+// Names a file that would change, and shows its lines that would, if that is wanted.
+fn say_changed<O: Write, E: Write>(
+    alloc: Global,
+    laid: Laid<'_>,
+    diff: bool,
+    out: &mut O,
+    err: &mut E,
+) -> u8
     ensures known { result ≤ 4 }
     ensures used { result ≢ 2 }
     ensures told { result ≢ 0 }
 {
-    match format!(in alloc; "{name}\n") {
-        Ok(line) => write_text(&line, out, err).max(1),
+    match changes_told(alloc, laid, diff) {
+        Ok(told) => write_text(&told, out, err).max(1),
         Err(AllocError) => no_memory(err),
+    }
+}
+
+fn changes_told(alloc: Global, laid: Laid<'_>, diff: bool) -> Result<String, AllocError> {
+    let mut told = String::from_str(alloc, laid.name)?;
+    told.push('\n')?;
+    if diff {
+        push_changes(&mut told, laid.text, laid.made)?;
+    }
+    Ok(told)
+}
+
+// Adds the lines of a text that a layout changes, each by its number, and below each the new one. A layout keeps lines, except for
+// some that are empty.
+fn push_changes(out: &mut String, text: &str, made: &str) -> Result<(), AllocError> {
+    let mut laid = made.split('\n');
+    let mut next = laid.next();
+    for (before, line) in text.split('\n').enumerate() {
+        let is_kept = next.is_some() && (!line.trim().is_empty() || next == Some(""));
+        if next != Some(line) {
+            let number = before.saturating_add(1);
+            write!(out, "{number}: -{line}\n")?;
+            push_new(out, number, next, is_kept)?;
+        }
+        if is_kept {
+            next = laid.next();
+        }
+    }
+    Ok(())
+}
+
+// Adds a line that takes the place of another one, if it does.
+fn push_new(
+    out: &mut String,
+    number: usize,
+    line: Option<&str>,
+    is_kept: bool,
+) -> Result<(), AllocError> {
+    match line {
+        Some(line) if is_kept => write!(out, "{number}: +{line}\n"),
+        _ => Ok(()),
     }
 }
 

@@ -8,6 +8,7 @@ pub mod formatting;
 mod graphs;
 mod help;
 pub mod inputs;
+mod options;
 mod printing;
 pub mod progress;
 pub mod project;

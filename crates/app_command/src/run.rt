@@ -7,7 +7,7 @@ ghost use Rattle.app_command.specs.Statuses.{IsStatusFor, IsStatusOfUnread, IsWr
 
 use crate::answers::{Answer, answer_to};
 use crate::formatting::{Formatting, run_formatting};
-use crate::help::{HELP, VERSION};
+use crate::help::{VERSION, help_text};
 use crate::inputs::{Unread, read_files};
 use crate::project::find_files;
 use crate::words::{Command, Request, Task, Unasked, asked_by};
@@ -39,7 +39,10 @@ pub fn run<R: std::rt::Files + Env + AllocGlobal, I: Read + Drop, O: Write, E: W
 {
     let colors = terminal && !has_variable(rt, "NO_COLOR");
     match asked_by(rt.alloc(), words, colors) {
-        Ok(Command::Help) => write_text(HELP, out, err),
+        Ok(Command::Help(task)) => match help_text(rt.alloc(), task) {
+            Ok(text) => write_text(&text, out, err),
+            Err(AllocError) => no_memory(err),
+        },
         Ok(Command::Version) => write_text(VERSION, out, err),
         Ok(Command::Formatting(asked)) => format_asked(rt, asked, input, out, err),
         Ok(Command::Request(asked)) => run_asked(rt, asked, input, terminal, out, err),

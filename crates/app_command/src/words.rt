@@ -4,6 +4,7 @@ ghost use Rattle.std.specs.Prelude.{◌≡◌};
 ghost use Rattle.app_command.specs.Readings.{has_no_definitions};
 
 use crate::formatting::{Formatting, formatting_by};
+use crate::options::{Choice, Takes, TaskOption, option_of};
 use report_print::layout::Layout;
 use report_queries::samples::sample_text;
 use report_warnings::kinds::{Warning, warning_names};
@@ -37,34 +38,91 @@ pub enum Task {
     Why,
 }
 
-const TASKS: [Task; 11] = [
+/// All tasks.
+pub(crate) const TASKS: [Task; 11] = [
     Task::Lower,
+    Task::Print,
     Task::Rust,
     Task::Check,
     Task::Explain,
     Task::Stats,
     Task::Compare,
     Task::Diff,
-    Task::Print,
-    Task::Samples,
     Task::Run,
     Task::Why,
+    Task::Samples,
 ];
 
 impl Task {
     fn word(self) -> &'static str {
         match self {
             Task::Lower => "lower",
+            Task::Print => "print",
             Task::Rust => "rust",
             Task::Check => "check",
             Task::Explain => "explain",
             Task::Stats => "stats",
             Task::Compare => "compare",
             Task::Diff => "diff",
-            Task::Print => "print",
-            Task::Samples => "samples",
             Task::Run => "run",
             Task::Why => "why",
+            Task::Samples => "samples",
+        }
+    }
+
+    /// What `--help` says of a task.
+    pub(crate) fn help(self) -> &'static str {
+        match self {
+            Task::Lower => {
+                "  lower FILE..           prints the tree of each term. Each return names its rule.
+"
+            }
+            Task::Print => {
+                "  print FILE..           prints the definitions of all files as one text, each on a line. They need not be accepted.
+"
+            }
+            Task::Rust => {
+                "  rust FILE..            prints the Rust code of the terms (docs/RUST-CODE.md)
+"
+            }
+            Task::Check => {
+                "  check FILE..           prints errors and warnings, and nothing else
+"
+            }
+            Task::Explain => {
+                "  explain RULE FILE..    says what a rule demands and when it is taken. RULE is the name of a rule or of a term, a line
+                         in the rule, or FILE:LINE. FILE may be the end of a path.
+"
+            }
+            Task::Stats => {
+                "  stats FILE..           counts the rules, sites, tests, arms and returns of each term, and how deep its tests nest
+"
+            }
+            Task::Compare => {
+                "  compare FILE.. TREES   shows where the printed trees in the last file differ from the trees of the other files
+"
+            }
+            Task::Diff => {
+                "  diff OLD.. -- NEW..    says which terms' trees differ between two versions of rules, and which rules came, went or have
+                         another priority
+"
+            }
+            Task::Run => {
+                "  run FILE.. -- TERM VALUE..
+                         runs a term on values (docs/RUNNING.md). Each term that it calls returns its first argument. An
+                         impure term returns the number of impure calls before it. A value with parentheses is quoted:
+                         isle run a.isle -- f 1 '(T.A 2)'
+"
+            }
+            Task::Why => {
+                "  why RULE FILE.. -- TERM VALUE..
+                         says whether a rule is taken on a call, and why not. RULE is as in explain.
+"
+            }
+            Task::Samples => {
+                "  samples [NAME]         lists the built-in samples, or prints the tree of one
+"
+            }
         }
     }
 
@@ -78,27 +136,8 @@ impl Task {
         !matches!(self, Task::Samples | Task::Compare | Task::Diff)
     }
 
-    // Whether it has an option, which may be joined to a value. It has every word that is none.
-    fn has_option(self, word: &str) -> bool {
-        let option = word.split_once('=').map_or(word, |(option, _)| option);
-        match option {
-            "--no-expand" => self != Task::Rust,
-            "--deny" | "--allow" => self == Task::Check,
-            "--with-allows" | "--log" | "--stubs" | "--prefix" => self == Task::Rust,
-            "--terms" => self == Task::Lower || self == Task::Compare,
-            "--trace" => self == Task::Run,
-            "--answers" => self.has_call(),
-            _ => true,
-        }
-    }
-
     fn of(word: &str) -> Option<Task> {
-        for task in TASKS {
-            if task.word() == word {
-                return Some(task);
-            }
-        }
-        None
+        TASKS.iter().copied().find(|task| task.word() == word)
     }
 }
 
@@ -208,8 +247,8 @@ impl<'a> Drop for Request<'a> {
 /// What words ask.
 #[derive(Drop)]
 pub enum Command<'a> {
-    /// How the command is used.
-    Help,
+    /// How the command is used, or one of its tasks.
+    Help(Option<Task>),
     /// Which program this is.
     Version,
     /// Files in the usual layout.
@@ -257,13 +296,8 @@ pub fn wrong_as(alloc: Global, why: &str) -> Unasked {
 enum Awaited {
     Task,
     Rule,
-    Terms,
-    Folder,
-    Format,
-    Color,
-    Prefix,
-    Allowed,
-    Answers,
+    // What an option takes: its word, and what it sets.
+    Value(&'static str, Choice),
     // An option or a file.
     Any,
     // A word of a call.
@@ -329,13 +363,18 @@ pub fn asked_by<'a>(
 fn asked_of_program<'a>(words: &[String]) -> Option<Command<'a>> {
     for word in words {
         match word.as_str() {
-            "--help" | "-h" => return Some(Command::Help),
+            "--help" | "-h" => return Some(Command::Help(task_of(words))),
             "--version" => return Some(Command::Version),
             "--" => return None,
             _ => {}
         }
     }
     None
+}
+
+// The task that the first word names.
+fn task_of(words: &[String]) -> Option<Task> {
+    Task::of(words.first()?.as_str())
 }
 
 fn request_by<'a>(given: Given, words: &'a [String]) -> Result<Request<'a>, Unasked> {
@@ -361,16 +400,13 @@ fn request_by<'a>(given: Given, words: &'a [String]) -> Result<Request<'a>, Unas
         call: Vec::new(given.alloc),
     };
     let mut awaited = Awaited::Task;
+    let mut seen = Vec::new(given.alloc);
     for word in words {
-        awaited = asked.read(given, awaited, word.as_str())?;
+        awaited = asked.read(given, &mut seen, awaited, word.as_str())?;
     }
-    match asked.missing(awaited) {
-        Some(why) => Err(wrong_as(given.alloc, why)),
-        None => {
-            asked.add_answers(given.alloc)?;
-            Ok(asked)
-        }
-    }
+    asked.missing(given.alloc, awaited)?;
+    asked.add_answers(given.alloc)?;
+    Ok(asked)
 }
 
 impl<'a> Request<'a> {
@@ -383,21 +419,21 @@ impl<'a> Request<'a> {
     }
 
     // What is missing behind the last word, where something is.
-    fn missing(&self, awaited: Awaited) -> Option<&'static str> {
-        match awaited {
+    fn missing(&self, alloc: Global, awaited: Awaited) -> Result<(), Unasked> {
+        let why = match awaited {
             Awaited::Task => Some("no task"),
             Awaited::Rule => Some(self.missing_rule()),
-            Awaited::Terms => Some("nothing after '--terms'"),
-            Awaited::Folder => Some("nothing after '-C'"),
-            Awaited::Format => Some("nothing after '--format'"),
-            Awaited::Color => Some("nothing after '--color'"),
-            Awaited::Prefix => Some("nothing after '--prefix'"),
-            Awaited::Allowed => Some("nothing after '--allow'"),
-            Awaited::Answers => Some("nothing after '--answers'"),
+            Awaited::Value(word, _) => {
+                return Err(wrong(format!(in alloc; "nothing after '{word}'")));
+            }
             Awaited::Any | Awaited::Call => match self.wrong_files() {
                 Some(why) => Some(why),
                 None => self.missing_call(awaited),
             },
+        };
+        match why {
+            Some(why) => Err(wrong_as(alloc, why)),
+            None => Ok(()),
         }
     }
 
@@ -466,31 +502,22 @@ impl<'a> Request<'a> {
         has_other && number.checked_add(1) == Some(self.files.len())
     }
 
-    fn read(&mut self, given: Given, awaited: Awaited, word: &'a str) -> Result<Awaited, Unasked> {
+    fn read(
+        &mut self,
+        given: Given,
+        seen: &mut Vec<&'static str>,
+        awaited: Awaited,
+        word: &'a str,
+    ) -> Result<Awaited, Unasked> {
         match awaited {
             Awaited::Task => self.read_task(given.alloc, word),
-            Awaited::Format => self.read_format(given.alloc, word),
-            Awaited::Color => self.read_color(given, word),
-            Awaited::Prefix => self.read_prefix(given.alloc, word),
-            Awaited::Allowed => {
-                push_kinds(given.alloc, &mut self.allowed, word)?;
+            Awaited::Any => self.read_any(given, seen, word),
+            Awaited::Value(_, choice) => {
+                self.set(given, choice, word)?;
                 Ok(Awaited::Any)
             }
-            Awaited::Any => self.read_any(given.alloc, word),
             Awaited::Rule => {
                 self.rule = word;
-                Ok(Awaited::Any)
-            }
-            Awaited::Terms => {
-                self.terms = Some(word);
-                Ok(Awaited::Any)
-            }
-            Awaited::Folder => {
-                self.folder = word;
-                Ok(Awaited::Any)
-            }
-            Awaited::Answers => {
-                self.answers = Some(word);
                 Ok(Awaited::Any)
             }
             Awaited::Call => {
@@ -515,7 +542,7 @@ impl<'a> Request<'a> {
         })
     }
 
-    fn read_format(&mut self, alloc: Global, word: &str) -> Result<Awaited, Unasked> {
+    fn read_format(&mut self, alloc: Global, word: &str) -> Result<(), Unasked> {
         let Some(format) = Format::of(word) else {
             return Err(wrong(format!(in alloc; "no format is called '{word}'")));
         };
@@ -524,10 +551,10 @@ impl<'a> Request<'a> {
             return Err(wrong(format!(in alloc; "{task} has no format {word}")));
         }
         self.format = format;
-        Ok(Awaited::Any)
+        Ok(())
     }
 
-    fn read_color(&mut self, given: Given, word: &str) -> Result<Awaited, Unasked> {
+    fn read_color(&mut self, given: Given, word: &str) -> Result<(), Unasked> {
         self.colored = match word {
             "always" => true,
             "never" => false,
@@ -539,57 +566,107 @@ impl<'a> Request<'a> {
                 )));
             }
         };
-        Ok(Awaited::Any)
+        Ok(())
     }
 
     // Reads what is shown in place of the beginning of a file's name: the beginning, `=`, and what is shown.
-    fn read_prefix(&mut self, alloc: Global, word: &str) -> Result<Awaited, Unasked> {
+    fn read_prefix(&mut self, alloc: Global, word: &str) -> Result<(), Unasked> {
         let Some((prefix, name)) = word.split_once('=') else {
             return Err(wrong(format!(in alloc; "--prefix is FROM=TO, not '{word}'")));
         };
         let prefix = String::from_str(alloc, prefix)?;
         let name = String::from_str(alloc, name)?;
         self.code.prefixes.push(Prefix { prefix, name })?;
-        Ok(Awaited::Any)
+        Ok(())
     }
 
-    // Reads an option or a file.
-    fn read_any(&mut self, alloc: Global, word: &'a str) -> Result<Awaited, Unasked> {
-        if !self.task.has_option(word) {
+    // Reads an option or a file. A value may be joined to an option by `=`.
+    fn read_any(
+        &mut self,
+        given: Given,
+        seen: &mut Vec<&'static str>,
+        word: &'a str,
+    ) -> Result<Awaited, Unasked> {
+        if word == "--" {
+            return self.begin_last(given.alloc);
+        }
+        let (name, joined) = match word.split_once('=') {
+            Some((name, value)) => (name, Some(value)),
+            None => (word, None),
+        };
+        match option_of(name) {
+            Some(option) => {
+                self.check(given.alloc, seen, option, word)?;
+                self.read_option(given, option, joined, word)
+            }
+            None => {
+                self.read_file(given.alloc, word)?;
+                Ok(Awaited::Any)
+            }
+        }
+    }
+
+    // That the task has an option, and that it wasn't given before.
+    fn check(
+        &self,
+        alloc: Global,
+        seen: &mut Vec<&'static str>,
+        option: TaskOption,
+        word: &str,
+    ) -> Result<(), Unasked> {
+        if !option.is_of(self.task) {
             let task = self.task.word();
             return Err(wrong(format!(in alloc; "{task} has no option '{word}'")));
         }
-        match word {
-            "--no-expand" => self.expand = false,
-            "--deny" => self.deny = true,
-            "--all" => self.all = true,
-            "--progress" => self.progress = true,
-            "--with-allows" => self.code.exclude_global_allow_pragmas = false,
-            "--log" => self.code.emit_logging = true,
-            "--stubs" => self.stubs = true,
-            "--trace" => self.trace = true,
-            "--allow" => return Ok(Awaited::Allowed),
-            "--prefix" => return Ok(Awaited::Prefix),
-            "--answers" => return Ok(Awaited::Answers),
-            "--terms" => return Ok(Awaited::Terms),
-            "--format" => return Ok(Awaited::Format),
-            "--color" => return Ok(Awaited::Color),
-            "-C" => return Ok(Awaited::Folder),
-            "--" => return self.begin_last(alloc),
-            _ => self.read_kinds_or_file(alloc, word)?,
+        if !option.repeats && seen.iter().any(|other| *other == option.word) {
+            let name = option.word;
+            return Err(wrong(format!(in alloc; "the option '{name}' is given twice")));
+        }
+        seen.push(option.word)?;
+        Ok(())
+    }
+
+    // Reads an option, with the value that is joined to it, where there is one.
+    fn read_option(
+        &mut self,
+        given: Given,
+        option: TaskOption,
+        joined: Option<&'a str>,
+        word: &str,
+    ) -> Result<Awaited, Unasked> {
+        match (option.takes, joined) {
+            (Takes::Value, None) => return Ok(Awaited::Value(option.word, option.choice)),
+            (Takes::Value, Some(value)) => self.set(given, option.choice, value)?,
+            (Takes::Kinds, Some(kinds)) => push_kinds(given.alloc, &mut self.denied, kinds)?,
+            (Takes::Nothing | Takes::Kinds, None) => self.set(given, option.choice, "")?,
+            (Takes::Nothing, Some(_)) => {
+                let alloc = given.alloc;
+                return Err(wrong(format!(in alloc; "no option is called '{word}'")));
+            }
         }
         Ok(Awaited::Any)
     }
 
-    // Reads an option that kinds of warnings are joined to, or a file.
-    fn read_kinds_or_file(&mut self, alloc: Global, word: &str) -> Result<(), Unasked> {
-        if let Some(kinds) = word.strip_prefix("--deny=") {
-            return push_kinds(alloc, &mut self.denied, kinds);
+    // Sets what an option sets, by its value, if it takes one.
+    fn set(&mut self, given: Given, choice: Choice, value: &'a str) -> Result<(), Unasked> {
+        match choice {
+            Choice::Terms => self.terms = Some(value),
+            Choice::Prefix => self.read_prefix(given.alloc, value)?,
+            Choice::Log => self.code.emit_logging = true,
+            Choice::Stubs => self.stubs = true,
+            Choice::Allows => self.code.exclude_global_allow_pragmas = false,
+            Choice::Answers => self.answers = Some(value),
+            Choice::Trace => self.trace = true,
+            Choice::Unexpanded => self.expand = false,
+            Choice::Deny => self.deny = true,
+            Choice::Allow => push_kinds(given.alloc, &mut self.allowed, value)?,
+            Choice::All => self.all = true,
+            Choice::Format => self.read_format(given.alloc, value)?,
+            Choice::Color => self.read_color(given, value)?,
+            Choice::Progress => self.progress = true,
+            Choice::Folder => self.folder = value,
         }
-        if let Some(kinds) = word.strip_prefix("--allow=") {
-            return push_kinds(alloc, &mut self.allowed, kinds);
-        }
-        self.read_file(alloc, word)
+        Ok(())
     }
 
     // Only `run` and `why` have a call, and only `diff` has a new version.
@@ -645,6 +722,6 @@ impl<'a> Request<'a> {
 }
 
 // A path without `./` before it.
-fn plain(path: &str) -> &str {
+pub(crate) fn plain(path: &str) -> &str {
     path.strip_prefix("./").unwrap_or(path)
 }

@@ -17,7 +17,7 @@ pub fn push_command(
     match asked_by(alloc, words, false) {
         Ok(Command::Request(asked)) => push_answer(alloc, &asked, files, out),
         Ok(Command::Formatting(_)) => out.push_str("fmt\n"),
-        Ok(Command::Help) => out.push_str("help\n"),
+        Ok(Command::Help(_)) => out.push_str("help\n"),
         Ok(Command::Version) => out.push_str("version\n"),
         Err(Unasked::Words(why)) => write!(out, "status 2\n{why}\n"),
         Err(Unasked::Memory) => Err(AllocError),
