@@ -4,7 +4,7 @@ ghost use Rattle.std.specs.Prelude.{◌≡◌, ◌≢◌, ◌⊎◌, ◌≤◌, 
 
 use crate::inputs::{file_text, path_of, standard_text};
 use crate::run::{cannot_read, say};
-use crate::words::{Unasked, plain, wrong, wrong_as};
+use crate::words::{Unasked, given_twice, plain, wrong, wrong_as};
 use cranelift_isle::syntax::Files;
 use report_errors::syntax_report;
 use report_print::layout::{Layout, push_reports};
@@ -65,7 +65,17 @@ pub fn formatting_by<'a>(alloc: Global, words: &'a [String]) -> Result<Formattin
     if awaited == Awaited::Folder {
         return Err(wrong_as(alloc, "nothing after '-C'"));
     }
+    asked.check = asked.check || asked.diff;
     Ok(asked)
+}
+
+// Sets an option that may be given once.
+fn set(alloc: Global, option: &mut bool, word: &str) -> Result<(), Unasked> {
+    if *option {
+        return Err(given_twice(alloc, word));
+    }
+    *option = true;
+    Ok(())
 }
 
 impl<'a> Formatting<'a> {
@@ -75,12 +85,10 @@ impl<'a> Formatting<'a> {
             return Ok(Awaited::Any);
         }
         match word {
-            "--check" => self.check = true,
-            "--diff" => {
-                self.check = true;
-                self.diff = true;
-            }
-            "-C" => return Ok(Awaited::Folder),
+            "--check" => set(alloc, &mut self.check, word)?,
+            "--diff" => set(alloc, &mut self.diff, word)?,
+            "-C" if self.folder.is_empty() => return Ok(Awaited::Folder),
+            "-C" => return Err(given_twice(alloc, word)),
             "--stdin" => self.read_file(alloc, "-")?,
             "" => return Err(wrong_as(alloc, "a file without a name")),
             _ if word != "-" && word.starts_with('-') => {

@@ -190,7 +190,7 @@ pub(crate) const OPTIONS: [TaskOption; 15] = [
         repeats: false,
         tasks: &[],
         help: "  --all                  shows all errors and warnings. Otherwise only the first 20, and no error that follows from another
-                         one. compare: each term that differs. Otherwise only the first one is shown.
+                         one. compare: the first line of each term that differs. Otherwise only the first line of all is shown.
 ",
     },
     TaskOption {

@@ -291,6 +291,11 @@ pub fn wrong_as(alloc: Global, why: &str) -> Unasked {
     wrong(String::from_str(alloc, why))
 }
 
+/// That an option is given twice.
+pub(crate) fn given_twice(alloc: Global, option: &str) -> Unasked {
+    wrong(format!(in alloc; "the option '{option}' is given twice"))
+}
+
 // What the next word is.
 #[derive(Clone, Copy, PartialEq, Eq)]
 enum Awaited {
@@ -619,8 +624,7 @@ impl<'a> Request<'a> {
             return Err(wrong(format!(in alloc; "{task} has no option '{word}'")));
         }
         if !option.repeats && seen.iter().any(|other| *other == option.word) {
-            let name = option.word;
-            return Err(wrong(format!(in alloc; "the option '{name}' is given twice")));
+            return Err(given_twice(alloc, option.word));
         }
         seen.push(option.word)?;
         Ok(())
