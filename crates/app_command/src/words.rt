@@ -521,6 +521,7 @@ impl<'a> Request<'a> {
                 self.set(given, choice, word)?;
                 Ok(Awaited::Any)
             }
+            Awaited::Rule if word.is_empty() => Err(wrong_as(given.alloc, self.missing_rule())),
             Awaited::Rule => {
                 self.rule = word;
                 Ok(Awaited::Any)
