@@ -1,14 +1,16 @@
 //! Answers to what trees call: an echo's, but for constants of built-in types, and for values that are withheld.
 #![tactic(auto, using(run_terms::proofs::ContentSteps::content_steps, run_terms::proofs::ValueSteps::value_steps))]
 
-ghost use Rattle.std.specs.Prelude.{◌≡◌};
+ghost use Rattle.std.specs.Prelude.{◌≡◌, IfOk, slice_get};
 ghost use Rattle.cranelift_isle.specs.Meaning.{many};
-ghost use Rattle.run_terms.specs.ValueViews.{content_view, content_views, value_view};
+ghost use Rattle.run_terms.specs.ValueViews.{content_view, content_views, value_view, value_views};
+ghost use Rattle.report_traces.specs.Echoes.{extracted_echo, pure_echo};
 ghost use Rattle.cranelift_isle.specs.Envs.{constant_at};
 ghost use Rattle.cranelift_isle.specs.TypeViews.{type_views};
 ghost use Rattle.cranelift_isle.specs.TermViews.{term_views};
-ghost use Rattle.check_trials.specs.TrialAnswers.{answer_given, answers_of, constant_answer, gives_withheld, in_place_of, is_answer_withheld, is_withheld};
+ghost use Rattle.check_trials.specs.TrialAnswers.{answer_given, answers_of, constant_answer, extracted, given_purely, gives_withheld, in_place_of, is_answer_withheld, is_withheld};
 
+use crate::typed::{first_typed, outputs_typed, refilled};
 use core_typed::checks::literal_number;
 use cranelift_isle::sema::{Sym, Term, TermId, TypeEnv, TypeId};
 use report_traces::echo::{Echo, constant_number};
@@ -19,9 +21,10 @@ use std::alloc::{AllocError, Global};
 /// The number that is withheld: what may give nothing, or is multi, gives nothing in its place.
 pub const WITHHELD: i128 = 2;
 
-/// Answers each call as an echo does, but for two things, so that code in Rust can answer so and calls can fail. A constant of
-/// a built-in integer type is the number of the type's range that an echo's stands for. And where an echo's answer is the
-/// number 2, of any type, what may give nothing gives nothing, and what is multi gives no answer.
+/// Answers each call as an echo does, but for three things, so that code in Rust can answer so and calls can fail. A constant of
+/// a built-in integer type is the number of the type's range that an echo's stands for. What an extractor or a pure constructor
+/// gives is a value of the type that is wanted, by its number. And where that is the number 2, of any type, what may give nothing
+/// gives nothing, and what is multi gives no answer.
 pub struct Answers<'a> {
     /// The names and types.
     pub tyenv: &'a TypeEnv,
@@ -118,6 +121,48 @@ fn answered(alloc: Global, content: Content) -> Content
     }
 }
 
+impl<'a> Answers<'a> {
+    // What an extractor gives in the form of an echo's answer.
+    fn extracted(
+        &self,
+        alloc: Global,
+        form: Content,
+        term: TermId,
+        argument: &Value,
+    ) -> Result<Content, AllocError>
+        requires { content_view form ≡ extracted_echo (slice_get (term_views self.now.terms.now) term.0) (value_view argument.now) }
+        ensures { IfOk result (λ c. content_view c ≡ extracted (type_views self.now.tyenv.now.types.items) (slice_get (term_views self.now.terms.now) term.0) (value_view argument.now)) }
+    {
+        match self.terms.get(term.index()) {
+            Some(known) => {
+                let given = outputs_typed(alloc, self.tyenv, &known.arg_tys, argument)?;
+                refilled(alloc, &form, given)
+            }
+            None => Ok(form),
+        }
+    }
+
+    // What a pure constructor gives in the form of an echo's answer.
+    fn given_purely(
+        &self,
+        alloc: Global,
+        form: Content,
+        term: TermId,
+        arguments: &[Value],
+    ) -> Result<Content, AllocError>
+        requires { content_view form ≡ pure_echo (slice_get (term_views self.now.terms.now) term.0) (value_views arguments.now) }
+        ensures { IfOk result (λ c. content_view c ≡ given_purely (type_views self.now.tyenv.now.types.items) (slice_get (term_views self.now.terms.now) term.0) (value_views arguments.now)) }
+    {
+        match self.terms.get(term.index()) {
+            Some(known) => {
+                let given = first_typed(self.tyenv, known.ret_ty, arguments)?;
+                refilled(alloc, &form, Content::One(given))
+            }
+            None => Ok(form),
+        }
+    }
+}
+
 impl<'a> Externs for Answers<'a> {
     ghost functions = { λ a. answers_of (type_views a.tyenv.now.types.items) (constant_at a.tyenv.now) (term_views a.terms.now) };
 
@@ -143,7 +188,8 @@ impl<'a> Externs for Answers<'a> {
             tyenv: self.tyenv,
             terms: self.terms,
         };
-        let content = echo.extractor(alloc, term, argument)?;
+        let form = echo.extractor(alloc, term, argument)?;
+        let content = self.extracted(alloc, form, term, argument)?;
         Ok(answered(alloc, content))
     }
 
@@ -157,7 +203,8 @@ impl<'a> Externs for Answers<'a> {
             tyenv: self.tyenv,
             terms: self.terms,
         };
-        let content = echo.pure_call(alloc, term, arguments)?;
+        let form = echo.pure_call(alloc, term, arguments)?;
+        let content = self.given_purely(alloc, form, term, arguments)?;
         Ok(answered(alloc, content))
     }
 

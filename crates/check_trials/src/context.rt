@@ -72,11 +72,9 @@ fn push_extractor(
         return Ok(());
     }
     push_head(out, &lowered.tyenv, signature)?;
-    if can_be_extracted(term) {
-        if !term.arg_tys.is_empty() {
-            push_argument_withheld(out, lowered, signature.ret_kind, term.ret_ty)?;
-        }
-        push_answer(out, signature, "arg0.clone()")?;
+    if can_be_extracted(lowered, term) {
+        out.push_str("        let given = arg0.clone();\n")?;
+        push_answer(out, lowered, signature, term.ret_ty)?;
     } else {
         out.push_str("        panic!(\"left out\")\n")?;
     }
@@ -97,7 +95,7 @@ fn push_constructor(
     push_head(out, &lowered.tyenv, signature)?;
     match &term.kind {
         TermKind::Decl { flags, .. } if can_be_given(lowered, term, *flags) => {
-            push_given(out, lowered, term, *flags, signature)?;
+            push_constructed(out, lowered, term, *flags, signature)?;
         }
         _ => out.push_str("        panic!(\"left out\")\n")?,
     }
@@ -160,70 +158,65 @@ fn push_result(
     }
 }
 
-// Adds that nothing is given in the place of a first argument that is withheld.
-fn push_argument_withheld(
-    out: &mut String,
-    lowered: &Lowered,
-    kind: ReturnKind,
-    ty: TypeId,
-) -> Result<(), AllocError> {
-    let value = if is_composed(&lowered.tyenv, ty) {
-        "*arg0"
-    } else {
-        "arg0"
-    };
-    push_withheld(out, lowered, kind, ty, value)
-}
-
-// Adds that nothing is given in the place of a value that is withheld.
+// Adds that nothing is given in the place of what is withheld.
 fn push_withheld(
     out: &mut String,
     lowered: &Lowered,
-    kind: ReturnKind,
-    ty: TypeId,
-    value: &str,
+    signature: &ExternalSig,
+    from: TypeId,
 ) -> Result<(), AllocError> {
-    let nothing = match kind {
+    let nothing = match signature.ret_kind {
         ReturnKind::Plain => return Ok(()),
         ReturnKind::Option => " None",
         ReturnKind::Iterator => "",
     };
-    if !has_atoms(lowered, ty) {
-        return Ok(());
+    match signature.ret_tys.as_slice() {
+        [first, ..] if has_atoms(lowered, *first) => {
+            out.push_str("        if ")?;
+            push_given_as(out, lowered, from, *first)?;
+            out.push_str(" == ")?;
+            push_number(out, &lowered.tyenv, *first, WITHHELD)?;
+            write!(out, " {{ return{nothing}; }}\n")
+        }
+        _ => Ok(()),
     }
-    write!(out, "        if {value} == ")?;
-    push_number(out, &lowered.tyenv, ty, WITHHELD)?;
-    write!(out, " {{ return{nothing}; }}\n")
 }
 
 // Adds a constructor's answer, which is made of its first argument or of the number of impure calls before.
-fn push_given(
+fn push_constructed(
     out: &mut String,
     lowered: &Lowered,
     term: &Term,
     flags: TermFlags,
     signature: &ExternalSig,
 ) -> Result<(), AllocError> {
-    if !flags.pure {
-        push_noted(out, lowered, term)?;
-        push_withheld(out, lowered, signature.ret_kind, term.ret_ty, "before")?;
-        return push_answer(out, signature, "before.clone()");
+    match term.arg_tys.as_slice() {
+        [first, ..] if flags.pure => {
+            out.push_str("        let given = arg0.clone();\n")?;
+            push_answer(out, lowered, signature, *first)
+        }
+        _ => {
+            out.push_str("        let given: ")?;
+            push_type(out, &lowered.tyenv, term.ret_ty)?;
+            out.push_str(" = ")?;
+            if flags.pure {
+                push_number(out, &lowered.tyenv, term.ret_ty, 0)?;
+            } else {
+                push_before(out, lowered, term.ret_ty)?;
+            }
+            out.push_str(";\n")?;
+            if !flags.pure {
+                push_noted(out, lowered, term)?;
+            }
+            push_answer(out, lowered, signature, term.ret_ty)
+        }
     }
-    if term.arg_tys.is_empty() {
-        let mut zero = String::new(*out.allocator());
-        push_number(&mut zero, &lowered.tyenv, term.ret_ty, 0)?;
-        return push_answer(out, signature, &zero);
-    }
-    push_argument_withheld(out, lowered, signature.ret_kind, term.ret_ty)?;
-    push_answer(out, signature, "arg0.clone()")
 }
 
-// Adds that an impure call is noted, after the number of those before it.
+// Adds that an impure call is noted.
 fn push_noted(out: &mut String, lowered: &Lowered, term: &Term) -> Result<(), AllocError> {
     let name = term_name(&lowered.tyenv, &lowered.termenv, term.id).unwrap_or("?");
-    out.push_str("        let before = ")?;
-    push_before(out, lowered, term.ret_ty)?;
-    write!(out, ";\n        self.calls.push(composed({name:?}, &[")?;
+    write!(out, "        self.calls.push(composed({name:?}, &[")?;
     for (place, ty) in term.arg_tys.iter().enumerate() {
         write!(out, "show{}(&arg{place}), ", ty.index())?;
     }
@@ -240,35 +233,70 @@ fn push_before(out: &mut String, lowered: &Lowered, ty: TypeId) -> Result<(), Al
     write!(out, "::{OPAQUE}(self.calls.len() as i128)")
 }
 
-// Adds an answer: one value as each of the outputs, in the form of the function.
-fn push_answer(out: &mut String, signature: &ExternalSig, value: &str) -> Result<(), AllocError> {
+// Adds an answer: what is given, a value of this type, as each of the outputs, in the form of the function.
+fn push_answer(
+    out: &mut String,
+    lowered: &Lowered,
+    signature: &ExternalSig,
+    from: TypeId,
+) -> Result<(), AllocError> {
+    push_withheld(out, lowered, signature, from)?;
     out.push_str("        ")?;
     match signature.ret_kind {
-        ReturnKind::Plain => push_outputs(out, signature, value)?,
+        ReturnKind::Plain => push_outputs(out, lowered, signature, from)?,
         ReturnKind::Option => {
             out.push_str("Some(")?;
-            push_outputs(out, signature, value)?;
+            push_outputs(out, lowered, signature, from)?;
             out.push(')')?;
         }
         ReturnKind::Iterator => {
             out.push_str("returns.left = [")?;
-            push_outputs(out, signature, value)?;
+            push_outputs(out, lowered, signature, from)?;
             out.push_str(", ")?;
-            push_outputs(out, signature, value)?;
+            push_outputs(out, lowered, signature, from)?;
             out.push_str("].into();")?;
         }
     }
     out.push('\n')
 }
 
-// Adds a value as each of the outputs: alone where there is one, else in a tuple.
-fn push_outputs(out: &mut String, signature: &ExternalSig, value: &str) -> Result<(), AllocError> {
-    if signature.ret_tys.len() == 1 {
-        return out.push_str(value);
+// Adds what is given as each of the outputs: alone where there is one, else in a tuple.
+fn push_outputs(
+    out: &mut String,
+    lowered: &Lowered,
+    signature: &ExternalSig,
+    from: TypeId,
+) -> Result<(), AllocError> {
+    if let [only] = signature.ret_tys.as_slice() {
+        return push_given_as(out, lowered, from, *only);
     }
     out.push('(')?;
-    for _ in &signature.ret_tys {
-        write!(out, "{value}, ")?;
+    for ty in &signature.ret_tys {
+        push_given_as(out, lowered, from, *ty)?;
+        out.push_str(", ")?;
     }
     out.push(')')
+}
+
+// Adds what is given, a value of one type, as one of another: itself, or by its number.
+fn push_given_as(
+    out: &mut String,
+    lowered: &Lowered,
+    from: TypeId,
+    to: TypeId,
+) -> Result<(), AllocError> {
+    if from == to {
+        return out.push_str("given.clone()");
+    }
+    let number = format!(in *out.allocator(); "number{}(&given)", from.index())?;
+    if to == TypeId::BOOL {
+        write!(out, "({number} != 0)")
+    } else if is_of_numbers(lowered, to) {
+        write!(out, "({number} as ")?;
+        push_type(out, &lowered.tyenv, to)?;
+        out.push(')')
+    } else {
+        push_type(out, &lowered.tyenv, to)?;
+        write!(out, "::{OPAQUE}({number})")
+    }
 }

@@ -18,21 +18,26 @@ pub fn has_atoms(lowered: &Lowered, ty: TypeId) -> bool {
     is_of_numbers(lowered, ty) || has_opaque_values(&lowered.tyenv, ty)
 }
 
+/// Whether a value of one type can be given as one of another: it is one, or a number tells it.
+pub fn can_be_as(lowered: &Lowered, from: TypeId, to: TypeId) -> bool {
+    from == to || to == TypeId::BOOL || has_atoms(lowered, to)
+}
+
 /// Whether what an extractor takes apart can be each of its outputs.
-pub fn can_be_extracted(term: &Term) -> bool {
+pub fn can_be_extracted(lowered: &Lowered, term: &Term) -> bool {
     for ty in &term.arg_tys {
-        if *ty != term.ret_ty {
+        if !can_be_as(lowered, term.ret_ty, *ty) {
             return false;
         }
     }
     true
 }
 
-/// Whether a constructor's answer has the type of its result: of a pure one its first argument, or the value of a number where there
-/// is none; of an impure one the value of a number.
+/// Whether a constructor's answer can be of its result's type: of a pure one its first argument, or the value of a number where
+/// there is none; of an impure one the value of a number.
 pub fn can_be_given(lowered: &Lowered, term: &Term, flags: TermFlags) -> bool {
     match term.arg_tys.as_slice() {
-        [first, ..] if flags.pure => *first == term.ret_ty,
+        [first, ..] if flags.pure => can_be_as(lowered, *first, term.ret_ty),
         _ => has_atoms(lowered, term.ret_ty),
     }
 }
@@ -77,8 +82,8 @@ fn why_not_rule(lowered: &Lowered, rule: &Rule) -> Option<&'static str> {
 
 fn why_not_extractor(lowered: &Lowered, term: TermId) -> Option<&'static str> {
     match lowered.termenv.terms.get(term.index()) {
-        Some(term) if can_be_extracted(term) => None,
-        _ => Some("an extractor's output has another type than what it takes apart"),
+        Some(term) if can_be_extracted(lowered, term) => None,
+        _ => Some("no number tells an extractor's output"),
     }
 }
 
@@ -88,9 +93,7 @@ fn why_not_constructor(lowered: &Lowered, term: TermId) -> Option<&'static str> 
     };
     match &term.kind {
         TermKind::Decl { flags, .. } if can_be_given(lowered, term, *flags) => None,
-        TermKind::Decl { .. } => Some(
-            "a constructor's result has no number, or isn't as its first argument",
-        ),
+        TermKind::Decl { .. } => Some("no number tells a constructor's result"),
         TermKind::EnumVariant { .. } | TermKind::Struct => None,
     }
 }

@@ -15,6 +15,7 @@ mod rust_names;
 mod source;
 mod trial;
 mod type_sizes;
+mod typed;
 mod value_texts;
 mod values;
 mod words;

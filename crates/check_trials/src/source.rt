@@ -6,7 +6,7 @@ use crate::context::push_context;
 use crate::given::push_given;
 use crate::rust_names::{is_composed, push_part, push_types, push_values};
 use crate::trial::Trial;
-use crate::value_texts::push_showing;
+use crate::value_texts::{push_numbers, push_showing};
 use cranelift_isle::sema::Term;
 use cranelift_isle::syntax::Files;
 use report_queries::premises::is_multi;
@@ -130,6 +130,7 @@ fn push_trial(
     out.push_str("    }\n}\n")?;
     push_context(alloc, out, &trial.lowered)?;
     push_showing(alloc, out, &trial.lowered)?;
+    push_numbers(out, &trial.lowered)?;
     push_run(alloc, out, trial, calls)?;
     Ok(())
 }

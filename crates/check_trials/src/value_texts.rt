@@ -1,4 +1,4 @@
-//! How values are told in Rust, as `report_traces` tells them; and when two are equal.
+//! How values are told in Rust, as `report_traces` tells them; when two are equal; and the number of a value.
 
 use crate::fitting::is_of_numbers;
 use crate::rust_names::{OPAQUE, labels, push_number, push_sym, push_type};
@@ -19,6 +19,61 @@ pub fn push_showing(alloc: Global, out: &mut String, lowered: &Lowered) -> Resul
         if is_without_equality(ty) {
             push_equality(out, &lowered.tyenv, TypeId(place))?;
         }
+    }
+    Ok(())
+}
+
+/// Adds a function for each type that gives the number of a value of it.
+pub fn push_numbers(out: &mut String, lowered: &Lowered) -> Result<(), AllocError> {
+    for (place, ty) in lowered.tyenv.types.iter().enumerate() {
+        write!(out, "fn number{place}(value: &")?;
+        push_type(out, &lowered.tyenv, TypeId(place))?;
+        out.push_str(") -> i128 {\n")?;
+        push_number_body(out, &lowered.tyenv, TypeId(place), ty)?;
+        out.push_str("}\n")?;
+    }
+    Ok(())
+}
+
+// Adds the body of such a function: of a variant its place among those of the type, of a struct 0.
+fn push_number_body(
+    out: &mut String,
+    tyenv: &TypeEnv,
+    id: TypeId,
+    ty: &Type,
+) -> Result<(), AllocError> {
+    match ty {
+        Type::Builtin(_) | Type::Primitive(..) => out.push_str("    *value as i128\n"),
+        Type::Struct { .. } => out.push_str("    0\n"),
+        Type::Enum {
+            is_extern,
+            variants,
+            ..
+        } => {
+            out.push_str("    match *value {\n")?;
+            push_number_arms(out, tyenv, id, variants)?;
+            if *is_extern {
+                out.push_str("        ")?;
+                push_type(out, tyenv, id)?;
+                write!(out, "::{OPAQUE}(number) => number,\n")?;
+            }
+            out.push_str("    }\n")
+        }
+    }
+}
+
+fn push_number_arms(
+    out: &mut String,
+    tyenv: &TypeEnv,
+    ty: TypeId,
+    variants: &[Variant],
+) -> Result<(), AllocError> {
+    for (place, variant) in variants.iter().enumerate() {
+        out.push_str("        ")?;
+        push_type(out, tyenv, ty)?;
+        out.push_str("::")?;
+        push_sym(out, tyenv, variant.name)?;
+        write!(out, " {{ .. }} => {place},\n")?;
     }
     Ok(())
 }
