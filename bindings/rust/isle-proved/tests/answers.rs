@@ -93,10 +93,11 @@ fn errors_as_json() {
     let end = "\"end\":{\"line\":1,\"column\":6,\"offset\":5}";
     let document = |lists: &str| {
         format!(
-            "{{\"schema\":1,{lists}\"errors\":[{{\"kind\":\"syntax\",\"message\":\"expected `)`\",\
-            \"places\":[{{\"file\":\"a.isle\",\"line\":1,\"column\":6,\"offset\":5,{end},\"text\":\"\"}},\
-            {{\"file\":\"a.isle\",\"line\":1,\"column\":1,\"offset\":0,{end},\"text\":\"begins here\"}}],\
-            \"help\":[],\"witness\":[]}}]}}\n"
+            "{{\"schema\":1,{lists}\"errors\":[{{\"kind\":\"syntax\",\"code\":\"unclosed-list\",\
+            \"message\":\"this list isn't closed\",\
+            \"places\":[{{\"file\":\"a.isle\",\"line\":1,\"column\":1,\"offset\":0,{end},\"text\":\"\"}},\
+            {{\"file\":\"a.isle\",\"line\":1,\"column\":6,\"offset\":5,{end},\"text\":\"the text ends here\"}}],\
+            \"help\":[],\"witness\":[],\"fixes\":[]}}]}}\n"
         )
     };
     let files = [("a.isle", "(decl")];
