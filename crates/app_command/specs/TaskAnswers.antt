@@ -6,6 +6,7 @@ use Rattle.cranelift_isle.specs.declared.lower.Lowered.{Lowered}
 use Rattle.cranelift_isle.specs.Lowerings.{lowered_views, AreAccepted, IsLowered}
 use Rattle.core_syntax.specs.declared.syntax.Pos.{Pos}
 use Rattle.report_print.specs.declared.report.Report.{Report}
+use Rattle.text_json.specs.JsonLine.{IsJsonLine}
 use Rattle.text_writer.specs.Spellable.{first_unspelled}
 use Rattle.text_writer.specs.Texts.{printed}
 use Rattle.app_command.specs.declared.answers.Answer.{Answer}
@@ -47,9 +48,9 @@ IsFailed answer = (answer.status ≡ 1) × IsOnErr answer × (string_bytes answe
 abbrev pub IsDifferent : Answer → Type 0
 IsDifferent answer = (answer.status ≡ 1) × IsOnOut answer × (string_bytes answer.out ≢ [])
 
--- reports may stand on one side: as JSON, which is never empty, on standard output, else on standard error
+-- reports may stand on one side: as a line of JSON on standard output, else on standard error
 abbrev pub AreReports : Format → Answer → Type 0
-AreReports F.Json answer = IsOnOut answer × (string_bytes answer.out ≢ [])
+AreReports F.Json answer = IsOnOut answer × IsJsonLine (string_bytes answer.out)
 AreReports F.Text answer = IsOnErr answer
 AreReports F.Line answer = IsOnErr answer
 AreReports F.Dot answer = IsOnErr answer
@@ -71,12 +72,19 @@ HasReport F.Dot answer = string_bytes answer.err ≢ []
 abbrev pub IsRefusal : Request → Answer → Type 0
 IsRefusal asked answer = (answer.status ≡ 1) × AreReports asked.format answer
 
--- the text of the trees of so many terms: no JSON is empty, and every other form has at least one byte for each term
+-- the text of the trees of so many terms: a line of JSON, and every other form has at least one byte for each term
 abbrev pub AreTrees : Format → (count : ℕ) → (text : List ℕ) → Type 0
-AreTrees F.Json count text = text ≢ []
+AreTrees F.Json count text = IsJsonLine text
 AreTrees F.Text count text = count ≤ length text
 AreTrees F.Line count text = count ≤ length text
 AreTrees F.Dot count text = count ≤ length text
+
+-- the text of how large terms are
+abbrev pub AreSizes : Format → (text : List ℕ) → Type 0
+AreSizes F.Json text = IsJsonLine text
+AreSizes F.Text text = text ≢ []
+AreSizes F.Line text = text ≢ []
+AreSizes F.Dot text = text ≢ []
 
 -- the numbers of the terms that were lowered
 abbrev pub lowered_terms : Lowered → List ℕ
@@ -115,7 +123,7 @@ IsAnswerBy T.Lower asked l answer =
 IsAnswerBy T.Rust asked l answer = IsAnswerOfRust l asked.code asked.stubs answer
 IsAnswerBy T.Check asked l answer = AreReports asked.format answer × IsStatusOfWarnings asked answer
 IsAnswerBy T.Explain asked l answer = IsDoneWithText answer ⊎ IsFailed answer
-IsAnswerBy T.Stats asked l answer = IsDoneWithText answer
+IsAnswerBy T.Stats asked l answer = IsDone answer × AreSizes asked.format (string_bytes answer.out)
 IsAnswerBy T.Compare asked l answer = IsDoneWithoutText answer ⊎ IsFailed answer
 IsAnswerBy T.Diff asked l answer = IsDoneWithoutText answer
 IsAnswerBy T.Print asked l answer = IsDoneWithoutText answer

@@ -5,7 +5,7 @@ ghost use Rattle.cranelift_isle.specs.SyntaxViews.{definition_views};
 ghost use Rattle.app_command.specs.declared.words.Task.TheVariants.{Lower};
 ghost use Rattle.app_command.specs.Codes.{IsAnswerOfCode, IsAnswerOfRust};
 ghost use Rattle.app_command.specs.Compared.{last_has_trees};
-ghost use Rattle.app_command.specs.TaskAnswers.{AreReports, AreTrees, HasNoReport, HasReport, IsDoneWithText, IsDoneWithoutText, IsFailed, IsRefusal, IsStatusOfWarnings, denies};
+ghost use Rattle.app_command.specs.TaskAnswers.{AreReports, AreSizes, AreTrees, HasNoReport, HasReport, IsDone, IsDoneWithText, IsDoneWithoutText, IsFailed, IsRefusal, IsStatusOfWarnings, denies};
 ghost use Rattle.app_command.specs.TaskAnswers.{AsksForAll, IsAnswerBy, IsAnswerToDefinitions, IsAnswerToOneReading, IsAnswerToReading, IsAnswerToTexts};
 ghost use Rattle.app_command.specs.Statuses.{IsStatusOfReading};
 ghost use Rattle.report_queries.specs.TermTexts.{term_text};
@@ -281,14 +281,19 @@ fn answer_of_code(alloc: Global, code: Code) -> Answer
 
 // How large terms are.
 fn counted(alloc: Global, asked: &Request<'_>, lowered: &Lowered) -> Result<Answer, AllocError>
-    ensures { IfOk result IsDoneWithText }
+    ensures { IfOk result (λ a. IsDone a × AreSizes asked.now.format (string_bytes a.out)) }
 {
-    let out = if asked.format == Format::Json {
-        document_of_sizes(alloc, lowered)?
-    } else {
-        stats(alloc, lowered)?
-    };
+    let out = text_of_sizes(alloc, asked.format, lowered)?;
     Ok(accepted(alloc, out))
+}
+
+fn text_of_sizes(alloc: Global, format: Format, lowered: &Lowered) -> Result<String, AllocError>
+    ensures { IfOk result (λ text. AreSizes format (string_bytes text)) }
+{
+    match format {
+        Format::Json => document_of_sizes(alloc, lowered),
+        Format::Dot | Format::Text | Format::Line => stats(alloc, lowered),
+    }
 }
 
 // What is said of the rules that are so called.

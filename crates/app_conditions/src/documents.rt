@@ -1,6 +1,7 @@
 //! Questions about rules for a solver as JSON: docs/JSON.md says in which form.
 
-ghost use Rattle.std.specs.Prelude.{◌≢◌, [], string_bytes, IfOk};
+ghost use Rattle.std.specs.Prelude.{string_bytes, IfOk};
+ghost use Rattle.text_json.specs.JsonLine.{IsJsonLine};
 
 use crate::forms::push_forms;
 use crate::judging::{Counts, Judge, NO_COUNTS};
@@ -8,12 +9,12 @@ use crate::told::Teller;
 use cranelift_isle::lower::Lowered;
 use cranelift_isle::sema::{RuleId, TermId};
 use cranelift_isle::syntax::{Files, Pos};
-use report_json::documents::{begun, ended};
+use report_json::documents::begun;
 use report_json::places::LinePlaces;
-use report_json::writer::Json;
 use report_queries::names::{rule_name, term_name};
 use spec_questions::questions::{Question, Questions, RuleQuestions, Without};
 use std::alloc::{AllocError, Global};
+use text_json::Json;
 use text_reader::syntax::VerificationForm;
 
 /// The document of what is asked of rules, in one line: the questions, the rules without any, and what is said for a verifier.
@@ -24,7 +25,7 @@ pub(crate) fn document_of_questions(
     forms: &[VerificationForm],
     asked: &Questions,
 ) -> Result<String, AllocError>
-    ensures { IfOk result (λ text. string_bytes text ≢ []) }
+    ensures { IfOk result (λ text. IsJsonLine (string_bytes text)) }
 {
     let places = LinePlaces::new(alloc, files)?;
     let writer = Writer {
@@ -32,23 +33,23 @@ pub(crate) fn document_of_questions(
         places: &places,
     };
     let mut json = begun(alloc)?;
-    json.begin_at("conditions", '[')?;
+    json.begin_list_at("conditions")?;
     for rule in &asked.rules {
         writer.push_questions(&mut json, rule)?;
     }
-    json.end(']')?;
-    json.begin_at("left_out", '[')?;
+    json.end()?;
+    json.begin_list_at("left_out")?;
     for rule in &asked.rules {
         writer.push_left_out(&mut json, rule)?;
     }
-    json.end(']')?;
-    json.begin_at("without", '[')?;
+    json.end()?;
+    json.begin_list_at("without")?;
     for rule in &asked.without {
         writer.push_without(&mut json, rule)?;
     }
-    json.end(']')?;
+    json.end()?;
     push_forms(alloc, &mut json, &places, forms)?;
-    ended(alloc, json)
+    json.line()
 }
 
 /// The document of what answers say of rules, in one line, and how many rules there are of each verdict.
@@ -68,27 +69,27 @@ pub(crate) fn document_of_verdicts(
     };
     let mut counts = NO_COUNTS;
     let mut json = begun(alloc)?;
-    json.begin_at("verdicts", '[')?;
+    json.begin_list_at("verdicts")?;
     for rule in &judge.asked.rules {
         let mut told = String::new(alloc);
         let verdict = judge.push_told(&mut told, judge.last(rule), &mut counts)?;
-        json.begin('{')?;
+        json.begin_object()?;
         writer.push_rule(&mut json, rule.rule, rule.pos, rule.term)?;
         json.key_string("verdict", verdict.word())?;
         json.key_string("told", &told)?;
-        json.end('}')?;
+        json.end()?;
     }
     for rule in &judge.asked.without {
         let mut told = String::new(alloc);
         judge.push_without(&mut told, rule, &mut counts)?;
-        json.begin('{')?;
+        json.begin_object()?;
         writer.push_rule(&mut json, rule.rule, rule.pos, rule.term)?;
         json.key_string("verdict", "without")?;
         json.key_string("told", &told)?;
-        json.end('}')?;
+        json.end()?;
     }
-    json.end(']')?;
-    out.push_str(&ended(alloc, json)?)?;
+    json.end()?;
+    out.push_str(&json.line()?)?;
     Ok(counts)
 }
 
@@ -111,14 +112,14 @@ impl<'a, 'f> Writer<'a, 'f> {
     // Adds the choices of widths at which a rule isn't asked about.
     fn push_left_out(self, json: &mut Json, rule: &RuleQuestions) -> Result<(), AllocError> {
         for choice in &rule.left_out {
-            json.begin('{')?;
+            json.begin_object()?;
             self.push_rule(json, rule.rule, rule.pos, rule.term)?;
             push_widths(json, &choice.widths)?;
             match &choice.reason {
                 Some(reason) => json.key_string("reason", reason)?,
                 None => json.key_null("reason")?,
             }
-            json.end('}')?;
+            json.end()?;
         }
         Ok(())
     }
@@ -130,33 +131,33 @@ impl<'a, 'f> Writer<'a, 'f> {
         rule: &RuleQuestions,
         question: &Question,
     ) -> Result<(), AllocError> {
-        json.begin('{')?;
+        json.begin_object()?;
         self.push_rule(json, rule.rule, rule.pos, rule.term)?;
         push_widths(json, &question.widths)?;
         json.key_string("taken", &question.taken)?;
         json.key_string("wrong", &question.wrong)?;
-        json.begin_at("names", '{')?;
+        json.begin_object_at("names")?;
         for (name, words) in &question.names {
             json.key_string(name, words)?;
         }
-        json.end('}')?;
-        json.begin_at("values", '[')?;
+        json.end()?;
+        json.begin_list_at("values")?;
         for (of, is) in &question.values {
-            json.begin('{')?;
+            json.begin_object()?;
             json.key_string("of", of)?;
             json.key_string("is", is)?;
-            json.end('}')?;
+            json.end()?;
         }
-        json.end(']')?;
-        json.end('}')
+        json.end()?;
+        json.end()
     }
 
     // Adds a rule that has no question.
     fn push_without(self, json: &mut Json, rule: &Without) -> Result<(), AllocError> {
-        json.begin('{')?;
+        json.begin_object()?;
         self.push_rule(json, rule.rule, rule.pos, rule.term)?;
         json.key_string("reason", &rule.reason)?;
-        json.end('}')
+        json.end()
     }
 
     // Adds the name of a rule, its place and the name of its term.
@@ -179,12 +180,12 @@ impl<'a, 'f> Writer<'a, 'f> {
 
 // Adds a choice of widths.
 fn push_widths(json: &mut Json, widths: &[(String, usize)]) -> Result<(), AllocError> {
-    json.begin_at("widths", '[')?;
+    json.begin_list_at("widths")?;
     for (of, width) in widths {
-        json.begin('{')?;
+        json.begin_object()?;
         json.key_string("of", of)?;
         json.key_number("width", *width)?;
-        json.end('}')?;
+        json.end()?;
     }
-    json.end(']')
+    json.end()
 }

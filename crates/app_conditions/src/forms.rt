@@ -2,9 +2,9 @@
 
 use cranelift_isle::syntax::Pos;
 use report_json::places::LinePlaces;
-use report_json::writer::Json;
 use std::alloc::{AllocError, Global};
 use std::slice;
+use text_json::Json;
 use text_reader::syntax::VerificationForm;
 use text_writer::spec_faults::SpecPrintFault;
 use text_writer::verification::print;
@@ -16,11 +16,11 @@ pub(crate) fn push_forms(
     places: &LinePlaces<'_>,
     forms: &[VerificationForm],
 ) -> Result<(), AllocError> {
-    json.begin_at("specs", '[')?;
+    json.begin_list_at("specs")?;
     for form in forms {
         push_form(alloc, json, places, form)?;
     }
-    json.end(']')
+    json.end()
 }
 
 // Adds one.
@@ -31,14 +31,14 @@ fn push_form(
     form: &VerificationForm,
 ) -> Result<(), AllocError> {
     let text = text_of(alloc, form)?;
-    json.begin('{')?;
+    json.begin_object()?;
     json.key_string("kind", kind_of(form))?;
     places.push_place(json, place_of(form))?;
     match &text {
         Some(text) => json.key_string("text", text)?,
         None => json.key_null("text")?,
     }
-    json.end('}')
+    json.end()
 }
 
 // Its text, on one line with its end; None where no text spells it.

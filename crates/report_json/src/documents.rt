@@ -1,6 +1,7 @@
 //! Whole documents.
 
-ghost use Rattle.std.specs.Prelude.{◌≢◌, [], string_bytes, IfOk};
+ghost use Rattle.std.specs.Prelude.{string_bytes, IfOk};
+ghost use Rattle.text_json.specs.JsonLine.{IsJsonLine};
 
 use crate::heads::push_all_heads;
 use crate::places::LinePlaces;
@@ -9,13 +10,13 @@ use crate::sizes::push_sizes;
 use crate::terms::{Shown, push_term};
 use crate::typed_rules::TypedForms;
 use crate::types::{push_constants, push_types};
-use crate::writer::Json;
 use cranelift_isle::environments::{Environments, environments_of};
 use cranelift_isle::lower::{Lowered, LoweredTerm};
 use cranelift_isle::syntax::{Def, Fault, Files};
 use report_errors::names::NameTables;
 use report_print::report::Report;
 use std::alloc::{AllocError, Global};
+use text_json::Json;
 
 // The number of the form. It grows where something is taken away or means something else.
 const SCHEMA: usize = 1;
@@ -38,13 +39,13 @@ pub fn document_of_reports(
     reports: &[Report],
     document: DocumentPurpose,
 ) -> Result<String, AllocError>
-    ensures { IfOk result (λ text. string_bytes text ≢ []) }
+    ensures { IfOk result (λ text. IsJsonLine (string_bytes text)) }
 {
     let places = LinePlaces::new(alloc, files)?;
     let mut json = begun(alloc)?;
     push_no_entries(&mut json, document)?;
     push_reports(&mut json, &places, "errors", reports)?;
-    ended(alloc, json)
+    json.line()
 }
 
 /// The document of accepted definitions of which only warnings are asked, in one line.
@@ -53,23 +54,23 @@ pub fn document_of_warnings(
     files: &Files,
     warnings: &[Report],
 ) -> Result<String, AllocError>
-    ensures { IfOk result (λ text. string_bytes text ≢ []) }
+    ensures { IfOk result (λ text. IsJsonLine (string_bytes text)) }
 {
     let places = LinePlaces::new(alloc, files)?;
     let mut json = begun(alloc)?;
     push_empty(&mut json, "errors")?;
     push_reports(&mut json, &places, "warnings", warnings)?;
-    ended(alloc, json)
+    json.line()
 }
 
 /// The document of how large the terms of accepted definitions are, in one line.
 pub fn document_of_sizes(alloc: Global, lowered: &Lowered) -> Result<String, AllocError>
-    ensures { IfOk result (λ text. string_bytes text ≢ []) }
+    ensures { IfOk result (λ text. IsJsonLine (string_bytes text)) }
 {
     let mut json = begun(alloc)?;
     push_sizes(alloc, &mut json, lowered)?;
     push_empty(&mut json, "errors")?;
-    ended(alloc, json)
+    json.line()
 }
 
 /// The document of accepted definitions, in one line: their types and constants, the head of each of their terms, and of each
@@ -81,7 +82,7 @@ pub fn document_of_terms(
     lowered: &Lowered,
     terms: &[&LoweredTerm],
 ) -> Result<String, AllocError>
-    ensures { IfOk result (λ text. string_bytes text ≢ []) }
+    ensures { IfOk result (λ text. IsJsonLine (string_bytes text)) }
 {
     let unexpanded = environments_as_written(alloc, defs, lowered)?;
     let places = LinePlaces::new(alloc, files)?;
@@ -102,7 +103,7 @@ pub fn document_of_terms(
     push_constants(&mut json, names, &places, defs)?;
     push_all_heads(alloc, &mut json, names, &places)?;
     push_empty(&mut json, "errors")?;
-    ended(alloc, json)
+    json.line()
 }
 
 // The environments in which internal extractors stand as they are written, where `lowered` has others. None where rules can't
@@ -124,18 +125,9 @@ fn environments_as_written(
 
 /// A document up to its parts.
 pub fn begun(alloc: Global) -> Result<Json, AllocError> {
-    let mut json = Json::new(alloc);
-    json.begin('{')?;
+    let mut json = Json::new(alloc)?;
     json.key_number("schema", SCHEMA)?;
     Ok(json)
-}
-
-/// The text of a document, with the line's end.
-pub fn ended(alloc: Global, json: Json) -> Result<String, AllocError>
-    ensures { IfOk result (λ text. string_bytes text ≢ []) }
-{
-    let text = json.text();
-    format!(in alloc; "{text}}}\n")
 }
 
 // Adds the lists of a document, without entries.
@@ -154,8 +146,8 @@ fn push_no_entries(json: &mut Json, document: DocumentPurpose) -> Result<(), All
 
 // Adds a list without entries.
 fn push_empty(json: &mut Json, key: &str) -> Result<(), AllocError> {
-    json.begin_at(key, '[')?;
-    json.end(']')
+    json.begin_list_at(key)?;
+    json.end()
 }
 
 fn push_terms(
@@ -163,9 +155,9 @@ fn push_terms(
     shown: &Shown<'_, '_>,
     terms: &[&LoweredTerm],
 ) -> Result<(), AllocError> {
-    json.begin_at("terms", '[')?;
+    json.begin_list_at("terms")?;
     for term in terms {
         push_term(json, shown, term)?;
     }
-    json.end(']')
+    json.end()
 }

@@ -2,10 +2,10 @@
 
 use crate::patterns::push_typed;
 use crate::sites::{push_bool, push_int, push_named};
-use crate::writer::Json;
 use cranelift_isle::sema::{Expr, TypeId, VarId};
 use report_errors::names::NameTables;
 use std::alloc::AllocError;
+use text_json::Json;
 
 /// Adds a typed expression.
 #[cycle(exprs)]
@@ -14,7 +14,7 @@ pub(crate) fn push_expr(
     names: NameTables<'_>,
     expr: &Expr,
 ) -> Result<(), AllocError> {
-    json.begin('{')?;
+    json.begin_object()?;
     match expr {
         Expr::Term(ty, term, arguments) => {
             push_typed(json, names, "term", *ty)?;
@@ -29,17 +29,17 @@ pub(crate) fn push_expr(
         }
         _ => push_leaf(json, names, expr)?,
     }
-    json.end('}')
+    json.end()
 }
 
 // Adds the arguments of a term.
 #[cycle(exprs)]
 fn push_exprs(json: &mut Json, names: NameTables<'_>, exprs: &[Expr]) -> Result<(), AllocError> {
-    json.begin_at("arguments", '[')?;
+    json.begin_list_at("arguments")?;
     for expr in exprs {
         push_expr(json, names, expr)?;
     }
-    json.end(']')
+    json.end()
 }
 
 // Adds the variables of a let, each with its type and its value.
@@ -49,16 +49,16 @@ fn push_bindings(
     names: NameTables<'_>,
     bindings: &[(VarId, TypeId, Box<Expr>)],
 ) -> Result<(), AllocError> {
-    json.begin_at("variables", '[')?;
+    json.begin_list_at("variables")?;
     for binding in bindings {
-        json.begin('{')?;
+        json.begin_object()?;
         json.key_number("variable", binding.0.index())?;
         json.key_string("type", names.ty(binding.1))?;
         json.key("value")?;
         push_expr(json, names, &binding.2)?;
-        json.end('}')?;
+        json.end()?;
     }
-    json.end(']')
+    json.end()
 }
 
 // Adds what an expression without parts is.

@@ -3,10 +3,10 @@
 use crate::places::LinePlaces;
 use crate::site_types::word_of_answer;
 use crate::templates::push_template;
-use crate::writer::Json;
 use cranelift_isle::sema::{ExtractorKind, Term, TermFlags, TermKind, TypeId};
 use report_errors::names::NameTables;
 use std::alloc::{AllocError, Global};
+use text_json::Json;
 
 /// Adds all terms, by their ids.
 pub(crate) fn push_all_heads(
@@ -15,17 +15,17 @@ pub(crate) fn push_all_heads(
     names: NameTables<'_>,
     places: &LinePlaces<'_>,
 ) -> Result<(), AllocError> {
-    json.begin_at("all_terms", '[')?;
+    json.begin_list_at("all_terms")?;
     for term in names.terms {
-        json.begin('{')?;
+        json.begin_object()?;
         json.key_string("kind", word_of_kind(&term.kind))?;
         push_head(json, names, term)?;
         places.push_place(json, term.decl_pos)?;
         push_constructor(alloc, json, names, term)?;
         push_extractor(alloc, json, names, term)?;
-        json.end('}')?;
+        json.end()?;
     }
-    json.end(']')
+    json.end()
 }
 
 fn word_of_kind(kind: &TermKind) -> &'static str {
@@ -43,10 +43,10 @@ pub(crate) fn push_head(
     term: &Term,
 ) -> Result<(), AllocError> {
     json.key_string("name", names.sym(term.name))?;
-    json.begin_at("signature", '{')?;
+    json.begin_object_at("signature")?;
     push_type_names(json, names, "arguments", &term.arg_tys)?;
     json.key_string("result", names.ty(term.ret_ty))?;
-    json.end('}')?;
+    json.end()?;
     push_flags(json, flags_of(&term.kind))
 }
 
@@ -57,11 +57,11 @@ pub(crate) fn push_type_names(
     key: &str,
     types: &[TypeId],
 ) -> Result<(), AllocError> {
-    json.begin_at(key, '[')?;
+    json.begin_list_at(key)?;
     for ty in types {
         json.string(names.ty(*ty))?;
     }
-    json.end(']')
+    json.end()
 }
 
 // The flags of a term: none where it isn't declared.
@@ -78,12 +78,12 @@ fn flags_of(kind: &TermKind) -> TermFlags {
 }
 
 fn push_flags(json: &mut Json, flags: TermFlags) -> Result<(), AllocError> {
-    json.begin_at("flags", '{')?;
+    json.begin_object_at("flags")?;
     json.key_flag("pure", flags.pure)?;
     json.key_flag("multi", flags.multi)?;
     json.key_flag("partial", flags.partial)?;
     json.key_flag("rec", flags.rec)?;
-    json.end('}')
+    json.end()
 }
 
 // Adds what makes the values of a declared term, or `null` where nothing does and for a term that a type makes.
@@ -101,11 +101,11 @@ fn push_constructor(
     } else {
         "extern"
     };
-    json.begin_at("constructor", '{')?;
+    json.begin_object_at("constructor")?;
     json.key_string("kind", kind)?;
     json.key_string("function", &sig.func_name)?;
     json.key_string("answer", word_of_answer(sig.ret_kind))?;
-    json.end('}')
+    json.end()
 }
 
 // Adds what takes the values of a declared term apart, or `null` where nothing does and for a term that a type makes.
@@ -118,10 +118,10 @@ fn push_extractor(
     let Some(sig) = term.extractor_sig(alloc, names.tyenv)? else {
         return json.key_null("extractor");
     };
-    json.begin_at("extractor", '{')?;
+    json.begin_object_at("extractor")?;
     push_taker(json, &term.kind, &sig.func_name)?;
     json.key_string("answer", word_of_answer(sig.ret_kind))?;
-    json.end('}')
+    json.end()
 }
 
 // Adds a term's template, or the function of this name that takes its values apart.

@@ -16,4 +16,3 @@ mod terms;
 mod trees;
 mod typed_rules;
 mod types;
-pub mod writer;

@@ -1,10 +1,10 @@
 //! Typed patterns.
 
 use crate::sites::{push_bool, push_int, push_named};
-use crate::writer::Json;
 use cranelift_isle::sema::{Pattern, TypeId};
 use report_errors::names::NameTables;
 use std::alloc::AllocError;
+use text_json::Json;
 
 /// Adds a typed pattern.
 #[cycle(patterns)]
@@ -13,7 +13,7 @@ pub(crate) fn push_pattern(
     names: NameTables<'_>,
     pattern: &Pattern,
 ) -> Result<(), AllocError> {
-    json.begin('{')?;
+    json.begin_object()?;
     match pattern {
         Pattern::BindPattern(ty, variable, inner) => {
             push_typed(json, names, "bind", *ty)?;
@@ -32,7 +32,7 @@ pub(crate) fn push_pattern(
         }
         _ => push_leaf(json, names, pattern)?,
     }
-    json.end('}')
+    json.end()
 }
 
 /// Adds typed patterns at a key.
@@ -43,11 +43,11 @@ pub(crate) fn push_patterns(
     key: &str,
     patterns: &[Pattern],
 ) -> Result<(), AllocError> {
-    json.begin_at(key, '[')?;
+    json.begin_list_at(key)?;
     for pattern in patterns {
         push_pattern(json, names, pattern)?;
     }
-    json.end(']')
+    json.end()
 }
 
 // Adds what a pattern without parts is.

@@ -1,10 +1,10 @@
 //! Places in files: where they begin, and where what stands there ends.
 
-use crate::writer::Json;
 use cranelift_isle::syntax::{Files, Pos};
 use report_errors::extents::end_of_form;
 use report_print::lines::{FileLines, file_name, file_text};
 use std::alloc::{AllocError, Global};
+use text_json::Json;
 
 /// The places of files.
 pub struct LinePlaces<'a> {
@@ -43,9 +43,9 @@ impl<'a> LinePlaces<'a> {
         json.key_string("file", file_name(files, pos.file))?;
         self.push_point(json, pos)?;
         let offset = end_of_form(file_text(files, pos.file), pos.offset);
-        json.begin_at("end", '{')?;
+        json.begin_object_at("end")?;
         let file = pos.file;
         self.push_point(json, Pos { file, offset })?;
-        json.end('}')
+        json.end()
     }
 }

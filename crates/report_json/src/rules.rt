@@ -2,10 +2,10 @@
 
 use crate::places::LinePlaces;
 use crate::sites::{push_constraint, push_ids};
-use crate::writer::Json;
 use cranelift_isle::trie_again::Rule;
 use report_errors::names::NameTables;
 use std::alloc::AllocError;
+use text_json::Json;
 
 /// Adds what a rule is, and what it demands and makes.
 pub(crate) fn push_rule(
@@ -33,26 +33,26 @@ fn push_rule_name(json: &mut Json, names: NameTables<'_>, rule: &Rule) -> Result
 
 // Adds what a rule demands of sites, and which of them it demands to be equal.
 fn push_demands(json: &mut Json, names: NameTables<'_>, rule: &Rule) -> Result<(), AllocError> {
-    json.begin_at("constraints", '[')?;
+    json.begin_list_at("constraints")?;
     for (site, constraint) in rule.constraints() {
-        json.begin('{')?;
+        json.begin_object()?;
         json.key_number("site", site.index())?;
         push_constraint(json, names, *constraint)?;
-        json.end('}')?;
+        json.end()?;
     }
-    json.end(']')?;
+    json.end()?;
     push_classes(json, rule)
 }
 
 // Adds the lists of sites with equal values.
 fn push_classes(json: &mut Json, rule: &Rule) -> Result<(), AllocError> {
-    json.begin_at("equal", '[')?;
+    json.begin_list_at("equal")?;
     for class in rule.classes() {
-        json.begin('[')?;
+        json.begin_list()?;
         for site in class {
             json.number(site.index())?;
         }
-        json.end(']')?;
+        json.end()?;
     }
-    json.end(']')
+    json.end()
 }

@@ -2,12 +2,12 @@
 
 use crate::heads::push_type_names;
 use crate::site_types::{SiteTypes, word_of_answer};
-use crate::writer::Json;
 use cranelift_isle::sema::TypeId;
 use cranelift_isle::trie_again::{Binding, BindingId, Constraint};
 use report_errors::names::NameTables;
 use report_queries::in_place::is_in_place;
 use std::alloc::AllocError;
+use text_json::Json;
 
 /// Adds the sites of a set, by their numbers, with their types. Those are marked that some step of the tree binds.
 pub(crate) fn push_sites(
@@ -17,16 +17,16 @@ pub(crate) fn push_sites(
     types: &[SiteTypes],
     marked: &[bool],
 ) -> Result<(), AllocError> {
-    json.begin_at("sites", '[')?;
+    json.begin_list_at("sites")?;
     for (id, binding) in bindings.iter().enumerate() {
         push_site(json, names, id, binding)?;
         json.key_string("bound", bound_where(binding, is_marked(marked, id)))?;
         if let Some(types) = types.get(id) {
             push_types(json, names, types)?;
         }
-        json.end('}')?;
+        json.end()?;
     }
-    json.end(']')
+    json.end()
 }
 
 fn push_types(json: &mut Json, names: NameTables<'_>, types: &SiteTypes) -> Result<(), AllocError> {
@@ -41,12 +41,12 @@ fn push_site(
     id: usize,
     binding: &Binding,
 ) -> Result<(), AllocError> {
-    json.begin('{')?;
+    json.begin_object()?;
     json.key_number("id", id)?;
-    json.begin_at("what", '{')?;
+    json.begin_object_at("what")?;
     push_parts(json, names, binding)?;
     push_ids(json, "of", binding.sources())?;
-    json.end('}')
+    json.end()
 }
 
 fn is_marked(marked: &[bool], id: usize) -> bool {
@@ -136,11 +136,11 @@ pub(crate) fn push_int(
 
 /// Adds a list of sites.
 pub(crate) fn push_ids(json: &mut Json, key: &str, sites: &[BindingId]) -> Result<(), AllocError> {
-    json.begin_at(key, '[')?;
+    json.begin_list_at(key)?;
     for site in sites {
         json.number(site.index())?;
     }
-    json.end(']')
+    json.end()
 }
 
 /// Adds what a constraint asks.
@@ -149,9 +149,9 @@ pub(crate) fn push_constraint(
     names: NameTables<'_>,
     constraint: Constraint,
 ) -> Result<(), AllocError> {
-    json.begin_at("is", '{')?;
+    json.begin_object_at("is")?;
     push_asked(json, names, constraint)?;
-    json.end('}')
+    json.end()
 }
 
 // Adds a kind, and what is asked.

@@ -1,10 +1,10 @@
 //! How large terms are.
 
-use crate::writer::Json;
 use cranelift_isle::lower::Lowered;
 use report_errors::names::NameTables;
 use report_errors::term_sizes::{TermSize, sizes};
 use std::alloc::{AllocError, Global};
+use text_json::Json;
 
 /// Adds the sizes of terms with rules, the one with most rules first.
 pub(crate) fn push_sizes(
@@ -16,15 +16,15 @@ pub(crate) fn push_sizes(
         tyenv: &lowered.tyenv,
         terms: &lowered.termenv.terms,
     };
-    json.begin_at("terms", '[')?;
+    json.begin_list_at("terms")?;
     for size in &sizes(alloc, lowered)? {
         push_size(json, names, size)?;
     }
-    json.end(']')
+    json.end()
 }
 
 fn push_size(json: &mut Json, names: NameTables<'_>, size: &TermSize) -> Result<(), AllocError> {
-    json.begin('{')?;
+    json.begin_object()?;
     json.key_string("name", names.term(size.term))?;
     json.key_number("rules", size.rules)?;
     json.key_number("sites", size.sites)?;
@@ -32,5 +32,5 @@ fn push_size(json: &mut Json, names: NameTables<'_>, size: &TermSize) -> Result<
     json.key_number("arms", size.tree.arms as usize)?;
     json.key_number("returns", size.tree.returns as usize)?;
     json.key_number("depth", size.tree.depth as usize)?;
-    json.end('}')
+    json.end()
 }

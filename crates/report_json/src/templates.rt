@@ -1,13 +1,13 @@
 //! Templates of internal extractors: patterns as they are written, with places for the arguments.
 
-use crate::writer::Json;
 use cranelift_isle::syntax::Pattern;
 use std::alloc::AllocError;
+use text_json::Json;
 
 /// Adds a template.
 #[cycle(templates)]
 pub(crate) fn push_template(json: &mut Json, pattern: &Pattern) -> Result<(), AllocError> {
-    json.begin('{')?;
+    json.begin_object()?;
     match pattern {
         Pattern::BindPattern { var, subpat, .. } => {
             push_called(json, "bind", &var.0)?;
@@ -24,16 +24,16 @@ pub(crate) fn push_template(json: &mut Json, pattern: &Pattern) -> Result<(), Al
         }
         _ => push_leaf(json, pattern)?,
     }
-    json.end('}')
+    json.end()
 }
 
 #[cycle(templates)]
 fn push_templates(json: &mut Json, key: &str, patterns: &[Pattern]) -> Result<(), AllocError> {
-    json.begin_at(key, '[')?;
+    json.begin_list_at(key)?;
     for pattern in patterns {
         push_template(json, pattern)?;
     }
-    json.end(']')
+    json.end()
 }
 
 // Adds what a template without parts is.

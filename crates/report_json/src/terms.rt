@@ -7,7 +7,6 @@ use crate::site_types::types_of_sites;
 use crate::sites::push_sites;
 use crate::trees::Sources;
 use crate::typed_rules::TypedForms;
-use crate::writer::Json;
 use cranelift_isle::lower::LoweredTerm;
 use cranelift_isle::sema::TypeId;
 use cranelift_isle::serialize::{Block, ControlFlow};
@@ -16,6 +15,7 @@ use report_errors::explanation::comes_first;
 use report_errors::names::NameTables;
 use report_queries::variable_sites::KnownSites;
 use std::alloc::{AllocError, Global};
+use text_json::Json;
 
 /// What terms are shown with.
 #[derive(Clone, Copy)]
@@ -35,7 +35,7 @@ pub(crate) fn push_term(
     shown: &Shown<'_, '_>,
     term: &LoweredTerm,
 ) -> Result<(), AllocError> {
-    json.begin('{')?;
+    json.begin_object()?;
     if let Some(head) = shown.names.terms.get(term.id.index()) {
         push_head(json, shown.names, head)?;
         push_all_sites(json, shown, &head.arg_tys, term)?;
@@ -46,7 +46,7 @@ pub(crate) fn push_term(
         set: &term.rules,
     };
     sources.push_block(json, "tree", &term.block)?;
-    json.end('}')
+    json.end()
 }
 
 fn push_all_sites(
@@ -63,26 +63,26 @@ fn push_all_sites(
 // Adds the rules of a set, in the order of their numbers.
 fn push_rules(json: &mut Json, shown: &Shown<'_, '_>, set: &RuleSet) -> Result<(), AllocError> {
     let sites = KnownSites::new(shown.alloc, shown.names.terms, &set.bindings)?;
-    json.begin_at("rules", '[')?;
+    json.begin_list_at("rules")?;
     for rule in &set.rules {
-        json.begin('{')?;
+        json.begin_object()?;
         push_rule(json, shown.places, shown.names, rule)?;
         push_higher(json, &set.rules, rule)?;
         shown.typed.push_forms(json, &sites, rule.id)?;
-        json.end('}')?;
+        json.end()?;
     }
-    json.end(']')
+    json.end()
 }
 
 // Adds the rules that come first where both they and this rule match.
 fn push_higher(json: &mut Json, rules: &[Rule], rule: &Rule) -> Result<(), AllocError> {
-    json.begin_at("higher", '[')?;
+    json.begin_list_at("higher")?;
     for other in rules {
         if comes_first(rule, other) {
             json.number(other.id.index())?;
         }
     }
-    json.end(']')
+    json.end()
 }
 
 // Whether some step of a term's tree binds it, of each site.

@@ -1,13 +1,13 @@
 //! Trees.
 
 use crate::sites::{push_constraint, push_ids};
-use crate::writer::Json;
 use cranelift_isle::serialize::{Block, ControlFlow, EvalStep, MatchArm};
 use cranelift_isle::syntax::Pos;
 use cranelift_isle::trie_again::{BindingId, RuleSet};
 use report_errors::names::NameTables;
 use report_queries::rules::rule_behind;
 use std::alloc::AllocError;
+use text_json::Json;
 
 /// What a tree speaks of.
 #[derive(Clone, Copy)]
@@ -27,19 +27,19 @@ impl<'a> Sources<'a> {
         key: &str,
         block: &Block,
     ) -> Result<(), AllocError> {
-        json.begin_at(key, '[')?;
+        json.begin_list_at(key)?;
         for step in &block.steps {
             self.push_step(json, step)?;
         }
-        json.end(']')
+        json.end()
     }
 
     #[cycle(json)]
     fn push_step(&self, json: &mut Json, step: &EvalStep) -> Result<(), AllocError> {
-        json.begin('{')?;
+        json.begin_object()?;
         push_ids(json, "bind", &step.bind_order)?;
         self.push_check(json, &step.check)?;
-        json.end('}')
+        json.end()
     }
 
     // Adds a test with what follows it, or an end.
@@ -64,24 +64,24 @@ impl<'a> Sources<'a> {
 
     #[cycle(json)]
     fn push_arms(&self, json: &mut Json, arms: &[MatchArm]) -> Result<(), AllocError> {
-        json.begin_at("arms", '[')?;
+        json.begin_list_at("arms")?;
         for arm in arms {
             self.begin_arm(json, arm)?;
             self.push_block(json, "body", &arm.body)?;
-            json.end('}')?;
+            json.end()?;
         }
-        json.end(']')
+        json.end()
     }
 
     // Adds an arm up to its body.
     fn begin_arm(&self, json: &mut Json, arm: &MatchArm) -> Result<(), AllocError> {
-        json.begin('{')?;
+        json.begin_object()?;
         push_constraint(json, self.names, arm.constraint)?;
-        json.begin_at("fields", '[')?;
+        json.begin_list_at("fields")?;
         for field in &arm.bindings {
             push_field(json, *field)?;
         }
-        json.end(']')
+        json.end()
     }
 
     // Adds a return, with the id of its rule.

@@ -2,7 +2,6 @@
 
 use crate::expressions::push_expr;
 use crate::patterns::{push_pattern, push_patterns};
-use crate::writer::Json;
 use cranelift_isle::environments::Environments;
 use cranelift_isle::lower::Lowered;
 use cranelift_isle::sema::{BoundVar, IfLet, Rule, RuleId};
@@ -10,6 +9,7 @@ use cranelift_isle::trie_again::BindingId;
 use report_errors::names::NameTables;
 use report_queries::variable_sites::KnownSites;
 use std::alloc::AllocError;
+use text_json::Json;
 
 // The rules of definitions, typed.
 #[derive(Clone, Copy)]
@@ -105,13 +105,13 @@ fn push_form(
     let Some(rule) = form.rules.get(id.index()) else {
         return json.key_null(key);
     };
-    json.begin_at(key, '{')?;
+    json.begin_object_at(key)?;
     match sites {
         Some(sites) => push_placed_variables(json, form.names, rule, &sites.of_rule(rule)?)?,
         None => push_variables(json, form.names, rule)?,
     }
     push_sides(json, form.names, rule)?;
-    json.end('}')
+    json.end()
 }
 
 // Adds what a typed rule has besides its variables.
@@ -124,12 +124,12 @@ fn push_sides(json: &mut Json, names: NameTables<'_>, rule: &Rule) -> Result<(),
 
 // Adds the variables of a rule, by their ids.
 fn push_variables(json: &mut Json, names: NameTables<'_>, rule: &Rule) -> Result<(), AllocError> {
-    json.begin_at("variables", '[')?;
+    json.begin_list_at("variables")?;
     for variable in &rule.vars {
         push_variable(json, names, variable)?;
-        json.end('}')?;
+        json.end()?;
     }
-    json.end(']')
+    json.end()
 }
 
 // Adds the variables of a rule, by their ids, with their sites.
@@ -139,16 +139,16 @@ fn push_placed_variables(
     rule: &Rule,
     sites: &[Option<BindingId>],
 ) -> Result<(), AllocError> {
-    json.begin_at("variables", '[')?;
+    json.begin_list_at("variables")?;
     for (variable, site) in rule.vars.iter().zip(sites) {
         push_variable(json, names, variable)?;
         match site {
             Some(site) => json.key_number("site", site.index())?,
             None => json.key_null("site")?,
         }
-        json.end('}')?;
+        json.end()?;
     }
-    json.end(']')
+    json.end()
 }
 
 // Adds a variable up to its site.
@@ -157,21 +157,21 @@ fn push_variable(
     names: NameTables<'_>,
     variable: &BoundVar,
 ) -> Result<(), AllocError> {
-    json.begin('{')?;
+    json.begin_object()?;
     json.key_number("id", variable.id.index())?;
     json.key_string("name", names.sym(variable.name))?;
     json.key_string("type", names.ty(variable.ty))
 }
 
 fn push_iflets(json: &mut Json, names: NameTables<'_>, iflets: &[IfLet]) -> Result<(), AllocError> {
-    json.begin_at("iflets", '[')?;
+    json.begin_list_at("iflets")?;
     for iflet in iflets {
-        json.begin('{')?;
+        json.begin_object()?;
         json.key("pattern")?;
         push_pattern(json, names, &iflet.lhs)?;
         json.key("value")?;
         push_expr(json, names, &iflet.rhs)?;
-        json.end('}')?;
+        json.end()?;
     }
-    json.end(']')
+    json.end()
 }

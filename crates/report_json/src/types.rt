@@ -1,11 +1,11 @@
 //! Types and constants.
 
 use crate::places::LinePlaces;
-use crate::writer::Json;
 use cranelift_isle::sema::{Fields, Type, Variant};
 use cranelift_isle::syntax::{self, Def, Extern, Ident};
 use report_errors::names::NameTables;
 use std::alloc::AllocError;
+use text_json::Json;
 
 /// Adds the types that definitions make, in their order.
 pub(crate) fn push_types(
@@ -14,13 +14,13 @@ pub(crate) fn push_types(
     places: &LinePlaces<'_>,
     defs: &[Def],
 ) -> Result<(), AllocError> {
-    json.begin_at("types", '[')?;
+    json.begin_list_at("types")?;
     for def in defs {
         if let Def::TypeDef(defined) = def {
             push_type(json, names, places, defined)?;
         }
     }
-    json.end(']')
+    json.end()
 }
 
 fn type_of_name<'a>(names: NameTables<'a>, name: &Ident) -> Option<&'a Type> {
@@ -37,7 +37,7 @@ fn push_type(
     let Some(ty) = type_of_name(names, &defined.name) else {
         return Ok(());
     };
-    json.begin('{')?;
+    json.begin_object()?;
     json.key_string("name", names.ty(ty.id()))?;
     json.key_string("kind", word_of_kind(ty))?;
     json.key_string("declared", &defined.name.0)?;
@@ -49,7 +49,7 @@ fn push_type(
         Type::Enum { variants, .. } => push_variants(json, names, places, variants)?,
         Type::Struct { fields, .. } => push_fields(json, names, fields)?,
     }
-    json.end('}')
+    json.end()
 }
 
 fn word_of_kind(ty: &Type) -> &'static str {
@@ -67,43 +67,43 @@ fn push_variants(
     places: &LinePlaces<'_>,
     variants: &[Variant],
 ) -> Result<(), AllocError> {
-    json.begin_at("variants", '[')?;
+    json.begin_list_at("variants")?;
     for variant in variants {
-        json.begin('{')?;
+        json.begin_object()?;
         json.key_string("name", names.sym(variant.name))?;
         places.push_place(json, variant.pos)?;
         push_fields(json, names, &variant.fields)?;
-        json.end('}')?;
+        json.end()?;
     }
-    json.end(']')
+    json.end()
 }
 
 // Adds the fields of a struct or a variant.
 fn push_fields(json: &mut Json, names: NameTables<'_>, fields: &Fields) -> Result<(), AllocError> {
-    json.begin_at("fields", '[')?;
+    json.begin_list_at("fields")?;
     match fields {
         Fields::Unit => {}
         Fields::Struct(fields) => {
             for field in &fields.fields {
-                json.begin('{')?;
+                json.begin_object()?;
                 json.key_string("name", names.sym(field.name))?;
                 end_field(json, names.ty(field.ty))?;
             }
         }
         Fields::Tuple(fields) => {
             for field in &fields.fields {
-                json.begin('{')?;
+                json.begin_object()?;
                 json.key_null("name")?;
                 end_field(json, names.ty(field.ty))?;
             }
         }
     }
-    json.end(']')
+    json.end()
 }
 
 fn end_field(json: &mut Json, ty: &str) -> Result<(), AllocError> {
     json.key_string("type", ty)?;
-    json.end('}')
+    json.end()
 }
 
 /// Adds the constants that are declared, in the order of the definitions.
@@ -113,17 +113,17 @@ pub(crate) fn push_constants(
     places: &LinePlaces<'_>,
     defs: &[Def],
 ) -> Result<(), AllocError> {
-    json.begin_at("constants", '[')?;
+    json.begin_list_at("constants")?;
     for def in defs {
         if let Def::Extern(Extern::Const { name, ty, pos }) = def {
-            json.begin('{')?;
+            json.begin_object()?;
             json.key_string("name", &name.0)?;
             json.key_string("type", type_name(names, ty))?;
             places.push_place(json, *pos)?;
-            json.end('}')?;
+            json.end()?;
         }
     }
-    json.end(']')
+    json.end()
 }
 
 fn type_name<'a>(names: NameTables<'a>, name: &Ident) -> &'a str {
