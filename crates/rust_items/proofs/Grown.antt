@@ -5,6 +5,7 @@ use Rattle.std.specs.List.{flat_map, range_with_len}
 use Rattle.std.proofs.lemmas.Grind.{flat_map-append}
 use Rattle.std.proofs.lemmas.List.{append_assoc, append-nil, map-append, take_all, take_more}
 use Rattle.std.proofs.lemmas.List.FromFn.{map-range_with_len_more}
+use Rattle.cranelift_isle.specs.Tables.{TypeEntry}
 use Rattle.rust_items.specs.declared.claims.Claim as C
 use Rattle.rust_items.specs.declared.claims.Namespace as K
 use Rattle.rust_items.specs.Claims.{Claim, Namespace}
@@ -68,11 +69,17 @@ pushed_kind old new x kind e k = ap kind_views e ∙ map-append kind_view old (x
 behind : {X : Type 0} (old new more : List X) (x : X) → new ≡ old ++ x ∷ [] → new ++ more ≡ old ++ x ∷ more
 behind old new more x e = ap (λ k. k ++ more) e ∙ append_assoc old (x ∷ []) more
 
+-- the paths, by things that are others'
+pub same_paths : (names : List (List ℕ)) (types : List TypeEntry) {cs ds fs gs rs ts : List C.Claim} → cs ≡ ds → fs ≡ gs → rs ≡ ts
+    → paths_among names types (claim_views cs) (claim_views fs) (claim_views rs) ≡ paths_among names types (claim_views ds) (claim_views gs) (claim_views ts)
+same_paths names types {ds = ds} {gs = gs} {rs = rs} c f r =
+    ap₂ (λ x y. paths_among names types (claim_views x) (claim_views y) (claim_views rs)) c f ∙ ap (λ z. paths_among names types (claim_views ds) (claim_views gs) (claim_views z)) r
+
 -- the kinds of a program, one after another
 module _ (p : NamedProgram) (k0 k1 k2 k3 k4 k5 k6 inside : List Namespace) (ts fs cs rs ps : List Claim) where
   pub all_kinds : ts ≡ flat_map (type_claim p.names) p.types → inside ≡ flat_map (kinds_inside p.names) p.types
       → fs ≡ flat_map (functions_of p.names) p.terms → cs ≡ map (constant_claim p.names) p.constants → rs ≡ flat_map (term_claim p.names p.terms) p.with_rules
-      → ps ≡ paths_among p.names p.types cs fs
+      → ps ≡ paths_among p.names p.types cs fs rs
       → k0 ≡ []
       → k1 ≡ k0 ++ kind_as (codes "the types") (codes "type") is_own_type ts ∷ []
       → k2 ≡ k1 ++ inside
@@ -85,8 +92,8 @@ module _ (p : NamedProgram) (k0 k1 k2 k3 k4 k5 k6 inside : List Namespace) (ts f
       let after : List Namespace = kind_as (codes "the functions") (codes "function") no_own fs ∷ (kind_as (codes "the constants") (codes "constant") is_own_value cs ∷ (kind_as (codes "the terms") (codes "term") no_own rs ∷ (kind_as (codes "the paths") (codes "path") no_own ps ∷ []))) in
       let all : k6 ≡ kind_as (codes "the types") (codes "type") is_own_type ts ∷ (inside ++ after) =
       e6 ∙ behind _ _ _ _ e5 ∙ behind _ _ _ _ e4 ∙ behind _ _ _ _ e3 ∙ ap (λ k. k ++ after) (e2 ∙ ap (λ k. k ++ inside) (e1 ∙ ap (λ k. k ++ kind_as (codes "the types") (codes "type") is_own_type ts ∷ []) e0)) in
-      let paths : ps ≡ paths_among p.names p.types (map (constant_claim p.names) p.constants) (flat_map (functions_of p.names) p.terms) =
-      w ∙ ap₂ (λ x y. paths_among p.names p.types x y) c f in
+      let paths : ps ≡ paths_among p.names p.types (map (constant_claim p.names) p.constants) (flat_map (functions_of p.names) p.terms) (flat_map (term_claim p.names p.terms) p.with_rules) =
+      w ∙ ap₂ (λ x y. paths_among p.names p.types x y rs) c f ∙ ap (λ z. paths_among p.names p.types (map (constant_claim p.names) p.constants) (flat_map (functions_of p.names) p.terms) z) r in
       all ∙ ap (λ x. kind_as (codes "the types") (codes "type") is_own_type x ∷ (inside ++ after)) t
       ∙ ap (λ x. types_kind p ∷ (x ++ after)) i
       ∙ ap (λ x. types_kind p ∷ (flat_map (kinds_inside p.names) p.types ++ kind_as (codes "the functions") (codes "function") no_own x ∷ (kind_as (codes "the constants") (codes "constant") is_own_value cs ∷ (kind_as (codes "the terms") (codes "term") no_own rs ∷ (kind_as (codes "the paths") (codes "path") no_own ps ∷ []))))) f

@@ -1,8 +1,11 @@
 -- What has one name outside is pure alike, where functions are told apart.
-use Rattle.std.proofs.Common.{◌≡◌, ◌∙◌, ◌++◌, ◌∷◌, [], ◌+◌, ℕ, zero, suc, Bool, true, false, not, List, Option, Some, None, length, slice_get, refl, sym, ap, subst, inl, inr, arith}
+use Rattle.std.proofs.Common.{◌≡◌, ◌∙◌, ◌++◌, ◌∷◌, [], ◌+◌, ◌≤◌, ◌||◌, ℕ, zero, suc, Bool, true, false, not, cond, List, Option, Some, None, drop, length, map, slice_get, refl, sym, ap, subst, inl, inr, arith}
 use Rattle.std.specs.Prelude.{codes}
 use Rattle.std.specs.List.{flat_map}
-use Rattle.std.proofs.lemmas.List.{length-append}
+use Rattle.std.specs.Str.{chars, IsAscii}
+use Rattle.std.proofs.lemmas.List.{append-nil, length-append, length-map}
+use Rattle.std.proofs.lemmas.Str.{IsUtf8-from_ascii, chars-append, chars-IsAscii}
+use Rattle.std.proofs.lemmas.Str.Ascii.{IsAscii-nil, IsAscii-cons}
 use Rattle.model.specs.lists.Signatures.{text_of}
 use Rattle.model.specs.lists.Tables.{TermEntry, TermKindEntry, variant_term, struct_term, declared_term, ConstructorEntry, internal_constructor, external_constructor, ExtractorEntry, internal_extractor, external_extractor}
 use Rattle.model.specs.rules.Program.{Program, unknown, flags_of, kind_of}
@@ -14,6 +17,7 @@ use Rattle.model_code.specs.PureAlike.{ArePureAlike, is_impure_callee}
 use Rattle.rust_items.specs.Claims.{Claim, IsWellNamed}
 use Rattle.rust_items.specs.NamedPrograms.{NamedProgram, function_claim, functions_kind, functions_of, functions_of_kind, purely}
 use Rattle.rust_items.specs.NameLaws.{FunctionsApartArePureAlike}
+use Rattle.rust_items.specs.RustNames.{end_mark, front, is_among, is_blank, needs_front, part, path_keywords, raw_keywords, raw_mark, spelled, word_for}
 
 pub placed : {X : Type 0} (xs : List X) (x : X) → In xs x → (i : ℕ) × (slice_get xs i ≡ Some x)
 placed [] x i = absurd i
@@ -79,3 +83,41 @@ functions_apart_are_pure_alike_lem n p same named f g name h k =
     let i = placed (functions_kind n).claims (function_claim n.names a name) (claimed n p same f name h) in
     let j = placed (functions_kind n).claims (function_claim n.names b name) (claimed n p same g name k) in
     negated _ _ (told_apart a b (text_of n.names name) (named.apart.apart i.0 j.0 _ _ i.1 j.1 refl))
+
+-- names that are written alike are alike, if they are where functions are told as pure or not: what stands before a pure one is longer
+-- than what is written around a name
+abbrev pure_name : List ℕ → List ℕ
+pure_name x = codes "pure " ++ x
+
+short : (b : Bool) (mark : List ℕ) (n : ℕ) → length mark ≤ n → length (cond b mark []) ≤ n
+short true mark n h = h
+short false mark n h = omega arith
+
+written_length : (name : List ℕ) → length (spelled name) ≤ 4 + length (chars name)
+written_length name =
+    let raw : length (raw_mark name) ≤ 2 = short (is_among raw_keywords name) (codes "r#") 2 (omega arith) in
+    let begin : length (front name) ≤ 1 = short (needs_front name) (codes "_") 1 (omega arith) in
+    let end : length (end_mark name) ≤ 1 = short (is_among path_keywords name || is_blank (chars name)) (codes "_") 1 (omega arith) in
+    let a = length-append (raw_mark name ++ part name) (end_mark name) in
+    let b = length-append (raw_mark name) (part name) in
+    let c = length-append (front name) (map word_for (chars name)) in
+    let d = length-map (chars name) word_for in
+    omega (arith, raw, begin, end, a, b, c, d)
+
+pure_ascii : IsAscii (codes "pure ")
+pure_ascii = IsAscii-cons 112 _ (omega arith) (IsAscii-cons 117 _ (omega arith) (IsAscii-cons 114 _ (omega arith) (IsAscii-cons 101 _ (omega arith) (IsAscii-cons 32 _ (omega arith) IsAscii-nil))))
+
+pure_length : (x : List ℕ) → length (spelled (pure_name x)) ≡ 5 + length (chars x)
+pure_length x =
+    let cs : chars (pure_name x) ≡ codes "pure " ++ chars x = chars-append (codes "pure ") x (IsUtf8-from_ascii (codes "pure ") pure_ascii) ∙ ap (λ y. y ++ chars x) (chars-IsAscii (codes "pure ") pure_ascii) in
+    ap length (ap (λ y. (map word_for y) ++ cond (is_blank y) (codes "_") []) cs)
+    ∙ ap length (append-nil (codes "pure_" ++ map word_for (chars x))) ∙ length-append (codes "pure_") (map word_for (chars x)) ∙ ap (λ m. 5 + m) (length-map (chars x) word_for)
+
+no_pure : (x : List ℕ) → spelled x ≡ spelled (pure_name x) → ⊥
+no_pure x e = (let l = ap length e in omega (arith, written_length x, pure_length x, l))
+
+pub same_name : (a b : Bool) (x y : List ℕ) → spelled x ≡ spelled y → purely a x ≡ purely b y → x ≡ y
+same_name true true x y e f = ap (drop 5) f
+same_name false false x y e f = f
+same_name true false x y e f = absurd (no_pure x (e ∙ ap spelled (sym f)))
+same_name false true x y e f = absurd (no_pure y (sym e ∙ ap spelled f))

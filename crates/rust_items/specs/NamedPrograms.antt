@@ -120,44 +120,31 @@ constants_kind p = kind_as (codes "the constants") (codes "constant") is_own_val
 abbrev pub terms_kind : NamedProgram → Namespace
 terms_kind p = kind_as (codes "the terms") (codes "term") no_own (flat_map (term_claim p.names p.terms) p.with_rules)
 
--- what is written as a path of one kind, with a word for the kind: `C::f` of a function, and constants
+-- what is written as a path of one kind, with a word for the kind: constants, `C::f` of functions from outside, functions of terms
 abbrev pub path_behind : (front word : List ℕ) → Claim → Claim
 path_behind front word c = claim (front ++ c.written) (word ++ c.owner)
 
--- a struct without fields, and the variants without fields of an enum, are values of their paths
-abbrev pub struct_path_of : List (List ℕ) → ℕ → Claim
-struct_path_of names name = claim (spelled (text_of names name)) (codes "struct " ++ text_of names name)
+-- structs, and the variants of enums
+abbrev pub struct_path : List (List ℕ) → ℕ → Claim
+struct_path names name = claim (spelled (text_of names name)) (codes "struct " ++ text_of names name)
 
-abbrev pub struct_path : List (List ℕ) → ℕ → FieldEntries → List Claim
-struct_path names name unit_entries = struct_path_of names name ∷ []
-struct_path names name (struct_entries fields) = []
-struct_path names name (tuple_entries fields) = []
-
-abbrev pub variant_path_of : List (List ℕ) → (ty variant : ℕ) → Claim
-variant_path_of names ty variant = claim (spelled (text_of names ty) ++ (codes "::" ++ spelled (text_of names variant))) (codes "variant " ++ (text_of names ty ++ (codes "." ++ text_of names variant)))
-
-abbrev pub variant_path_if : List (List ℕ) → (ty variant : ℕ) → FieldEntries → List Claim
-variant_path_if names ty variant unit_entries = variant_path_of names ty variant ∷ []
-variant_path_if names ty variant (struct_entries fields) = []
-variant_path_if names ty variant (tuple_entries fields) = []
-
-abbrev pub variant_path : List (List ℕ) → (ty : ℕ) → VariantEntry → List Claim
-variant_path names ty v = variant_path_if names ty v.name v.fields
+abbrev pub variant_path : List (List ℕ) → (ty : ℕ) → VariantEntry → Claim
+variant_path names ty v = claim (spelled (text_of names ty) ++ (codes "::" ++ spelled (text_of names v.name))) (codes "variant " ++ (text_of names ty ++ (codes "." ++ text_of names v.name)))
 
 abbrev pub type_paths : List (List ℕ) → TypeEntry → List Claim
 type_paths names (builtin_type place) = []
 type_paths names (primitive_type id name at) = []
-type_paths names (enum_type name id is_extern is_nodebug variants at) = flat_map (variant_path names name) variants
-type_paths names (struct_type name id is_extern is_nodebug fields at) = struct_path names name fields
+type_paths names (enum_type name id is_extern is_nodebug variants at) = map (variant_path names name) variants
+type_paths names (struct_type name id is_extern is_nodebug fields at) = struct_path names name ∷ []
 
-abbrev pub paths_among : List (List ℕ) → List TypeEntry → (constants functions : List Claim) → List Claim
-paths_among names types constants functions =
+abbrev pub paths_among : List (List ℕ) → List TypeEntry → (constants functions with_rules : List Claim) → List Claim
+paths_among names types constants functions with_rules =
     map (path_behind [] (codes "constant ")) constants
-    ++ (flat_map (type_paths names) types ++ map (path_behind (codes "C::") (codes "function ")) functions)
+    ++ (flat_map (type_paths names) types ++ (map (path_behind (codes "C::") (codes "function ")) functions ++ map (path_behind [] (codes "term ")) with_rules))
 
 abbrev pub paths_kind : NamedProgram → Namespace
 paths_kind p = kind_as (codes "the paths") (codes "path") no_own
-    (paths_among p.names p.types (map (constant_claim p.names) p.constants) (flat_map (functions_of p.names) p.terms))
+    (paths_among p.names p.types (map (constant_claim p.names) p.constants) (flat_map (functions_of p.names) p.terms) (flat_map (term_claim p.names p.terms) p.with_rules))
 
 -- all kinds
 abbrev pub kinds : NamedProgram → List Namespace

@@ -1,20 +1,21 @@
-//! What is written as a path in the code's expressions and patterns: constants, structs and variants without fields, and the
-//! functions of `Context`.
+//! What is written as a path in the code's expressions and patterns: constants, structs, variants, the functions of `Context`, and
+//! those of terms with rules.
 
 ghost use Rattle.std.specs.Prelude.{◌≡◌, ◌++◌, ◌∷◌, [], IfOk, OnOk, map, string_bytes};
 ghost use Rattle.std.specs.List.{flat_map};
 ghost use Rattle.cranelift_isle.specs.Envs.{names_of};
-ghost use Rattle.cranelift_isle.specs.TypeViews.{fields_view, type_view, type_views, variant_view};
+ghost use Rattle.cranelift_isle.specs.TypeViews.{type_view, type_views, variant_view};
 ghost use Rattle.rust_items.specs.ClaimViews.{claim_view, claim_views};
-ghost use Rattle.rust_items.specs.NamedPrograms.{path_behind, paths_among, struct_path, struct_path_of, type_paths, variant_path, variant_path_of};
+ghost use Rattle.rust_items.specs.NamedPrograms.{path_behind, paths_among, struct_path, type_paths, variant_path};
 
 use crate::claims::Claim;
 use crate::names::push_name;
 use crate::taken::push_claim;
-use cranelift_isle::sema::{Fields, Sym, Type, TypeEnv, Variant};
+use cranelift_isle::sema::{Sym, Type, TypeEnv, Variant};
 use std::alloc::{AllocError, Global};
 
-/// The paths of a program, by the constants and the functions of `Context` as things with names: each with a word for its kind.
+/// The paths of a program, by the constants, the functions of `Context` and those of terms as things with names: each with a word for
+/// its kind.
 ///
 /// # Errors
 ///
@@ -25,13 +26,15 @@ pub(crate) fn path_claims(
     types: &[Type],
     constants: &[Claim],
     functions: &[Claim],
+    with_rules: &[Claim],
 ) -> Result<Vec<Claim>, AllocError>
-    ensures { IfOk result (λ v. claim_views v.items ≡ paths_among (names_of tyenv.now) (type_views types.now) (claim_views constants.now) (claim_views functions.now)) }
+    ensures { IfOk result (λ v. claim_views v.items ≡ paths_among (names_of tyenv.now) (type_views types.now) (claim_views constants.now) (claim_views functions.now) (claim_views with_rules.now)) }
 {
     let mut claims = Vec::new(alloc);
     push_all_behind(&mut claims, "", "constant ", constants)?;
     push_all_of_types(tyenv, &mut claims, types)?;
     push_all_behind(&mut claims, "C::", "function ", functions)?;
+    push_all_behind(&mut claims, "", "term ", with_rules)?;
     Ok(claims)
 }
 
@@ -86,28 +89,12 @@ fn push_of_type(tyenv: &TypeEnv, claims: &mut Vec<Claim>, ty: &Type) -> Result<(
         Type::Builtin(_) => Ok(()),
         Type::Primitive(_, _, _) => Ok(()),
         Type::Enum { name, variants, .. } => push_variants(tyenv, claims, *name, variants),
-        Type::Struct { name, fields, .. } => push_struct(tyenv, claims, *name, fields),
+        Type::Struct { name, .. } => push_struct(tyenv, claims, *name),
     }
 }
 
-// Adds a struct, where it has no fields.
-fn push_struct(
-    tyenv: &TypeEnv,
-    claims: &mut Vec<Claim>,
-    name: Sym,
-    fields: &Fields,
-) -> Result<(), AllocError>
-    ensures { OnOk result (claim_views claims.new.items ≡ claim_views claims.old.items ++ struct_path (names_of tyenv.now) name.0 (fields_view fields.now)) }
-{
-    match fields {
-        Fields::Unit => push_struct_path(tyenv, claims, name),
-        Fields::Struct(_) => Ok(()),
-        Fields::Tuple(_) => Ok(()),
-    }
-}
-
-fn push_struct_path(tyenv: &TypeEnv, claims: &mut Vec<Claim>, name: Sym) -> Result<(), AllocError>
-    ensures { OnOk result (claim_views claims.new.items ≡ claim_views claims.old.items ++ struct_path_of (names_of tyenv.now) name.0 ∷ []) }
+fn push_struct(tyenv: &TypeEnv, claims: &mut Vec<Claim>, name: Sym) -> Result<(), AllocError>
+    ensures { OnOk result (claim_views claims.new.items ≡ claim_views claims.old.items ++ struct_path (names_of tyenv.now) name.0 ∷ []) }
 {
     let alloc = *claims.allocator();
     let name = tyenv.text_of(name);
@@ -123,7 +110,7 @@ fn push_variants(
     ty: Sym,
     variants: &[Variant],
 ) -> Result<(), AllocError>
-    ensures { OnOk result (claim_views claims.new.items ≡ claim_views claims.old.items ++ flat_map (variant_path (names_of tyenv.now) ty.0) (map variant_view variants.now)) }
+    ensures { OnOk result (claim_views claims.new.items ≡ claim_views claims.old.items ++ map (variant_path (names_of tyenv.now) ty.0) (map variant_view variants.now)) }
 {
     for variant in variants {
         push_variant(tyenv, claims, ty, variant)?;
@@ -131,33 +118,17 @@ fn push_variants(
     Ok(())
 }
 
-// Adds a variant, where it has no fields.
 fn push_variant(
     tyenv: &TypeEnv,
     claims: &mut Vec<Claim>,
     ty: Sym,
     variant: &Variant,
 ) -> Result<(), AllocError>
-    ensures { OnOk result (claim_views claims.new.items ≡ claim_views claims.old.items ++ variant_path (names_of tyenv.now) ty.0 (variant_view variant.now)) }
-{
-    match &variant.fields {
-        Fields::Unit => push_variant_path(tyenv, claims, ty, variant.name),
-        Fields::Struct(_) => Ok(()),
-        Fields::Tuple(_) => Ok(()),
-    }
-}
-
-fn push_variant_path(
-    tyenv: &TypeEnv,
-    claims: &mut Vec<Claim>,
-    ty: Sym,
-    variant: Sym,
-) -> Result<(), AllocError>
-    ensures { OnOk result (claim_views claims.new.items ≡ claim_views claims.old.items ++ variant_path_of (names_of tyenv.now) ty.0 variant.0 ∷ []) }
+    ensures { OnOk result (claim_views claims.new.items ≡ claim_views claims.old.items ++ variant_path (names_of tyenv.now) ty.0 (variant_view variant.now) ∷ []) }
 {
     let alloc = *claims.allocator();
     let ty = tyenv.text_of(ty);
-    let variant = tyenv.text_of(variant);
+    let variant = tyenv.text_of(variant.name);
     let mut path = String::new(alloc);
     push_name(&mut path, ty)?;
     path.push_str("::")?;

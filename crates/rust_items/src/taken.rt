@@ -29,7 +29,7 @@ use std::alloc::{AllocError, Global};
 ///
 /// `Names` for the first thing of the first kind that can't have its name. The kinds are the types, the variants of each enum, the
 /// fields of each variant and struct, the functions of `Context`, the constants, the terms with rules, and the paths: constants,
-/// structs and variants without fields, and functions of `Context`. A function of `Context` is pure for each term that it is
+/// structs, variants, functions of `Context` and those of terms with rules. A function of `Context` is pure for each term that it is
 /// called for, or for none.
 pub fn check_names(program: Program<'_>, terms: &[LoweredTerm]) -> Result<(), CodeError>
     ensures good { OnOk result (All IsWellNamed (kinds (named_program program.entry.tyenv.now program.entry.terms.now terms.now))) }
@@ -54,7 +54,7 @@ fn kinds_of(program: Program<'_>, lowered: &[LoweredTerm]) -> Result<Vec<Namespa
     let functions = function_claims(alloc, tyenv, terms)?;
     let constants = constant_claims(alloc, tyenv)?;
     let with_rules = term_claims(alloc, tyenv, terms, lowered)?;
-    let paths = path_claims(alloc, tyenv, types, &constants, &functions)?;
+    let paths = path_claims(alloc, tyenv, types, &constants, &functions, &with_rules)?;
     let mut kinds = Vec::new(alloc);
     push_kind(&mut kinds, "the types", "type", Own::Types, of_types)?;
     push_insides(alloc, tyenv, &mut kinds, types)?;

@@ -15,9 +15,9 @@ use Rattle.rust_text.specs.WrittenOnce.{WrittenOnceAreApart}
 module _ (once : WellNamedAreWrittenOnce) (apart : WrittenOnceAreApart) (make : NamesApartMakeTokensApart) where
   that_program : (n : NamedProgram) (s : NameSetting) → IsNamedBy n s → n ≡ named_by s n.constants n.with_rules
   that_program n s b =
-      ap (λ x. record { names = x; types = n.types; terms = n.terms; constants = n.constants; with_rules = n.with_rules }) (sym b.names)
-      ∙ ap (λ x. record { names = s.names; types = x; terms = n.terms; constants = n.constants; with_rules = n.with_rules }) (sym b.types)
-      ∙ ap (λ x. record { names = s.names; types = s.types; terms = x; constants = n.constants; with_rules = n.with_rules }) (sym b.terms)
+      ap (λ x. record { names = x; types = n.types; terms = n.terms; constants = n.constants; with_rules = n.with_rules }) (sym b.of.names)
+      ∙ ap (λ x. record { names = s.names; types = x; terms = n.terms; constants = n.constants; with_rules = n.with_rules }) (sym b.of.types)
+      ∙ ap (λ x. record { names = s.names; types = s.types; terms = x; constants = n.constants; with_rules = n.with_rules }) (sym b.of.terms)
 
   tokens_apart : (n : NamedProgram) (s : NameSetting) → All IsWellNamed (kinds n) → IsNamedBy n s → (p : Notation) → AreApart (names_of s) p (is_of_program s n.constants n.with_rules)
   tokens_apart n s named b p =

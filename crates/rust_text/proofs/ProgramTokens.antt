@@ -1,6 +1,6 @@
 -- Where names are told apart and tell what they name, different things are written differently.
 use Rattle.std.proofs.Common.{◌≡◌, ◌≢◌, ◌+◌, ◌<◌, ◌^◌, ◌⊎◌, ◌&&◌, ◌||◌, ◌++◌, ◌==◌, ◌∷◌, [], ℕ, zero, suc, ℤ, Bool, true, false, not, cond, List, Option, Some, None, get_or, drop, map, slice_get, codes, decimal, refl, ap, ◌∙◌, sym, subst, inl, inr, ⊎_elim, eqb-true, arith}
-use Rattle.std.specs.Prelude.{All, is_some, nat_lt, option_map, find}
+use Rattle.std.specs.Prelude.{All, is_some, option_map}
 use Rattle.std.specs.Char.{is_ascii_digit}
 use Rattle.std.specs.List.{flat_map, list_all, position_or_len}
 use Rattle.std.specs.Str.{bytes_eq}
@@ -11,7 +11,7 @@ use std.Path.{fun_ext}
 use Rattle.model.specs.lists.Signatures.{text_of}
 use Rattle.model.specs.lists.Tables.{FieldEntry, FieldEntries, unit_entries, struct_entries, tuple_entries, VariantEntry, TypeEntry, builtin_type, primitive_type, enum_type, struct_type, TermEntry}
 use Rattle.model.specs.trees.Places.{is_in}
-use Rattle.model.proofs.Bytes.{same_bytes, same_self}
+use Rattle.model.proofs.Bytes.{same_self}
 use Rattle.model.proofs.Elements.{In, contains_from_in, in_flat_map, in_from_contains, in_left, in_right, in_slice, map_in, or_right}
 use Rattle.model.proofs.Members.{member_found}
 use Rattle.model_code.specs.Tokens.{Word, let_word, mut_word, ref_word, if_word, else_word, match_word, while_word, return_word, break_word, some_word, none_word, true_word, false_word, ctx_word, returns_word, extend_word, len_word, most_word, clone_word, iter_word, next_word, unreachable_word, opening, closing, opening_brace, closing_brace, comma, colon, semicolon, dot, two_dots, underscore, arrow, equals, equal_to, unlike, at_least, ampersand, star, Owner, variant_owner, struct_owner, Token, word, variable_name, parameter_name, part_name, number, constant_name, owner_name, field_name, function_name, list_name, label_name, no_match}
@@ -27,21 +27,21 @@ use Rattle.model_code.specs.ApartNames.{AreSmall, OwnToken, an_own_word, a_varia
 use Rattle.model_code.proofs.ApartNames.{found, not_own, word_of, first_words, more_words}
 use Rattle.model_code.proofs.Closed.{named_whole}
 use Rattle.model_code.proofs.Lexing.{own_tokens_are_words_lem}
-use Rattle.rust_items.specs.Claims.{Claim, IsWellNamed, Namespace, first_taken}
+use Rattle.rust_items.specs.Claims.{Claim, IsWellNamed, Namespace}
 use Rattle.rust_items.specs.NameLaws.{IsIdentifier, is_plain}
-use Rattle.rust_items.specs.NamedPrograms.{NamedProgram, claim, identified, type_claim, field_claim, field_claims, field_kind, variant_claim, variant_kind, variant_fields, kinds_inside, function_claim, purely, constant_claim, constructor_named, constructors_of, path_behind, struct_path, struct_path_of, term_claim, type_paths, variant_path, variant_path_if, variant_path_of, types_kind, functions_kind, constants_kind, terms_kind, paths_kind, kinds}
-use Rattle.rust_items.specs.OwnNames.{is_own_type, is_own_value, is_variable, own_types, own_values}
+use Rattle.rust_items.specs.NamedPrograms.{NamedProgram, identified, type_claim, field_claim, field_claims, field_kind, variant_claim, variant_kind, variant_fields, kinds_inside, function_claim, constant_claim, constructor_named, constructors_of, path_behind, struct_path, term_claim, type_paths, variant_path, types_kind, functions_kind, constants_kind, terms_kind, paths_kind, kinds}
+use Rattle.rust_items.specs.OwnNames.{is_own_type, is_own_value, own_types}
 use Rattle.rust_items.specs.RustNames.{are_several, is_among, is_identifier, is_path, joined, part, raw_segment, segments, spelled, spelled_constant, spelled_path, truths}
-use Rattle.rust_items.proofs.PureFunctions.{placed, claimed}
-use Rattle.rust_items.proofs.FreeVariables.{found_not, own_type, own_value}
+use Rattle.rust_items.proofs.PureFunctions.{placed, claimed, same_name}
+use Rattle.rust_items.proofs.FreeVariables.{found_not, own_value}
 use Rattle.rust_items.proofs.Spellings.{names_are_identifiers_lem, parts_spell}
 use Rattle.rust_items.proofs.Variables.{variables_are_plain_lem}
 use Rattle.rust_items.specs.WrittenTypes.{type_written}
-use Rattle.rust_text.specs.ProgramNames.{NameSetting, names_of, program_in, variant_in, variant_written, owner_written, one_field_written, field_written, term_part, function_text, function_written, function_or_none, list_text, list_or_none, int_at}
-use Rattle.rust_text.specs.WrittenOnce.{AreWrittenOnce, is_declared, is_struct_entry}
-use Rattle.rust_text.specs.ProgramTokens.{NamesTell, WellNamedAreWrittenOnce, fits, has_fields, has_list, is_ending, is_integer_place, field_text, field_text_in, is_called, is_clear, is_function, is_list_path, is_of_program, is_there, named_by, type_text, type_text_in, variant_text, variants_in}
+use Rattle.rust_text.specs.ProgramNames.{NameSetting, names_of, program_in, variant_in, variant_written, owner_written, one_field_written, field_written, term_part, function_text, function_or_none, list_text, list_or_none, int_at}
+use Rattle.rust_text.specs.WrittenOnce.{is_declared, is_struct_entry}
+use Rattle.rust_text.specs.ProgramTokens.{NamesTell, WellNamedAreWrittenOnce, fits, has_list, is_ending, is_integer_place, field_text, field_text_in, is_called, is_clear, is_function, is_list_path, is_of_program, is_there, named_by, type_text, type_text_in, variant_text, variants_in}
 use Rattle.rust_text.proofs.IntegersTold.{IsPlace, as_fits, same_integer}
-use Rattle.rust_text.proofs.NameWords.{ListWords, OneWord, PathWords, begins_integer, begins_name, constant_path, integer_begins, is_path_tail, known_function_path, list_end, list_made, made, of_own, own_function_one, owner_path, path_begins_so, several_words, spelled_one}
+use Rattle.rust_text.proofs.NameWords.{ListWords, OneWord, PathWords, begins_integer, begins_name, constant_path, integer_begins, is_path_tail, known_function_path, list_end, list_made, made, of_own, owner_path, path_begins_so, several_words, spelled_one}
 
 -- 1. things of a kind
 pub kind_apart : (k : Namespace) → IsWellNamed k → (a b : Claim) → In k.claims a → In k.claims b → a.written ≡ b.written → a.owner ≡ b.owner
@@ -371,7 +371,8 @@ module _ (s : NameSetting) (constants with_rules : List ℕ) (named : All IsWell
   same_outside f k a b m l x y e =
       let c = claimed n (program_in s) refl a.g m x in
       let d = claimed n (program_in s) refl b.g l y in
-      let told : m ≡ l = tell.outside_told a.g b.g m l _ _ x y (kind_apart (functions_kind n) (well_behind (functions_kind n) (inl refl)) _ _ c d e) in
+      let same : name_text m ≡ name_text l = same_name _ _ (name_text m) (name_text l) e (kind_apart (functions_kind n) (well_behind (functions_kind n) (inl refl)) _ _ c d e) in
+      let told : m ≡ l = tell.outside_told a.g b.g m l x y same in
       sym a.number_so ∙ one_number a.g b.g l (x ∙ ap Some told) y ∙ b.number_so
 
   same_function : (f k : ℕ) (a : FunctionThere f) (b : FunctionThere k) (m l : Option ℕ) → outside_of (program_in s) a.g ≡ m → outside_of (program_in s) b.g ≡ l
@@ -471,20 +472,6 @@ module _ (s : NameSetting) (constants with_rules : List ℕ) (named : All IsWell
   no_number_path : (z : ℤ) (ending : ℕ) (t : Token) → is_a_path t ≡ true → known t ≡ true → text (number z ending) ≡ text t → ⊥
   no_number_path z ending t h k e = no_number z ending (text t) (path_begins_so (text t) (thing_path t h k)) e
 
-  -- a variant isn't written as a function: `C` is no enum
-  no_variant_function : (ty i f : ℕ) → known (owner_name (variant_owner ty i)) ≡ true → known (function_name f) ≡ true → text (owner_name (variant_owner ty i)) ≡ text (function_name f) → ⊥
-  no_variant_function ty i f h k e =
-      let a = variant_there ty i (slice_get s.types ty) (variant_in (slice_get s.types ty) i) refl refl (there (owner_name (variant_owner ty i)) h) in
-      let b = function_there f (slice_get (callees (program_in s)) f) refl (there (function_name f) k) in
-      by a (outside_of (program_in s) b.g) (slice_get s.terms (term_of b.g)) (sym a.words_so ∙ ap lexed (e ∙ function_shown f b))
-    where
-      by : (a : VariantThere ty i) (o : Option ℕ) (t : Option TermEntry) → spelled (name_text a.name) ∷ (codes "::" ∷ (spelled (name_text a.v.name) ∷ [])) ≡ lexed (function_text s.names o t) → ⊥
-      by a (Some m) t w =
-          let c : spelled (name_text a.name) ≡ codes "C" = first_words _ (codes "C") _ _ w in
-          found_not (λ (x : Claim). is_own_type x.written) (types_kind n).claims (identified s.names a.name) (well (types_kind n) (inl refl)).free a.claimed_so (ap is_own_type c)
-      by a None t w =
-          let one = own_function_one s.names t in (let z : spelled (name_text a.name) ∷ (codes "::" ∷ (spelled (name_text a.v.name) ∷ [])) ≡ (codes "constructor_" ++ term_part s.names t) ∷ [] = w ∙ one.word in cc)
-
   -- lists for the answers of functions from outside
   record ListedThere (f : ℕ) : Type 0 where
     function : FunctionThere f
@@ -539,91 +526,140 @@ module _ (s : NameSetting) (constants with_rules : List ℕ) (named : All IsWell
       let r = same_integer y z (int_at s d) (int_at s e) (as_fits y hs.0) (as_fits z ks.0) (is_place d hs.1) (is_place e ks.1) t in
       ap (λ x. number x d) r.number ∙ ap (number z) (same_ending d e hs.1 ks.1 r.ending)
 
-  -- constants aren't written as what has no fields, nor as what comes from `Context`
+  -- constants, structs and variants, and functions aren't written alike
+  abbrev constant_paths : List Claim
+  constant_paths = map (path_behind [] (codes "constant ")) (constants_kind n).claims
+
   abbrev owner_paths : List Claim
   owner_paths = flat_map (type_paths s.names) s.types
 
   abbrev function_paths : List Claim
   function_paths = map (path_behind (codes "C::") (codes "function ")) (functions_kind n).claims
 
-  abbrev constant_paths : List Claim
-  constant_paths = map (path_behind [] (codes "constant ")) (constants_kind n).claims
+  abbrev term_paths : List Claim
+  term_paths = map (path_behind [] (codes "term ")) (terms_kind n).claims
 
-  no_path_clash : (c : ℕ) (d : Claim) → known (constant_name c) ≡ true → In (owner_paths ++ function_paths) d → text (constant_name c) ≡ d.written → (letter_at 0 d.owner ≡ 99 → ⊥) → ⊥
-  no_path_clash c d k i e other =
-      let inside : is_in c constants ≡ true = (and_parts (is_in c constants) (not (is_among truths (name_text c))) (there (constant_name c) k)).0 in
-      let claim : Claim = path_behind [] (codes "constant ") (constant_claim s.names c) in
-      let clash : claim.owner ≡ d.owner = kind_apart (paths_kind n) (well_behind (paths_kind n) (inr (inr (inr (inl refl))))) claim d
-      (in_left constant_paths (owner_paths ++ function_paths) claim (map_in (path_behind [] (codes "constant ")) (constants_kind n).claims (constant_claim s.names c) (constant_claimed c inside)))
-      (in_right constant_paths (owner_paths ++ function_paths) d i) e in
-      other (ap (letter_at 0) (sym clash))
-
-  record UnitPath (o : Owner) : Type 0 where
+  -- what is written as a path, by the first letter of the word for its kind
+  record PathThere (t : Token) (letter : ℕ) : Type 0 where
     d : Claim
-    inside : In owner_paths d
-    written_so : owner_written s o ≡ d.written
-    other : letter_at 0 d.owner ≡ 99 → ⊥
+    inside : In (paths_kind n).claims d
+    written_so : text t ≡ d.written
+    word_so : letter_at 0 d.owner ≡ letter
 
-  unit_variant : (ty i name : ℕ) (entry : TypeEntry) (variants : List VariantEntry) (v : Option VariantEntry) → slice_get s.types ty ≡ Some entry → type_paths s.names entry ≡ flat_map (variant_path s.names name) variants
-      → type_written s.names (Some entry) ≡ spelled (name_text name) → variant_in (Some entry) i ≡ slice_get variants i → slice_get variants i ≡ v → is_some v ≡ true → fields_of_variant v ≡ unit_entries → UnitPath (variant_owner ty i)
-  unit_variant ty i name entry variants None e p w g h d f = absurd (false≢true d)
-  unit_variant ty i name entry variants (Some v) e p w g h d f = record {
-    d = variant_path_of s.names name v.name;
-    inside = in_flat_map (type_paths s.names) s.types entry (variant_path_of s.names name v.name) (in_slice s.types ty entry e)
-        (subst (λ x. In x (variant_path_of s.names name v.name)) (sym p)
-        (in_flat_map (variant_path s.names name) variants v (variant_path_of s.names name v.name) (in_slice variants i v h)
-        (subst (λ x. In (variant_path_if s.names name v.name x) (variant_path_of s.names name v.name)) (sym f) (inl refl))));
+  paths_apart : (t u : Token) (j k : ℕ) → PathThere t j → PathThere u k → text t ≡ text u → j ≡ k
+  paths_apart t u j k a b e =
+      let told : a.d.owner ≡ b.d.owner = kind_apart (paths_kind n) (well_behind (paths_kind n) (inr (inr (inr (inl refl))))) a.d b.d a.inside b.inside (sym a.written_so ∙ e ∙ b.written_so) in
+      sym a.word_so ∙ ap (letter_at 0) told ∙ b.word_so
+
+  constant_place : (c : ℕ) → known (constant_name c) ≡ true → PathThere (constant_name c) 99
+  constant_place c k =
+      let claimed_so = constant_claimed c (and_parts (is_in c constants) (not (is_among truths (name_text c))) (there (constant_name c) k)).0 in
+      record {
+        d = path_behind [] (codes "constant ") (constant_claim s.names c);
+        inside = in_left constant_paths (owner_paths ++ (function_paths ++ term_paths)) _ (map_in (path_behind [] (codes "constant ")) (constants_kind n).claims (constant_claim s.names c) claimed_so);
+        written_so = refl;
+        word_so = refl;
+      }
+
+  abbrev owner_letter : Owner → ℕ
+  owner_letter (variant_owner ty i) = 118
+  owner_letter (struct_owner ty) = 115
+
+  in_owners : (entry : TypeEntry) (d : Claim) → In s.types entry → In (type_paths s.names entry) d → In (paths_kind n).claims d
+  in_owners entry d i j = in_right constant_paths (owner_paths ++ (function_paths ++ term_paths)) d (in_left owner_paths (function_paths ++ term_paths) d (in_flat_map (type_paths s.names) s.types entry d i j))
+
+  variant_place : (ty i name : ℕ) (entry : TypeEntry) (variants : List VariantEntry) (v : Option VariantEntry) → slice_get s.types ty ≡ Some entry → type_paths s.names entry ≡ map (variant_path s.names name) variants
+      → type_written s.names (Some entry) ≡ spelled (name_text name) → variant_in (Some entry) i ≡ slice_get variants i → slice_get variants i ≡ v → is_some v ≡ true → PathThere (owner_name (variant_owner ty i)) 118
+  variant_place ty i name entry variants None e p w g h d = absurd (false≢true d)
+  variant_place ty i name entry variants (Some v) e p w g h d = record {
+    d = variant_path s.names name v;
+    inside = in_owners entry (variant_path s.names name v) (in_slice s.types ty entry e) (subst (λ x. In x (variant_path s.names name v)) (sym p) (map_in (variant_path s.names name) variants v (in_slice variants i v h)));
     written_so =
         ap (λ x. type_written s.names x ++ codes "::" ++ variant_written s.names (variant_in x i)) e
         ∙ ap (λ x. x ++ codes "::" ++ variant_written s.names (variant_in (Some entry) i)) w
         ∙ ap (λ x. spelled (name_text name) ++ codes "::" ++ variant_written s.names x) (g ∙ h)
         ∙ append_assoc (spelled (name_text name)) (codes "::") (spelled (name_text v.name));
-    other = λ z. omega (arith, z);
+    word_so = refl;
   }
 
-  unit_path : (o : Owner) (entry : Option TypeEntry) → slice_get s.types (type_of_owner o) ≡ entry → declared_so entry o ≡ true → fields_in entry o ≡ unit_entries → UnitPath o
-  unit_path (variant_owner ty i) (Some (enum_type name id is_extern is_nodebug variants at)) e d f =
-      unit_variant ty i name (enum_type name id is_extern is_nodebug variants at) variants (slice_get variants i) e refl refl refl refl d f
-  unit_path (struct_owner ty) (Some (struct_type name id is_extern is_nodebug fields at)) e d f = record {
-    d = struct_path_of s.names name;
-    inside = in_flat_map (type_paths s.names) s.types (struct_type name id is_extern is_nodebug fields at) (struct_path_of s.names name) (in_slice s.types ty _ e)
-        (subst (λ x. In (struct_path s.names name x) (struct_path_of s.names name)) (sym f) (inl refl));
+  owner_place : (o : Owner) (entry : Option TypeEntry) → slice_get s.types (type_of_owner o) ≡ entry → declared_so entry o ≡ true → PathThere (owner_name o) (owner_letter o)
+  owner_place (variant_owner ty i) (Some (enum_type name id is_extern is_nodebug variants at)) e d =
+      variant_place ty i name (enum_type name id is_extern is_nodebug variants at) variants (slice_get variants i) e refl refl refl refl d
+  owner_place (struct_owner ty) (Some (struct_type name id is_extern is_nodebug fields at)) e d = record {
+    d = struct_path s.names name;
+    inside = in_owners (struct_type name id is_extern is_nodebug fields at) (struct_path s.names name) (in_slice s.types ty _ e) (inl refl);
     written_so = ap (type_written s.names) e;
-    other = λ z. omega (arith, z);
+    word_so = refl;
   }
-  unit_path (variant_owner ty i) None e d f = absurd (false≢true d)
-  unit_path (variant_owner ty i) (Some (builtin_type place)) e d f = absurd (false≢true d)
-  unit_path (variant_owner ty i) (Some (primitive_type id name at)) e d f = absurd (false≢true d)
-  unit_path (variant_owner ty i) (Some (struct_type name id is_extern is_nodebug fields at)) e d f = absurd (false≢true d)
-  unit_path (struct_owner ty) None e d f = absurd (false≢true d)
-  unit_path (struct_owner ty) (Some (builtin_type place)) e d f = absurd (false≢true d)
-  unit_path (struct_owner ty) (Some (primitive_type id name at)) e d f = absurd (false≢true d)
-  unit_path (struct_owner ty) (Some (enum_type name id is_extern is_nodebug variants at)) e d f = absurd (false≢true d)
+  owner_place (variant_owner ty i) None e d = absurd (false≢true d)
+  owner_place (variant_owner ty i) (Some (builtin_type place)) e d = absurd (false≢true d)
+  owner_place (variant_owner ty i) (Some (primitive_type id name at)) e d = absurd (false≢true d)
+  owner_place (variant_owner ty i) (Some (struct_type name id is_extern is_nodebug fields at)) e d = absurd (false≢true d)
+  owner_place (struct_owner ty) None e d = absurd (false≢true d)
+  owner_place (struct_owner ty) (Some (builtin_type place)) e d = absurd (false≢true d)
+  owner_place (struct_owner ty) (Some (primitive_type id name at)) e d = absurd (false≢true d)
+  owner_place (struct_owner ty) (Some (enum_type name id is_extern is_nodebug variants at)) e d = absurd (false≢true d)
 
   declared_here : (o : Owner) → is_declared s o ≡ true → declared_so (slice_get s.types (type_of_owner o)) o ≡ true
   declared_here (variant_owner ty i) h = h
   declared_here (struct_owner ty) h = h
 
-  no_constant_owner : (c : ℕ) (o : Owner) → known (constant_name c) ≡ true → known (owner_name o) ≡ true → text (constant_name c) ≡ text (owner_name o) → ⊥
-  no_constant_owner c o h k e = by (fields_of (program_in s) o) refl
+  known_owner : (o : Owner) → known (owner_name o) ≡ true → PathThere (owner_name o) (owner_letter o)
+  known_owner o k = owner_place o (slice_get s.types (type_of_owner o)) refl (declared_here o (there (owner_name o) k))
+
+  function_place : (f : ℕ) → known (function_name f) ≡ true → PathThere (function_name f) 102 ⊎ PathThere (function_name f) 116
+  function_place f k = let a = function_there f (slice_get (callees (program_in s)) f) refl (there (function_name f) k) in by a (outside_of (program_in s) a.g) refl
     where
-      by : (fields : FieldEntries) → fields_of (program_in s) o ≡ fields → ⊥
-      by unit_entries f =
-          let u = unit_path o (slice_get s.types (type_of_owner o)) refl (declared_here o (there (owner_name o) k)) f in
-          no_path_clash c u.d h (in_left owner_paths function_paths u.d u.inside) (e ∙ u.written_so) u.other
-      by (struct_entries fields) f = tell.constants_apart c (owner_name o) h k (ap has_fields f) e
-      by (tuple_entries fields) f = tell.constants_apart c (owner_name o) h k (ap has_fields f) e
+      in_functions : (d : Claim) → In (function_paths ++ term_paths) d → In (paths_kind n).claims d
+      in_functions d i = in_right constant_paths (owner_paths ++ (function_paths ++ term_paths)) d (in_right owner_paths (function_paths ++ term_paths) d i)
+
+      shown : (a : FunctionThere f) (o : Option ℕ) → outside_of (program_in s) a.g ≡ o → text (function_name f) ≡ function_text s.names o (slice_get s.terms (term_of a.g))
+      shown a o x = function_shown f a ∙ ap (λ y. function_text s.names y (slice_get s.terms (term_of a.g))) x
+
+      by : (a : FunctionThere f) (o : Option ℕ) → outside_of (program_in s) a.g ≡ o → PathThere (function_name f) 102 ⊎ PathThere (function_name f) 116
+      by a (Some m) x =
+          let c : Claim = function_claim s.names (not (is_impure_callee (program_in s) a.g)) m in
+          inl (record {
+            d = path_behind (codes "C::") (codes "function ") c;
+            inside = in_functions _ (in_left function_paths term_paths _ (map_in (path_behind (codes "C::") (codes "function ")) (functions_kind n).claims c (claimed n (program_in s) refl a.g m x)));
+            written_so = shown a (Some m) x;
+            word_so = refl;
+          })
+      by a None x =
+          let c = own_function a.g x a.called_so in
+          let i = entry_of f a.g a.at_so in
+          let it : slice_get s.terms c.t ≡ Some i.0 = ap (λ z. slice_get s.terms (term_of z)) (sym c.is) ∙ i.1 in
+          inr (record {
+            d = path_behind [] (codes "term ") (constructor_named s.names i.0.name);
+            inside = in_functions _ (in_right function_paths term_paths _ (map_in (path_behind [] (codes "term ")) (terms_kind n).claims (constructor_named s.names i.0.name) (term_claimed c.t i.0 c.ruled it)));
+            written_so = shown a None x ∙ ap (function_text s.names None) i.1;
+            word_so = refl;
+          })
+
+  no_constant_owner : (c : ℕ) (o : Owner) → known (constant_name c) ≡ true → known (owner_name o) ≡ true → text (constant_name c) ≡ text (owner_name o) → ⊥
+  no_constant_owner c o h k e = other o (paths_apart (constant_name c) (owner_name o) 99 (owner_letter o) (constant_place c h) (known_owner o k) e)
+    where
+      other : (o : Owner) → 99 ≡ owner_letter o → ⊥
+      other (variant_owner ty i) z = omega (arith, z)
+      other (struct_owner ty) z = omega (arith, z)
+
+  -- nothing that isn't a function is written as one
+  no_function : (t : Token) (f j : ℕ) → PathThere t j → (j ≡ 102 → ⊥) → (j ≡ 116 → ⊥) → known (function_name f) ≡ true → text t ≡ text (function_name f) → ⊥
+  no_function t f j a x y k e = ⊎_elim (λ b. x (paths_apart t (function_name f) j 102 a b e)) (λ b. y (paths_apart t (function_name f) j 116 a b e)) (function_place f k)
 
   no_constant_function : (c f : ℕ) → known (constant_name c) ≡ true → known (function_name f) ≡ true → text (constant_name c) ≡ text (function_name f) → ⊥
-  no_constant_function c f h k e =
-      let a = function_there f (slice_get (callees (program_in s)) f) refl (there (function_name f) k) in by a (outside_of (program_in s) a.g) refl
+  no_constant_function c f h k e = no_function (constant_name c) f 99 (constant_place c h) (λ z. omega (arith, z)) (λ z. omega (arith, z)) k e
+
+  no_owner_function : (o : Owner) (f : ℕ) → known (owner_name o) ≡ true → known (function_name f) ≡ true → text (owner_name o) ≡ text (function_name f) → ⊥
+  no_owner_function o f h k e = no_function (owner_name o) f (owner_letter o) (known_owner o h) (first o) (second o) k e
     where
-      by : (a : FunctionThere f) (o : Option ℕ) → outside_of (program_in s) a.g ≡ o → ⊥
-      by a (Some m) x =
-          let d : Claim = path_behind (codes "C::") (codes "function ") (function_claim s.names (not (is_impure_callee (program_in s) a.g)) m) in
-          no_path_clash c d h (in_right owner_paths function_paths d (map_in (path_behind (codes "C::") (codes "function ")) (functions_kind n).claims _ (claimed n (program_in s) refl a.g m x)))
-          (e ∙ function_shown f a ∙ ap (λ o. function_text s.names o (slice_get s.terms (term_of a.g))) x) (λ z. omega (arith, z))
-      by a None x = tell.constants_apart c (function_name f) h k (ap (λ o. not (has_list s o)) a.at_so ∙ ap (λ o. not (is_some o)) x) e
+      first : (o : Owner) → owner_letter o ≡ 102 → ⊥
+      first (variant_owner ty i) z = omega (arith, z)
+      first (struct_owner ty) z = omega (arith, z)
+
+      second : (o : Owner) → owner_letter o ≡ 116 → ⊥
+      second (variant_owner ty i) z = omega (arith, z)
+      second (struct_owner ty) z = omega (arith, z)
 
   same_thing : (x y : Thing) → known (thing_token x) ≡ true → known (thing_token y) ≡ true → text (thing_token x) ≡ text (thing_token y) → thing_token x ≡ thing_token y
   same_thing (an_integer y d) (an_integer z e) h k t = same_number y z d e h k t
@@ -639,13 +675,11 @@ module _ (s : NameSetting) (constants with_rules : List ℕ) (named : All IsWell
   same_thing (an_owner o) (an_integer y d) h k t = absurd (no_number_path y d (owner_name o) refl h (sym t))
   same_thing (an_owner o) (a_constant c) h k t = absurd (no_constant_owner c o k h (sym t))
   same_thing (an_owner o) (an_owner q) h k t = ap owner_name (same_owner_text o q (there (owner_name o) h) (there (owner_name q) k) t)
-  same_thing (an_owner (struct_owner ty)) (a_function f) h k t = absurd (tell.structs_apart ty f h k t)
-  same_thing (an_owner (variant_owner ty i)) (a_function f) h k t = absurd (no_variant_function ty i f h k t)
+  same_thing (an_owner o) (a_function f) h k t = absurd (no_owner_function o f h k t)
   same_thing (an_owner o) (a_list l) h k t = absurd (no_path_list (owner_name o) l refl h k t)
   same_thing (a_function f) (an_integer y d) h k t = absurd (no_number_path y d (function_name f) refl h (sym t))
   same_thing (a_function f) (a_constant c) h k t = absurd (no_constant_function c f k h (sym t))
-  same_thing (a_function f) (an_owner (struct_owner ty)) h k t = absurd (tell.structs_apart ty f k h (sym t))
-  same_thing (a_function f) (an_owner (variant_owner ty i)) h k t = absurd (no_variant_function ty i f k h (sym t))
+  same_thing (a_function f) (an_owner o) h k t = absurd (no_owner_function o f k h (sym t))
   same_thing (a_function f) (a_function g) h k t = ap function_name (same_functions f g h k t)
   same_thing (a_function f) (a_list l) h k t = absurd (no_path_list (function_name f) l refl h k t)
   same_thing (a_list l) (an_integer y d) h k t = absurd (no_number_list y d l h (sym t))

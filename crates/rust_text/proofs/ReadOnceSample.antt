@@ -1,33 +1,24 @@
 -- The sample's names are told apart and tell what they name.
-use Rattle.std.proofs.Common.{◌≡◌, ◌≢◌, ◌&&◌, ◌||◌, ◌+◌, ◌++◌, ◌==◌, ◌∷◌, [], ℕ, zero, suc, Bool, true, false, not, List, Option, Some, None, get_or, length, slice_get, codes, refl, ap, sym, subst, ◌∙◌, arith}
+use Rattle.std.proofs.Common.{◌≡◌, ◌≢◌, ◌&&◌, ◌||◌, ◌==◌, ◌∷◌, [], ℕ, zero, suc, Bool, true, false, not, List, Option, Some, None, get_or, slice_get, codes, refl, ap, sym, subst, ◌∙◌, arith}
 use Rattle.std.specs.Prelude.{All, IsUtf8, is_none}
 use Rattle.std.specs.Fmt.{digits}
 use Rattle.std.specs.List.{list_all}
 use Rattle.std.specs.Str.{bytes_eq, chars, IsAscii}
-use Rattle.std.proofs.lemmas.Bool.{and_parts, and_from, false≢true, not-true}
-use Rattle.std.proofs.lemmas.List.{length-append}
+use Rattle.std.proofs.lemmas.Bool.{and_parts, false≢true}
 use Rattle.std.proofs.lemmas.List.Elements.{All-nil, All-cons}
 use Rattle.std.proofs.lemmas.Str.{IsUtf8-from_ascii}
 use Rattle.std.proofs.lemmas.Str.Ascii.{IsAscii-nil, IsAscii-cons}
 use Rattle.std.proofs.lemmas.Bool.{eqb-true}
 use Rattle.model.specs.lists.Signatures.{text_of}
-use Rattle.model.specs.lists.Tables.{TypeEntry, builtin_type, TermEntry}
 use Rattle.model.specs.trees.Places.{is_in}
 use Rattle.model.proofs.Bytes.{same_bytes, same_self}
 use Rattle.model_code.specs.Notation.{Callee, extractor_of, constructor_of}
-use Rattle.model_code.specs.Alike.{term_of}
-use Rattle.model_code.specs.ProgramNotation.{callees, outside_of}
-use Rattle.model_code.specs.ApartNames.{is_named}
-use Rattle.model_code.specs.Lexing.{lexed}
-use Rattle.model_code.specs.Spelling.{token_text}
-use Rattle.model_code.specs.Tokens.{Owner, variant_owner, struct_owner, Token, word, variable_name, parameter_name, part_name, number, constant_name, owner_name, field_name, function_name, list_name, label_name, no_match}
-use Rattle.rust_items.specs.Claims.{Claim, Namespace, AreWrittenApart, IsWellNamed, first_taken}
-use Rattle.rust_items.specs.NamedPrograms.{kinds, purely}
-use Rattle.rust_items.specs.RustNames.{is_among, truths}
-use Rattle.rust_text.specs.ProgramNames.{int_at, names_of, program_in, variant_in, variant_written, function_or_none, function_text}
-use Rattle.rust_items.specs.WrittenTypes.{type_written}
-use Rattle.rust_text.specs.WrittenOnce.{is_struct_entry}
-use Rattle.rust_text.specs.ProgramTokens.{NamesTell, field_text, is_clear, is_of_program, is_there, is_uncompared, type_text, variant_text}
+use Rattle.model_code.specs.ProgramNotation.{outside_of}
+use Rattle.model_code.specs.Tokens.{Owner, variant_owner, struct_owner}
+use Rattle.rust_items.specs.Claims.{Claim, Namespace, IsWellNamed, first_taken}
+use Rattle.rust_items.specs.NamedPrograms.{kinds}
+use Rattle.rust_text.specs.ProgramNames.{int_at, program_in}
+use Rattle.rust_text.specs.ProgramTokens.{NamesTell, field_text, type_text, variant_text}
 use Rattle.rust_text.specs.ReadOnceSample.{setting, program, SampleIsReadOnce}
 
 -- 1. kinds whose names are told apart, by a test
@@ -146,56 +137,6 @@ outside_only (constructor_of zero) m h = let z : 5 ≡ m = cc in sym z
 outside_only (constructor_of (suc zero)) m h = absurd (cc)
 outside_only (constructor_of (suc (suc t))) m h = absurd (cc)
 
-abbrev known : Token → Bool
-known = is_of_program setting program.constants program.with_rules
-
-constant_there : (c : ℕ) → known (constant_name c) ≡ true → c ≡ 4
-constant_there c h =
-    let there = (and_parts (is_there setting program.constants program.with_rules (constant_name c)) (not (is_named (constant_name c)) || is_clear (lexed (token_text (names_of setting) (constant_name c)))) h).0 in
-    only c 4 (and_parts (is_in c (4 ∷ [])) (not (is_among truths (text_of setting.names c))) there).0
-
-k_text : token_text (names_of setting) (constant_name 4) ≡ codes "K"
-unfolding chars
-k_text = refl
-
-no_struct_there : (o : Option TypeEntry) (ty : ℕ) → slice_get setting.types ty ≡ o → is_struct_entry o ≡ true → ⊥
-no_struct_there None ty e h = false≢true h
-no_struct_there (Some entry) zero e h = (let z : builtin_type 0 ≡ entry = cc in false≢true (ap (λ x. is_struct_entry (Some x)) z ∙ h))
-no_struct_there (Some entry) (suc zero) e h = (let z : builtin_type 1 ≡ entry = cc in false≢true (ap (λ x. is_struct_entry (Some x)) z ∙ h))
-no_struct_there (Some entry) (suc (suc zero)) e h = false≢true (ap is_struct_entry e ∙ h)
-no_struct_there (Some entry) (suc (suc (suc ty))) e h = (cc)
-
-no_struct : (ty : ℕ) → known (owner_name (struct_owner ty)) ≡ true → ⊥
-no_struct ty h =
-    no_struct_there (slice_get setting.types ty) ty refl
-    (and_parts (is_struct_entry (slice_get setting.types ty)) (not (is_named (owner_name (struct_owner ty))) || is_clear (lexed (token_text (names_of setting) (owner_name (struct_owner ty))))) h).0
-
-not_k : (x y : List ℕ) → codes "K" ≡ x ++ codes "::" ++ y → ⊥
-not_k x y e = (let l : 1 ≡ length (x ++ codes "::" ++ y) = ap length e in omega (arith, l, length-append (x ++ codes "::") y, length-append x (codes "::")))
-
-no_function : (o : Option Callee) → codes "K" ≡ function_or_none setting o → ⊥
-no_function None e = (let z : 75 ≡ 99 = ap (λ w. get_or w 0 0) e in omega (arith, z))
-no_function (Some g) e = by (outside_of (program_in setting) g) e
-  where
-    by : (m : Option ℕ) → codes "K" ≡ function_text setting.names m (slice_get setting.terms (term_of g)) → ⊥
-    by (Some m) e = (let z : 75 ≡ 67 = ap (λ w. get_or w 0 0) e in omega (arith, z))
-    by None e = (let z : 75 ≡ 99 = ap (λ w. get_or w 0 0) e in omega (arith, z))
-
-constant_apart : (t : Token) → known t ≡ true → is_uncompared setting t ≡ true → codes "K" ≢ token_text (names_of setting) t
-constant_apart (owner_name (variant_owner ty v)) k u e = not_k (type_written setting.names (slice_get setting.types ty)) (variant_written setting.names (variant_in (slice_get setting.types ty) v)) e
-constant_apart (owner_name (struct_owner ty)) k u e = no_struct ty k
-constant_apart (function_name f) k u e = no_function (slice_get (callees (program_in setting)) f) e
-constant_apart (word w) k u e = false≢true u
-constant_apart (variable_name v) k u e = false≢true u
-constant_apart (parameter_name i) k u e = false≢true u
-constant_apart (part_name i) k u e = false≢true u
-constant_apart (number z ending) k u e = false≢true u
-constant_apart (constant_name c) k u e = false≢true u
-constant_apart (field_name o i) k u e = false≢true u
-constant_apart (list_name l) k u e = false≢true u
-constant_apart (label_name n) k u e = false≢true u
-constant_apart no_match k u e = false≢true u
-
 tell : NamesTell setting (4 ∷ []) (1 ∷ [])
 tell = record {
   utf8 = utf8;
@@ -204,17 +145,15 @@ tell = record {
   integers_told = λ i j place h k. integers_only i place h ∙ sym (integers_only j place k);
   variants_told = variants_told;
   fields_told = λ o i j x h k. field_only o i x h ∙ sym (field_only o j x k);
-  outside_told = λ f g m n c d h k e. outside_only f m h ∙ sym (outside_only g n k);
+  outside_told = λ f g m n h k e. outside_only f m h ∙ sym (outside_only g n k);
   terms_told = λ t u a b h k f g e. only t 1 h ∙ sym (only u 1 k);
-  constants_apart = λ c t h k u e. constant_apart t k u (sym k_text ∙ ap (λ x. token_text (names_of setting) (constant_name x)) (sym (constant_there c h)) ∙ e);
-  structs_apart = λ ty f h k e. no_struct ty h;
 }
 
 pub sample_is_read_once_lem : SampleIsReadOnce
 unfolding chars digits
 sample_is_read_once_lem = record {
   named = all_well (kinds program) sample_well;
-  by = record { names = refl; types = refl; terms = refl; tell = tell };
+  by = record { of = record { names = refl; types = refl; terms = refl }; tell = tell };
   can_be_written = refl;
   bare = refl;
   known = refl;

@@ -13,11 +13,15 @@ use Rattle.rust_items.specs.NamedPrograms.{NamedProgram, kinds}
 use Rattle.rust_text.specs.ProgramNames.{NameSetting, names_of}
 use Rattle.rust_text.specs.ProgramTokens.{NamesTell, is_of_program}
 
--- a program that names are written by
-pub record IsNamedBy (n : NamedProgram) (s : NameSetting) : Type 0 where
+-- names are written by this program
+pub record IsSettingOf (n : NamedProgram) (s : NameSetting) : Type 0 where
   pub names : s.names ≡ n.names
   pub types : s.types ≡ n.types
   pub terms : s.terms ≡ n.terms
+
+-- and tell what they name
+pub record IsNamedBy (n : NamedProgram) (s : NameSetting) : Type 0 where
+  pub of : IsSettingOf n s
   pub tell : NamesTell s n.constants n.with_rules
 
 -- a text is read as this code, by tokens of the program in order

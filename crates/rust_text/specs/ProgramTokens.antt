@@ -1,19 +1,19 @@
 -- The tokens of a program's code: of what the program has, by names that tell it.
-use Rattle.std.specs.Prelude.{◌≡◌, ◌≢◌, ◌&&◌, ◌||◌, ◌==◌, ◌∷◌, ◌^◌, [], ℕ, zero, suc, ℤ, pos, negsuc, Bool, true, false, not, nat_lt, is_some, List, Option, Some, None, All, IsUtf8, codes, option_map, slice_get}
+use Rattle.std.specs.Prelude.{◌≡◌, ◌&&◌, ◌||◌, ◌==◌, ◌∷◌, ◌^◌, [], ℕ, zero, suc, ℤ, pos, negsuc, Bool, true, false, not, nat_lt, is_some, List, Option, Some, None, All, IsUtf8, codes, option_map, slice_get}
 use Rattle.std.specs.Str.{bytes_eq}
 use Rattle.model.specs.lists.Signatures.{text_of}
-use Rattle.model.specs.lists.Tables.{FieldEntry, FieldEntries, unit_entries, struct_entries, tuple_entries, VariantEntry, TypeEntry, builtin_type, primitive_type, enum_type, struct_type, TermEntry}
+use Rattle.model.specs.lists.Tables.{FieldEntry, FieldEntries, unit_entries, struct_entries, tuple_entries, VariantEntry, TypeEntry, enum_type, struct_type, TermEntry}
 use Rattle.model.specs.trees.Places.{is_in}
-use Rattle.model_code.specs.Tokens.{Owner, struct_owner, Token, word, variable_name, parameter_name, part_name, number, constant_name, owner_name, field_name, function_name, list_name, label_name, no_match}
+use Rattle.model_code.specs.Tokens.{Owner, Token, word, variable_name, parameter_name, part_name, number, constant_name, owner_name, field_name, function_name, list_name, label_name, no_match}
 use Rattle.model_code.specs.Notation.{Callee, extractor_of, constructor_of}
 use Rattle.model_code.specs.ProgramNotation.{callees, fields_of, function_number, outside_of}
 use Rattle.model_code.specs.Spelling.{token_text}
 use Rattle.model_code.specs.Lexing.{lexed}
 use Rattle.model_code.specs.ApartNames.{is_named}
 use Rattle.rust_items.specs.Claims.{IsWellNamed}
-use Rattle.rust_items.specs.NamedPrograms.{NamedProgram, kinds, purely}
+use Rattle.rust_items.specs.NamedPrograms.{NamedProgram, kinds}
 use Rattle.rust_items.specs.RustNames.{is_among, truths}
-use Rattle.rust_text.specs.ProgramNames.{NameSetting, names_of, program_in, variant_in, int_at}
+use Rattle.rust_text.specs.ProgramNames.{NameSetting, names_of, program_in, int_at}
 use Rattle.rust_text.specs.WrittenOnce.{is_declared, AreWrittenOnce}
 
 -- with these constants, by the numbers of their names, and these terms with rules
@@ -97,17 +97,7 @@ variants_in entry = []
 abbrev pub variant_text : NameSetting → (ty variant : ℕ) → Option (List ℕ)
 variant_text s ty variant = option_map (λ (v : VariantEntry). text_of s.names v.name) (slice_get (variants_in (slice_get s.types ty)) variant)
 
--- structs and variants with fields, and functions of terms: names of constants aren't compared with theirs
-abbrev pub has_fields : FieldEntries → Bool
-has_fields unit_entries = false
-has_fields fields = true
-
-abbrev pub is_uncompared : NameSetting → Token → Bool
-is_uncompared s (owner_name o) = has_fields (fields_of (program_in s) o)
-is_uncompared s (function_name f) = not (has_list s (slice_get (callees (program_in s)) f))
-is_uncompared s t = false
-
--- the definitions give different things of one kind different names; and what isn't asked of names: constants and structs
+-- the definitions give different things of one kind different names
 pub record NamesTell (s : NameSetting) (constants with_rules : List ℕ) : Type 0 where
   pub utf8 : (name : ℕ) → IsUtf8 (text_of s.names name)
   pub constants_told : (c d : ℕ) → is_in c constants ≡ true → is_in d constants ≡ true → text_of s.names c ≡ text_of s.names d → c ≡ d
@@ -115,18 +105,10 @@ pub record NamesTell (s : NameSetting) (constants with_rules : List ℕ) : Type 
   pub integers_told : (i j place : ℕ) → int_at s i ≡ Some place → int_at s j ≡ Some place → i ≡ j
   pub variants_told : (ty i j : ℕ) (x : List ℕ) → variant_text s ty i ≡ Some x → variant_text s ty j ≡ Some x → i ≡ j
   pub fields_told : (o : Owner) (i j : ℕ) (x : List ℕ) → field_text s o i ≡ Some x → field_text s o j ≡ Some x → i ≡ j
-  pub outside_told :
-      (f g : Callee) (m n : ℕ) (c d : Bool) → outside_of (program_in s) f ≡ Some m → outside_of (program_in s) g ≡ Some n → purely c (text_of s.names m) ≡ purely d (text_of s.names n) → m ≡ n
+  pub outside_told : (f g : Callee) (m n : ℕ) → outside_of (program_in s) f ≡ Some m → outside_of (program_in s) g ≡ Some n → text_of s.names m ≡ text_of s.names n → m ≡ n
   pub terms_told :
       (t u : ℕ) (a b : TermEntry) → is_in t with_rules ≡ true → is_in u with_rules ≡ true → slice_get s.terms t ≡ Some a → slice_get s.terms u ≡ Some b
       → text_of s.names a.name ≡ text_of s.names b.name → t ≡ u
-  -- no constant is written as a struct or a variant with fields, or as the function of a term, and no struct as that
-  pub constants_apart :
-      (c : ℕ) (t : Token) → is_of_program s constants with_rules (constant_name c) ≡ true → is_of_program s constants with_rules t ≡ true → is_uncompared s t ≡ true
-      → token_text (names_of s) (constant_name c) ≢ token_text (names_of s) t
-  pub structs_apart :
-      (ty f : ℕ) → is_of_program s constants with_rules (owner_name (struct_owner ty)) ≡ true → is_of_program s constants with_rules (function_name f) ≡ true
-      → token_text (names_of s) (owner_name (struct_owner ty)) ≢ token_text (names_of s) (function_name f)
 
 -- where names are told apart, as `rust_code` asks, and tell what they name, different things are written differently
 abbrev pub WellNamedAreWrittenOnce : Type 0
