@@ -5,5 +5,7 @@ use Rattle.run_terms.proofs.ValueSteps.{before}
 use Rattle.check_trials.proofs.TypedSteps.{each}
 use Rattle.check_trials.proofs.typed.each_typed.Given as goal
 
-abbrev pub invariant-loop : goal.invariant-loop
-invariant-loop l = before l.out.items (each (type_views l.tyenv.now.types.items) (value_view l.value) (drop l.index l.types)) ≡ each (type_views l.tyenv.now.types.items) (value_view l.value) l.types
+abbrev pub invariant-loop-ty : goal.invariant-loop-ty
+invariant-loop-ty l =
+    let each_of = each (type_views l.tyenv.types.items) (value_view l.value) in
+    before l.out.items (each_of (drop l.ty-index l.types)) ≡ each_of l.types
