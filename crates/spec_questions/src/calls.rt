@@ -1,5 +1,6 @@
 //! What is said of the calls of a rule, and of its result.
 
+use crate::called_rules::DEEPEST_CALL;
 use crate::conditions::{Goal, formulas_of};
 use crate::makers::Maker;
 use cranelift_isle::sema::TermId;
@@ -10,7 +11,7 @@ use spec_values::values::{ValueId, copied};
 use std::{mem, slice};
 use text_reader::syntax::Spec;
 
-impl<'a, 'b> Maker<'a, 'b> {
+impl<'a: 'b, 'b> Maker<'a, 'b> {
     /// Assumes what the term requires of its arguments.
     pub(crate) fn assume_required(&mut self) -> Result<(), NoCondition> {
         let Some(spec) = self.builder.specs.spec(self.root.id) else {
@@ -191,7 +192,8 @@ impl<'a, 'b> Maker<'a, 'b> {
     }
 
     /// An impure call: that it is called as required is to be shown, and then it answers as its spec says.
-    pub(crate) fn make_call(&mut self, made: BindingId) -> Result<(), NoCondition> {
+    #[cycle(hold)]
+    pub(crate) fn make_call(&mut self, made: BindingId, fuel: usize) -> Result<(), NoCondition> {
         let call = self.call_of(made);
         let bindings = self.sites.bindings;
         match bindings.get(call.index()) {
@@ -201,27 +203,29 @@ impl<'a, 'b> Maker<'a, 'b> {
                     parameters,
                     ..
                 },
-            ) => self.make_call_of(*term, parameters, call),
+            ) => self.make_call_of(*term, parameters, call, fuel),
             _ => Ok(()),
         }
     }
 
     // An impure call of a term at a site.
+    #[cycle(hold)]
     fn make_call_of(
         &mut self,
         term: TermId,
         parameters: &[BindingId],
         call: BindingId,
+        fuel: usize,
     ) -> Result<(), NoCondition> {
-        let new = self.hold_below(parameters)?;
+        let new = self.hold_below(parameters, fuel)?;
         let outcome = self.assume_calls(&new);
         self.fitting(term, outcome)?;
         let Some(spec) = self.builder.specs.spec(term) else {
-            return Err(self.no_spec(term));
+            return self.make_through(term, call, fuel);
         };
         let args = self.sites.values_at(parameters)?;
         let guard = self.take_step(term, spec, &args)?;
-        let _call = self.hold_below(slice::from_ref(&call))?;
+        let _call = self.hold_below(slice::from_ref(&call), fuel)?;
         let result = self.answer_at(term, call.index())?;
         if self.builder.terms.literal(guard) == Some(false) {
             return Ok(());
@@ -269,7 +273,7 @@ impl<'a, 'b> Maker<'a, 'b> {
 
     /// That the result is what the term provides is to be shown.
     pub(crate) fn show_result(&mut self) -> Result<(), NoCondition> {
-        let new = self.hold_below(slice::from_ref(&self.rule.result))?;
+        let new = self.hold_below(slice::from_ref(&self.rule.result), DEEPEST_CALL)?;
         let outcome = self.assume_calls(&new);
         self.fitting(self.root.id, outcome)?;
         let outcome = self.builder.terms.settle();

@@ -113,7 +113,7 @@ pub(crate) fn condition_of(
     };
     let mut maker = Maker {
         builder: Builder::new(alloc, lowered, specs, choice.decisions),
-        sites: Sites::new(alloc, &term.rules.bindings, choice.variables)?,
+        sites: Sites::new(alloc, &term.rules.bindings, choice.variables, 0),
         rule,
         root,
         args: Vec::new(alloc),
@@ -121,6 +121,7 @@ pub(crate) fn condition_of(
         steps: Vec::new(alloc),
         is_certain: true,
         within: Vec::new(alloc),
+        numbered: term.rules.bindings.len(),
     };
     match maker.made(&term.rules.rules, choice) {
         Ok(outcome) => {

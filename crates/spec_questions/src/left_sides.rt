@@ -1,6 +1,7 @@
 //! What is assumed of the left side of a rule: of its arguments, and of what it asks of them.
 
 use crate::above::{is_above, is_of_parts, is_told_apart};
+use crate::called_rules::DEEPEST_CALL;
 use crate::demands::{asked_by, demanded_by, is_marked, needed_for};
 use crate::makers::Maker;
 use crate::outcomes::argument_name;
@@ -12,7 +13,7 @@ use spec_values::builder::DEEPEST_VALUE;
 use spec_values::values::{ValueId, copied};
 use std::alloc::AllocError;
 
-impl<'a, 'b> Maker<'a, 'b> {
+impl<'a: 'b, 'b> Maker<'a, 'b> {
     /// Assumes what there is, and finds what is to be shown.
     pub(crate) fn make(&mut self, rules: &[Rule], above: bool) -> Result<(), NoCondition> {
         self.take_left_side(rules, above)?;
@@ -25,7 +26,7 @@ impl<'a, 'b> Maker<'a, 'b> {
     fn take_left_side(&mut self, rules: &[Rule], above: bool) -> Result<(), NoCondition> {
         self.take_arguments()?;
         let demanded = demanded_by(self.builder.alloc, self.rule)?;
-        let new = self.hold_below(&demanded)?;
+        let new = self.hold_below(&demanded, DEEPEST_CALL)?;
         self.take_demands()?;
         if above {
             self.exclude(rules)?;
@@ -39,7 +40,7 @@ impl<'a, 'b> Maker<'a, 'b> {
     fn make_right_side(&mut self) -> Result<(), NoCondition> {
         let rule = self.rule;
         for call in &rule.impure {
-            self.make_call(*call)?;
+            self.make_call(*call, DEEPEST_CALL)?;
         }
         self.show_result()
     }
@@ -61,7 +62,7 @@ impl<'a, 'b> Maker<'a, 'b> {
         let value = self.any_argument(place, ty, &words)?;
         self.args.push(value)?;
         if let Some(site) = site {
-            self.sites.note(site, Held::Value(value), words);
+            self.sites.note(site, Held::Value(value), words)?;
         }
         Ok(())
     }
@@ -88,7 +89,8 @@ impl<'a, 'b> Maker<'a, 'b> {
         argument_name(alloc, place)
     }
 
-    fn site_of_argument(&self, place: usize) -> Option<usize> {
+    /// The site of an argument, if there is one.
+    pub(crate) fn site_of_argument(&self, place: usize) -> Option<usize> {
         for (site, binding) in self.sites.bindings.iter().enumerate() {
             if is_argument(binding, place) {
                 return Some(site);
@@ -157,7 +159,7 @@ impl<'a, 'b> Maker<'a, 'b> {
         if !self.are_of_parts(&needed) {
             return Ok(false);
         }
-        let _new = self.hold_below(&asked)?;
+        let _new = self.hold_below(&asked, DEEPEST_CALL)?;
         Ok(true)
     }
 
@@ -172,21 +174,32 @@ impl<'a, 'b> Maker<'a, 'b> {
     }
 
     /// Finds what the sites at and below these hold, and answers those that held nothing before, ascending. What the rule asks of
-    /// one is known of it at once, so that what is above is made of what it is.
-    pub(crate) fn hold_below(&mut self, of: &[BindingId]) -> Result<Vec<usize>, NoCondition> {
+    /// one is known of it at once, so that what is above is made of what it is. Calls that are looked through aren't new.
+    #[cycle(hold)]
+    pub(crate) fn hold_below(
+        &mut self,
+        of: &[BindingId],
+        fuel: usize,
+    ) -> Result<Vec<usize>, NoCondition> {
         let needed = needed_for(self.builder.alloc, self.sites.bindings, of)?;
         let mut new = Vec::new(self.builder.alloc);
         for (site, is_needed) in needed.iter().enumerate() {
             if *is_needed {
-                self.hold_needed(site, &mut new)?;
+                self.hold_needed(site, &mut new, fuel)?;
             }
         }
         Ok(new)
     }
 
     // Finds what a site holds, which is new if it held nothing before, and what the rule asks of it.
-    fn hold_needed(&mut self, site: usize, new: &mut Vec<usize>) -> Result<(), NoCondition> {
-        if !self.sites.is_held(site) {
+    #[cycle(hold)]
+    fn hold_needed(
+        &mut self,
+        site: usize,
+        new: &mut Vec<usize>,
+        fuel: usize,
+    ) -> Result<(), NoCondition> {
+        if !self.sites.is_held(site) && !self.look_through(site, fuel)? {
             self.sites.hold(&mut self.builder, site)?;
             new.push(site)?;
         }

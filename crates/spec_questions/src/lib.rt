@@ -4,6 +4,7 @@
 
 pub mod above;
 pub mod answers;
+mod called_rules;
 mod calls;
 mod conditions;
 mod demands;

@@ -24,6 +24,8 @@ pub(crate) struct Maker<'a, 'b> {
     pub(crate) is_certain: bool,
     // The sites of extractors that the templates of internal extractors call whose specs are assumed.
     pub(crate) within: Vec<usize>,
+    // How many sites have numbers in names: those of the rule, and of the rules of calls that are looked through.
+    pub(crate) numbered: usize,
 }
 
 impl<'a, 'b> Drop for Maker<'a, 'b> {
@@ -38,6 +40,7 @@ impl<'a, 'b> Drop for Maker<'a, 'b> {
             steps: _,
             is_certain: _,
             within: _,
+            numbered: _,
         } = self;
     }
 }
@@ -55,6 +58,7 @@ impl<'a, 'b> Maker<'a, 'b> {
             steps,
             is_certain: _,
             within: _,
+            numbered: _,
         } = self;
         (builder.into_terms(), steps)
     }
@@ -133,7 +137,8 @@ impl<'a, 'b> Maker<'a, 'b> {
         missing(format!(in alloc; "widths don't fit at a call of `{name}` or below"))
     }
 
-    fn name_of(&self, term: TermId) -> &'a str {
+    /// The name of a term.
+    pub(crate) fn name_of(&self, term: TermId) -> &'a str {
         let lowered = self.builder.lowered;
         term_name(&lowered.tyenv, &lowered.termenv, term).unwrap_or("_")
     }

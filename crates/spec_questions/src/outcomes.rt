@@ -45,7 +45,7 @@ impl Outcome {
     }
 }
 
-impl<'a, 'b> Maker<'a, 'b> {
+impl<'a: 'b, 'b> Maker<'a, 'b> {
     /// What is known of a rule of these, once all is assumed.
     pub(crate) fn made(
         &mut self,

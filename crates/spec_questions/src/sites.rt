@@ -10,12 +10,11 @@ use spec_tables::models::ValueModel;
 use spec_values::builder::{Builder, DEEPEST, DEEPEST_VALUE};
 use spec_values::values::{SymbolicValue, ValueId, copied};
 use std::alloc::{AllocError, Global};
+use std::collections::HashMap;
 use std::slice;
 
 /// What a site holds.
 pub(crate) enum Held {
-    /// Nothing that is looked at.
-    Nothing,
     /// A value, or the answer of a call that gives one.
     Value(ValueId),
     /// The outputs of an extractor.
@@ -25,10 +24,21 @@ pub(crate) enum Held {
 impl Drop for Held {
     fn drop(self) {
         match self {
-            Held::Nothing => {}
             Held::Value(_) => {}
             Held::Outputs(_) => {}
         }
+    }
+}
+
+// What is known of a site: what it holds, and what it is in words.
+struct Site {
+    held: Held,
+    words: String,
+}
+
+impl Drop for Site {
+    fn drop(self) {
+        let Site { held: _, words: _ } = self;
     }
 }
 
@@ -42,13 +52,14 @@ pub(crate) struct Variable<'v> {
     pub(crate) ty: TypeId,
 }
 
-/// What the sites of a term's rules hold in a condition, by their numbers, and what they are in words.
+/// What the sites of a term's rules hold in a condition that are looked at, by their numbers. They are few of all sites.
 pub(crate) struct Sites<'b> {
     pub(crate) alloc: Global,
     pub(crate) bindings: &'b [Binding],
-    held: Vec<Held>,
-    words: Vec<String>,
+    known: HashMap<usize, Site>,
     variables: &'b [Variable<'b>],
+    // The number that its first site has in names.
+    first: usize,
 }
 
 impl<'b> Drop for Sites<'b> {
@@ -56,33 +67,36 @@ impl<'b> Drop for Sites<'b> {
         let Sites {
             alloc: _,
             bindings: _,
-            held: _,
-            words: _,
+            known: _,
             variables: _,
+            first: _,
         } = self;
     }
 }
 
 impl<'b> Sites<'b> {
-    /// None holds anything yet.
+    /// None holds anything yet. The first has this number in names.
     pub(crate) fn new(
         alloc: Global,
         bindings: &'b [Binding],
         variables: &'b [Variable<'b>],
-    ) -> Result<Sites<'b>, AllocError> {
-        let mut held = Vec::new(alloc);
-        let mut words = Vec::new(alloc);
-        for _ in bindings {
-            held.push(Held::Nothing)?;
-            words.push(String::new(alloc))?;
-        }
-        Ok(Sites {
+        first: usize,
+    ) -> Sites<'b> {
+        Sites {
             alloc,
             bindings,
-            held,
-            words,
+            known: HashMap::new(alloc),
             variables,
-        })
+            first,
+        }
+    }
+
+    // What a site holds, if it is looked at.
+    fn held_at(&self, site: usize) -> Option<&Held> {
+        match self.known.get(&site) {
+            Some(known) => Some(&known.held),
+            None => None,
+        }
     }
 
     /// The variable whose value a site is.
@@ -97,21 +111,18 @@ impl<'b> Sites<'b> {
 
     /// Whether a site holds something.
     pub(crate) fn is_held(&self, site: usize) -> bool {
-        match self.held.get(site) {
-            Some(Held::Value(_) | Held::Outputs(_)) => true,
-            Some(Held::Nothing) | None => false,
-        }
+        self.known.contains_key(&site)
     }
 
     /// The one value that a site holds.
     pub(crate) fn value_at(&self, site: BindingId) -> Result<ValueId, NoCondition> {
-        match self.held.get(site.index()) {
+        match self.held_at(site.index()) {
             Some(Held::Value(value)) => Ok(*value),
             Some(Held::Outputs(outputs)) => match outputs.as_slice() {
                 [value] => Ok(*value),
                 _ => Err(self.unmet()),
             },
-            _ => Err(self.unmet()),
+            None => Err(self.unmet()),
         }
     }
 
@@ -131,41 +142,42 @@ impl<'b> Sites<'b> {
 
     /// The values that a call gives.
     pub(crate) fn outputs_at(&self, site: usize) -> Result<Vec<ValueId>, AllocError> {
-        match self.held.get(site) {
+        match self.held_at(site) {
             Some(Held::Outputs(outputs)) => copied(self.alloc, outputs),
             Some(Held::Value(value)) => Vec::from_slice(self.alloc, &[*value]),
-            _ => Ok(Vec::new(self.alloc)),
+            None => Ok(Vec::new(self.alloc)),
         }
     }
 
     /// What a site is, in words.
     pub(crate) fn words_at(&self, site: usize) -> &str {
-        match self.words.get(site) {
-            Some(words) => words.as_str(),
+        match self.known.get(&site) {
+            Some(known) => known.words.as_str(),
             None => "",
         }
     }
 
     /// Notes what a site holds, and what it is in words.
-    pub(crate) fn note(&mut self, site: usize, held: Held, words: String) {
-        if let Some(entry) = self.held.get_mut(site) {
-            *entry = held;
-        }
-        if let Some(entry) = self.words.get_mut(site) {
-            *entry = words;
-        }
+    pub(crate) fn note(
+        &mut self,
+        site: usize,
+        held: Held,
+        words: String,
+    ) -> Result<(), AllocError> {
+        self.known.insert(site, Site { held, words })?;
+        Ok(())
     }
 
     fn same_as(&self, source: BindingId) -> Result<Held, NoCondition> {
-        match self.held.get(source.index()) {
+        match self.held_at(source.index()) {
             Some(Held::Value(value)) => Ok(Held::Value(*value)),
             Some(Held::Outputs(outputs)) => Ok(Held::Outputs(copied(self.alloc, outputs)?)),
-            _ => Err(self.unmet()),
+            None => Err(self.unmet()),
         }
     }
 
     fn output_at(&self, source: BindingId, place: usize) -> Result<ValueId, NoCondition> {
-        match self.held.get(source.index()) {
+        match self.held_at(source.index()) {
             Some(Held::Outputs(outputs)) => match outputs.get(place) {
                 Some(value) => Ok(*value),
                 None => Err(self.unmet()),
@@ -189,13 +201,39 @@ impl<'b> Sites<'b> {
         let Some(binding) = bindings.get(site) else {
             return Ok(());
         };
-        let words = match self.variable_at(site) {
-            Some(name) => String::from_str(self.alloc, name)?,
-            None => self.words_of(builder.lowered, binding)?,
-        };
-        let held = self.held_by(builder, site, binding, &words)?;
-        self.note(site, held, words);
+        let words = self.words_for(builder.lowered, site, binding)?;
+        let number = self.first.saturating_add(site);
+        let held = self.held_by(builder, number, binding, &words)?;
+        self.note(site, held, words)?;
         Ok(())
+    }
+
+    /// Notes what the call at a site gives.
+    pub(crate) fn note_given(
+        &mut self,
+        lowered: &Lowered,
+        site: usize,
+        given: ValueId,
+    ) -> Result<(), AllocError> {
+        let bindings = self.bindings;
+        if let Some(binding) = bindings.get(site) {
+            let words = self.words_for(lowered, site, binding)?;
+            self.note(site, Held::Value(given), words)?;
+        }
+        Ok(())
+    }
+
+    // What a site is, in words: a variable where it is one's.
+    fn words_for(
+        &self,
+        lowered: &Lowered,
+        site: usize,
+        binding: &Binding,
+    ) -> Result<String, AllocError> {
+        match self.variable_at(site) {
+            Some(name) => String::from_str(self.alloc, name),
+            None => self.words_of(lowered, binding),
+        }
     }
 
     fn held_by(

@@ -12,7 +12,7 @@ use std::alloc::{AllocError, Global};
 // How deep templates are looked into.
 const DEEPEST_TEMPLATE: usize = 100;
 
-impl<'a, 'b> Maker<'a, 'b> {
+impl<'a: 'b, 'b> Maker<'a, 'b> {
     /// Assumes what is said of the internal extractors whose templates match a value by this call of an extractor without a spec. There
     /// is one, or the call is made within another one's template; else there is no question.
     pub(crate) fn assume_templates(
