@@ -1,12 +1,12 @@
 -- What the status of an answer says, and what lowered definitions are answered.
 use Rattle.std.proofs.Common.{◌≡◌, ◌≢◌, ◌≤◌, ◌⊎◌, ℕ, Bool, true, false, List, inl, inr, refl, arith, Result, Ok, Err, IfOk, MatchResult}
-use Rattle.std.specs.declared.alloc.AllocError.{AllocError}
 use Rattle.cranelift_isle.specs.Syntax.{Definition}
 use Rattle.cranelift_isle.specs.declared.lower.Lowered.{Lowered}
 use Rattle.cranelift_isle.specs.Lowerings.{IsLowered}
 use Rattle.app_command.specs.declared.answers.Answer.{Answer}
 use Rattle.app_command.specs.declared.code.Code.{Code}
 use Rattle.app_command.specs.declared.code.Code.TheVariants.{Names, Text}
+use Rattle.app_command.specs.declared.progress.Unanswered.{Unanswered}
 use Rattle.app_command.specs.declared.reading.Reading.{Reading}
 use Rattle.app_command.specs.declared.reading.Reading.TheVariants.{Defs, Unread}
 use Rattle.app_command.specs.declared.words.Request.{Request}
@@ -80,7 +80,7 @@ pub answer_of_lowered : (defs : List Definition) (asked : Request) (l : Lowered)
 answer_of_lowered defs asked l answer lowered by = inl (l, lowered, by)
 
 -- an answer that is written has its status, and one that isn't made the status of refused memory
-pub status_written : (asked : Request) (texts : List (List ℕ)) (answer : Result Answer AllocError) (status : ℕ)
+pub status_written : (asked : Request) (texts : List (List ℕ)) (answer : Result Answer Unanswered) (status : ℕ)
     → IfOk answer (IsAnswerToTexts asked texts) → MatchResult answer (λ a. IsWritten a status) (λ _. status ≡ 3) → IsStatusFor asked texts status
 status_written asked texts (Ok answer) status of written = inr (answer, of, written)
 status_written asked texts (Err e) status of refused = inl refused
@@ -104,7 +104,7 @@ status_of_texts asked texts answer (inr (inl two)) = status_of_both _ _ asked an
 status_of_texts asked texts answer (inr (inr text)) = status_of_print asked text.1.0 answer text.1.2
 
 -- no answer that is written has the status 2, and none a greater one than 4
-pub texts_written : (asked : Request) (texts : List (List ℕ)) (answer : Result Answer AllocError) (status : ℕ)
+pub texts_written : (asked : Request) (texts : List (List ℕ)) (answer : Result Answer Unanswered) (status : ℕ)
     → IfOk answer (IsAnswerToTexts asked texts) → MatchResult answer (λ a. IsWritten a status) (λ _. status ≡ 3) → (status ≤ 4) × (status ≢ 2)
 texts_written asked texts (Ok answer) status of (inl same) =
     let low = status_of_texts asked texts answer of in

@@ -14,7 +14,7 @@ use crate::calls::{Told, ran, told_why};
 use crate::code::{Code, code_or_stubs};
 use crate::graphs::graph_of;
 use crate::printing::printed_texts;
-use crate::progress::Teller;
+use crate::progress::{Teller, Unanswered};
 use crate::reading::{Reading, reading_of};
 use crate::unread::{refusal_of_forms, refusal_of_texts};
 use crate::versions::answer_to_versions;
@@ -74,6 +74,26 @@ pub fn answer_to<E: Write>(
     let answer = answer_to_files(alloc, asked, files, &mut teller);
     teller.end();
     answer
+}
+
+/// The same where there are so many bytes of stack. If a rule takes more, this is told on `err`, and there is no answer.
+pub fn answer_within<E: Write>(
+    alloc: Global,
+    asked: &Request<'_>,
+    files: &Files,
+    stack: usize,
+    terminal: bool,
+    err: &mut E,
+) -> Result<Answer, Unanswered>
+    ensures { IfOk result (IsAnswerToTexts asked.now (map string_bytes files.now.texts.items)) }
+{
+    let mut teller = Teller::within(stack, asked.progress, terminal, err);
+    let answer = answer_to_files(alloc, asked, files, &mut teller);
+    teller.end();
+    match answer {
+        Ok(answer) => Ok(answer),
+        Err(AllocError) => Err(teller.why()),
+    }
 }
 
 // The same, by what tells what is being done.
@@ -190,6 +210,7 @@ fn answer_to_defs<E: Write>(
     ensures { IfOk result (IsAnswerToDefinitions (definition_views defs.now) asked.now) }
 {
     teller.tell("lowering", "all terms");
+    teller.check_stack(alloc, asked, files, defs)?;
     match lower(alloc, defs, asked.expand) {
         Ok(lowered) => answer_to_lowered(alloc, asked, files, defs, &lowered, teller),
         Err(Fault::Errors(errors)) => refused(alloc, asked, files, defs, &errors, teller),

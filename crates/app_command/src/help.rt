@@ -22,8 +22,8 @@ const OTHERS: &str =
 
 const TAIL: &str = "  --help, --version
 
-Status: 0 success, 1 errors, 2 wrong use, 3 out of memory, 4 a file cannot be read or the answer cannot be written. The
-script ./isle adds 70: no program gave an answer.
+Status: 0 success, 1 errors, 2 wrong use, 3 out of memory or of stack, 4 a file cannot be read or the answer cannot be
+written. The script ./isle adds 70: no program gave an answer.
 ";
 
 /// How the command is used, or one of its tasks.

@@ -5,16 +5,18 @@ ghost use Rattle.report_queries.specs.Samples.{names_sample};
 ghost use Rattle.app_command.specs.declared.words.Task.TheVariants.{Samples};
 ghost use Rattle.app_command.specs.Statuses.{IsStatusFor, IsStatusOfUnread, IsWritten};
 
-use crate::answers::{Answer, answer_to};
+use crate::answers::{Answer, answer_within};
 use crate::formatting::{Formatting, run_formatting};
 use crate::help::{VERSION, help_text};
 use crate::inputs::{Unread, read_files};
+use crate::progress::Unanswered;
 use crate::project::find_files;
 use crate::words::{Command, Request, Task, Unasked, asked_by};
 use cranelift_isle::syntax::Files;
 use report_queries::answers::{end, no_memory, write_text};
 use report_queries::sample_run::run_sample;
 use report_queries::samples::sample_names;
+use report_stack::size_of_stack;
 use std::alloc::{AllocError, Global};
 use std::env::{Env, FillError};
 use std::io::{Read, Write};
@@ -24,8 +26,9 @@ use std::io::{Read, Write};
 /// has no `NO_COLOR`.
 ///
 /// 0: what is asked is on `out`. 1: what is wrong with the files is on `err`, or on `out` as JSON; or `err` says what there
-/// isn't; or two versions differ, as `out` says. 2: the words ask nothing, and `err` says why. 3: memory was refused. 4: a file
-/// can't be read, or `out` can't be written. Neither a failure of `err` nor an `out` that nobody reads changes a status.
+/// isn't; or two versions differ, as `out` says. 2: the words ask nothing, and `err` says why. 3: memory was refused, or a rule
+/// takes more stack than there is, as `err` says. 4: a file can't be read, or `out` can't be written. Neither a failure of `err` nor
+/// an `out` that nobody reads changes a status.
 pub fn run<R: std::rt::Files + Env + AllocGlobal, I: Read + Drop, O: Write, E: Write>(
     rt: &R,
     words: &[String],
@@ -140,7 +143,10 @@ fn run_request<R: std::rt::Files + AllocGlobal, I: Read + Drop, O: Write, E: Wri
         return run_samples(rt.alloc(), asked, out, err);
     }
     match read_files(rt, asked, input) {
-        Ok(files) => run_files(rt.alloc(), asked, &files, terminal, out, err),
+        Ok(files) => {
+            let stack = size_of_stack(rt);
+            run_files(rt.alloc(), asked, &files, stack, terminal, out, err)
+        }
         Err(why) => cannot_read(rt.alloc(), why, err),
     }
 }
@@ -150,6 +156,7 @@ fn run_files<O: Write, E: Write>(
     alloc: Global,
     asked: &Request<'_>,
     files: &Files,
+    stack: usize,
     terminal: bool,
     out: &mut O,
     err: &mut E,
@@ -158,13 +165,13 @@ fn run_files<O: Write, E: Write>(
     ensures known { result ≤ 4 }
     ensures used { result ≢ 2 }
 {
-    let answer = answer_to(alloc, asked, files, terminal, err);
+    let answer = answer_within(alloc, asked, files, stack, terminal, err);
     write_answer(answer, out, err)
 }
 
-// Writes what is answered, and answers its status: 3 exactly where memory was refused.
+// Writes what is answered, and answers its status: 3 exactly where there is no answer.
 fn write_answer<O: Write, E: Write>(
-    answer: Result<Answer, AllocError>,
+    answer: Result<Answer, Unanswered>,
     out: &mut O,
     err: &mut E,
 ) -> u8
@@ -172,7 +179,8 @@ fn write_answer<O: Write, E: Write>(
 {
     match answer {
         Ok(answer) => write_both(&answer, out, err),
-        Err(AllocError) => no_memory(err),
+        Err(Unanswered::Memory) => no_memory(err),
+        Err(Unanswered::Stack) => 3,
     }
 }
 

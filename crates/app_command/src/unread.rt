@@ -51,6 +51,7 @@ pub(crate) fn refusal_of_forms<E: Write>(
     recovered_texts_have_no_mistake();
     teller.tell("explaining", "errors");
     let mut found = recovered_of(alloc, asked, files)?;
+    teller.check_stack(alloc, asked, files, &found.defs)?;
     let mut reports = reports_of_forms(alloc, files, &found.errors)?;
     let rest = add_errors(alloc, asked, files, &mut found, &mut reports)?;
     let answer = refusal(alloc, asked, files, &reports, rest)?;

@@ -115,6 +115,7 @@ fn answer_to_old<E: Write>(
         (IsAcceptedReading asked.now.expand new.entry.reading.now) asked.now) }
 {
     teller.tell("lowering", "the old version");
+    teller.check_stack(alloc, asked, old.files, old.defs)?;
     match lower(alloc, old.defs, asked.expand) {
         Ok(lowered) => {
             let lines = FileLines::new(alloc, old.files)?;
@@ -173,6 +174,7 @@ fn answer_to_new<E: Write>(
         (AreAccepted (definition_views new.entry.defs.now) asked.now.expand) asked.now) }
 {
     teller.tell("lowering", "the new version");
+    teller.check_stack(alloc, asked, new.files, new.defs)?;
     match lower(alloc, new.defs, asked.expand) {
         Ok(lowered) => {
             let lines = FileLines::new(alloc, new.files)?;

@@ -9,6 +9,7 @@ made : (texts : List (List ℕ)) (m : Made) → AreAcceptedTexts texts → IsMad
 made texts (M.Text text) accepted = accepted
 made texts (M.Unshown text) accepted = accepted
 made texts (M.Wrong text) accepted = tt
+made texts (M.Deep text) accepted = tt
 
 -- anything may be made of accepted texts
 pub made_of_accepted : (texts : List (List ℕ)) (m : Result Made AllocError) → AreAcceptedTexts texts → IfOk m (IsMadeOf texts)
@@ -19,6 +20,7 @@ refusal : (texts : List (List ℕ)) (m : Made) → IsRefusal m → IsMadeOf text
 refusal texts (M.Text text) is = absurd is
 refusal texts (M.Unshown text) is = absurd is
 refusal texts (M.Wrong text) is = tt
+refusal texts (M.Deep text) is = absurd is
 
 -- and what is wrong of any
 pub refused_of_any : (texts : List (List ℕ)) (m : Result Made AllocError) → IfOk m IsRefusal → IfOk m (IsMadeOf texts)

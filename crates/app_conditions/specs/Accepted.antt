@@ -15,9 +15,11 @@ abbrev pub IsRefusal : Made → Type 0
 IsRefusal (M.Text text) = ⊥
 IsRefusal (M.Unshown text) = ⊥
 IsRefusal (M.Wrong text) = ⊤
+IsRefusal (M.Deep text) = ⊥
 
 -- questions, and what is said of a rule, are made of accepted definitions alone
 abbrev pub IsMadeOf : List (List ℕ) → Made → Type 0
 IsMadeOf texts (M.Text text) = AreAcceptedTexts texts
 IsMadeOf texts (M.Unshown text) = AreAcceptedTexts texts
 IsMadeOf texts (M.Wrong text) = ⊤
+IsMadeOf texts (M.Deep text) = ⊤

@@ -20,7 +20,7 @@ Options:
   -C FOLDER              looks for files in this folder
   --help
 
-Status: 0 success, 1 errors or a rule that is wrong or left out at some widths, 2 wrong use, 3 out of memory, 4 a file
-cannot be read or the answer cannot be written. The script ./isle adds 70: no program gave an answer. tools/try-smt asks
-the solvers that are installed about all rules.
+Status: 0 success, 1 errors or a rule that is wrong or left out at some widths, 2 wrong use, 3 out of memory or of
+stack, 4 a file cannot be read or the answer cannot be written. The script ./isle adds 70: no program gave an answer.
+tools/try-smt asks the solvers that are installed about all rules.
 ";

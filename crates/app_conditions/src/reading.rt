@@ -12,6 +12,7 @@ use app_command::words::{Format, Request, Task};
 use cranelift_isle::syntax::Files;
 use report_errors::syntax_report;
 use report_print::report::Report;
+use report_stack::size_of_stack;
 use rust_text::code::CodegenOptions;
 use std::alloc::{AllocError, Global};
 use std::io::{Read, sink};
@@ -28,6 +29,8 @@ pub(crate) struct Texts {
     pub(crate) answers: String,
     /// What is expected to be told of rules that aren't right, a line each; nothing where no file of that is named.
     pub(crate) expected: String,
+    /// The bytes of stack that there are.
+    pub(crate) stack: usize,
 }
 
 /// The names and texts of the files that are asked for, and what solvers answered. `-` is `input`, by the name `<stdin>`.
@@ -44,6 +47,7 @@ pub(crate) fn texts_of<R: std::rt::Files + AllocGlobal, I: Read + Drop>(
         files,
         answers,
         expected,
+        stack: size_of_stack(rt),
     })
 }
 

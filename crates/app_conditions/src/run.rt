@@ -24,6 +24,7 @@ use report_print::layout::{Layout, push_reports};
 use report_print::lines::FileLines;
 use report_print::report::{Level, Report};
 use report_queries::answers::{end, no_memory, write_text};
+use report_stack::deep_rule;
 use spec_formulas::faults::SpecError;
 use spec_questions::answers::{Answers, answers_in};
 use spec_questions::questions::{QuestionFault, Questions, Wanted, questions_about};
@@ -36,7 +37,7 @@ use text_reader::syntax::VerificationForm;
 ///
 /// 0: what is asked is on `out`: questions, or what is told of rules, none of which is wrong. 1: a text, a definition or a spec is
 /// wrong, or no rule is called so, as `err` says; or a rule is wrong, as `out` says. 2: the words ask nothing, and `err` says why. 3:
-/// memory was refused. 4: a file can't be read, or `out` can't be written.
+/// memory was refused, or a rule takes more stack than there is, as `err` says. 4: a file can't be read, or `out` can't be written.
 pub fn run<R: std::rt::Files + AllocGlobal, I: Read + Drop, O: Write, E: Write>(
     rt: &R,
     words: &[String],
@@ -108,6 +109,8 @@ enum Made {
     Unshown(String),
     // Why there is no such text.
     Wrong(String),
+    // That a rule takes more stack than there is.
+    Deep(String),
 }
 
 // Writes what comes of files.
@@ -127,6 +130,7 @@ fn answer<O: Write, E: Write>(
         Ok(Made::Text(text)) => write_text(&text, out, err),
         Ok(Made::Unshown(text)) => write_unshown(&text, out, err),
         Ok(Made::Wrong(text)) => end(err, &text, 1),
+        Ok(Made::Deep(text)) => end(err, &text, 3),
         Err(AllocError) => no_memory(err),
     }
 }
@@ -177,9 +181,26 @@ fn made_of_definitions(
     }
 }
 
+// What comes of what files say, where no rule takes more stack than there is.
+fn made_of_all(
+    alloc: Global,
+    asked: &ConditionsRequest<'_>,
+    texts: &Texts,
+    defs: &[Def],
+    forms: &[VerificationForm],
+) -> Result<Made, AllocError>
+    requires said { AreOfTexts none_without 0 (map string_bytes texts.now.files.texts.items) (definition_views defs.now) }
+    ensures { IfOk result (IsMadeOf (map string_bytes texts.now.files.texts.items)) }
+{
+    if let Some(report) = deep_rule(alloc, defs, true, texts.stack)? {
+        return Ok(Made::Deep(text_of(alloc, &texts.files, &[report])?));
+    }
+    made_of_lowered(alloc, asked, texts, defs, forms)
+}
+
 // What comes of what files say.
 #[tactic(auto, using(crate::proofs::Made::made_of_accepted, crate::proofs::Made::refused_of_any))]
-fn made_of_all(
+fn made_of_lowered(
     alloc: Global,
     asked: &ConditionsRequest<'_>,
     texts: &Texts,

@@ -11,6 +11,7 @@ use report_errors::diagnosis::{Amount, Reports, begin_of_error, reports_of};
 use report_errors::extents::end_of_form;
 use report_errors::lost::{LostPart, comes_of_lost, errors_beside, is_of_lost};
 use report_print::report::Report;
+use report_stack::deep_rule;
 use report_warnings::lints::{warnings, warnings_of_each};
 use std::alloc::{AllocError, Global};
 
@@ -42,24 +43,20 @@ impl Drop for Analysis {
 
 /// What files mean together, by what they meant before. Of a text that can't be read whole the forms that can be read count, and
 /// the last good definitions of the others. Then no warning is told that several rules give, and nothing that comes of a form that
-/// can't be read.
+/// can't be read. A rule that takes more than `stack` bytes of stack is reported, and nothing is lowered.
 pub fn analysis_of(
     alloc: Global,
     sources: Sources,
+    stack: usize,
     previous: Option<&Analysis>,
 ) -> Result<Analysis, AllocError> {
     let (defs, mut reports, lost) = Readings::of(alloc, &sources, previous)?.into_found();
-    let parts = parts_of(alloc, &lost)?;
-    let lowered = match lower(alloc, &defs, true) {
-        Ok(lowered) => {
-            add_warnings(alloc, &sources.files, &defs, &parts, &lowered, &mut reports)?;
-            Some(lowered)
-        }
-        Err(Fault::Errors(errors)) => {
-            add_errors(alloc, &sources.files, &defs, &parts, &errors, &mut reports)?;
+    let lowered = match deep_rule(alloc, &defs, true, stack)? {
+        Some(report) => {
+            reports.push(report)?;
             None
         }
-        Err(Fault::Memory(error)) => return Err(error),
+        None => lowered_of(alloc, &sources.files, &defs, &lost, &mut reports)?,
     };
     Ok(Analysis {
         sources,
@@ -68,6 +65,28 @@ pub fn analysis_of(
         lowered,
         reports,
     })
+}
+
+// What definitions are lowered to, where nothing is wrong with them. Adds their errors, or else their warnings.
+fn lowered_of(
+    alloc: Global,
+    files: &Files,
+    defs: &[Def],
+    lost: &[LostForms],
+    reports: &mut Vec<Report>,
+) -> Result<Option<Lowered>, AllocError> {
+    let parts = parts_of(alloc, lost)?;
+    match lower(alloc, defs, true) {
+        Ok(lowered) => {
+            add_warnings(alloc, files, defs, &parts, &lowered, reports)?;
+            Ok(Some(lowered))
+        }
+        Err(Fault::Errors(errors)) => {
+            add_errors(alloc, files, defs, &parts, &errors, reports)?;
+            Ok(None)
+        }
+        Err(Fault::Memory(error)) => Err(error),
+    }
 }
 
 // Adds the warnings of accepted definitions: where parts of texts are lost, those that rules give by themselves.

@@ -27,6 +27,7 @@ use app_messages::replies::{
     Unsent, send_answer, send_log, send_notification, send_out_of_step, send_refusal,
 };
 use app_messages::uris::name_of;
+use report_stack::size_of_stack;
 use serde_json::Value;
 use std::alloc::{AllocError, Global};
 use std::collections::VecDeque;
@@ -188,10 +189,11 @@ impl Server {
         &self,
         rt: &R,
     ) -> Result<Vec<Analysis>, AllocError> {
+        let stack = size_of_stack(rt);
         let mut analyses = Vec::new(self.alloc);
         for sources in lists_of(rt, &self.session.workspaces, &self.session.documents)? {
             let previous = self.analyses.iter().find(|one| is_of_list(one, &sources));
-            analyses.push(analysis_of(self.alloc, sources, previous)?)?;
+            analyses.push(analysis_of(self.alloc, sources, stack, previous)?)?;
         }
         Ok(analyses)
     }

@@ -1,10 +1,14 @@
 //! Rows that ask the command `isle`.
 
-use app_command::answers::answer_to;
+use app_command::answers::{Answer, answer_within};
+use app_command::progress::Unanswered;
 use app_command::project::Project;
 use app_command::words::{Command, Request, Unasked, asked_by};
 use cranelift_isle::syntax::Files;
 use std::alloc::{AllocError, Global};
+
+// The bytes of stack that the command is told of.
+const STACK: usize = 8 << 20;
 
 /// Adds what the command answers to a row's words and files: a line with the status, then what goes to standard output and
 /// standard error, of which what is told with `--progress` comes first. Wrong words are answered with what is wrong with them.
@@ -53,10 +57,26 @@ fn push_answer(
     out: &mut String,
 ) -> Result<(), AllocError> {
     let mut told = Vec::new(alloc);
-    let answer = answer_to(alloc, asked, files, false, &mut told)?;
-    let status = answer.status;
-    write!(out, "status {status}\n")?;
-    out.push_str(&String::from_utf8_lossy(alloc, &told)?)?;
+    match answer_within(alloc, asked, files, STACK, false, &mut told) {
+        Ok(answer) => push_both(alloc, &told, &answer, out),
+        Err(Unanswered::Stack) => push_told(alloc, 3, &told, out),
+        Err(Unanswered::Memory) => Err(AllocError),
+    }
+}
+
+fn push_both(
+    alloc: Global,
+    told: &[u8],
+    answer: &Answer,
+    out: &mut String,
+) -> Result<(), AllocError> {
+    push_told(alloc, answer.status, told, out)?;
     out.push_str(&answer.out)?;
     out.push_str(&answer.err)
+}
+
+// Adds a status, and what was told.
+fn push_told(alloc: Global, status: u8, told: &[u8], out: &mut String) -> Result<(), AllocError> {
+    write!(out, "status {status}\n")?;
+    out.push_str(&String::from_utf8_lossy(alloc, told)?)
 }
