@@ -105,7 +105,7 @@ written_length name =
     omega (arith, raw, begin, end, a, b, c, d)
 
 pure_ascii : IsAscii (codes "pure ")
-pure_ascii = IsAscii-cons 112 _ (omega arith) (IsAscii-cons 117 _ (omega arith) (IsAscii-cons 114 _ (omega arith) (IsAscii-cons 101 _ (omega arith) (IsAscii-cons 32 _ (omega arith) IsAscii-nil))))
+pure_ascii = IsAscii-cons 112 (codes "ure ") (omega arith) (IsAscii-cons 117 (codes "re ") (omega arith) (IsAscii-cons 114 (codes "e ") (omega arith) (IsAscii-cons 101 (codes " ") (omega arith) (IsAscii-cons 32 [] (omega arith) IsAscii-nil))))
 
 pure_length : (x : List ℕ) → length (spelled (pure_name x)) ≡ 5 + length (chars x)
 pure_length x =

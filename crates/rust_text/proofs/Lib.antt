@@ -11,6 +11,7 @@ mod IntegersTold
 mod LabelSteps
 mod LoweredCode
 mod NameWords
+mod NamesTold
 mod OneReading
 mod PieceSteps
 mod PieceTexts
@@ -18,6 +19,7 @@ mod PrintedTexts
 mod ProgramSteps
 mod ProgramTokens
 mod ReadOnceSample
+mod TableNames
 mod WholeCode
 mod WholeNames
 mod WrittenFunctions

@@ -7,6 +7,7 @@ pub mod Fields
 pub mod Fronts
 pub mod LoweredCode
 pub mod Margins
+pub mod NamesTold
 pub mod OneReading
 pub mod PrintedTexts
 pub mod ProgramFields

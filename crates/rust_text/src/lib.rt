@@ -14,6 +14,7 @@ ghost use Rattle.rust_text.specs.CodeOfTerms.{EachTermIsInItsCode};
 ghost use Rattle.rust_text.specs.CodeReadOnce.{AnswersCodeIsReadOnce};
 ghost use Rattle.rust_text.specs.Fronts.{FrontsAreClosed};
 ghost use Rattle.rust_text.specs.LoweredCode.{IsItsCode, OfLowered};
+ghost use Rattle.rust_text.specs.NamesTold.{NamesOfAnswersTell};
 ghost use Rattle.rust_text.specs.OneReading.{CodeIsReadOnce, TextsAreReadOnce};
 ghost use Rattle.rust_text.specs.PrintedTexts.{EachTermHasItsPrintedText, PrintedTextsAreReadBack};
 ghost use Rattle.rust_text.specs.ProgramTokens.{WellNamedAreWrittenOnce};
@@ -26,6 +27,7 @@ use laws_code::{
     code_chooses_as_source, code_of_each_term_is_well_made, each_term_has_its_text,
     pure_functions_call_alike, text_of_accepted_is_read_back, text_of_accepted_says_its_source,
 };
+use laws_typing::{lists_agree, names_stay_in_lists, terms_have_names, types_stand_at_ids};
 use model_code::{
     names_apart_make_tokens_apart, one_reading, printed_text_has_one_reading, with_moves_says_same,
 };
@@ -171,11 +173,22 @@ pub fn code_is_read_once()
     names_are_whole();
 }
 
+/// The names of accepted definitions tell what they name, whatever the definitions call their things.
+pub fn names_of_answers_tell()
+    ensures { NamesOfAnswersTell }
+{
+    lists_agree();
+    names_stay_in_lists();
+    types_stand_at_ids();
+    terms_have_names();
+}
+
 /// So the code of an answer has one reading: none of its functions' bodies is read as two codes by tokens of its program.
 pub fn answers_code_is_read_once()
     ensures { AnswersCodeIsReadOnce }
 {
     texts_are_read_once();
+    names_of_answers_tell();
 }
 
 /// A sample's names are told apart and tell what they name, and the tokens of its code are the program's.
