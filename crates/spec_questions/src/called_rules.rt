@@ -14,8 +14,8 @@ use std::{mem, slice};
 /// How deep calls are looked through.
 pub(crate) const DEEPEST_CALL: usize = 8;
 
-// The most sites that calls of one condition are looked through to.
-const MOST_SITES: usize = 10_000;
+// The most calls that are looked through for one condition.
+const MOST_CALLS: usize = 1000;
 
 impl<'a: 'b, 'b> Maker<'a, 'b> {
     /// Looks through the call at a site, if its term has rules and no spec and is no unknown function: the site holds what the term's
@@ -30,7 +30,7 @@ impl<'a: 'b, 'b> Maker<'a, 'b> {
             return Ok(false);
         }
         let rule = self.rule_through(called)?;
-        if fuel == 0 || self.numbered > MOST_SITES {
+        if fuel == 0 || self.passed == MOST_CALLS {
             return Err(self.not_through(called.id, "calls of terms without specs nest too deep"));
         }
         let inner = self.sites_on(called, parameters, &args)?;
@@ -133,6 +133,7 @@ impl<'a: 'b, 'b> Maker<'a, 'b> {
         let bindings = called.rules.bindings.as_slice();
         let mut inner = Sites::new(alloc, bindings, &[], self.numbered);
         self.numbered = self.numbered.saturating_add(bindings.len());
+        self.passed = self.passed.saturating_add(1);
         for (site, binding) in bindings.iter().enumerate() {
             if let Binding::Argument { index } = binding {
                 let place = index.index();

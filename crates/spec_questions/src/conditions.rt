@@ -122,6 +122,7 @@ pub(crate) fn condition_of(
         is_certain: true,
         within: Vec::new(alloc),
         numbered: term.rules.bindings.len(),
+        passed: 0,
     };
     match maker.made(&term.rules.rules, choice) {
         Ok(outcome) => {

@@ -26,6 +26,8 @@ pub(crate) struct Maker<'a, 'b> {
     pub(crate) within: Vec<usize>,
     // How many sites have numbers in names: those of the rule, and of the rules of calls that are looked through.
     pub(crate) numbered: usize,
+    // How many calls are looked through.
+    pub(crate) passed: usize,
 }
 
 impl<'a, 'b> Drop for Maker<'a, 'b> {
@@ -41,6 +43,7 @@ impl<'a, 'b> Drop for Maker<'a, 'b> {
             is_certain: _,
             within: _,
             numbered: _,
+            passed: _,
         } = self;
     }
 }
@@ -59,6 +62,7 @@ impl<'a, 'b> Maker<'a, 'b> {
             is_certain: _,
             within: _,
             numbered: _,
+            passed: _,
         } = self;
         (builder.into_terms(), steps)
     }
