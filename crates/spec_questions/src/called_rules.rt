@@ -19,7 +19,7 @@ const MOST_CALLS: usize = 1000;
 
 impl<'a: 'b, 'b> Maker<'a, 'b> {
     /// Looks through the call at a site, if its term has rules and no spec and is no unknown function: the site holds what the term's
-    /// rule gives then. What is said of the calls that this rule makes is assumed or to be shown, as of the calls of the caller's.
+    /// rule gives then. What is said of the calls that this rule makes is assumed.
     #[cycle(hold)]
     pub(crate) fn look_through(&mut self, site: usize, fuel: usize) -> Result<bool, NoCondition> {
         let Some((called, parameters)) = self.called_at(site) else {
@@ -40,15 +40,13 @@ impl<'a: 'b, 'b> Maker<'a, 'b> {
         Ok(true)
     }
 
-    /// An impure call of a term without a spec: the calls that its rule makes are made.
-    #[cycle(hold)]
+    /// An impure call of a term without a spec, which is looked through.
     pub(crate) fn make_through(
         &mut self,
         term: TermId,
         call: BindingId,
-        fuel: usize,
     ) -> Result<(), NoCondition> {
-        if self.look_through(call.index(), fuel)? {
+        if self.look_through(call.index(), DEEPEST_CALL)? {
             Ok(())
         } else {
             Err(self.no_spec(term))
@@ -91,6 +89,9 @@ impl<'a: 'b, 'b> Maker<'a, 'b> {
         };
         if self.is_multi(called.id) {
             return Err(self.not_through(called.id, "it is `multi`"));
+        }
+        if !rule.impure.is_empty() {
+            return Err(self.not_through(called.id, "its rule makes impure calls"));
         }
         if !takes_each(rule, self.is_partial(called.id)) {
             return Err(self.not_through(called.id, "its rule doesn't take each call"));
@@ -165,15 +166,12 @@ impl<'a: 'b, 'b> Maker<'a, 'b> {
         given
     }
 
-    // What the rule gives. Its calls are made.
+    // What the rule gives.
     #[cycle(hold)]
     fn given(&mut self, fuel: usize) -> Result<ValueId, NoCondition> {
         let rule = self.rule;
         let asked = asked_by(self.builder.alloc, rule)?;
         self.hold_said(&asked, fuel)?;
-        for call in &rule.impure {
-            self.make_call(*call, fuel)?;
-        }
         self.hold_said(slice::from_ref(&rule.result), fuel)?;
         self.sites.value_at(rule.result)
     }

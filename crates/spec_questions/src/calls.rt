@@ -192,8 +192,7 @@ impl<'a: 'b, 'b> Maker<'a, 'b> {
     }
 
     /// An impure call: that it is called as required is to be shown, and then it answers as its spec says.
-    #[cycle(hold)]
-    pub(crate) fn make_call(&mut self, made: BindingId, fuel: usize) -> Result<(), NoCondition> {
+    pub(crate) fn make_call(&mut self, made: BindingId) -> Result<(), NoCondition> {
         let call = self.call_of(made);
         let bindings = self.sites.bindings;
         match bindings.get(call.index()) {
@@ -203,29 +202,27 @@ impl<'a: 'b, 'b> Maker<'a, 'b> {
                     parameters,
                     ..
                 },
-            ) => self.make_call_of(*term, parameters, call, fuel),
+            ) => self.make_call_of(*term, parameters, call),
             _ => Ok(()),
         }
     }
 
     // An impure call of a term at a site.
-    #[cycle(hold)]
     fn make_call_of(
         &mut self,
         term: TermId,
         parameters: &[BindingId],
         call: BindingId,
-        fuel: usize,
     ) -> Result<(), NoCondition> {
-        let new = self.hold_below(parameters, fuel)?;
+        let new = self.hold_below(parameters, DEEPEST_CALL)?;
         let outcome = self.assume_calls(&new);
         self.fitting(term, outcome)?;
         let Some(spec) = self.builder.specs.spec(term) else {
-            return self.make_through(term, call, fuel);
+            return self.make_through(term, call);
         };
         let args = self.sites.values_at(parameters)?;
         let guard = self.take_step(term, spec, &args)?;
-        let _call = self.hold_below(slice::from_ref(&call), fuel)?;
+        let _call = self.hold_below(slice::from_ref(&call), DEEPEST_CALL)?;
         let result = self.answer_at(term, call.index())?;
         if self.builder.terms.literal(guard) == Some(false) {
             return Ok(());

@@ -40,7 +40,7 @@ impl<'a: 'b, 'b> Maker<'a, 'b> {
     fn make_right_side(&mut self) -> Result<(), NoCondition> {
         let rule = self.rule;
         for call in &rule.impure {
-            self.make_call(*call, DEEPEST_CALL)?;
+            self.make_call(*call)?;
         }
         self.show_result()
     }
