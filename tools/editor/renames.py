@@ -31,7 +31,7 @@ def output(program, task, names, folder):
 def alike(before, after, old, new):
     """Whether two outputs are the same but for a name. What only lays out text may differ with the name's length."""
     def words(text):
-        return [re.sub(r'(?<![\w$])(' + re.escape(old) + '|' + re.escape(new) + r')(?![\w$])', '@', word) for word in text.split()]
+        return [re.sub(r'(?<!\w)(' + re.escape(old) + '|' + re.escape(new) + r')(?![\w$])', '@', word) for word in text.split()]
     return before[0] == after[0] and words(before[1]) == words(after[1])
 
 
