@@ -91,7 +91,7 @@ skipped_are_read = defines_by _ skipped_text skipped_pieces _ refl refl skipped_
 
 pub integers_are_read : IntegersAreRead
 unfolding lib.Utf8.encode word_token number_of
-integers_are_read = defines _ (codes "(rule (f -0x1_f 0o17 0b101 340282366920938463463374607431768211455) 1_000)") _ refl refl refl
+integers_are_read = defines _ (codes "(rule (f -0X_1f 0o17 0b101 340282366920938463463374607431768211455) 1_000_)") _ refl refl refl
 
 pub names_are_read : NamesAreRead
 unfolding lib.Utf8.encode word_token number_of

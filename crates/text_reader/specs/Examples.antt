@@ -19,10 +19,10 @@ SkippedAreRead =
     IsTextOfDefinition (239 ∷ 187 ∷ 191 ∷ codes " ; a line" ++ 10 ∷ codes "(;(;;);)(decl f () u8)")
     (declaration (record { term = named (codes "f") 27; arg_tys = []; ret_ty = named (codes "u8") 32; pure = false; multi = false; partial = false; rec = false; at = at 21 }))
 
--- a sign, a base, `_` between digits; above 2^127 - 1 the number with the same 128 bits
+-- a sign, a base, `_` anywhere among digits; above 2^127 - 1 the number with the same 128 bits
 abbrev pub IntegersAreRead : Type 0
 IntegersAreRead =
-    IsTextOfDefinition (codes "(rule (f -0x1_f 0o17 0b101 340282366920938463463374607431768211455) 1_000)")
+    IsTextOfDefinition (codes "(rule (f -0X_1f 0o17 0b101 340282366920938463463374607431768211455) 1_000_)")
     (rule_definition (record { pattern = term_pattern (named (codes "f") 7) (pattern_and (int_pattern (negsuc 30) (at 9)) (pattern_and (int_pattern (pos 15) (at 16)) (pattern_and (int_pattern (pos 5) (at 21)) (pattern_and (int_pattern (negsuc 0) (at 27)) no_pattern)))) (at 6); iflets = []; expr = int_expr (pos 1000) (at 68); at = at 0; prio = None; name = None }))
 
 -- a name may have `-`, digits, `$` and marks behind its beginning

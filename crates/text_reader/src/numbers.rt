@@ -1,11 +1,12 @@
-//! Numbers: a sign, a base, digits with `_` between them, and the range of 128 bits.
+//! Numbers: a sign, a base, digits with `_` anywhere among them, and the range of 128 bits.
 
-ghost use Rattle.std.specs.Prelude.{◌≡◌, ◌≤◌, ◌<◌, ◌^◌, Ok, Err, MatchResult, SomeIff, ⊤};
+ghost use Rattle.std.specs.Prelude.{◌≡◌, ◌≤◌, ◌<◌, ◌^◌, ◌==◌, not, Ok, Err, MatchResult, SomeIff, ⊤};
 ghost use Rattle.text_reader.specs.Faults.{FaultIsWithin};
 ghost use Rattle.text_reader.specs.Forms.{PosIsWithin};
 ghost use Rattle.std.specs.Char.{digit_value};
+ghost use Rattle.std.specs.List.{list_all, list_any};
 ghost use Rattle.text_reader.specs.Lexemes.{at_place};
-ghost use Rattle.text_reader.specs.Numbers.{number_of, radix_of, are_digits, digits_after, grown, sized, unsigned_number};
+ghost use Rattle.text_reader.specs.Numbers.{number_of, radix_of, are_digits, is_underscore_or_digit, digits_after, grown, sized, unsigned_number};
 ghost use Rattle.core_syntax.specs.SyntaxViews.{position};
 ghost use Rattle.text_reader.specs.Views.{Gives};
 
@@ -56,30 +57,36 @@ fn radix_of(word: &[u8]) -> (u32, &[u8])
     ensures upper { result.0 ≤ 16 }
 {
     match word {
-        [b'0', b'x', digits @ ..] => (16, digits),
-        [b'0', b'o', digits @ ..] => (8, digits),
-        [b'0', b'b', digits @ ..] => (2, digits),
+        [b'0', b'x' | b'X', digits @ ..] => (16, digits),
+        [b'0', b'o' | b'O', digits @ ..] => (8, digits),
+        [b'0', b'b' | b'B', digits @ ..] => (2, digits),
         _ => (10, word),
     }
 }
 
-// Whether bytes are digits of a base with `_` between them.
+// Whether bytes are digits of a base, at least one, and `_` anywhere.
 fn are_digits(word: &[u8], radix: u32) -> bool
-    requires lower { 2 ≤ radix }
-    requires upper { radix ≤ 16 }
     ensures { result ≡ are_digits radix word.now }
 {
-    if let [b'_', ..] = word {
-        return false;
-    }
-    let mut last = false;
-    for b in word {
-        last = *b != b'_';
-        if last && digit_of(*b) >= radix {
-            return false;
-        }
-    }
-    last
+    are_underscores_or_digits(word, radix) && has_more_than_underscores(word)
+}
+
+fn are_underscores_or_digits(word: &[u8], radix: u32) -> bool
+    ensures { result ≡ list_all (is_underscore_or_digit radix) word.now }
+{
+    word.iter().all(|b| is_underscore_or_digit(*b, radix))
+}
+
+fn is_underscore_or_digit(byte: u8, radix: u32) -> bool
+    ensures { result ≡ is_underscore_or_digit radix byte }
+{
+    byte == b'_' || digit_of(byte) < radix
+}
+
+fn has_more_than_underscores(word: &[u8]) -> bool
+    ensures { result ≡ list_any (λ b. not (b == 95)) word.now }
+{
+    word.iter().any(|b| *b != b'_')
 }
 
 /// What a byte is as a digit, and 36 where it is none.

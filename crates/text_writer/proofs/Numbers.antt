@@ -1,6 +1,6 @@
 -- The token of a number that is written.
 use Rattle.std.proofs.Common.{◌≡◌, ℕ, zero, suc, ◌+◌, ◌-◌, ◌*◌, ◌<◌, refl, sym, ap, ◌∙◌, List, [], ◌∷◌, length, arith}
-use Rattle.std.specs.Prelude.{ℤ, pos, negsuc, ◌^◌, Bool, true, false, ◌&&◌, ◌==◌, nat_lt, nat_le, Ok, slice_index}
+use Rattle.std.specs.Prelude.{ℤ, pos, negsuc, ◌^◌, Bool, true, false, ◌&&◌, ◌||◌, ◌==◌, nat_lt, nat_le, Ok, slice_index}
 use Rattle.std.specs.List.{list_all}
 use Rattle.std.specs.Int.{w128}
 use Rattle.std.specs.Char.{digit_value, is_ascii_digit}
@@ -13,7 +13,7 @@ use Rattle.std.proofs.lemmas.Fmt.{decimal_is_IsNumeral_wide, IsAscii-decimal_wid
 use Rattle.std.proofs.lemmas.Str.Parse.{digit_from_value}
 use Rattle.model.specs.lists.Syntax.{Position}
 use Rattle.text_reader.specs.Pieces.{is_in_word}
-use Rattle.text_reader.specs.Numbers.{ends_in_digit, are_digits, digits_after, has_mark, radix_of, sized, unsigned_number, number_of}
+use Rattle.text_reader.specs.Numbers.{is_underscore_or_digit, are_digits, digits_after, has_mark, radix_of, sized, unsigned_number, number_of}
 use Rattle.text_reader.specs.Lexemes.{number, begins_number, word_token}
 use Rattle.text_writer.specs.Spellable.{is_signed_128, is_some_text}
 
@@ -66,24 +66,28 @@ and_false : (a b : Bool) → b ≡ false → (a && b) ≡ false
 and_false true b e = e
 and_false false b e = refl
 
-digits_end : (last : Bool) (ds : List ℕ) → AllDigits 10 ds → last ≡ true → ends_in_digit 10 last ds ≡ true
-digits_end last [] h e = e
-digits_end last (c ∷ cs) h e = rw (digit_no_underscore c h.0, digit_test c h.0) (digits_end true cs h.1 refl)
+each_digit : (ds : List ℕ) → AllDigits 10 ds → list_all (is_underscore_or_digit 10) ds ≡ true
+each_digit [] h = refl
+each_digit (c ∷ cs) h = rw (digit_no_underscore c h.0, digit_test c h.0) (each_digit cs h.1)
 
 digits_are : (c : ℕ) (cs : List ℕ) → AllDigits 10 (c ∷ cs) → are_digits 10 (c ∷ cs) ≡ true
-digits_are c cs h = rw (digit_no_underscore c h.0, digit_test c h.0) (digits_end true cs h.1 refl)
+digits_are c cs h = rw (digit_no_underscore c h.0, digit_test c h.0, each_digit cs h.1) refl
 
 digits_same : (n : ℕ) (ds : List ℕ) → AllDigits 10 ds → digits_after 10 n ds ≡ digits_value_after 10 n ds
 digits_same n [] h = refl
 digits_same n (c ∷ cs) h = rw (digit_no_underscore c h.0) (digits_same (n * 10 + digit_value c) cs h.1)
 
-second_no_mark : (c : ℕ) (cs : List ℕ) (m : ℕ) → AllDigits 10 (c ∷ cs) → 57 < m → has_mark m (c ∷ cs) ≡ false
-second_no_mark c [] m h past = and_false (c == 48) (0 == m) (nothing_mark m past)
-second_no_mark c (d ∷ ds) m h past = and_false (c == 48) (d == m) (no_mark d m h.1.0 past)
+second_no_mark : (c : ℕ) (cs : List ℕ) (small capital : ℕ) → AllDigits 10 (c ∷ cs) → 57 < small → 57 < capital → has_mark small capital (c ∷ cs) ≡ false
+second_no_mark c [] small capital h s k = and_false (c == 48) (0 == small || 0 == capital) (rw (nothing_mark small s, nothing_mark capital k) refl)
+second_no_mark c (d ∷ ds) small capital h s k =
+    and_false (c == 48) (d == small || d == capital) (rw (no_mark d small h.1.0 s, no_mark d capital h.1.0 k) refl)
 
 decimal_radix : (c : ℕ) (cs : List ℕ) → AllDigits 10 (c ∷ cs) → radix_of (c ∷ cs) ≡ (10, c ∷ cs)
 decimal_radix c cs h =
-    rw (second_no_mark c cs 120 h (omega arith), second_no_mark c cs 111 h (omega arith), second_no_mark c cs 98 h (omega arith)) refl
+    let hexadecimal = second_no_mark c cs 120 88 h (omega arith) (omega arith) in
+    let octal = second_no_mark c cs 111 79 h (omega arith) (omega arith) in
+    let binary = second_no_mark c cs 98 66 h (omega arith) (omega arith) in
+    rw (hexadecimal, octal, binary) refl
 
 digits_number : (is_negative : Bool) (ds : List ℕ) → 0 < length ds → AllDigits 10 ds → unsigned_number is_negative (radix_of ds) ≡ sized is_negative (digits_value 10 ds)
 digits_number is_negative [] some h = absurd (omega (arith, some))
