@@ -124,7 +124,7 @@ fn add_of_term(
     term: &LoweredTerm,
 ) -> Result<(), AllocError> {
     if !is_multi(&lowered.termenv, term.id) {
-        add_dead(alloc, reports, defs, &term.block, None)?;
+        add_dead(alloc, reports, defs, &term.block)?;
         add_idle_priorities(alloc, reports, defs, &term.rules.rules)?;
         add_uncovered(alloc, reports, files, (defs, samples), lowered, term)?;
     }

@@ -1,7 +1,15 @@
 //! Rules that never run, and priorities that have no effect.
 
+ghost use Rattle.std.specs.Prelude.{◌≡◌, ◌++◌, ℕ, length, IfOk, OnOk};
+ghost use Rattle.core_syntax.specs.SyntaxViews.{position};
+ghost use Rattle.cranelift_isle.specs.Trees.{return_at};
+ghost use Rattle.cranelift_isle.specs.TreeViews.{arms_view, check_view, tree_view};
+ghost use Rattle.laws_ways.specs.DeadReturns.{dead_returns};
+ghost use Rattle.report_warnings.specs.DeadReturns.{dead_among_from, dead_from, place_pairs, PassesStep};
+ghost use Rattle.report_warnings.specs.Added.{AddsSoMany};
+
 use crate::kinds::{Warning, begun};
-use cranelift_isle::serialize::{Block, ControlFlow};
+use cranelift_isle::serialize::{Block, ControlFlow, MatchArm};
 use cranelift_isle::syntax::{Def, Pos};
 use cranelift_isle::trie_again::{BindingId, Constraint, Overlap, Rule};
 use report_errors::diagnosis::{ONE_OF_ALIKE, add_first, add_help, add_rule, are_alike};
@@ -10,54 +18,110 @@ use report_print::report::{Place, Report, Word};
 use std::alloc::{AllocError, Global};
 use std::collections::{BTreeMap, BTreeSet};
 
-/// Adds a warning for each rule of a term that never runs, in a block of its tree. A return ends its block: what stands behind it
-/// in the block, and inside that, never runs. Where the whole block never runs, the rule of the return before it is given.
+/// The returns of a block that stand behind another return of their block, or inside what stands behind one, each with the first
+/// return that it stands behind. In a term that isn't multi no run comes to them.
+///
+/// # Errors
+///
+/// If memory is refused.
+pub(crate) fn dead_returns(alloc: Global, block: &Block) -> Result<Vec<(Pos, Pos)>, AllocError>
+    ensures { IfOk result (λ v. place_pairs v.items ≡ dead_returns (tree_view block.now)) }
+{
+    let mut dead = Vec::new(alloc);
+    push_dead(&mut dead, block, None)?;
+    Ok(dead)
+}
+
+// Adds the dead returns of a block that stands behind a return, or behind none.
 #[cycle(dead)]
+fn push_dead(out: &mut Vec<(Pos, Pos)>, block: &Block, first: Option<Pos>) -> Result<(), AllocError>
+    ensures { OnOk result (place_pairs out.new.items ≡ place_pairs out.old.items ++ dead_from first (tree_view block.now)) }
+{
+    let mut first = first;
+    for step in &block.steps {
+        first = push_step(out, &step.check, first)?;
+    }
+    Ok(())
+}
+
+// Adds those of a step: the return that the next step of the block stands behind, if there is one.
+#[cycle(dead)]
+fn push_step(
+    out: &mut Vec<(Pos, Pos)>,
+    check: &ControlFlow,
+    first: Option<Pos>,
+) -> Result<Option<Pos>, AllocError>
+    ensures { IfOk result (λ after. PassesStep first after (check_view check.now) out.old.items out.new.items) }
+{
+    match check {
+        ControlFlow::Match { arms, .. } => {
+            push_arms(out, arms, first)?;
+            Ok(first)
+        }
+        ControlFlow::Equal { body, .. } => {
+            push_dead(out, body, first)?;
+            Ok(first)
+        }
+        ControlFlow::Loop { body, .. } => {
+            push_dead(out, body, first)?;
+            Ok(first)
+        }
+        ControlFlow::Return { pos, .. } => push_return(out, *pos, first),
+    }
+}
+
+// Adds those of the arms of a match.
+#[cycle(dead)]
+fn push_arms(
+    out: &mut Vec<(Pos, Pos)>,
+    arms: &[MatchArm],
+    first: Option<Pos>,
+) -> Result<(), AllocError>
+    ensures { OnOk result (place_pairs out.new.items ≡ place_pairs out.old.items ++ dead_among_from first (arms_view arms.now)) }
+{
+    for arm in arms {
+        push_dead(out, &arm.body, first)?;
+    }
+    Ok(())
+}
+
+// Adds a return, if it stands behind one: the return that the next step of the block stands behind.
+fn push_return(
+    out: &mut Vec<(Pos, Pos)>,
+    pos: Pos,
+    first: Option<Pos>,
+) -> Result<Option<Pos>, AllocError>
+    ensures { IfOk result (λ after. (site : ℕ) → PassesStep first after (return_at (position pos) site) out.old.items out.new.items) }
+{
+    let Some(first) = first else {
+        return Ok(Some(pos));
+    };
+    out.push((pos, first))?;
+    Ok(Some(first))
+}
+
+/// Adds a warning for each dead return of a term's tree, in order: its rule never runs.
+///
+/// # Errors
+///
+/// If memory is refused.
 pub(crate) fn add_dead(
     alloc: Global,
     reports: &mut Vec<Report>,
     defs: &[Def],
     block: &Block,
-    before: Option<Pos>,
-) -> Result<(), AllocError> {
-    let mut before = before;
-    for step in &block.steps {
-        match (&step.check, before) {
-            (ControlFlow::Return { pos, .. }, Some(first)) => {
-                reports.push(dead(alloc, defs, *pos, first)?)?
-            }
-            (ControlFlow::Return { pos, .. }, None) => before = Some(*pos),
-            (check, _) => add_dead_inside(alloc, reports, defs, check, before)?,
-        }
+) -> Result<(), AllocError>
+    ensures { OnOk result (AddsSoMany (length (dead_returns (tree_view block.now))) reports.old.items reports.new.items) }
+{
+    let dead = dead_returns(alloc, block)?;
+    for places in &dead {
+        reports.push(dead_report(alloc, defs, places.0, places.1)?)?;
     }
     Ok(())
 }
 
-// Adds those inside a test.
-#[cycle(dead)]
-fn add_dead_inside(
-    alloc: Global,
-    reports: &mut Vec<Report>,
-    defs: &[Def],
-    check: &ControlFlow,
-    before: Option<Pos>,
-) -> Result<(), AllocError> {
-    match check {
-        ControlFlow::Match { arms, .. } => {
-            for arm in arms {
-                add_dead(alloc, reports, defs, &arm.body, before)?;
-            }
-            Ok(())
-        }
-        ControlFlow::Equal { body, .. } | ControlFlow::Loop { body, .. } => {
-            add_dead(alloc, reports, defs, body, before)
-        }
-        ControlFlow::Return { .. } => Ok(()),
-    }
-}
-
 // The warning of a rule that never runs, since another one returns first.
-fn dead(alloc: Global, defs: &[Def], pos: Pos, first: Pos) -> Result<Report, AllocError> {
+fn dead_report(alloc: Global, defs: &[Def], pos: Pos, first: Pos) -> Result<Report, AllocError> {
     let message = String::from_str(alloc, "a rule never runs")?;
     let mut report = begun(alloc, Warning::NeverRun, message);
     let is_alike = are_alike(alloc, defs, pos, first)?;

@@ -1,0 +1,3 @@
+-- Lemmas on ways through trees.
+pub mod DeadReturns
+pub mod SameRuns

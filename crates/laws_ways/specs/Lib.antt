@@ -1,0 +1,2 @@
+-- Ways through trees, and laws on them.
+pub mod DeadReturns

@@ -1,0 +1,2 @@
+-- Lemmas on what warnings are told of.
+mod DeadReturns

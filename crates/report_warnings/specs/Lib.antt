@@ -1,0 +1,3 @@
+-- What warnings are told of, in the words of the laws.
+pub mod Added
+pub mod DeadReturns
