@@ -1,2 +1,3 @@
--- Ways through trees, and laws on them.
+-- Ways through trees, and laws on them; rules that meet no other.
 pub mod DeadReturns
+pub mod IdlePriorities

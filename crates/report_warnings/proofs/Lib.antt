@@ -1,2 +1,3 @@
 -- Lemmas on what warnings are told of.
 mod DeadReturns
+mod IdlePriorities

@@ -12,6 +12,7 @@ pub mod lints;
 mod literals;
 mod missing_rules;
 mod passing;
+mod priorities;
 mod recursion;
 mod returns;
 mod sample_values;
