@@ -1,1 +1,2 @@
-mod Nesting
+pub mod Nesting
+pub mod Writing

@@ -10,7 +10,7 @@ use Rattle.json.specs.Tree.{json_tokens, items_tokens, members_tokens}
 use Rattle.json.proofs.Printed.Trees.{value-json_tokens}
 use Rattle.text_json.specs.declared.Place.{Place}
 use Rattle.text_json.specs.declared.Place.TheVariants as P
-use Rattle.text_json.specs.JsonLine.{IsJsonLine}
+use Rattle.text_json.specs.JsonLine.{IsJsonLine, IsLineOf}
 use Rattle.text_json.specs.Nesting.{nothing, inside, whole, broken, nest, nesting}
 
 -- ---- one more token
@@ -141,12 +141,14 @@ is_object (Token.bad ∷ ts) h = absurd (never_whole ts h)
 
 -- ---- what is printed of such tokens
 
+pub is_line_of : (j : Json) (ts : List Token) (text : List ℕ) → ts ≡ json_tokens j → tokens (print ts) ≡ ts → text ≡ print ts ++ 10 ∷ [] → IsLineOf j text
+is_line_of j ts text o e line = record {
+  line = line ∙ ap (λ (us : List Token). print us ++ 10 ∷ []) o;
+  is_read = λ most fits. ap (value most) (ap (λ (us : List Token). tokens (print us)) (sym o) ∙ e ∙ o ∙ sym (append-nil (json_tokens j))) ∙ value-json_tokens j most [] fits;
+}
+
 pub is_line : (ts : List Token) (text : List ℕ) → nesting ts ≡ whole → tokens (print ts) ≡ ts → text ≡ print ts ++ 10 ∷ [] → IsJsonLine text
 unfolding nesting
 is_line ts text h e line =
     let o = is_object ts h in
-    record {
-      tree = object o.0;
-      line = line ∙ ap (λ (us : List Token). print us ++ 10 ∷ []) o.1;
-      is_read = λ most fits. ap (value most) (ap (λ (us : List Token). tokens (print us)) (sym o.1) ∙ e ∙ o.1 ∙ sym (append-nil (json_tokens (object o.0)))) ∙ value-json_tokens (object o.0) most [] fits;
-    }
+    record { tree = object o.0; is_line = is_line_of (object o.0) ts text o.1 e line }

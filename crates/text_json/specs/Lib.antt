@@ -1,2 +1,3 @@
 pub mod JsonLine
 pub mod Nesting
+pub mod Writing
