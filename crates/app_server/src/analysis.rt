@@ -9,7 +9,8 @@ use cranelift_isle::syntax::{Def, Error, Fault, Files, Pos};
 use report_errors::definitions::definition_around;
 use report_errors::diagnosis::{Amount, Reports, begin_of_error, reports_of};
 use report_errors::extents::end_of_form;
-use report_errors::lost::{LostPart, comes_of_lost, errors_beside, is_of_lost};
+use report_errors::lost::{LostPart, come_of_lost, errors_beside};
+use report_errors::lost_names::{FormSeen, LostNames};
 use report_print::report::Report;
 use report_stack::deep_rule;
 use report_warnings::lints::{warnings, warnings_of_each};
@@ -103,30 +104,30 @@ fn add_warnings(
     } else {
         warnings_of_each(alloc, files, defs, &lowered.tyenv, &[])?
     };
-    add_told(files, defs, lost, told, reports)
+    add_told(alloc, files, defs, lost, told, reports)
 }
 
 // Adds those of some warnings that don't come of lost parts of texts.
 fn add_told(
+    alloc: Global,
     files: &Files,
     defs: &[Def],
     lost: &[LostPart],
     told: Vec<Report>,
     reports: &mut Vec<Report>,
 ) -> Result<(), AllocError> {
+    let names = LostNames::of(alloc, &files.texts, defs, lost)?;
+    let mut seen = FormSeen::none();
     for report in told {
-        if !is_told_of_lost(files, defs, lost, &report) {
+        let comes = match place_of(&report) {
+            Some(pos) => names.comes_of(pos, &mut seen),
+            None => false,
+        };
+        if !comes {
             reports.push(report)?;
         }
     }
     Ok(())
-}
-
-fn is_told_of_lost(files: &Files, defs: &[Def], lost: &[LostPart], report: &Report) -> bool {
-    match place_of(report) {
-        Some(pos) => comes_of_lost(&files.texts, defs, lost, pos),
-        None => false,
-    }
 }
 
 // Adds the errors of definitions that don't come of lost parts of texts, as `isle check` tells them: without the definitions of
@@ -139,10 +140,7 @@ fn add_errors(
     errors: &[Error],
     reports: &mut Vec<Report>,
 ) -> Result<(), AllocError> {
-    if !errors
-        .iter()
-        .any(|error| is_of_lost(files, defs, lost, error))
-    {
+    if !come_of_lost(alloc, files, defs, lost, errors)?.contains(&true) {
         return add_reports(alloc, files, defs, lost, errors, reports);
     }
     let mut kept = copied(alloc, defs)?;
@@ -175,7 +173,7 @@ fn add_reports(
     add_places(defs, &found.reports, &mut except)?;
     reports.append(&mut found.reports)?;
     let beside = warnings_beside(alloc, files, defs, &except)?;
-    add_told(files, defs, lost, beside, reports)
+    add_told(alloc, files, defs, lost, beside, reports)
 }
 
 // Tells with the last report of each file how many errors of the file aren't reported.
@@ -184,12 +182,20 @@ fn tell_rest(alloc: Global, found: &mut Reports) -> Result<(), AllocError> {
     for report in found.reports.iter_mut().rev() {
         let file = file_of(report);
         let rest = found.rest.iter().filter(|other| **other == file).count();
-        if rest > 0 && !told.contains(&file) {
+        if !told.contains(&file) {
             told.push(file)?;
-            report.add_note("note", rest_text(alloc, rest)?)?;
+            add_rest(alloc, report, rest)?;
         }
     }
     Ok(())
+}
+
+/// Adds to the last report of a file how many more errors the file has.
+pub(crate) fn add_rest(alloc: Global, report: &mut Report, rest: usize) -> Result<(), AllocError> {
+    if rest == 0 {
+        return Ok(());
+    }
+    report.add_note("note", rest_text(alloc, rest)?)
 }
 
 // How many errors of a file aren't reported, in words.
@@ -245,7 +251,16 @@ fn place_around(defs: &[Def], pos: Pos) -> Option<Pos> {
 impl Analysis {
     /// The forms that can't be read in which a position is.
     pub fn lost_at(&self, pos: Pos) -> Option<&LostForms> {
-        self.lost.iter().find(|forms| forms.part.has(pos))
+        let place = (pos.file, pos.offset);
+        let count = self
+            .lost
+            .partition_point(|forms| (forms.part.file, forms.part.begin) <= place);
+        let forms = self.lost.get(count.checked_sub(1)?)?;
+        if forms.part.has(pos) {
+            Some(forms)
+        } else {
+            None
+        }
     }
 
     /// The form at a position, as it is written, or as it was when it could be read last.

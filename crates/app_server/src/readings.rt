@@ -1,14 +1,16 @@
 //! The definitions of texts, also of those that can't be read whole: a form that can't be read keeps its last good definitions.
 
-use crate::analysis::Analysis;
+use crate::analysis::{Analysis, add_rest};
 use crate::sources::Sources;
 use app_messages::edits::shared_ends;
-use cranelift_isle::syntax::Def;
+use cranelift_isle::syntax::{Def, Pos};
+use report_errors::definitions::definition_around;
+use report_errors::diagnosis::MOST_OF_FILE;
 use report_errors::lost::{LostPart, add_lost, lost_report};
 use report_print::lines::push_times;
 use report_print::report::Report;
 use std::alloc::{AllocError, Global};
-use text_reader::errors::ReadFault;
+use text_reader::errors::{ReadFault, TextError};
 use text_reader::read;
 use text_reader::recovery::{Recovered, recover};
 
@@ -103,51 +105,113 @@ impl<'a> Readings<'a> {
         text: &str,
         found: &mut Recovered,
     ) -> Result<(), AllocError> {
-        for error in &found.errors {
-            self.reports.push(lost_report(self.alloc, text, error)?)?;
-        }
+        self.add_reports(text, &found.errors)?;
         let mut parts = Vec::new(self.alloc);
         add_lost(self.alloc, number, text, &found.errors, &mut parts)?;
+        let older = self.older(number, text);
+        let mut last_good = Vec::new(self.alloc);
         for part in &parts {
-            self.add_lost_part(text, *part, &mut found.defs)?;
+            let good = String::from_str(self.alloc, good_text(&older, *part))?;
+            if !has_definition_in(&found.defs, *part) {
+                add_good(self.alloc, *part, &good, &mut last_good)?;
+            }
+            self.lost.push(LostForms { part: *part, good })?;
         }
+        found.defs.append(&mut last_good)?;
         found.defs.sort_by_key(|def| def.place())
     }
 
-    fn add_lost_part(
-        &mut self,
-        text: &str,
-        part: LostPart,
-        defs: &mut Vec<Def>,
-    ) -> Result<(), AllocError> {
-        let good = String::from_str(self.alloc, self.good_text(text, part))?;
-        if !defs.iter().any(|def| is_in(def, part)) {
-            add_good(self.alloc, part, &good, defs)?;
+    // Adds the reports of what is wrong with a text: of the first mistakes, and how many more there are.
+    fn add_reports(&mut self, text: &str, errors: &[TextError]) -> Result<(), AllocError> {
+        for error in errors.iter().take(MOST_OF_FILE) {
+            self.reports.push(lost_report(self.alloc, text, error)?)?;
         }
-        self.lost.push(LostForms { part, good })?;
-        Ok(())
+        match self.reports.last_mut() {
+            Some(last) => add_rest(self.alloc, last, errors.len().saturating_sub(MOST_OF_FILE)),
+            None => Ok(()),
+        }
     }
 
-    // The text of a part of a file when it was last read without a mistake, or the empty text.
-    fn good_text(&self, text: &str, part: LostPart) -> &'a str {
-        let (Some(previous), Some(path)) = (self.previous, self.sources.paths.get(part.file)) else {
-            return "";
-        };
-        let Some(file) = previous.sources.number_of(path) else {
-            return "";
-        };
+    // The text of a file as it was before, if it was read.
+    fn older(&self, number: usize, text: &str) -> Option<OlderText<'a>> {
+        let previous = self.previous?;
+        let file = previous.sources.number_of(self.sources.paths.get(number)?)?;
         let older = previous.text(file);
-        let Some((begin, end)) = range_before(older, text, (part.begin, part.end)) else {
-            return "";
-        };
-        match previous
-            .lost
-            .iter()
-            .find(|lost| lost.part.file == file && lost.part.begin == begin)
-        {
-            Some(lost) => lost.good.as_str(),
-            None => older.get(begin..end).unwrap_or(""),
+        Some(OlderText {
+            file,
+            text: older,
+            lost: &previous.lost,
+            shared: shared_ends(older.as_bytes(), text.as_bytes()),
+            len: text.len(),
+        })
+    }
+}
+
+// The text of a file as it was before, beside what it is now.
+#[derive(Clone, Copy)]
+struct OlderText<'a> {
+    file: usize,
+    text: &'a str,
+    // The forms of all files that couldn't be read then, in order.
+    lost: &'a [LostForms],
+    // How many bytes it shares with the new text at the beginning, and how many behind these at the end.
+    shared: (usize, usize),
+    // The length of the new text.
+    len: usize,
+}
+
+impl<'a> OlderText<'a> {
+    // Where a part of the new text stood, if what was changed doesn't reach over one of its ends.
+    fn range_of(self, part: LostPart) -> Option<(usize, usize)> {
+        Some((self.offset_of(part.begin)?, self.offset_of(part.end)?))
+    }
+
+    // Where an offset of the new text was, if it isn't in what was changed.
+    fn offset_of(self, offset: usize) -> Option<usize> {
+        let (first, last) = self.shared;
+        let behind = self.len.saturating_sub(offset);
+        if offset <= first {
+            Some(offset)
+        } else if behind <= last {
+            self.text.len().checked_sub(behind)
+        } else {
+            None
         }
+    }
+
+    // The forms that couldn't be read and began at an offset: found by halving.
+    fn lost_at(self, offset: usize) -> Option<&'a LostForms> {
+        let place = (self.file, offset);
+        let count = self
+            .lost
+            .partition_point(|lost| (lost.part.file, lost.part.begin) < place);
+        self.lost.get(count).filter(|lost| lost.part.file == self.file && lost.part.begin == offset)
+    }
+}
+
+// The text of a part of a file when it was last read without a mistake, or the empty text.
+fn good_text<'a>(older: &Option<OlderText<'a>>, part: LostPart) -> &'a str {
+    let Some(older) = older else {
+        return "";
+    };
+    let Some((begin, end)) = older.range_of(part) else {
+        return "";
+    };
+    match older.lost_at(begin) {
+        Some(lost) => lost.good.as_str(),
+        None => older.text.get(begin..end).unwrap_or(""),
+    }
+}
+
+// Whether one of the definitions of a text, which are in order, begins in a part of it.
+fn has_definition_in(defs: &[Def], part: LostPart) -> bool {
+    let last = Pos {
+        file: part.file,
+        offset: part.end.saturating_sub(1),
+    };
+    match definition_around(defs, last) {
+        Some(def) => is_in(def, part),
+        None => false,
     }
 }
 
@@ -165,6 +229,9 @@ fn add_good(
     good: &str,
     defs: &mut Vec<Def>,
 ) -> Result<(), AllocError> {
+    if good.is_empty() {
+        return Ok(());
+    }
     let mut text = String::new(alloc);
     push_times(&mut text, ' ', part.begin as u64)?;
     text.push_str(good)?;
@@ -177,22 +244,6 @@ fn add_good(
         Err(ReadFault::Text(_error)) => Ok(()),
         Err(ReadFault::Memory(error)) => Err(error),
     }
-}
-
-// Where a part of a text stood in an older text, if what was changed doesn't reach over one of its ends.
-fn range_before(older: &str, text: &str, (begin, end): (usize, usize)) -> Option<(usize, usize)> {
-    let (first, last) = shared_ends(older.as_bytes(), text.as_bytes());
-    let before = |offset: usize| {
-        let behind = text.len().saturating_sub(offset);
-        if offset <= first {
-            Some(offset)
-        } else if behind <= last {
-            older.len().checked_sub(behind)
-        } else {
-            None
-        }
-    };
-    Some((before(begin)?, before(end)?))
 }
 
 /// The parts of texts that some forms are.

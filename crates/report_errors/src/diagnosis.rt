@@ -18,11 +18,17 @@ use report_witness::witness::{Conflict, conflict_in, left_side, witness};
 use std::alloc::{AllocError, Global};
 use std::slice;
 
-// How many errors are reported, if few are wanted.
-const MOST_ERRORS: usize = 20;
+/// How many errors are reported, if few are wanted.
+pub const MOST_ERRORS: usize = 20;
 
-// How many errors of a file are reported, if those of each file are wanted.
-const MOST_OF_FILE: usize = 100;
+/// How many errors of a file are reported, if those of each file are wanted.
+pub const MOST_OF_FILE: usize = 100;
+
+// How many errors are explained. Of more, if all are wanted, only what is wrong is told, and where.
+const MOST_EXPLAINED: usize = 500;
+
+// How many rules' priorities a fix leaves out at most.
+const MOST_EDITS: usize = 1000;
 
 // How many of the rules that overlap one are shown, if not all are wanted.
 const MOST_RULES: usize = 5;
@@ -39,12 +45,14 @@ struct Source<'a> {
     expand: bool,
     // How many of the rules that overlap one are shown.
     most_rules: usize,
+    // Whether more is told than what is wrong, and where.
+    is_explained: bool,
 }
 
 /// How many errors are reported.
 #[derive(Clone, Copy, PartialEq, Eq)]
 pub enum Amount {
-    /// Each of them, in order, with all that is known of it.
+    /// Each of them, in order: the first 500 with all that is known of them.
     All,
     /// Causes before what follows from them, and only the first 20.
     Few,
@@ -91,6 +99,7 @@ pub fn reports_of(
         defs,
         expand,
         most_rules: if all { usize::MAX } else { MOST_RULES },
+        is_explained: true,
     };
     let uses = if expand {
         uses_behind(alloc, defs, errors)?
@@ -113,7 +122,13 @@ pub fn reports_of(
     for number in &chosen.numbers {
         match templates.told_with(*number) {
             Some(one) => reports.push(report_of_template(alloc, defs, one)?)?,
-            None => add_report(source, &mut reports, errors, &order, &uses, *number)?,
+            None => {
+                let source = Source {
+                    is_explained: reports.len() < MOST_EXPLAINED,
+                    ..source
+                };
+                add_report(source, &mut reports, errors, &order, &uses, *number)?;
+            }
         }
     }
     for report in &mut reports {
@@ -218,20 +233,23 @@ fn add_report(
     };
     let before = times_before(errors, number, error);
     let mut report = report_of(source, error, before)?;
-    add_uses(
-        source.alloc,
-        &mut report,
-        source.defs,
-        errors,
-        order,
-        number,
-    )?;
+    if source.is_explained {
+        add_uses(
+            source.alloc,
+            &mut report,
+            source.defs,
+            errors,
+            order,
+            number,
+        )?;
+    }
     let mut rule = place_of(error).and_then(|pos| rule_around(source.defs, pos));
     if let Some(found) = use_at(uses, number) {
         add_use(source.alloc, &mut report, found, order.told_with(number))?;
         rule = Some(found.rule);
     }
-    if let (Some(rule), true) = (rule, is_of_multi(words_of(error))) {
+    let is_of_multi = source.is_explained && is_of_multi(words_of(error));
+    if let (Some(rule), true) = (rule, is_of_multi) {
         add_multi(source, &mut report, rule)?;
     }
     reports.push(report)?;
@@ -256,8 +274,10 @@ fn add_multi(source: Source<'_>, report: &mut Report, rule: &Rule) -> Result<(),
     };
     let text = format!(in source.alloc; "add `multi` to the declaration of `{name}`{rest}")?;
     report.add_note("help", text)?;
-    let title = format!(in source.alloc; "Declare `{name}` multi")?;
-    report.fixes.push(Fix { title, edits })?;
+    if edits.len() <= MOST_EDITS {
+        let title = format!(in source.alloc; "Declare `{name}` multi")?;
+        report.fixes.push(Fix { title, edits })?;
+    }
     Ok(())
 }
 
@@ -311,7 +331,13 @@ fn is_unreachable(error: &Error, place: Span) -> bool {
 fn report_of(source: Source<'_>, error: &Error, before: usize) -> Result<Report, AllocError> {
     match error {
         Error::TypeError { msg, span } => {
-            report_of_type_error(source.alloc, source.defs, msg, span.from)
+            report_of_type_error(
+                source.alloc,
+                source.defs,
+                msg,
+                span.from,
+                source.is_explained,
+            )
         }
         Error::UnreachableError { msg, span } => unreachable(source, msg, *span, before),
         Error::LimitError { limit, msg, span } => of_rule(
@@ -466,6 +492,9 @@ fn overlap(source: Source<'_>, rules: &[Span]) -> Result<Report, AllocError> {
 
 // Adds the first variable of these rules' patterns that looks like something else: it matches any value, so more than is meant.
 fn add_suspect(source: Source<'_>, report: &mut Report, rules: &[Span]) -> Result<(), AllocError> {
+    if !source.is_explained {
+        return Ok(());
+    }
     for rule in rules {
         if add_suspect_of(source, report, rule.from)? {
             return Ok(());
@@ -722,7 +751,7 @@ pub fn add_help(alloc: Global, report: &mut Report, text: &str) -> Result<(), Al
 
 // Adds what the first of some rules and each of the others match.
 fn add_values(source: Source<'_>, report: &mut Report, rules: &[Span]) -> Result<(), AllocError> {
-    let Some(first) = rules.first() else {
+    let (Some(first), true) = (rules.first(), source.is_explained) else {
         return Ok(());
     };
     for span in rules.iter().skip(1).take(MOST_VALUES) {

@@ -24,6 +24,7 @@ pub mod explanation;
 pub mod extents;
 pub mod indented_lines;
 pub mod lost;
+pub mod lost_names;
 pub mod meanings;
 pub mod meant_rules;
 pub mod mentions;

@@ -4,15 +4,17 @@ ghost use Rattle.std.specs.Prelude.{IfOk};
 ghost use Rattle.core_syntax.specs.declared.syntax.Pos.{Pos};
 ghost use Rattle.report_errors.specs.Places.{BeginsAt, BeginsAtError};
 
-use crate::definitions::{definition_around, place_of_constant, place_of_term, root_of};
+use crate::definitions::definition_around;
 use crate::error_order::place_of;
-use crate::extents::{end_of_form, ends_word};
+use crate::extents::end_of_form;
+use crate::lost_names::{FormSeen, LostNames};
 use crate::syntax_report;
 use cranelift_isle::lower::lower;
 use cranelift_isle::syntax::{Def, Error, Fault, Files, Pos};
 use report_print::lines::file_text;
 use report_print::report::Report;
 use std::alloc::{AllocError, Global};
+use std::collections::BTreeSet;
 use text_reader::chunks::chunks;
 use text_reader::errors::{Problem, TextError};
 
@@ -74,9 +76,7 @@ pub fn lost_parts(
 ) -> Result<Vec<LostPart>, AllocError> {
     let mut lost = Vec::new(alloc);
     for (file, text) in texts.iter().enumerate() {
-        if errors.iter().any(|error| error.pos.file == file) {
-            add_lost(alloc, file, text, errors, &mut lost)?;
-        }
+        add_lost(alloc, file, text, errors, &mut lost)?;
     }
     Ok(lost)
 }
@@ -93,20 +93,47 @@ pub fn add_lost(
     errors: &[TextError],
     lost: &mut Vec<LostPart>,
 ) -> Result<(), AllocError> {
+    let begins = begins_in(alloc, file, text.len(), errors)?;
+    if begins.is_empty() {
+        return Ok(());
+    }
     for chunk in &chunks(alloc, text)? {
-        let part = LostPart {
-            file,
-            begin: chunk.offset,
-            end: chunk.end,
-        };
-        if errors
-            .iter()
-            .any(|error| part.has(begin_of(error, text.len())))
-        {
-            lost.push(part)?;
+        if has_one(&begins, chunk.offset, chunk.end) {
+            lost.push(LostPart {
+                file,
+                begin: chunk.offset,
+                end: chunk.end,
+            })?;
         }
     }
     Ok(())
+}
+
+// Where the mistakes begin that are in the text of a file, which has a length: in ascending order.
+fn begins_in(
+    alloc: Global,
+    file: usize,
+    length: usize,
+    errors: &[TextError],
+) -> Result<Vec<usize>, AllocError> {
+    let mut begins = Vec::new(alloc);
+    for error in errors {
+        let begin = begin_of(error, length);
+        if begin.file == file {
+            begins.push(begin.offset)?;
+        }
+    }
+    begins.sort()?;
+    Ok(begins)
+}
+
+// Whether one of these offsets, which ascend, is between two others: found by halving.
+fn has_one(offsets: &[usize], begin: usize, end: usize) -> bool {
+    let before = offsets.partition_point(|offset| *offset < begin);
+    match offsets.get(before) {
+        Some(offset) => *offset < end,
+        None => false,
+    }
 }
 
 // Where a mistake begins in a text of a length: of a list that isn't ended where the list does, and what is missing at the text's
@@ -136,16 +163,14 @@ pub fn errors_beside(
     expand: bool,
 ) -> Result<Vec<Error>, AllocError> {
     for _ in 0..MOST_ROUNDS {
-        let mut errors = errors_of(alloc, defs.as_slice(), expand)?;
-        let more = more_lost(alloc, files, defs.as_slice(), lost.as_slice(), &errors)?;
+        let errors = errors_of(alloc, defs.as_slice(), expand)?;
+        let come = come_of_lost(alloc, files, defs.as_slice(), lost.as_slice(), &errors)?;
+        let more = forms_with(alloc, files, defs.as_slice(), &errors, &come)?;
         if more.is_empty() {
-            errors.retain(|error| !is_of_lost(files, defs.as_slice(), lost.as_slice(), error));
-            return Ok(errors);
+            return without(alloc, errors, &come);
         }
-        defs.retain(|def| !begins_one(&more, def));
-        for part in &more {
-            lost.push(*part)?;
-        }
+        take_away(alloc, defs, &more)?;
+        lost.extend_from_slice(&more)?;
     }
     Ok(Vec::new(alloc))
 }
@@ -159,72 +184,95 @@ fn errors_of(alloc: Global, defs: &[Def], expand: bool) -> Result<Vec<Error>, Al
     }
 }
 
-// The forms of the definitions with errors that come of lost parts.
-fn more_lost(
+/// Of each error of definitions whether it comes of lost parts.
+///
+/// # Errors
+///
+/// Where memory is refused.
+pub fn come_of_lost(
     alloc: Global,
     files: &Files,
     defs: &[Def],
     lost: &[LostPart],
     errors: &[Error],
-) -> Result<Vec<LostPart>, AllocError> {
-    let mut more = Vec::new(alloc);
+) -> Result<Vec<bool>, AllocError> {
+    let names = LostNames::of(alloc, &files.texts, defs, lost)?;
+    let mut seen = FormSeen::none();
+    let mut come = Vec::new(alloc);
     for error in errors {
-        if is_of_lost(files, defs, lost, error) {
-            if let Some(part) = form_with(files, defs, error) {
-                more.push(part)?;
+        let comes = match place_of(error) {
+            Some(pos) => names.comes_of(pos, &mut seen),
+            None => false,
+        };
+        come.push(comes)?;
+    }
+    Ok(come)
+}
+
+// The forms of the definitions with errors that come of lost parts.
+fn forms_with(
+    alloc: Global,
+    files: &Files,
+    defs: &[Def],
+    errors: &[Error],
+    come: &[bool],
+) -> Result<Vec<LostPart>, AllocError> {
+    let mut forms: Vec<LostPart> = Vec::new(alloc);
+    for (error, comes) in errors.iter().zip(come) {
+        if let (true, Some(place)) = (*comes, definition_with(defs, error)) {
+            if !is_last(&forms, place) {
+                forms.push(form_at(files, place))?;
             }
         }
     }
-    Ok(more)
+    Ok(forms)
 }
 
-// The form of the definition that an error is in.
-fn form_with(files: &Files, defs: &[Def], error: &Error) -> Option<LostPart> {
-    let place = definition_around(defs, place_of(error)?)?.place()?;
-    let file = place.file;
-    let begin = place.offset;
-    let end = end_of_form(file_text(files, file), begin);
-    Some(LostPart { file, begin, end })
+// Where the definition begins that an error is in.
+fn definition_with(defs: &[Def], error: &Error) -> Option<Pos> {
+    definition_around(defs, place_of(error)?)?.place()
 }
 
-// Whether one of some parts begins where a definition does.
-fn begins_one(parts: &[LostPart], def: &Def) -> bool {
-    match def.place() {
-        Some(pos) => parts
-            .iter()
-            .any(|part| part.file == pos.file && part.begin == pos.offset),
+// Whether the last of some parts begins at a place.
+fn is_last(parts: &[LostPart], place: Pos) -> bool {
+    match parts.last() {
+        Some(part) => part.begin() == place,
         None => false,
     }
 }
 
-/// Whether a type error comes of lost parts.
-pub fn is_of_lost(files: &Files, defs: &[Def], lost: &[LostPart], error: &Error) -> bool {
-    match place_of(error) {
-        Some(pos) => comes_of_lost(&files.texts, defs, lost, pos),
-        None => false,
+// The form that begins at a place, as a part.
+fn form_at(files: &Files, place: Pos) -> LostPart {
+    let end = end_of_form(file_text(files, place.file), place.offset);
+    LostPart {
+        file: place.file,
+        begin: place.offset,
+        end,
     }
 }
 
-/// Whether what is wrong at a place comes of lost parts of texts: it stands in one, or the definition that it stands in has a
-/// word that only such a part may define, or declares a term that such a part may say more of.
-pub fn comes_of_lost(texts: &[String], defs: &[Def], lost: &[LostPart], pos: Pos) -> bool {
-    let begin = match definition_around(defs, pos) {
-        Some(def) => def.place().unwrap_or(pos),
-        None => pos,
-    };
-    let form = form_at(texts, begin);
-    lost.iter()
-        .any(|part| part.has(pos) || part.may_define(texts, defs, form))
+// Takes the definitions away that begin where these parts do.
+fn take_away(alloc: Global, defs: &mut Vec<Def>, parts: &[LostPart]) -> Result<(), AllocError> {
+    let mut begins = BTreeSet::new(alloc);
+    for part in parts {
+        begins.insert(part.begin())?;
+    }
+    defs.retain(|def| match def.place() {
+        Some(pos) => !begins.contains(&pos),
+        None => true,
+    });
+    Ok(())
 }
 
-// The form that begins at a place.
-fn form_at(texts: &[String], begin: Pos) -> &str {
-    match texts.get(begin.file) {
-        Some(text) => text
-            .get(begin.offset..end_of_form(text, begin.offset))
-            .unwrap_or(""),
-        None => "",
+// Those of some errors that come of no lost part.
+fn without(alloc: Global, errors: Vec<Error>, come: &[bool]) -> Result<Vec<Error>, AllocError> {
+    let mut kept = Vec::new(alloc);
+    for (error, comes) in errors.into_iter().zip(come) {
+        if !*comes {
+            kept.push(error)?;
+        }
     }
+    Ok(kept)
 }
 
 impl LostPart {
@@ -233,83 +281,11 @@ impl LostPart {
         self.file == pos.file && self.begin <= pos.offset && pos.offset < self.end
     }
 
-    // The text of this part, from its first form on.
-    fn text<'a>(&self, texts: &'a [String]) -> &'a str {
-        match texts.get(self.file) {
-            Some(text) => text.get(self.begin..self.end).unwrap_or("").trim_start(),
-            None => "",
+    // Where this part begins.
+    fn begin(&self) -> Pos {
+        Pos {
+            file: self.file,
+            offset: self.begin,
         }
-    }
-
-    // Whether this part may define a word of a form, or say more of the term that it is.
-    fn may_define(&self, texts: &[String], defs: &[Def], form: &str) -> bool {
-        let text = self.text(texts);
-        if text.starts_with("(rule") {
-            let term = first_of_second_list(text);
-            return has_word(form, term) && !has_rule(defs, term);
-        }
-        if text.starts_with("(extractor") {
-            return has_word(form, first_of_second_list(text));
-        }
-        let says_more = text.starts_with("(extern");
-        words_before_second_list(text).split(ends_word).skip(1).any(|name| {
-            !WORDS.contains(&name) && has_word(form, name) && (says_more || !is_defined(defs, name))
-        })
-    }
-}
-
-// Words of definitions, before their second list, that are no names.
-const WORDS: [&str; 10] = [
-    "extern",
-    "constructor",
-    "extractor",
-    "infallible",
-    "const",
-    "pure",
-    "multi",
-    "partial",
-    "rec",
-    "nodebug",
-];
-
-// The words of a list before its first inner list.
-fn words_before_second_list(list: &str) -> &str {
-    list.split('(').nth(1).unwrap_or("")
-}
-
-// The first word of the first inner list of a list: in a rule and an extractor the term that it is of.
-fn first_of_second_list(list: &str) -> &str {
-    let inner = list.split('(').nth(2).unwrap_or("");
-    inner.split(ends_word).next().unwrap_or("")
-}
-
-// Whether a form has a word, or one of its variants.
-fn has_word(form: &str, word: &str) -> bool {
-    !word.is_empty()
-        && form.split(ends_word).any(|one| match one.strip_prefix(word) {
-            Some(rest) => rest.is_empty() || rest.starts_with('.'),
-            None => false,
-        })
-}
-
-// Whether some definition is a rule of a term.
-fn has_rule(defs: &[Def], term: &str) -> bool {
-    defs.iter().any(|def| match def {
-        Def::Rule(rule) => root_of(rule) == term,
-        _ => false,
-    })
-}
-
-fn is_defined(defs: &[Def], name: &str) -> bool {
-    let constant = name.strip_prefix('$').unwrap_or(name);
-    place_of_term(defs, name).is_some()
-        || defs.iter().any(|def| is_type(def, name))
-        || place_of_constant(defs, constant).is_some()
-}
-
-fn is_type(def: &Def, name: &str) -> bool {
-    match def {
-        Def::TypeDef(ty) => ty.name.0.as_str() == name,
-        _ => false,
     }
 }

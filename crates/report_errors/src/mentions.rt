@@ -5,6 +5,7 @@ use core_syntax::syntax::{
     Def, Expr, Extern, Extractor, Fields, Ident, LetDef, Pattern, Pos, Rule, Type, TypeValue,
 };
 use std::alloc::{AllocError, Global};
+use std::collections::BTreeMap;
 
 /// What a name stands for.
 #[derive(Clone, Copy, Debug, PartialEq, Eq)]
@@ -66,6 +67,8 @@ pub struct Mention<'a> {
     pub count: usize,
     /// The pattern that stands behind a variable, as in `x @ (f _)`.
     pub behind: Option<Pos>,
+    /// Of a variable that is bound there whether it stands anywhere else, too.
+    pub is_used: bool,
     // The number of the first name behind the let that binds it.
     until: usize,
 }
@@ -108,8 +111,19 @@ pub struct Literal<'a> {
 pub struct Mentions<'a> {
     pub names: Vec<Mention<'a>>,
     pub literals: Vec<Literal<'a>>,
-    // The numbers of the variables that can be used.
-    scope: Vec<usize>,
+    // The variables that can be used, in order.
+    scope: Vec<Bound>,
+    // Of each name the number of the last variable of this name that can be used, if there is one.
+    last: BTreeMap<&'a str, Option<usize>>,
+}
+
+// A variable that can be used.
+#[derive(Clone, Copy)]
+struct Bound {
+    // Its number.
+    number: usize,
+    // The number of the variable of its name that could be used before it.
+    before: Option<usize>,
 }
 
 impl<'a> Drop for Mentions<'a> {
@@ -118,6 +132,7 @@ impl<'a> Drop for Mentions<'a> {
             names: _,
             literals: _,
             scope: _,
+            last: _,
         } = self;
     }
 }
@@ -134,6 +149,7 @@ pub fn plain_mention(name: &Ident, kind: MentionKind) -> Mention<'_> {
         need: Need::Nothing,
         count: 0,
         behind: None,
+        is_used: false,
         until: usize::MAX,
     }
 }
@@ -167,6 +183,7 @@ impl<'a> Mentions<'a> {
             names: Vec::new(alloc),
             literals: Vec::new(alloc),
             scope: Vec::new(alloc),
+            last: BTreeMap::new(alloc),
         }
     }
 
@@ -415,7 +432,10 @@ impl<'a> Mentions<'a> {
         behind: Option<Pos>,
         in_pattern: bool,
     ) -> Result<(), AllocError> {
-        self.scope.push(self.names.len())?;
+        let number = self.names.len();
+        let before = self.last_of(name);
+        self.scope.push(Bound { number, before })?;
+        self.last.insert(&name.0, Some(number))?;
         self.names.push(Mention {
             defines: true,
             in_pattern,
@@ -427,15 +447,21 @@ impl<'a> Mentions<'a> {
     }
 
     // The last variable of a name that can be used.
-    fn bound(&self, name: &Ident) -> Option<&Mention<'a>> {
-        for number in self.scope.iter().rev() {
-            if let Some(bound) = self.names.get(*number) {
-                if bound.name.0.as_str() == name.0.as_str() {
-                    return Some(bound);
-                }
-            }
-        }
-        None
+    fn bound(&self, name: &'a Ident) -> Option<&Mention<'a>> {
+        self.names.get(self.last_of(name)?)
+    }
+
+    // Its number.
+    fn last_of(&self, name: &'a Ident) -> Option<usize> {
+        *self.last.get(&name.0.as_str())?
+    }
+
+    // Where a variable of a name is bound that is used: the last one that can be.
+    fn home_of(&mut self, name: &'a Ident) -> Option<&'a Ident> {
+        let number = self.last_of(name)?;
+        let bound = self.names.get_mut(number)?;
+        bound.is_used = true;
+        Some(bound.home)
     }
 
     // Adds a variable of a pattern: it is bound there, or was bound before.
@@ -445,10 +471,9 @@ impl<'a> Mentions<'a> {
         need: Need<'a>,
         behind: Option<Pos>,
     ) -> Result<(), AllocError> {
-        let Some(bound) = self.bound(name) else {
+        let Some(home) = self.home_of(name) else {
             return self.bind(name, need, behind, true);
         };
-        let home = bound.home;
         self.names.push(Mention {
             in_pattern: true,
             home,
@@ -460,10 +485,7 @@ impl<'a> Mentions<'a> {
     }
 
     fn add_in_expr(&mut self, name: &'a Ident, need: Need<'a>) -> Result<(), AllocError> {
-        let home = match self.bound(name) {
-            Some(bound) => bound.home,
-            None => name,
-        };
+        let home = self.home_of(name).unwrap_or(name);
         self.names.push(Mention {
             home,
             need,
@@ -562,12 +584,21 @@ impl<'a> Mentions<'a> {
     // Only so many variables can be used from now on.
     fn leave(&mut self, count: usize) {
         let end = self.names.len();
-        for number in self.scope.iter().skip(count) {
-            if let Some(mention) = self.names.get_mut(*number) {
-                mention.until = end;
+        for _ in count..self.scope.len() {
+            if let Some(bound) = self.scope.pop() {
+                self.forget(bound, end);
             }
         }
-        self.scope.truncate(count);
+    }
+
+    // The last variable that can be used can't be any more from the name of a number on.
+    fn forget(&mut self, bound: Bound, end: usize) {
+        if let Some(mention) = self.names.get_mut(bound.number) {
+            mention.until = end;
+            if let Some(last) = self.last.get_mut(&mention.text()) {
+                *last = bound.before;
+            }
+        }
     }
 }
 

@@ -51,8 +51,11 @@ pub(crate) fn other_places(told: &Told<'_>) -> Result<Vec<Pos>, AllocError> {
         None => pos,
     };
     for def in defs {
+        if places.len() >= MOST_PLACES {
+            break;
+        }
         if let Some(place) = place_in(defs, def, repeat) {
-            if place != pos && place != own && places.len() < MOST_PLACES {
+            if place != pos && place != own {
                 places.push(place)?;
             }
         }
@@ -149,8 +152,7 @@ fn is_called(defs: &[Def], rule: &Rule, name: &str) -> bool {
     match &rule.name {
         Some(own) => own.0.as_str() == name,
         None => {
-            let count = defs.iter().filter(|def| is_rule_of(def, name)).count();
-            root_of(rule) == name && count == 1
+            root_of(rule) == name && defs.iter().filter(|def| is_rule_of(def, name)).count() == 1
         }
     }
 }

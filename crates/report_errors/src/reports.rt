@@ -97,9 +97,19 @@ impl<'a> Told<'a> {
     }
 }
 
-/// The report of a type error with these words at a place: with the names that its words lack, the other places that it speaks
-/// of, and the names that may be meant in place of an unknown one.
-pub fn report_of(alloc: Global, defs: &[Def], msg: &str, pos: Pos) -> Result<Report, AllocError> {
+/// The report of a type error with these words at a place: with the names that its words lack. If it is explained, too, with the
+/// other places that it speaks of, and the names that may be meant in place of an unknown one.
+///
+/// # Errors
+///
+/// Where memory is refused.
+pub fn report_of(
+    alloc: Global,
+    defs: &[Def],
+    msg: &str,
+    pos: Pos,
+    is_explained: bool,
+) -> Result<Report, AllocError> {
     let told = Told {
         alloc,
         defs,
@@ -117,11 +127,13 @@ pub fn report_of(alloc: Global, defs: &[Def], msg: &str, pos: Pos) -> Result<Rep
     let mut report = Report::new(alloc, Level::Error, "type", message);
     report.code = code_of(msg);
     report.add_label(pos, String::new(alloc))?;
-    add_repeats(&told, &mut report)?;
-    add_term(&told, &mut report, term)?;
-    add_types(&told, &mut report)?;
-    add_cycle(&told, &mut report)?;
-    add_meant(&told, &mut report)?;
+    if is_explained {
+        add_repeats(&told, &mut report)?;
+        add_term(&told, &mut report, term)?;
+        add_types(&told, &mut report)?;
+        add_cycle(&told, &mut report)?;
+        add_meant(&told, &mut report)?;
+    }
     Ok(report)
 }
 

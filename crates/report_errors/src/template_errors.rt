@@ -1,12 +1,13 @@
 //! Errors that stand in the template of an internal extractor: the rule that uses it, and so has the error.
 
-use crate::definitions::{declaration_of, definition_around, root_of};
+use crate::definitions::{definition_around, root_of};
 use crate::error_order::{place_of, words_of};
 use crate::mentions::{MentionKind, Mentions};
 use crate::terms_in_errors::is_of_multi;
 use core_syntax::syntax::{Def, Error, Extractor, Pos, Rule};
 use report_print::report::{Label, Report};
 use std::alloc::{AllocError, Global};
+use std::collections::BTreeMap;
 
 // How many uses of a rule are looked at. Rules within the limits on expansions have fewer.
 const MOST_USES: usize = 1 << 16;
@@ -44,10 +45,17 @@ pub(crate) fn uses_behind<'a>(
         return Ok(behind);
     }
     let uses = all_uses(alloc, defs)?;
-    for (number, error) in errors.iter().enumerate() {
-        let found = match template_of(defs, error) {
-            Some(extractor) => use_of(&uses, extractor, errors, number),
-            None => None,
+    // how many errors said the same of one place so far
+    let mut counts = BTreeMap::new(alloc);
+    for error in errors {
+        let found = match (template_of(defs, error), place_of(error)) {
+            (Some(extractor), Some(pos)) => {
+                let said = (pos, words_of(error));
+                let before = counts.get(&said).copied().unwrap_or(0usize);
+                counts.insert(said, before.saturating_add(1))?;
+                use_of(&uses, extractor, error, before)
+            }
+            _ => None,
         };
         behind.push(found)?;
     }
@@ -65,27 +73,74 @@ fn template_of<'a>(defs: &'a [Def], error: &Error) -> Option<&'a Extractor> {
 
 // All uses of internal extractors by rules.
 fn all_uses<'a>(alloc: Global, defs: &'a [Def]) -> Result<Vec<TemplateUse<'a>>, AllocError> {
+    let terms = TermTable::of(alloc, defs)?;
     let mut uses = Vec::new(alloc);
     for def in defs {
         if let Def::Rule(rule) = def {
-            add_uses_of(alloc, &mut uses, defs, rule, &Mentions::of(alloc, def)?)?;
+            add_uses_of(alloc, &mut uses, &terms, rule, &Mentions::of(alloc, def)?)?;
         }
     }
     Ok(uses)
+}
+
+// What is looked up of terms: of several definitions of one the first.
+struct TermTable<'a> {
+    // Whether each declared term is multi.
+    multi: BTreeMap<&'a str, bool>,
+    // The internal extractors, each with the definition that it is.
+    extractors: BTreeMap<&'a str, (&'a Def, &'a Extractor)>,
+}
+
+impl<'a> Drop for TermTable<'a> {
+    fn drop(self) {
+        let TermTable {
+            multi: _,
+            extractors: _,
+        } = self;
+    }
+}
+
+impl<'a> TermTable<'a> {
+    fn of(alloc: Global, defs: &'a [Def]) -> Result<TermTable<'a>, AllocError> {
+        let mut table = TermTable {
+            multi: BTreeMap::new(alloc),
+            extractors: BTreeMap::new(alloc),
+        };
+        // the first is put in last
+        for def in defs.iter().rev() {
+            match def {
+                Def::Decl(decl) => {
+                    table.multi.insert(decl.term.0.as_str(), decl.multi)?;
+                }
+                Def::Extractor(extractor) => {
+                    table
+                        .extractors
+                        .insert(extractor.term.0.as_str(), (def, extractor))?;
+                }
+                _ => {}
+            }
+        }
+        Ok(table)
+    }
+
+    fn is_multi(&self, term: &'a str) -> bool {
+        self.multi.get(&term).copied().unwrap_or(false)
+    }
+
+    fn extractor(&self, term: &'a str) -> Option<(&'a Def, &'a Extractor)> {
+        self.extractors.get(&term).copied()
+    }
 }
 
 // Adds the uses by a rule: those in its patterns, each before those in the templates of what it uses.
 fn add_uses_of<'a>(
     alloc: Global,
     uses: &mut Vec<TemplateUse<'a>>,
-    defs: &'a [Def],
+    terms: &TermTable<'a>,
     rule: &'a Rule,
     names: &Mentions<'a>,
 ) -> Result<(), AllocError> {
-    let is_multi = match declaration_of(defs, root_of(rule)) {
-        Some(decl) => decl.multi,
-        None => false,
-    };
+    let is_multi = terms.is_multi(root_of(rule));
     let mut waiting = Vec::new(alloc);
     add_terms(&mut waiting, names, None)?;
     // its own term is no extractor there
@@ -94,7 +149,7 @@ fn add_uses_of<'a>(
         let Some((term, pos)) = waiting.pop() else {
             return Ok(());
         };
-        if let Some((def, extractor)) = extractor_of(defs, term) {
+        if let Some((def, extractor)) = terms.extractor(term) {
             uses.push(TemplateUse {
                 extractor,
                 rule,
@@ -122,32 +177,14 @@ fn add_terms<'a>(
     Ok(())
 }
 
-// The internal extractor of a term, and the definition that it is.
-fn extractor_of<'a>(defs: &'a [Def], term: &str) -> Option<(&'a Def, &'a Extractor)> {
-    for def in defs {
-        if let Def::Extractor(extractor) = def {
-            if extractor.term.0.as_str() == term {
-                return Some((def, extractor));
-            }
-        }
-    }
-    None
-}
-
-// The use that the error of a number comes from: of those of its extractor as many are before it as there are errors like it.
+// The use that an error comes from: of those of its extractor as many are before it as there are errors like it.
 fn use_of<'a>(
     uses: &[TemplateUse<'a>],
     extractor: &Extractor,
-    errors: &[Error],
-    number: usize,
+    error: &Error,
+    before: usize,
 ) -> Option<TemplateUse<'a>> {
-    let error = errors.get(number)?;
     let is_of_multi = is_of_multi(words_of(error));
-    let before = errors
-        .iter()
-        .take(number)
-        .filter(|other| is_like(other, error))
-        .count();
     uses.iter()
         .filter(|one| one.extractor.pos == extractor.pos && !(is_of_multi && one.is_multi))
         .nth(before)

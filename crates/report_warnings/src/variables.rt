@@ -21,7 +21,7 @@ pub(crate) fn add_variables(
     for mention in names.names.iter().filter(|mention| is_bound_there(mention)) {
         if let Some(meant) = meant_by(alloc, defs, constants, mention)? {
             reports.push(unlike(alloc, mention, &meant)?)?;
-        } else if is_alone(names, mention)
+        } else if !mention.is_used
             && !is_tested(defs, mention)
             && !mention.text().starts_with('_')
         {
@@ -33,16 +33,6 @@ pub(crate) fn add_variables(
 
 fn is_bound_there(mention: &Mention<'_>) -> bool {
     mention.kind == MentionKind::Variable && mention.defines
-}
-
-// Whether a variable stands nowhere but where it is bound.
-fn is_alone(names: &Mentions<'_>, bound: &Mention<'_>) -> bool {
-    let count = names
-        .names
-        .iter()
-        .filter(|mention| mention.home.1 == bound.name.1)
-        .count();
-    count == 1
 }
 
 // Whether a variable is the argument of an extractor that takes a value and gives one of the same type.
