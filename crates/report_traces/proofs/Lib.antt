@@ -1,3 +1,4 @@
 mod EchoSteps
 mod EchoesApart
 mod EchoesFit
+mod OutcomeSteps

@@ -1,3 +1,4 @@
 pub mod EchoLaws
 pub mod Echoes
 pub mod KnownAnswers
+pub mod OutcomeTexts

@@ -1,6 +1,12 @@
 //! Opaque values: those of an extern enum that are of none of the variants that it declares. Each is written as its type's name, `#`
 //! and a number, as `RegMem#3`.
 
+ghost use Rattle.std.specs.Prelude.{◌≡◌, ◌++◌, OnOk, codes, slice_get, string_bytes};
+ghost use Rattle.std.specs.Fmt.{signed_decimal};
+ghost use Rattle.cranelift_isle.specs.TypeViews.{type_views};
+ghost use Rattle.report_traces.specs.OutcomeTexts.{has_opaque_values, names_in};
+
+use crate::outcomes::name_or_mark;
 use crate::values::{Unanswered, no_value, wrong};
 use cranelift_isle::lower::Lowered;
 use cranelift_isle::sema::{Type, TypeEnv, TypeId};
@@ -10,21 +16,29 @@ use run_terms::values::Value;
 use std::alloc::{AllocError, Global};
 
 /// Whether a type has opaque values: whether it is an extern enum.
-pub fn has_opaque_values(tyenv: &TypeEnv, ty: TypeId) -> bool {
+pub fn has_opaque_values(tyenv: &TypeEnv, ty: TypeId) -> bool
+    ensures { result ≡ has_opaque_values (slice_get (type_views tyenv.now.types.items) ty.0) }
+{
     match tyenv.types.get(ty.index()) {
         Some(Type::Enum { is_extern, .. }) => *is_extern,
-        _ => false,
+        Some(Type::Builtin(_) | Type::Primitive(..) | Type::Struct { .. }) | None => false,
     }
 }
 
 /// Adds the opaque value of a type that has this number.
+///
+/// # Errors
+///
+/// Where memory is refused.
 pub fn push_opaque(
     out: &mut String,
     lowered: &Lowered,
     ty: TypeId,
     number: i128,
-) -> Result<(), AllocError> {
-    let name = type_name(&lowered.tyenv, ty).unwrap_or("?");
+) -> Result<(), AllocError>
+    ensures { OnOk result (string_bytes out.new ≡ string_bytes out.old ++ ((names_in lowered.now).ty ty.0 ++ (codes "#" ++ signed_decimal number))) }
+{
+    let name = name_or_mark(type_name(&lowered.tyenv, ty));
     write!(out, "{name}#{number}")
 }
 
