@@ -1,6 +1,7 @@
-//! What changed between two versions of definitions: the trees of terms, and rules.
+//! What changed between two versions of definitions: types, the trees of terms, and rules.
 
 use crate::takers::{Taker, taker_of};
+use crate::type_changes::push_types;
 use crate::versions::{Version, term_called, term_name};
 use cranelift_isle::lower::{Lowered, LoweredTerm};
 use cranelift_isle::syntax::{Def, Rule};
@@ -15,15 +16,20 @@ use std::alloc::{AllocError, Global};
 // among all rules of the term.
 const MOST_TAKEN: usize = 100;
 
-// A rule of a term, and its text without its name, its priority and its place.
+// A rule of a term, its text without its name, its priority and its place, and its number among the rules of the term.
 struct Told<'a> {
     rule: &'a Rule,
     text: String,
+    number: usize,
 }
 
 impl<'a> Drop for Told<'a> {
     fn drop(self) {
-        let Told { rule: _, text: _ } = self;
+        let Told {
+            rule: _,
+            text: _,
+            number: _,
+        } = self;
     }
 }
 
@@ -38,8 +44,10 @@ struct Rules<'a, 'f> {
     now: &'a [Told<'a>],
 }
 
-/// What changed from one version of definitions to another: for each term whose tree differs or whose rules do, which rules
-/// came, went or have another priority; and the terms that are new or gone. The empty text where nothing changed.
+/// What changed from one version of definitions to another: for each type whose variants or fields differ, which came, went, have
+/// another type or stand in another order; for each term whose tree differs or whose rules do, which rules came, went or have
+/// another priority, and, where the tree differs, which ones stand in another order; and the types and terms that are new or gone.
+/// The empty text where nothing changed.
 ///
 /// # Errors
 ///
@@ -50,6 +58,7 @@ pub fn changes(
     new: Version<'_, '_>,
 ) -> Result<String, AllocError> {
     let mut out = String::new(alloc);
+    push_types(alloc, old.defs, new.defs, &mut out)?;
     for term in &new.lowered.terms {
         push_term(alloc, old, new, term, &mut out)?;
     }
@@ -77,7 +86,7 @@ fn push_term(
     let had = tree_text(alloc, old.lowered, before)?;
     let has = tree_text(alloc, new.lowered, term)?;
     let same = had == has;
-    let rules = changes_of_rules(alloc, old, new, name)?;
+    let rules = changes_of_rules(alloc, old, new, name, !same)?;
     if same && rules.is_empty() {
         return Ok(());
     }
@@ -102,11 +111,13 @@ fn tree_text(alloc: Global, lowered: &Lowered, term: &LoweredTerm) -> Result<Str
     Ok(text)
 }
 
+// What changed of the rules of a term, and, where that is to be told, of their order.
 fn changes_of_rules(
     alloc: Global,
     old: Version<'_, '_>,
     new: Version<'_, '_>,
     term: &str,
+    tells_order: bool,
 ) -> Result<String, AllocError> {
     let before = rules_of(alloc, old.defs, term)?;
     let now = rules_of(alloc, new.defs, term)?;
@@ -122,6 +133,9 @@ fn changes_of_rules(
     rules.push_came(&mut out)?;
     rules.push_went(&mut out)?;
     rules.push_changed(&mut out)?;
+    if tells_order {
+        rules.push_moved(&mut out)?;
+    }
     Ok(out)
 }
 
@@ -131,7 +145,8 @@ fn rules_of<'a>(alloc: Global, defs: &'a [Def], term: &str) -> Result<Vec<Told<'
         if let Def::Rule(rule) = def {
             if term_of(rule) == term {
                 let text = rule_text(alloc, rule)?;
-                rules.push(Told { rule, text })?;
+                let number = rules.len();
+                rules.push(Told { rule, text, number })?;
             }
         }
     }
@@ -176,6 +191,25 @@ impl<'a, 'f> Rules<'a, 'f> {
         for (i, told) in self.now.iter().enumerate() {
             if let Some(before) = same_in(self.before, self.now, i, told) {
                 self.push_change(before, told, out)?;
+            }
+        }
+        Ok(())
+    }
+
+    // Adds each rule that stands before one now that it stood behind, with no rule between them that both versions have.
+    fn push_moved(self, out: &mut String) -> Result<(), AllocError> {
+        let mut last: Option<(usize, &Told<'_>)> = None;
+        for (i, told) in self.now.iter().enumerate() {
+            if let Some(before) = same_in(self.before, self.now, i, told) {
+                if let Some((number, first)) = last {
+                    if before.number < number {
+                        push_rule(out, self.new, first.rule)?;
+                        out.push_str(" now stands before ")?;
+                        push_rule_name(out, self.new, told.rule)?;
+                        out.push('\n')?;
+                    }
+                }
+                last = Some((before.number, told));
             }
         }
         Ok(())

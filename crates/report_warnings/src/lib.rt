@@ -17,6 +17,7 @@ mod recursion;
 mod returns;
 mod sample_values;
 mod takers;
+mod type_changes;
 mod uncovered;
 mod untaken;
 mod variables;
