@@ -1,3 +1,4 @@
+pub mod Data
 pub mod JsonLine
 pub mod Nesting
 pub mod Writing

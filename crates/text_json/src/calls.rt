@@ -104,7 +104,8 @@ impl Json {
 
     /// A key with a string.
     pub fn key_string(&mut self, name: &str, text: &str) -> Result<(), AllocError>
-        ensures { OnOk result (written self.new ≡ with_members (member name.now (string text.now) no_members) (written self.old)) }
+        ensures { OnOk result (written self.new
+            ≡ with_members (member name.now (string text.now) no_members) (written self.old)) }
     {
         self.key(name)?;
         self.string(text)
@@ -112,7 +113,8 @@ impl Json {
 
     /// A key with a number.
     pub fn key_number(&mut self, name: &str, number: usize) -> Result<(), AllocError>
-        ensures { OnOk result (written self.new ≡ with_members (member name.now (Data.number (decimal number)) no_members) (written self.old)) }
+        ensures { OnOk result (written self.new
+            ≡ with_members (member name.now (Data.number (decimal number)) no_members) (written self.old)) }
     {
         self.key(name)?;
         self.number(number)
@@ -120,7 +122,8 @@ impl Json {
 
     /// A key with a number that may be below 0.
     pub fn key_integer(&mut self, name: &str, number: i64) -> Result<(), AllocError>
-        ensures { OnOk result (written self.new ≡ with_members (member name.now (Data.number (signed_decimal number)) no_members) (written self.old)) }
+        ensures { OnOk result (written self.new
+            ≡ with_members (member name.now (Data.number (signed_decimal number)) no_members) (written self.old)) }
     {
         self.key(name)?;
         self.integer(number)
@@ -128,7 +131,8 @@ impl Json {
 
     /// A key with a string of a number's digits, which may be more than a reader's numbers have.
     pub fn key_digits(&mut self, name: &str, number: i128) -> Result<(), AllocError>
-        ensures { OnOk result (written self.new ≡ with_members (member name.now (string (signed_decimal number)) no_members) (written self.old)) }
+        ensures { OnOk result (written self.new
+            ≡ with_members (member name.now (string (signed_decimal number)) no_members) (written self.old)) }
     {
         let alloc = *self.outer.allocator();
         self.key(name)?;
@@ -137,7 +141,8 @@ impl Json {
 
     /// A key with a truth value.
     pub fn key_flag(&mut self, name: &str, flag: bool) -> Result<(), AllocError>
-        ensures { OnOk result (written self.new ≡ with_members (member name.now (boolean flag) no_members) (written self.old)) }
+        ensures { OnOk result (written self.new
+            ≡ with_members (member name.now (boolean flag) no_members) (written self.old)) }
     {
         self.key(name)?;
         self.flag(flag)
@@ -145,7 +150,8 @@ impl Json {
 
     /// A key with `null`.
     pub fn key_null(&mut self, name: &str) -> Result<(), AllocError>
-        ensures { OnOk result (written self.new ≡ with_members (member name.now null no_members) (written self.old)) }
+        ensures { OnOk result (written self.new
+            ≡ with_members (member name.now null no_members) (written self.old)) }
     {
         self.key(name)?;
         self.null()
