@@ -1,18 +1,21 @@
 //! What the command answers to calls.
 
+ghost use Rattle.std.specs.Prelude.{◌≡◌, IfOk, is_none, string_bytes};
+ghost use Rattle.cranelift_isle.specs.Lowerings.{lowered_view};
+ghost use Rattle.report_traces.specs.CallAnswers.{IsEntry};
+ghost use Rattle.report_traces.specs.RunTexts.{answers_as_echo};
+ghost use Rattle.app_command.specs.CallTexts.{IsTextOfRun, IsToldOfRun};
+
 use crate::words::Request;
 use cranelift_isle::lower::Lowered;
 use cranelift_isle::syntax::Def;
 use report_print::lines::FileLines;
-use report_queries::premises::is_multi;
 use report_traces::answers_file::{ReadAnswers, read_answers};
-use report_traces::calls::{ReadCall, answer_to_call, read_call};
-use report_traces::faults::{TraceFault, fault_of_call};
-use report_traces::outcomes::outcome_text;
+use report_traces::calls::{ReadCall, read_call};
+use report_traces::faults::{TraceFault, fault_lines, fault_of_call};
 use report_traces::replies::Replies;
-use report_traces::runs::Runs;
+use report_traces::run_text::run_text;
 use report_traces::why::{Asking, why};
-use run_terms::values::value_clones;
 use std::alloc::{AllocError, Global};
 
 /// What is told of a call, without the end of the last line.
@@ -24,23 +27,19 @@ pub(crate) enum Told {
     Wrong(String),
 }
 
-// What is told, where memory isn't refused.
-fn told_of(alloc: Global, answer: Result<String, TraceFault>) -> Result<Told, AllocError> {
-    match answer {
-        Ok(text) => Ok(Told::Text(String::from_str(alloc, text.trim_end())?)),
-        Err(TraceFault::Text(why)) => Ok(Told::Wrong(why)),
-        Err(TraceFault::Memory) => Err(AllocError),
-    }
-}
-
 /// The outcome of the call that is asked for, below the tests of its runs where they are asked for.
 pub(crate) fn ran(
     alloc: Global,
     asked: &Request<'_>,
     lines: &FileLines<'_>,
     lowered: &Lowered,
-) -> Result<Told, AllocError> {
-    told_of(alloc, outcome(alloc, asked, lines, lowered))
+) -> Result<Told, AllocError>
+    ensures { IfOk result (IsToldOfRun asked.now lowered.now) }
+{
+    match outcome(alloc, asked, lines, lowered) {
+        Ok(text) => Ok(Told::Text(text)),
+        Err(fault) => Ok(Told::Wrong(fault_lines(alloc, fault)?)),
+    }
 }
 
 /// Whether the rules that are asked about are taken on the call.
@@ -51,7 +50,10 @@ pub(crate) fn told_why(
     defs: &[Def],
     lowered: &Lowered,
 ) -> Result<Told, AllocError> {
-    told_of(alloc, reasons(alloc, asked, lines, defs, lowered))
+    match reasons(alloc, asked, lines, defs, lowered) {
+        Ok(text) => Ok(Told::Text(String::from_str(alloc, text.trim_end())?)),
+        Err(fault) => Ok(Told::Wrong(fault_lines(alloc, fault)?)),
+    }
 }
 
 // Whether the rules that are asked about are taken on the call.
@@ -75,46 +77,27 @@ fn reasons(
     why(asking, asked.rule, &call)
 }
 
-// The outcome of a call. Where calls are answered as echoes, it is compared with that by the source rules.
+// The outcome of a call, below what happened in its runs where that is asked for.
 fn outcome(
     alloc: Global,
     asked: &Request<'_>,
     lines: &FileLines<'_>,
     lowered: &Lowered,
-) -> Result<String, TraceFault> {
-    let text = call_text(alloc, &asked.call)?;
-    if asked.answers.is_none() && !asked.trace {
-        return echoed(alloc, lowered, &text);
-    }
+) -> Result<String, TraceFault>
+    ensures { IfOk result (λ text. IsTextOfRun asked.now lowered.now (string_bytes text)) }
+{
     let replies = replies_of(alloc, asked, lines, lowered)?;
     let call = call_asked(alloc, asked, lowered)?;
-    let mut runs = Runs::new(alloc, lowered, lines, &replies, asked.trace);
-    let args = value_clones(alloc, &call.args)?;
-    let ended = runs.run(call.entry, args)?;
-    let mut out = String::from_str(alloc, runs.told())?;
-    let outcome = if asked.answers.is_none() {
-        echoed(alloc, lowered, &text)?
-    } else {
-        let multi = is_multi(&lowered.termenv, call.entry.id);
-        outcome_text(alloc, lowered, multi, &ended.outcome)?
-    };
-    out.push_str(&outcome)?;
-    Ok(out)
-}
-
-// The outcome of a call where all that it calls is answered as an echo.
-fn echoed(alloc: Global, lowered: &Lowered, text: &str) -> Result<String, TraceFault> {
-    match answer_to_call(alloc, lowered, text) {
-        Ok(outcome) => Ok(outcome),
-        Err(why) => Err(fault_of_call(alloc, why)),
-    }
+    run_text(alloc, lines, lowered, &replies, asked.trace, &call)
 }
 
 fn call_asked<'a>(
     alloc: Global,
     asked: &Request<'_>,
     lowered: &'a Lowered,
-) -> Result<ReadCall<'a>, TraceFault> {
+) -> Result<ReadCall<'a>, TraceFault>
+    ensures { IfOk result (λ call. IsEntry lowered.now (lowered_view call.entry.now)) }
+{
     let text = call_text(alloc, &asked.call)?;
     match read_call(alloc, lowered, &text) {
         Ok(call) => Ok(call),
@@ -128,7 +111,9 @@ fn replies_of(
     asked: &Request<'_>,
     lines: &FileLines<'_>,
     lowered: &Lowered,
-) -> Result<Replies, TraceFault> {
+) -> Result<Replies, TraceFault>
+    ensures { IfOk result (λ replies. answers_as_echo replies ≡ is_none asked.now.answers) }
+{
     if asked.answers.is_none() {
         return Ok(Replies::Echoes);
     }

@@ -2,3 +2,4 @@ mod EchoSteps
 mod EchoesApart
 mod EchoesFit
 mod OutcomeSteps
+mod RunTexts

@@ -65,7 +65,12 @@ pub enum ReadAnswers {
     Wrong(String),
 }
 
-/// Reads the file of this number as answers. Internal extractors are called where they aren't expanded.
+/// Reads the file of this number as answers. Internal extractors are called where they aren't expanded. A byte order mark at the
+/// beginning is passed over.
+///
+/// # Errors
+///
+/// Where memory is refused.
 pub fn read_answers(
     alloc: Global,
     lowered: &Lowered,
@@ -74,13 +79,15 @@ pub fn read_answers(
 ) -> Result<ReadAnswers, AllocError> {
     let mut read = Vec::new(alloc);
     let mut wrong = String::new(alloc);
-    let mut begin = 0usize;
+    let whole = file_text(lines.files(), file);
+    let marked = whole.strip_prefix("\u{feff}").unwrap_or(whole);
+    let mut begin = whole.len().saturating_sub(marked.len());
     let at = Place {
         alloc,
         lowered,
         expand,
     };
-    for text in file_text(lines.files(), file).split('\n') {
+    for text in marked.split('\n') {
         match at.push_line(text, &mut read) {
             Ok(()) => {}
             Err(Wrong::Memory) => return Err(AllocError),

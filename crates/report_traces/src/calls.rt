@@ -1,23 +1,24 @@
 //! Calls of terms with rules.
 
-ghost use Rattle.std.specs.Prelude.{◌≡◌, IfOk};
-ghost use Rattle.cranelift_isle.specs.Run.{run};
-ghost use Rattle.cranelift_isle.specs.TreeViews.{tree_view};
+ghost use Rattle.std.specs.Prelude.{◌≡◌, ◌++◌, false, IfOk, OnOk, string_bytes};
+ghost use Rattle.cranelift_isle.specs.Lowerings.{lowered_view};
 ghost use Rattle.cranelift_isle.specs.TermViews.{term_views};
 ghost use Rattle.cranelift_isle.specs.Envs.{constant_at};
-ghost use Rattle.run_terms.specs.RunViews.{outcome_view, stage_of};
+ghost use Rattle.run_terms.specs.RunViews.{arg_views};
 ghost use Rattle.report_traces.specs.Echoes.{echoes};
+ghost use Rattle.report_traces.specs.CallAnswers.{IsEntry, answer_by, answer_words, by_source_rules, choice_by_echoes, echoes_in, outcome_under};
+ghost use Rattle.report_traces.specs.OutcomeTexts.{names_in, outcome_words};
 
 use crate::echo::Echo;
 use crate::outcomes::outcome_text;
 use crate::values::{Unanswered, term_of, values_of, wrong};
 use cranelift_isle::lower::{Lowered, LoweredTerm};
+use cranelift_isle::sema::TermId;
 use cranelift_isle::syntax::{Def, Expr, Ident};
 use report_queries::premises::is_multi;
 use report_queries::rules::lowered_term;
 use run_terms::choose::choose;
 use run_terms::run::run;
-use run_terms::state::Outcome;
 use run_terms::values::Value;
 use std::alloc::{AllocError, Global};
 use text_reader::errors::{ReadFault, TextError};
@@ -44,7 +45,10 @@ pub fn read_call<'a>(
     alloc: Global,
     lowered: &'a Lowered,
     call: &str,
-) -> Result<ReadCall<'a>, Unanswered> {
+) -> Result<ReadCall<'a>, Unanswered>
+    // what is called has rules
+    ensures { IfOk result (λ called. IsEntry lowered.now (lowered_view called.entry.now)) }
+{
     let text = format!(in alloc; "{BEFORE}{call}\n)")?;
     match read(alloc, 0, &text) {
         Ok(defs) => match call_in(&defs) {
@@ -59,57 +63,92 @@ pub fn read_call<'a>(
     }
 }
 
-/// The outcome of a call, as `(f 1 (T.A 2))`, in words: the tree of its term is run by echoes. If the term isn't multi and the
-/// source rules give another outcome, that follows.
+/// The outcome of a term of lowered definitions on arguments in words: its tree is run by echoes. If the term isn't multi and its
+/// source rules have another outcome in words, that follows.
 ///
 /// # Errors
 ///
-/// What is wrong with the call, or that memory was refused.
-pub fn answer_to_call(alloc: Global, lowered: &Lowered, call: &str) -> Result<String, Unanswered> {
-    let called = read_call(alloc, lowered, call)?;
-    let multi = is_multi(&lowered.termenv, called.entry.id);
-    let outcome = outcome_of(alloc, lowered, called.entry, multi, &called.args)?;
-    let mut told = outcome_text(alloc, lowered, multi, &outcome)?;
-    if !multi {
-        push_choice(alloc, &mut told, lowered, &called)?;
+/// Where memory is refused.
+pub fn answer_to(
+    alloc: Global,
+    lowered: &Lowered,
+    entry: &LoweredTerm,
+    args: &[Value],
+) -> Result<String, AllocError>
+    ensures { IfOk result (λ text. string_bytes text ≡ answer_words lowered.now (lowered_view entry.now) (arg_views args.now)) }
+{
+    let multi = is_multi(&lowered.termenv, entry.id);
+    answer_by(alloc, lowered, multi, entry, args)
+}
+
+// The same of a term that is multi, or isn't.
+fn answer_by(
+    alloc: Global,
+    lowered: &Lowered,
+    multi: bool,
+    entry: &LoweredTerm,
+    args: &[Value],
+) -> Result<String, AllocError>
+    ensures { IfOk result (λ text. string_bytes text ≡ answer_by multi lowered.now (lowered_view entry.now) (arg_views args.now)) }
+{
+    let mut told = tree_text(alloc, lowered, multi, entry, args)?;
+    if multi {
+        return Ok(told);
     }
+    let chosen = choice_text(alloc, lowered, entry.id, args)?;
+    push_choice(&mut told, &chosen)?;
     Ok(told)
 }
 
-// Adds the outcome by the source rules of a term that isn't multi, if it differs from the text so far.
-fn push_choice(
+// The outcome of a term's tree by echoes in words.
+fn tree_text(
     alloc: Global,
-    told: &mut String,
     lowered: &Lowered,
-    called: &ReadCall<'_>,
-) -> Result<(), AllocError> {
-    let outcome = choice_of(alloc, lowered, called)?;
-    let chosen = outcome_text(alloc, lowered, false, &outcome)?;
-    if chosen.as_str() == told.as_str() {
+    multi: bool,
+    entry: &LoweredTerm,
+    args: &[Value],
+) -> Result<String, AllocError>
+    ensures { IfOk result (λ text. string_bytes text
+        ≡ outcome_words (names_in lowered.now) multi (outcome_under (echoes_in lowered.now) multi (lowered_view entry.now) (arg_views args.now))) }
+{
+    let echo = echo_in(lowered);
+    let outcome = run(alloc, &echo, &entry.rules, &entry.block, args, multi)?;
+    outcome_text(alloc, lowered, multi, &outcome)
+}
+
+// The outcome of a term that isn't multi by its source rules in words.
+fn choice_text(
+    alloc: Global,
+    lowered: &Lowered,
+    term: TermId,
+    args: &[Value],
+) -> Result<String, AllocError>
+    ensures { IfOk result (λ text. string_bytes text ≡ outcome_words (names_in lowered.now) false (choice_by_echoes lowered.now term.0 (arg_views args.now))) }
+{
+    let env = &lowered.termenv;
+    let echo = echo_in(lowered);
+    let outcome = choose(alloc, &echo, &env.terms, &env.rules, term, args)?;
+    outcome_text(alloc, lowered, false, &outcome)
+}
+
+// Adds the outcome by the source rules in words, if it differs from the text so far.
+fn push_choice(told: &mut String, chosen: &str) -> Result<(), AllocError>
+    ensures { OnOk result (string_bytes told.new ≡ string_bytes told.old ++ by_source_rules (string_bytes told.old) chosen.now) }
+{
+    if chosen == told.as_str() {
         return Ok(());
     }
     write!(told, "; by the source rules {chosen}")
 }
 
-// The outcome of a call of a term that isn't multi by its source rules, by echoes.
-fn choice_of(
-    alloc: Global,
-    lowered: &Lowered,
-    called: &ReadCall<'_>,
-) -> Result<Outcome, AllocError> {
-    let env = &lowered.termenv;
-    let echo = Echo {
+// What answers calls as echoes.
+fn echo_in(lowered: &Lowered) -> Echo<'_>
+    ensures { echoes (constant_at result.tyenv.now) (term_views result.terms.now) ≡ echoes_in lowered.now }
+{
+    Echo {
         tyenv: &lowered.tyenv,
-        terms: &env.terms,
-    };
-    choose(
-        alloc,
-        &echo,
-        &env.terms,
-        &env.rules,
-        called.entry.id,
-        &called.args,
-    )
+        terms: &lowered.termenv.terms,
+    }
 }
 
 fn unread(alloc: Global, call: &str, error: &TextError) -> Unanswered {
@@ -137,7 +176,9 @@ fn call_of<'a>(
     lowered: &'a Lowered,
     name: &Ident,
     args: &[Expr],
-) -> Result<ReadCall<'a>, Unanswered> {
+) -> Result<ReadCall<'a>, Unanswered>
+    ensures { IfOk result (λ called. IsEntry lowered.now (lowered_view called.entry.now)) }
+{
     let Some(term) = term_of(lowered, name) else {
         return Err(wrong(format!(in alloc; "no term is called `{}`", name.0)));
     };
@@ -146,25 +187,4 @@ fn call_of<'a>(
     };
     let args = values_of(alloc, lowered, term, args)?;
     Ok(ReadCall { entry, args })
-}
-
-/// The outcome of a term's tree on values, by echoes. `entry` is the term's in `lowered`, and `multi` says whether it is multi.
-///
-/// # Errors
-///
-/// Where memory is refused.
-pub fn outcome_of(
-    alloc: Global,
-    lowered: &Lowered,
-    entry: &LoweredTerm,
-    multi: bool,
-    args: &[Value],
-) -> Result<Outcome, AllocError>
-    ensures { IfOk result (λ o. outcome_view o ≡ run (tree_view entry.now.block) (stage_of (echoes (constant_at lowered.now.tyenv) (term_views lowered.now.termenv.terms.items)) entry.now.rules.bindings.items multi args.now)) }
-{
-    let echo = Echo {
-        tyenv: &lowered.tyenv,
-        terms: &lowered.termenv.terms,
-    };
-    run(alloc, &echo, &entry.rules, &entry.block, args, multi)
 }

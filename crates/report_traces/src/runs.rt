@@ -1,9 +1,18 @@
 //! Runs of calls, and of the calls of terms with rules that they make.
 
+ghost use Rattle.std.specs.Prelude.{◌≡◌, IfOk, string_bytes};
+ghost use Rattle.cranelift_isle.specs.Envs.{constant_at};
+ghost use Rattle.cranelift_isle.specs.Lowerings.{lowered_view};
+ghost use Rattle.run_terms.specs.RunViews.{arg_views, call_views, outcome_view};
+ghost use Rattle.report_traces.specs.CallAnswers.{is_multi_in, outcome_under};
+ghost use Rattle.report_traces.specs.KnownAnswers.{answered};
+ghost use Rattle.report_traces.specs.OutcomeTexts.{names_in, outcome_words, with_calls};
+ghost use Rattle.report_traces.specs.RunAnswers.{answered_in};
+
 use crate::asked::{AskedCall, Count, Side, asked_text, count_of};
 use crate::faults::{TraceFault, fault_saying};
 use crate::known::{Answered, Known};
-use crate::outcomes::outcome_text;
+use crate::outcomes::{listed_text, outcome_text};
 use crate::replies::Replies;
 use crate::trace_text::{push_events, push_title};
 use crate::walk::{Event, Walked, walk_over};
@@ -48,14 +57,14 @@ impl<'a> Drop for Frame<'a> {
 }
 
 impl<'a> Frame<'a> {
-    fn into_parts(self) -> (AskedCall, Vec<Call>) {
+    fn into_parts(self) -> (AskedCall, Vec<Content>, Vec<Call>) {
         let Self {
             entry: _,
             asked,
-            made: _,
+            made,
             calls,
         } = self;
-        (asked, calls)
+        (asked, made, calls)
     }
 }
 
@@ -63,8 +72,12 @@ impl<'a> Frame<'a> {
 pub struct Ended {
     /// The call that was run.
     pub asked: AskedCall,
-    /// The outcome. Of its impure calls one that was run itself stands there as the calls that it made.
+    /// The answers to its impure calls, in order.
+    pub made: Vec<Content>,
+    /// The outcome, which is that of the proved run.
     pub outcome: Outcome,
+    /// Its impure calls as they are listed: one that was run itself stands there as the calls that it made.
+    pub calls: Vec<Call>,
     /// The places of the rules that returns took.
     pub taken: Vec<Pos>,
 }
@@ -73,20 +86,36 @@ impl Drop for Ended {
     fn drop(self) {
         let Self {
             asked: _,
+            made: _,
             outcome: _,
+            calls: _,
             taken: _,
         } = self;
     }
 }
 
 impl Ended {
-    fn into_parts(self) -> (AskedCall, Outcome) {
+    fn into_parts(self) -> (AskedCall, Outcome, Vec<Call>) {
         let Self {
             asked,
+            made: _,
             outcome,
+            calls,
             taken: _,
         } = self;
-        (asked, outcome)
+        (asked, outcome, calls)
+    }
+
+    /// The outcome in words, with its impure calls as they are listed.
+    ///
+    /// # Errors
+    ///
+    /// Where memory is refused.
+    pub fn text(&self, alloc: Global, lowered: &Lowered, multi: bool) -> Result<String, AllocError>
+        ensures { IfOk result (λ text. string_bytes text
+            ≡ outcome_words (names_in lowered.now) multi (with_calls (call_views self.now.calls.items) (outcome_view self.now.outcome))) }
+    {
+        listed_text(alloc, lowered, multi, &self.outcome, &self.calls)
     }
 }
 
@@ -147,32 +176,45 @@ impl<'a, 'f> Runs<'a, 'f> {
         &self.told
     }
 
-    /// The answers that are known.
-    pub fn answered(&self) -> Answered<'_> {
+    /// The answers that are known, where named constants are those of `lowered`, with these answers to impure calls.
+    pub fn answered<'b>(&'b self, lowered: &'b Lowered, made: &'b [Content]) -> Answered<'b>
+        ensures { answered (constant_at result.tyenv.now) result.extracted.now result.called.now result.made.now
+            ≡ answered_in lowered.now self.now made.now }
+    {
         Answered {
-            tyenv: &self.lowered.tyenv,
+            tyenv: &lowered.tyenv,
             extracted: &self.extracted,
             called: &self.called,
-            made: &[],
+            made,
         }
     }
 
-    /// Runs a term's tree on arguments.
+    /// Runs the tree of a term of `lowered` on arguments. The outcome is that of the tree's run by the answers that are known when
+    /// it has ended.
     ///
     /// # Errors
     ///
     /// A call that it needs has no answer, or there are too many calls.
-    pub fn run(&mut self, entry: &'a LoweredTerm, args: Vec<Value>) -> Result<Ended, TraceFault> {
+    pub fn run(
+        &mut self,
+        lowered: &Lowered,
+        entry: &'a LoweredTerm,
+        args: &[Value],
+    ) -> Result<Ended, TraceFault>
+        ensures { IfOk result (λ ended. outcome_view ended.outcome
+            ≡ outcome_under (answered_in lowered.now self.new ended.made.items) (is_multi_in lowered.now entry.now.id.0) (lowered_view entry.now) (arg_views args.now)) }
+    {
         self.push_frame(
             entry,
             AskedCall {
                 side: Side::Constructor,
                 term: entry.id,
-                args,
+                args: value_clones(self.alloc, args)?,
                 impure: false,
             },
         )?;
-        self.end_all()
+        let (frame, walked) = self.run_all()?;
+        self.end(lowered, entry, args, frame, walked)
     }
 
     /// Makes the answer to a call known that isn't impure.
@@ -185,8 +227,8 @@ impl<'a, 'f> Runs<'a, 'f> {
         if self.frames.is_empty() {
             return Ok(());
         }
-        let ended = self.end_all()?;
-        self.give_result(ended)
+        let (frame, walked) = self.run_all()?;
+        self.give_end(frame, walked)
     }
 
     // Begins a run.
@@ -202,11 +244,19 @@ impl<'a, 'f> Runs<'a, 'f> {
         Ok(())
     }
 
-    // Runs all that was begun. What the first run came to.
-    fn end_all(&mut self) -> Result<Ended, TraceFault> {
+    // Runs all that was begun: the first run, and its walk to the end. After a fault no run is begun.
+    fn run_all(&mut self) -> Result<(Frame<'a>, Walked), TraceFault> {
+        let ran = self.go_on_to_end();
+        if ran.is_err() {
+            self.frames.clear();
+        }
+        ran
+    }
+
+    fn go_on_to_end(&mut self) -> Result<(Frame<'a>, Walked), TraceFault> {
         for _ in 0..MOST_CALLS {
             match self.go_on()? {
-                Some(ended) => return Ok(ended),
+                Some(ran) => return Ok(ran),
                 None => {}
             }
         }
@@ -214,16 +264,22 @@ impl<'a, 'f> Runs<'a, 'f> {
         Err(fault_saying(format!(in alloc; "error[limit]: more than {MOST_CALLS} calls")))
     }
 
-    // Runs the last run from its beginning: it ends, or asks for an answer. What the first run came to, where that ended.
-    fn go_on(&mut self) -> Result<Option<Ended>, TraceFault> {
+    // Runs the last run from its beginning: it ends, or asks for an answer. The first run, where that ended; the result of another
+    // one is given to the run that asked.
+    fn go_on(&mut self) -> Result<Option<(Frame<'a>, Walked)>, TraceFault> {
         let mut walked = self.walked()?;
-        match walked.asked.pop() {
-            Some(asked) => {
-                self.answer(asked)?;
-                Ok(None)
-            }
-            None => self.end(walked),
+        if let Some(asked) = walked.asked.pop() {
+            self.answer(asked)?;
+            return Ok(None);
         }
+        let Some(frame) = self.frames.pop() else {
+            return Ok(None);
+        };
+        if self.frames.is_empty() {
+            return Ok(Some((frame, walked)));
+        }
+        self.give_end(frame, walked)?;
+        Ok(None)
     }
 
     // Walks the last run.
@@ -233,22 +289,13 @@ impl<'a, 'f> Runs<'a, 'f> {
             return Err(fault_saying(String::from_str(alloc, "error[call]: nothing to run")));
         };
         let multi = self.is_multi(frame.entry.id);
-        let answered = self.answered_in(frame);
+        let answered = self.answered(self.lowered, &frame.made);
         let walked = walk_over(alloc, &answered, frame.entry, &frame.asked.args, multi)?;
         Ok(walked)
     }
 
     fn is_multi(&self, term: TermId) -> bool {
         is_multi(&self.lowered.termenv, term)
-    }
-
-    fn answered_in<'b>(&'b self, frame: &'b Frame<'a>) -> Answered<'b> {
-        Answered {
-            tyenv: &self.lowered.tyenv,
-            extracted: &self.extracted,
-            called: &self.called,
-            made: &frame.made,
-        }
     }
 
     // Gives the answer to a call, or begins the call's own run.
@@ -295,8 +342,7 @@ impl<'a, 'f> Runs<'a, 'f> {
                 )));
             }
         }
-        let text = asked_text(alloc, self.lowered, &asked)?;
-        Err(fault_saying(format!(in alloc; "error[call]: no answer for {text}")))
+        Err(TraceFault::NoAnswer(asked_text(alloc, self.lowered, &asked)?))
     }
 
     // Makes an answer known. The impure calls that were made for it are listed in the run that asked.
@@ -329,41 +375,75 @@ impl<'a, 'f> Runs<'a, 'f> {
         Ok(())
     }
 
-    // Ends the last run. What it came to, where it was the first one; else its result is given to the run that asked.
-    fn end(&mut self, walked: Walked) -> Result<Option<Ended>, TraceFault> {
-        let Some(frame) = self.frames.pop() else {
-            return Ok(None);
-        };
-        self.check(&frame, &walked)?;
+    // Ends a run that was asked for: its result is given to what asked.
+    fn give_end(&mut self, frame: Frame<'a>, walked: Walked) -> Result<(), TraceFault> {
+        let entry = frame.entry;
+        let args = value_clones(self.alloc, &frame.asked.args)?;
+        let ended = self.end(self.lowered, entry, &args, frame, walked)?;
+        if self.tells {
+            self.tell_outcome(&ended)?;
+        }
+        self.give_result(ended)
+    }
+
+    // What the run of a term on arguments came to that was walked so.
+    fn end(
+        &mut self,
+        lowered: &Lowered,
+        entry: &LoweredTerm,
+        args: &[Value],
+        frame: Frame<'a>,
+        walked: Walked,
+    ) -> Result<Ended, TraceFault>
+        ensures { IfOk result (λ ended. outcome_view ended.outcome
+            ≡ outcome_under (answered_in lowered.now self.new ended.made.items) (is_multi_in lowered.now entry.now.id.0) (lowered_view entry.now) (arg_views args.now)) }
+    {
         if self.tells {
             self.tell(&frame, &walked)?;
         }
         let taken = taken_in(self.alloc, &walked.events)?;
-        let ended = end_of(frame, walked, taken);
-        if self.frames.is_empty() {
-            return Ok(Some(ended));
-        }
-        if self.tells {
-            self.tell_outcome(&ended)?;
-        }
-        self.give_result(ended)?;
-        Ok(None)
+        let (asked, made, calls) = frame.into_parts();
+        let multi = is_multi(&lowered.termenv, entry.id);
+        let outcome = self.outcome_by(lowered, &made, entry, args, multi)?;
+        self.check(asked.term, &outcome, &walked.outcome)?;
+        Ok(Ended {
+            asked,
+            made,
+            outcome,
+            calls,
+            taken,
+        })
+    }
+
+    // The outcome of a term's tree on arguments by the answers that are known, and these to its impure calls.
+    fn outcome_by(
+        &self,
+        lowered: &Lowered,
+        made: &[Content],
+        entry: &LoweredTerm,
+        args: &[Value],
+        multi: bool,
+    ) -> Result<Outcome, AllocError>
+        ensures { IfOk result (λ o. outcome_view o
+            ≡ outcome_under (answered_in lowered.now self.now made.now) multi (lowered_view entry.now) (arg_views args.now)) }
+    {
+        let answered = self.answered(lowered, made);
+        run(
+            self.alloc,
+            &answered,
+            &entry.rules,
+            &entry.block,
+            args,
+            multi,
+        )
     }
 
     // Compares a walk's outcome with that of the run by the same answers.
-    fn check(&self, frame: &Frame<'a>, walked: &Walked) -> Result<(), TraceFault> {
+    fn check(&self, term: TermId, outcome: &Outcome, walked: &Outcome) -> Result<(), TraceFault> {
         let alloc = self.alloc;
-        let multi = self.is_multi(frame.entry.id);
-        let outcome = run(
-            alloc,
-            &self.answered_in(frame),
-            &frame.entry.rules,
-            &frame.entry.block,
-            &frame.asked.args,
-            multi,
-        )?;
-        let wanted = outcome_text(alloc, self.lowered, multi, &outcome)?;
-        let text = outcome_text(alloc, self.lowered, multi, &walked.outcome)?;
+        let multi = self.is_multi(term);
+        let wanted = outcome_text(alloc, self.lowered, multi, outcome)?;
+        let text = outcome_text(alloc, self.lowered, multi, walked)?;
         if text.as_str() == wanted.as_str() {
             return Ok(());
         }
@@ -387,16 +467,14 @@ impl<'a, 'f> Runs<'a, 'f> {
 
     fn tell_outcome(&mut self, ended: &Ended) -> Result<(), AllocError> {
         let multi = self.is_multi(ended.asked.term);
-        let text = outcome_text(self.alloc, self.lowered, multi, &ended.outcome)?;
+        let text = ended.text(self.alloc, self.lowered, multi)?;
         self.told.push_str(&text)?;
         self.told.push('\n')
     }
 
     // Gives the result of a run to the run that asked.
     fn give_result(&mut self, ended: Ended) -> Result<(), TraceFault> {
-        let (asked, mut outcome) = ended.into_parts();
-        let none = Vec::new(self.alloc);
-        let calls = mem::replace(&mut outcome.trace.calls, none);
+        let (asked, mut outcome, calls) = ended.into_parts();
         let content = self.result_of(&asked, &mut outcome)?;
         self.give(asked, content, calls)
     }
@@ -435,18 +513,6 @@ impl<'a, 'f> Runs<'a, 'f> {
             Ok(text) => fault_saying(format!(in alloc; "error[call]: {why} {text}")),
             Err(AllocError) => TraceFault::Memory,
         }
-    }
-}
-
-// What a run came to: its impure calls stand as they are listed.
-fn end_of(frame: Frame<'_>, walked: Walked, taken: Vec<Pos>) -> Ended {
-    let (asked, calls) = frame.into_parts();
-    let mut outcome = walked.into_outcome();
-    outcome.trace.calls = calls;
-    Ended {
-        asked,
-        outcome,
-        taken,
     }
 }
 

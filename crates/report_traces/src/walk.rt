@@ -49,19 +49,6 @@ impl Drop for Walked {
     }
 }
 
-impl Walked {
-    /// The outcome.
-    pub fn into_outcome(self) -> Outcome {
-        let Self {
-            asked: _,
-            outcome,
-            events: _,
-            answers: _,
-        } = self;
-        outcome
-    }
-}
-
 /// The walk of a run over a term's tree on arguments, by answers that are known. It ends at the first call that has none.
 pub fn walk_over(
     alloc: Global,

@@ -1,0 +1,17 @@
+use Rattle.std.proofs.Common.{◌≡◌, ◌∙◌, true, ap, string_bytes, sym}
+use Rattle.cranelift_isle.specs.Lowerings.{lowered_view}
+use Rattle.run_terms.specs.RunViews.{arg_views}
+use Rattle.report_traces.specs.CallAnswers.{answer_words}
+use Rattle.report_traces.specs.RunTexts.{answers_as_echo}
+use Rattle.report_traces.proofs.RunTexts.{echoed_run}
+use Rattle.report_traces.proofs.run_text.run_text.Goals as goal
+
+pub returns-then-answers_as_echo : goal.returns-then-answers_as_echo
+returns-then-answers_as_echo c =
+    let l = c.args.lowered.now in
+    let t = lowered_view c.args.call.now.entry.now in
+    let echo : answers_as_echo c.args.replies.now ≡ true = sym c.answers_as_echo.ensures ∙ c.if-answers_as_echo.true in
+    let is : string_bytes c.in_ok-answer_to.field-0 ≡ answer_words l t (arg_views c.args.call.now.args.items) =
+    c.in_ok-answer_to.ensures ∙ ap (λ vs. answer_words l t (arg_views vs)) c.deref.ensures.value
+    in
+    echoed_run l c.args.replies.now c.args.tells t (arg_views c.args.call.now.args.items) (string_bytes c.in_ok-answer_to.field-0) echo is
