@@ -1,6 +1,9 @@
+mod CallAnswers
 mod RecoveredTexts
 mod RustCode
+mod SinkBytes
 mod TaskStatuses
+mod TermTexts
 mod Texts
 mod TextsRead
 pub mod AllRead

@@ -72,6 +72,6 @@ abbrev pub IsAnswerOfCode : Code → Answer → Type 0
 IsAnswerOfCode (Text text) answer = (answer.status ≡ 0) × (string_bytes answer.out ≡ string_bytes text) × (string_bytes answer.err ≡ [])
 IsAnswerOfCode (Names why) answer = (answer.status ≡ 1) × (string_bytes answer.out ≡ []) × (string_bytes answer.err ≡ string_bytes why)
 
--- Rust code of lowered definitions is answered, or stubs of what it asks for, for some files of the definitions
-abbrev pub IsAnswerOfRust : Lowered → CodegenOptions → (stubs : Bool) → Answer → Type 0
-IsAnswerOfRust l options stubs answer = (files : Files) × ((code : Code) × IsCodeOrStubs stubs l files options code × IsAnswerOfCode code answer)
+-- Rust code of the lowered definitions of files is answered, or stubs of what it asks for
+abbrev pub IsAnswerOfRust : Lowered → Files → CodegenOptions → (stubs : Bool) → Answer → Type 0
+IsAnswerOfRust l files options stubs answer = (code : Code) × IsCodeOrStubs stubs l files options code × IsAnswerOfCode code answer

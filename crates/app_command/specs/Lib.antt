@@ -1,6 +1,9 @@
+pub mod CallTexts
 pub mod Codes
 pub mod Compared
+pub mod Outputs
 pub mod Readings
 pub mod RustCode
 pub mod Statuses
 pub mod TaskAnswers
+pub mod WantedTerms

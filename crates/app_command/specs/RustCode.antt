@@ -3,13 +3,15 @@ use Rattle.std.specs.Prelude.{◌≡◌, ℕ, false, List, string_bytes}
 use Rattle.cranelift_isle.specs.Elaborated.{TypedRules}
 use Rattle.cranelift_isle.specs.Layers.{own_program, IsAccepted}
 use Rattle.cranelift_isle.specs.Syntax.{Definition}
+use Rattle.core_syntax.specs.declared.syntax.Files.{Files}
+use Rattle.report_print.specs.PlaceTexts.{texts_of}
 use Rattle.rust_text.specs.CodeOfTerms.{IsTextOfProgram}
 use Rattle.rust_text.specs.WrittenFunctions.{TextSetting}
 use Rattle.app_command.specs.declared.answers.Answer.{Answer}
 use Rattle.app_command.specs.declared.words.Request.{Request}
 use Rattle.app_command.specs.declared.words.Task.TheVariants.{Rust}
 use Rattle.app_command.specs.Readings.{has_no_definitions, AreOfTexts}
-use Rattle.app_command.specs.TaskAnswers.{IsAnswerToTexts}
+use Rattle.app_command.specs.TaskAnswers.{IsAnswerToFiles}
 
 -- a text is code of what these texts spell: definitions that are accepted, with one function of each of their terms with rules, whose
 -- first lines are the term's signature and whose body is read as code that gives what trying the term's rules by priority gives
@@ -25,5 +27,5 @@ pub record IsRustCodeOf (asked : Request) (texts : List (List ℕ)) (text : List
 -- so is standard output where Rust code is wanted and the answer's status is 0
 abbrev pub RustCodeIsOfTexts : Type 0
 RustCodeIsOfTexts =
-    (asked : Request) (texts : List (List ℕ)) (answer : Answer) → asked.task ≡ Rust → asked.stubs ≡ false
-    → IsAnswerToTexts asked texts answer → answer.status ≡ 0 → IsRustCodeOf asked texts (string_bytes answer.out)
+    (asked : Request) (files : Files) (answer : Answer) → asked.task ≡ Rust → asked.stubs ≡ false
+    → IsAnswerToFiles asked files answer → answer.status ≡ 0 → IsRustCodeOf asked (texts_of files) (string_bytes answer.out)

@@ -1,14 +1,17 @@
--- What the command's statuses say.
-use Rattle.std.specs.Prelude.{ℕ, ◌≡◌, ◌≢◌, ◌≤◌, ◌⊎◌, Bool, true, false, List, [], is_some, string_bytes}
+-- What the command's statuses say, and what is written with them.
+use Rattle.std.specs.Prelude.{ℕ, ◌≡◌, ◌≤◌, ◌⊎◌, Bool, true, false, List, Option, is_some, string_bytes}
+use Rattle.core_syntax.specs.declared.syntax.Files.{Files}
 use Rattle.app_command.specs.declared.answers.Answer.{Answer}
 use Rattle.app_command.specs.declared.inputs.Unread as U
 use Rattle.app_command.specs.declared.inputs.Unread.TheVariants as V
+use Rattle.app_command.specs.declared.output.Ending.{Ending}
 use Rattle.app_command.specs.declared.reading.Reading.{Reading}
 use Rattle.app_command.specs.declared.words.Request.{Request}
 use Rattle.app_command.specs.declared.words.Task.{Task}
 use Rattle.app_command.specs.declared.words.Task.TheVariants as T
+use Rattle.app_command.specs.Outputs.{IsNothingWritten, IsWrittenOut}
 use Rattle.app_command.specs.Readings.{IsAcceptedReading}
-use Rattle.app_command.specs.TaskAnswers.{denies, IsAnswerToTexts}
+use Rattle.app_command.specs.TaskAnswers.{denies, IsAnswerToFiles}
 
 -- whether a task may fail on accepted definitions
 abbrev pub may_fail : Task → Request → Bool
@@ -30,17 +33,22 @@ pub record IsStatusOfReading (asked : Request) (reading : Reading) (status : ℕ
   pub done : status ≡ 0 → IsAcceptedReading asked.expand reading
   pub refused : status ≡ 1 → may_fail asked.task asked ≡ false → IsAcceptedReading asked.expand reading → ⊥
 
--- the status with which an answer is written: its own, or 4 where standard output, which has a text, can't be written
-abbrev pub IsWritten : Answer → ℕ → Type 0
-IsWritten answer status = (status ≡ answer.status) ⊎ ((status ≡ 4) × (string_bytes answer.out ≢ []))
-
--- the status with which the texts of files are answered: that of an answer to them, or 3 for refused memory
-abbrev pub IsStatusFor : Request → List (List ℕ) → ℕ → Type 0
-IsStatusFor asked texts status = (status ≡ 3) ⊎ ((answer : Answer) × IsAnswerToTexts asked texts answer × IsWritten answer status)
-
 -- the status where files can't be read: 3 for refused memory, 1 for a text that isn't UTF-8, 4 for any other reason; and 3 where
 -- memory is refused to what says so
 abbrev pub IsStatusOfUnread : U.Unread → ℕ → Type 0
 IsStatusOfUnread V.Memory status = status ≡ 3
 IsStatusOfUnread (V.Text name) status = (status ≡ 1) ⊎ (status ≡ 3)
 IsStatusOfUnread (V.File name) status = (status ≡ 4) ⊎ (status ≡ 3)
+
+-- files are answered: an answer to them is written; or memory was refused, or a rule takes more stack than there is, and nothing is
+-- written
+abbrev pub IsEndingFor : Request → Files → (old new : Option (List ℕ)) → Ending → Type 0
+IsEndingFor asked files old new ending =
+    IsNothingWritten old new 3 ending
+    ⊎ ((answer : Answer) × IsAnswerToFiles asked files answer × IsWrittenOut old new (string_bytes answer.out) answer.status ending)
+
+-- what is asked of files is done: they can't be read, and nothing is written, or they are answered
+abbrev pub IsEndingOf : Request → (old new : Option (List ℕ)) → Ending → Type 0
+IsEndingOf asked old new ending =
+    ((why : U.Unread) × ((status : ℕ) × IsStatusOfUnread why status × IsNothingWritten old new status ending))
+    ⊎ ((files : Files) × IsEndingFor asked files old new ending)

@@ -1,15 +1,21 @@
 -- What the command answers to definitions, by what it is asked.
-use Rattle.std.specs.Prelude.{ℕ, ◌≡◌, ◌≢◌, ◌≤◌, ◌⊎◌, ◌||◌, ⊤, Bool, true, false, List, [], ◌∷◌, drop, is_none, is_some, length, map, None, Option, Some, string_bytes, take}
+use Rattle.std.specs.Prelude.{ℕ, ◌≡◌, ◌≢◌, ◌≤◌, ◌⊎◌, ◌||◌, ◌++◌, ⊤, Bool, true, false, List, [], ◌∷◌, drop, length, map, option_map, None, Option, Some, string_bytes, take}
 use Rattle.cranelift_isle.specs.SyntaxViews.{definition_views}
 use Rattle.cranelift_isle.specs.Syntax.{Definition}
 use Rattle.cranelift_isle.specs.declared.lower.Lowered.{Lowered}
-use Rattle.cranelift_isle.specs.Lowerings.{lowered_views, AreAccepted, IsLowered}
+use Rattle.cranelift_isle.specs.declared.lower.LoweredTerm.{LoweredTerm}
+use Rattle.cranelift_isle.specs.Lowerings.{AreAccepted, IsLowered}
+use Rattle.core_syntax.specs.declared.syntax.Files.{Files}
 use Rattle.core_syntax.specs.declared.syntax.Pos.{Pos}
+use Rattle.report_print.specs.PlaceTexts.{texts_of}
 use Rattle.report_print.specs.declared.report.Report.{Report}
+use Rattle.report_queries.specs.TermTexts.{terms_text}
 use Rattle.text_json.specs.JsonLine.{IsJsonLine}
 use Rattle.text_writer.specs.Spellable.{first_unspelled}
 use Rattle.text_writer.specs.Texts.{printed}
 use Rattle.app_command.specs.declared.answers.Answer.{Answer}
+use Rattle.app_command.specs.declared.calls.Told.{Told}
+use Rattle.app_command.specs.declared.calls.Told.TheVariants.{Text, Wrong}
 use Rattle.app_command.specs.declared.reading.Reading.{Reading}
 use Rattle.app_command.specs.declared.reading.Reading.TheVariants.{Defs, Unread}
 use Rattle.app_command.specs.declared.words.Format.{Format}
@@ -17,8 +23,10 @@ use Rattle.app_command.specs.declared.words.Format.TheVariants as F
 use Rattle.app_command.specs.declared.words.Request.{Request}
 use Rattle.app_command.specs.declared.words.Task.{Task}
 use Rattle.app_command.specs.declared.words.Task.TheVariants as T
+use Rattle.app_command.specs.CallTexts.{IsTextOfRun}
 use Rattle.app_command.specs.Codes.{IsAnswerOfRust}
 use Rattle.app_command.specs.Readings.{has_no_definitions, IsAcceptedReading, IsReadingOf}
+use Rattle.app_command.specs.WantedTerms.{missing_name, wanted_terms}
 
 -- nothing stands on standard error
 abbrev pub IsOnOut : Answer → Type 0
@@ -72,12 +80,13 @@ HasReport F.Dot answer = string_bytes answer.err ≢ []
 abbrev pub IsRefusal : Request → Answer → Type 0
 IsRefusal asked answer = (answer.status ≡ 1) × AreReports asked.format answer
 
--- the text of the trees of so many terms: a line of JSON, and every other form has at least one byte for each term
-abbrev pub AreTrees : Format → (count : ℕ) → (text : List ℕ) → Type 0
-AreTrees F.Json count text = IsJsonLine text
-AreTrees F.Text count text = count ≤ length text
-AreTrees F.Line count text = count ≤ length text
-AreTrees F.Dot count text = count ≤ length text
+-- the text of the trees of some terms: exactly the texts of the terms, in order. It is a line of JSON, or graphs of which none is
+-- empty, where that is asked for
+abbrev pub AreTrees : Format → Files → Lowered → List LoweredTerm → (text : List ℕ) → Type 0
+AreTrees F.Json files l terms text = IsJsonLine text
+AreTrees F.Dot files l terms text = length terms ≤ length text
+AreTrees F.Text files l terms text = text ≡ terms_text files l terms
+AreTrees F.Line files l terms text = text ≡ terms_text files l terms
 
 -- the text of how large terms are
 abbrev pub AreSizes : Format → (text : List ℕ) → Type 0
@@ -86,20 +95,9 @@ AreSizes F.Text text = text ≢ []
 AreSizes F.Line text = text ≢ []
 AreSizes F.Dot text = text ≢ []
 
--- the numbers of the terms that were lowered
-abbrev pub lowered_terms : Lowered → List ℕ
-lowered_terms l = map (λ t. t.term) (lowered_views l.terms.items)
-
--- all terms are asked for, and none by its name
-abbrev pub AsksForAll : Request → Type 0
-AsksForAll asked = is_none asked.terms ≡ true
-
-abbrev pub AsksByName : Request → Type 0
-AsksByName asked = is_some asked.terms ≡ true
-
--- the text of the trees of some terms: of all where all are asked for
-abbrev pub HasTrees : Request → (terms : List ℕ) → (text : List ℕ) → Type 0
-HasTrees asked terms text = (count : ℕ) × (AsksForAll asked → count ≡ length terms) × AreTrees asked.format count text
+-- the names of the terms that are asked for, as a text; none where all are
+abbrev pub asked_names : Request → Option (List ℕ)
+asked_names asked = option_map (λ names. names.now) asked.terms
 
 -- whether there is one of something
 abbrev pub has_one : {T : Type 0} → List T → Bool
@@ -116,35 +114,49 @@ IsStatusOfWarnings asked answer =
     ((answer.status ≡ 0) × (asked.deny ≡ true → HasNoReport asked.format answer))
     ⊎ ((denies asked ≡ true) × (answer.status ≡ 1) × HasReport asked.format answer)
 
--- what lowered definitions are answered, by the task. A task that may fail may do so on all of them: when it does isn't said
-abbrev pub IsAnswerBy : Task → Request → Lowered → Answer → Type 0
-IsAnswerBy T.Lower asked l answer =
-    (IsDone answer × HasTrees asked (lowered_terms l) (string_bytes answer.out)) ⊎ (AsksByName asked × IsFailed answer)
-IsAnswerBy T.Rust asked l answer = IsAnswerOfRust l asked.code asked.stubs answer
-IsAnswerBy T.Check asked l answer = AreReports asked.format answer × IsStatusOfWarnings asked answer
-IsAnswerBy T.Explain asked l answer = IsDoneWithText answer ⊎ IsFailed answer
-IsAnswerBy T.Stats asked l answer = IsDone answer × AreSizes asked.format (string_bytes answer.out)
-IsAnswerBy T.Compare asked l answer = IsDoneWithoutText answer ⊎ IsFailed answer
-IsAnswerBy T.Diff asked l answer = IsDoneWithoutText answer
-IsAnswerBy T.Print asked l answer = IsDoneWithoutText answer
-IsAnswerBy T.Samples asked l answer = IsDoneWithoutText answer
-IsAnswerBy T.Run asked l answer = IsDoneWithText answer ⊎ IsFailed answer
-IsAnswerBy T.Why asked l answer = IsDoneWithText answer ⊎ IsFailed answer
+-- what is told of a call is answered as a line: what is asked for, or what is wrong
+abbrev pub IsAnswerOfTold : Told → Answer → Type 0
+IsAnswerOfTold (Text text) answer = IsDone answer × (string_bytes answer.out ≡ string_bytes text ++ (10 ∷ []))
+IsAnswerOfTold (Wrong why) answer = IsFailed answer
+
+-- the run of a call is told on a line that ends standard output, or it is told what is wrong
+abbrev pub IsAnswerOfRun : Request → Lowered → Answer → Type 0
+IsAnswerOfRun asked l answer =
+    (IsDone answer × ((text : List ℕ) × IsTextOfRun asked l text × (string_bytes answer.out ≡ text ++ (10 ∷ [])))) ⊎ IsFailed answer
+
+-- what the lowered definitions of files are answered, by the task. `lower` fails where no term has a name that is asked for. Of the
+-- other tasks that may fail it isn't said when they do
+abbrev pub IsAnswerBy : Task → Request → Files → Lowered → Answer → Type 0
+IsAnswerBy T.Lower asked files l answer =
+    ((missing_name (asked_names asked) l ≡ None)
+    × IsDone answer × AreTrees asked.format files l (wanted_terms (asked_names asked) l) (string_bytes answer.out))
+    ⊎ ((missing_name (asked_names asked) l ≢ None) × IsFailed answer)
+IsAnswerBy T.Rust asked files l answer = IsAnswerOfRust l files asked.code asked.stubs answer
+IsAnswerBy T.Check asked files l answer = AreReports asked.format answer × IsStatusOfWarnings asked answer
+IsAnswerBy T.Explain asked files l answer = IsDoneWithText answer ⊎ IsFailed answer
+IsAnswerBy T.Stats asked files l answer = IsDone answer × AreSizes asked.format (string_bytes answer.out)
+IsAnswerBy T.Compare asked files l answer = IsDoneWithoutText answer ⊎ IsFailed answer
+IsAnswerBy T.Diff asked files l answer = IsDoneWithoutText answer
+IsAnswerBy T.Print asked files l answer = IsDoneWithoutText answer
+IsAnswerBy T.Samples asked files l answer = IsDoneWithoutText answer
+IsAnswerBy T.Run asked files l answer = IsAnswerOfRun asked l answer
+IsAnswerBy T.Why asked files l answer = IsDoneWithText answer ⊎ IsFailed answer
 
 -- definitions are accepted and the task is done or fails, or they aren't and are refused
-abbrev pub IsAnswerToDefinitions : List Definition → Request → Answer → Type 0
-IsAnswerToDefinitions defs asked answer =
-    ((l : Lowered) × IsLowered defs asked.expand l × IsAnswerBy asked.task asked l answer)
+abbrev pub IsAnswerToDefinitions : List Definition → Request → Files → Answer → Type 0
+IsAnswerToDefinitions defs asked files answer =
+    ((l : Lowered) × IsLowered defs asked.expand l × IsAnswerBy asked.task asked files l answer)
     ⊎ ((AreAccepted defs asked.expand → ⊥) × IsRefusal asked answer)
 
 -- what was read is answered: definitions, or mistakes of texts, which are told
-abbrev pub IsAnswerToReading : Request → Reading → Answer → Type 0
-IsAnswerToReading asked (Defs defs) answer = IsAnswerToDefinitions (definition_views defs.items) asked answer
-IsAnswerToReading asked (Unread mistakes) answer = IsRefusal asked answer × (mistakes.items ≢ [] → HasReport asked.format answer)
+abbrev pub IsAnswerToReading : Request → Files → Reading → Answer → Type 0
+IsAnswerToReading asked files (Defs defs) answer = IsAnswerToDefinitions (definition_views defs.items) asked files answer
+IsAnswerToReading asked files (Unread mistakes) answer = IsRefusal asked answer × (mistakes.items ≢ [] → HasReport asked.format answer)
 
--- texts are answered as something that they are read as
-abbrev pub IsAnswerToOneReading : Request → List (List ℕ) → Answer → Type 0
-IsAnswerToOneReading asked texts answer = (reading : Reading) × IsReadingOf (has_no_definitions asked) texts reading × IsAnswerToReading asked reading answer
+-- files are answered as something that their texts are read as
+abbrev pub IsAnswerToOneReading : Request → Files → Answer → Type 0
+IsAnswerToOneReading asked files answer =
+    (reading : Reading) × IsReadingOf (has_no_definitions asked) (texts_of files) reading × IsAnswerToReading asked files reading answer
 
 -- two versions, each accepted or not, are answered: both are, and nothing is said, or how they differ; or one isn't, and is refused
 abbrev pub IsAnswerToBoth : (Old New : Type 0) → Request → Answer → Type 0
@@ -181,8 +193,8 @@ abbrev pub places_of : Option Pos → List Pos
 places_of None = []
 places_of (Some place) = place ∷ []
 
--- texts are answered together, or as two versions, or as one text of all their definitions, by the task
-abbrev pub IsAnswerToTexts : Request → List (List ℕ) → Answer → Type 0
-IsAnswerToTexts asked texts answer =
-    ((asked.task ≢ T.Diff) × (asked.task ≢ T.Print) × IsAnswerToOneReading asked texts answer)
-    ⊎ (((asked.task ≡ T.Diff) × IsAnswerToVersions asked texts answer) ⊎ ((asked.task ≡ T.Print) × IsPrintOfTexts asked texts answer))
+-- files are answered together, or as two versions, or as one text of all their definitions, by the task
+abbrev pub IsAnswerToFiles : Request → Files → Answer → Type 0
+IsAnswerToFiles asked files answer =
+    ((asked.task ≢ T.Diff) × (asked.task ≢ T.Print) × IsAnswerToOneReading asked files answer)
+    ⊎ (((asked.task ≡ T.Diff) × IsAnswerToVersions asked (texts_of files) answer) ⊎ ((asked.task ≡ T.Print) × IsPrintOfTexts asked (texts_of files) answer))

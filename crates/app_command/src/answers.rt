@@ -1,38 +1,35 @@
 //! What the command answers to texts.
 
-ghost use Rattle.std.specs.Prelude.{◌≡◌, ◌==◌, ◌≢◌, ◌⊎◌, ◌≤◌, ◌<◌, true, false, [], length, is_none, map, string_bytes, string_len, IfOk, OnOk};
+ghost use Rattle.std.specs.Prelude.{◌≡◌, ◌==◌, ◌≢◌, ◌⊎◌, ◌≤◌, true, false, [], length, map, string_bytes, IfOk, OnOk};
 ghost use Rattle.cranelift_isle.specs.SyntaxViews.{definition_views};
-ghost use Rattle.app_command.specs.declared.words.Task.TheVariants.{Lower};
+ghost use Rattle.app_command.specs.declared.words.Task.TheVariants.{Lower, Run};
 ghost use Rattle.app_command.specs.Codes.{IsAnswerOfCode, IsAnswerOfRust};
 ghost use Rattle.app_command.specs.Compared.{last_has_trees};
-ghost use Rattle.app_command.specs.TaskAnswers.{AreReports, AreSizes, AreTrees, HasNoReport, HasReport, IsDone, IsDoneWithText, IsDoneWithoutText, IsFailed, IsRefusal, IsStatusOfWarnings, denies};
-ghost use Rattle.app_command.specs.TaskAnswers.{AsksForAll, IsAnswerBy, IsAnswerToDefinitions, IsAnswerToOneReading, IsAnswerToReading, IsAnswerToTexts};
+ghost use Rattle.app_command.specs.TaskAnswers.{AreReports, AreSizes, HasNoReport, HasReport, IsDone, IsDoneWithText, IsDoneWithoutText, IsFailed, IsRefusal, IsStatusOfWarnings, denies};
+ghost use Rattle.app_command.specs.TaskAnswers.{IsAnswerBy, IsAnswerOfTold, IsAnswerToDefinitions, IsAnswerToFiles, IsAnswerToOneReading, IsAnswerToReading};
 ghost use Rattle.app_command.specs.Statuses.{IsStatusOfReading};
-ghost use Rattle.report_queries.specs.TermTexts.{term_text};
 
 use crate::calls::{Told, ran, told_why};
 use crate::code::{Code, code_or_stubs};
-use crate::graphs::graph_of;
 use crate::printing::printed_texts;
 use crate::progress::{Teller, Unanswered};
 use crate::reading::{Reading, reading_of};
+use crate::trees::{missing_term, text_of_trees, told, wanted};
 use crate::unread::{refusal_of_forms, refusal_of_texts};
 use crate::versions::answer_to_versions;
 use crate::words::{Format, Request, Task};
-use cranelift_isle::lower::{Lowered, LoweredTerm, lower};
+use cranelift_isle::lower::{Lowered, lower};
 use cranelift_isle::syntax::{Def, Error, Fault, Files};
 use report_compare::departures;
 use report_errors::diagnosis::{amount_wanted, reports_of};
 use report_errors::explanation::explanation;
 use report_errors::term_sizes::stats;
 use report_json::documents::{
-    DocumentPurpose, document_of_reports, document_of_sizes, document_of_terms,
-    document_of_warnings,
+    DocumentPurpose, document_of_reports, document_of_sizes, document_of_warnings,
 };
 use report_print::layout::push_reports;
 use report_print::lines::{FileLines, file_name};
 use report_print::report::Report;
-use report_queries::trees::push_tree;
 use report_warnings::kinds::is_one_of;
 use report_warnings::lints::warnings;
 use std::alloc::{AllocError, Global};
@@ -59,24 +56,13 @@ impl Drop for Answer {
     }
 }
 
-/// What is answered to files. All errors of the first pass that finds some are told: of reading, one for each file, but by
-/// `check` one for each form that can't be read, and the errors of the others. It is told on `err` what is being done, where that is asked for or `err` is a terminal.
-pub fn answer_to<E: Write>(
-    alloc: Global,
-    asked: &Request<'_>,
-    files: &Files,
-    terminal: bool,
-    err: &mut E,
-) -> Result<Answer, AllocError>
-    ensures { IfOk result (IsAnswerToTexts asked.now (map string_bytes files.now.texts.items)) }
-{
-    let mut teller = Teller::new(asked.progress, terminal, err);
-    let answer = answer_to_files(alloc, asked, files, &mut teller);
-    teller.end();
-    answer
-}
-
-/// The same where there are so many bytes of stack. If a rule takes more, this is told on `err`, and there is no answer.
+/// What is answered to files, where there are so many bytes of stack. All errors of the first pass that finds some are told: of
+/// reading, one for each file, but by `check` one for each form that can't be read, and the errors of the others. It is told on
+/// `err` what is being done, where that is asked for or `err` is a terminal.
+///
+/// # Errors
+///
+/// Where memory is refused, or a rule takes more stack than there is, which is told on `err`.
 pub fn answer_within<E: Write>(
     alloc: Global,
     asked: &Request<'_>,
@@ -85,7 +71,7 @@ pub fn answer_within<E: Write>(
     terminal: bool,
     err: &mut E,
 ) -> Result<Answer, Unanswered>
-    ensures { IfOk result (IsAnswerToTexts asked.now (map string_bytes files.now.texts.items)) }
+    ensures { IfOk result (IsAnswerToFiles asked.now files.now) }
 {
     let mut teller = Teller::within(stack, asked.progress, terminal, err);
     let answer = answer_to_files(alloc, asked, files, &mut teller);
@@ -96,14 +82,14 @@ pub fn answer_within<E: Write>(
     }
 }
 
-// The same, by what tells what is being done.
+// What is answered to files, by what tells what is being done.
 fn answer_to_files<E: Write>(
     alloc: Global,
     asked: &Request<'_>,
     files: &Files,
     teller: &mut Teller<'_, E>,
 ) -> Result<Answer, AllocError>
-    ensures { IfOk result (IsAnswerToTexts asked.now (map string_bytes files.now.texts.items)) }
+    ensures { IfOk result (IsAnswerToFiles asked.now files.now) }
 {
     if asked.task == Task::Diff {
         let answer = answer_to_versions(alloc, asked, files, teller)?;
@@ -124,7 +110,7 @@ fn answer_to_texts<E: Write>(
     files: &Files,
     teller: &mut Teller<'_, E>,
 ) -> Result<Answer, AllocError>
-    ensures { IfOk result (IsAnswerToOneReading asked.now (map string_bytes files.now.texts.items)) }
+    ensures { IfOk result (IsAnswerToOneReading asked.now files.now) }
 {
     let reading = reading_of(alloc, asked, files, teller)?;
     match &reading {
@@ -143,7 +129,7 @@ pub fn answer_to_reading<E: Write>(
     reading: &Reading,
     teller: &mut Teller<'_, E>,
 ) -> Result<Answer, AllocError>
-    ensures answer { IfOk result (IsAnswerToReading asked.now reading.now) }
+    ensures answer { IfOk result (IsAnswerToReading asked.now files.now reading.now) }
     ensures status { IfOk result (λ a. IsStatusOfReading asked.now reading.now a.status) }
 {
     match reading {
@@ -207,7 +193,7 @@ fn answer_to_defs<E: Write>(
     defs: &[Def],
     teller: &mut Teller<'_, E>,
 ) -> Result<Answer, AllocError>
-    ensures { IfOk result (IsAnswerToDefinitions (definition_views defs.now) asked.now) }
+    ensures { IfOk result (IsAnswerToDefinitions (definition_views defs.now) asked.now files.now) }
 {
     teller.tell("lowering", "all terms");
     teller.check_stack(alloc, asked, files, defs)?;
@@ -244,7 +230,7 @@ fn answer_to_lowered<E: Write>(
     lowered: &Lowered,
     teller: &mut Teller<'_, E>,
 ) -> Result<Answer, AllocError>
-    ensures { IfOk result (IsAnswerBy asked.now.task asked.now lowered.now) }
+    ensures { IfOk result (IsAnswerBy asked.now.task asked.now files.now lowered.now) }
 {
     match asked.task {
         Task::Lower => trees(alloc, asked, files, defs, lowered, teller),
@@ -261,14 +247,8 @@ fn answer_to_lowered<E: Write>(
         Task::Samples | Task::Diff | Task::Print => Ok(accepted(alloc, String::new(alloc))),
         Task::Stats => counted(alloc, asked, lowered),
         Task::Compare => compared(alloc, asked, files, lowered, teller),
-        Task::Run => {
-            let lines = FileLines::new(alloc, files)?;
-            answer_of_call(alloc, ran(alloc, asked, &lines, lowered)?)
-        }
-        Task::Why => {
-            let lines = FileLines::new(alloc, files)?;
-            answer_of_call(alloc, told_why(alloc, asked, &lines, defs, lowered)?)
-        }
+        Task::Run => run_answered(alloc, asked, files, lowered),
+        Task::Why => why_answered(alloc, asked, files, defs, lowered),
         Task::Explain => explained(alloc, asked, files, defs, lowered),
     }
 }
@@ -280,7 +260,7 @@ fn coded(
     files: &Files,
     lowered: &Lowered,
 ) -> Result<Answer, AllocError>
-    ensures { IfOk result (IsAnswerOfRust lowered.now asked.now.code asked.now.stubs) }
+    ensures { IfOk result (IsAnswerOfRust lowered.now files.now asked.now.code asked.now.stubs) }
 {
     let code = code_or_stubs(alloc, files, lowered, &asked.code, asked.stubs)?;
     Ok(answer_of_code(alloc, code))
@@ -416,9 +396,42 @@ fn missing(alloc: Global, what: &str, name: &str) -> Result<Answer, AllocError>
     })
 }
 
+// The outcome of the call that is asked for.
+#[tactic(auto, using(crate::proofs::CallAnswers::run_answered_lem))]
+fn run_answered(
+    alloc: Global,
+    asked: &Request<'_>,
+    files: &Files,
+    lowered: &Lowered,
+) -> Result<Answer, AllocError>
+    ensures { IfOk result (IsAnswerBy Run asked.now files.now lowered.now) }
+{
+    let lines = FileLines::new(alloc, files)?;
+    let told = ran(alloc, asked, &lines, lowered)?;
+    let answer = answer_of_call(alloc, told)?;
+    Ok(answer)
+}
+
+// Whether the rules that are asked about are taken on the call.
+#[tactic(auto, using(crate::proofs::CallAnswers::why_answered_lem))]
+fn why_answered(
+    alloc: Global,
+    asked: &Request<'_>,
+    files: &Files,
+    defs: &[Def],
+    lowered: &Lowered,
+) -> Result<Answer, AllocError>
+    ensures { IfOk result (λ a. IsDoneWithText a ⊎ IsFailed a) }
+{
+    let lines = FileLines::new(alloc, files)?;
+    let told = told_why(alloc, asked, &lines, defs, lowered)?;
+    let answer = answer_of_call(alloc, told)?;
+    Ok(answer)
+}
+
 // The answer to a call, or what is wrong with it.
 fn answer_of_call(alloc: Global, told: Told) -> Result<Answer, AllocError>
-    ensures { IfOk result (λ a. IsDoneWithText a ⊎ IsFailed a) }
+    ensures { IfOk result (IsAnswerOfTold told) }
 {
     match told {
         Told::Text(text) => Ok(accepted(alloc, format!(in alloc; "{text}\n")?)),
@@ -428,22 +441,6 @@ fn answer_of_call(alloc: Global, told: Told) -> Result<Answer, AllocError>
             err: format!(in alloc; "{why}\n")?,
         }),
     }
-}
-
-fn wanted<'a>(
-    alloc: Global,
-    asked: &Request<'_>,
-    lowered: &'a Lowered,
-) -> Result<Vec<&'a LoweredTerm>, AllocError>
-    ensures { AsksForAll asked.now → IfOk result (λ ts. length ts.items ≡ length lowered.now.terms.items) }
-{
-    let mut wanted = Vec::new(alloc);
-    for term in &lowered.terms {
-        if is_wanted(asked.terms, term_name(lowered, term)) {
-            wanted.push(term)?;
-        }
-    }
-    Ok(wanted)
 }
 
 // Where the trees of the last file depart from those of the terms that are asked for.
@@ -459,8 +456,8 @@ fn compared<E: Write>(
     if let Some(name) = missing_term(asked.terms, lowered) {
         return missing(alloc, "term with rules", name);
     }
-    let wanted = wanted(alloc, asked, lowered)?;
-    let trees = drawn(alloc, Format::Text, files, lowered, &wanted, teller)?;
+    let wanted = wanted(alloc, asked.terms, lowered)?;
+    let trees = told(alloc, files, lowered, &wanted, teller)?;
     compared_with(alloc, asked.all, files, &trees)
 }
 
@@ -491,125 +488,12 @@ fn trees<E: Write>(
     lowered: &Lowered,
     teller: &mut Teller<'_, E>,
 ) -> Result<Answer, AllocError>
-    ensures { IfOk result (IsAnswerBy Lower asked.now lowered.now) }
+    ensures { IfOk result (IsAnswerBy Lower asked.now files.now lowered.now) }
 {
     if let Some(name) = missing_term(asked.terms, lowered) {
         return missing(alloc, "term with rules", name);
     }
-    let wanted = wanted(alloc, asked, lowered)?;
+    let wanted = wanted(alloc, asked.terms, lowered)?;
     let out = text_of_trees(alloc, asked.format, files, defs, lowered, &wanted, teller)?;
     Ok(accepted(alloc, out))
-}
-
-fn text_of_trees<E: Write>(
-    alloc: Global,
-    format: Format,
-    files: &Files,
-    defs: &[Def],
-    lowered: &Lowered,
-    terms: &[&LoweredTerm],
-    teller: &mut Teller<'_, E>,
-) -> Result<String, AllocError>
-    ensures { IfOk result (λ text. AreTrees format (length terms.now) (string_bytes text)) }
-{
-    match format {
-        Format::Json => {
-            teller.tell("printing", "all terms");
-            document_of_terms(alloc, files, defs, lowered, terms)
-        }
-        Format::Dot | Format::Text | Format::Line => {
-            drawn(alloc, format, files, lowered, terms, teller)
-        }
-    }
-}
-
-// The trees of terms, one after another: as graphs, or in words.
-fn drawn<E: Write>(
-    alloc: Global,
-    format: Format,
-    files: &Files,
-    lowered: &Lowered,
-    terms: &[&LoweredTerm],
-    teller: &mut Teller<'_, E>,
-) -> Result<String, AllocError>
-    // each has a text
-    ensures { IfOk result (λ text. length terms.now ≤ string_len text) }
-{
-    let lines = FileLines::new(alloc, files)?;
-    let mut out = String::new(alloc);
-    for term in terms {
-        teller.tell("printing", term_name(lowered, term));
-        let drawing = drawing_of(alloc, format, &lines, lowered, term)?;
-        out.push_str(&drawing)?;
-    }
-    Ok(out)
-}
-
-// The tree of a term: as a graph, or in words.
-fn drawing_of(
-    alloc: Global,
-    format: Format,
-    lines: &FileLines<'_>,
-    lowered: &Lowered,
-    term: &LoweredTerm,
-) -> Result<String, AllocError>
-    ensures { IfOk result (λ text. 0 < string_len text) }
-{
-    match format {
-        Format::Dot => graph_of(alloc, lines, lowered, term),
-        Format::Json | Format::Text | Format::Line => tree(alloc, lines, lowered, term),
-    }
-}
-
-// The tree of a term in words, with the rules that its returns take.
-fn tree(
-    alloc: Global,
-    lines: &FileLines<'_>,
-    lowered: &Lowered,
-    term: &LoweredTerm,
-) -> Result<String, AllocError>
-    ensures some { IfOk result (λ text. 0 < string_len text) }
-    // exactly the text of the term
-    ensures text { IfOk result (λ text. string_bytes text ≡ term_text lines.now.files.now lowered.now term.now) }
-{
-    let mut out = String::new(alloc);
-    push_tree(&mut out, lines, lowered, term)?;
-    Ok(out)
-}
-
-fn term_name<'a>(lowered: &'a Lowered, term: &LoweredTerm) -> &'a str {
-    match lowered.termenv.terms.get(term.id.index()) {
-        Some(term) => lowered.tyenv.text_of(term.name),
-        None => "",
-    }
-}
-
-// Whether a term is among those that are wanted, which are all where none are named.
-fn is_wanted(wanted: Option<&str>, name: &str) -> bool
-    ensures { is_none wanted.entry ≡ true → result ≡ true }
-{
-    match wanted {
-        Some(names) => names.split(',').any(|other| other == name),
-        None => true,
-    }
-}
-
-// The first name of a term that is wanted and has no rules.
-fn missing_term<'a>(wanted: Option<&'a str>, lowered: &Lowered) -> Option<&'a str>
-    ensures { is_none wanted.entry ≡ true → is_none result ≡ true }
-{
-    for name in wanted?.split(',') {
-        if !has_term(lowered, name) {
-            return Some(name);
-        }
-    }
-    None
-}
-
-// Whether a term of this name has rules.
-fn has_term(lowered: &Lowered, name: &str) -> bool {
-    lowered
-        .terms
-        .iter()
-        .any(|term| term_name(lowered, term) == name)
 }

@@ -1,14 +1,16 @@
 //! `isle fmt`: files in the usual layout.
 
-ghost use Rattle.std.specs.Prelude.{◌≡◌, ◌≢◌, ◌⊎◌, ◌≤◌, ◌↔◌, true};
+ghost use Rattle.std.specs.Prelude.{◌≡◌, ◌≢◌, ◌⊎◌, ◌≤◌, ◌↔◌, codes, false, true};
+ghost use Rattle.app_command.specs.Outputs.{IsWrittenOut};
 
 use crate::inputs::{file_text, path_of, standard_text};
+use crate::output::{Ending, write_texts};
 use crate::run::{cannot_read, say};
 use crate::words::{Unasked, given_twice, plain, wrong, wrong_as};
 use cranelift_isle::syntax::Files;
 use report_errors::syntax_report;
 use report_print::layout::{Layout, push_reports};
-use report_queries::answers::{end, no_memory, write_text};
+use report_queries::answers::{end, no_memory};
 use std::alloc::{AllocError, Global};
 use std::fs::{self, File, OpenFile};
 use std::io::{self, ErrorKind, Read, Write};
@@ -110,7 +112,7 @@ impl<'a> Formatting<'a> {
     }
 }
 
-/// Lays files out, and answers the status: 0 where all are laid out, or with `check` where none would change; 1 where a text is
+/// Lays files out, and ends with the status: 0 where all are laid out, or with `check` where none would change; 1 where a text is
 /// wrong, or would change; 3 where memory is refused; 4 where a file can't be read or written. The greatest of all files counts.
 /// A changed layout is written to a new file, which then takes the name of the old one: so nothing is lost.
 pub fn run_formatting<R: std::rt::Files + AllocGlobal, I: Read + Drop, O: Write, E: Write>(
@@ -119,14 +121,14 @@ pub fn run_formatting<R: std::rt::Files + AllocGlobal, I: Read + Drop, O: Write,
     input: I,
     out: &mut O,
     err: &mut E,
-) -> u8
-    ensures known { result ≤ 4 }
-    ensures used { result ≢ 2 }
+) -> Ending
+    ensures known { result.status ≤ 4 }
+    ensures used { result.status ≢ 2 }
 {
     let wants = asked.files.iter().any(|name| name.as_str() == "-");
     match standard_text(rt.alloc(), wants, input) {
         Ok(standard) => format_files(rt, asked, &standard, out, err),
-        Err(why) => cannot_read(rt.alloc(), why, err),
+        Err(why) => Ending::with(cannot_read(rt.alloc(), why, err)),
     }
 }
 
@@ -137,20 +139,22 @@ fn format_files<R: std::rt::Files + AllocGlobal, O: Write, E: Write>(
     standard: &str,
     out: &mut O,
     err: &mut E,
-) -> u8
-    ensures known { result ≤ 4 }
-    ensures used { result ≢ 2 }
+) -> Ending
+    ensures known { result.status ≤ 4 }
+    ensures used { result.status ≢ 2 }
 {
     let mut status = 0u8;
+    let mut is_cut = false;
     for name in &asked.files {
         let one = if name.as_str() == "-" {
             format_text(rt, asked, "<stdin>", standard, out, err)
         } else {
             format_file(rt, asked, name, out, err)
         };
-        status = status.max(one);
+        status = status.max(one.status);
+        is_cut = is_cut || one.is_cut;
     }
-    status
+    Ending { status, is_cut }
 }
 
 fn format_file<R: std::rt::Files + AllocGlobal, O: Write, E: Write>(
@@ -159,13 +163,13 @@ fn format_file<R: std::rt::Files + AllocGlobal, O: Write, E: Write>(
     name: &str,
     out: &mut O,
     err: &mut E,
-) -> u8
-    ensures known { result ≤ 4 }
-    ensures used { result ≢ 2 }
+) -> Ending
+    ensures known { result.status ≤ 4 }
+    ensures used { result.status ≢ 2 }
 {
     match file_text(rt, asked.folder, name) {
         Ok(text) => format_text(rt, asked, name, &text, out, err),
-        Err(why) => cannot_read(rt.alloc(), why, err),
+        Err(why) => Ending::with(cannot_read(rt.alloc(), why, err)),
     }
 }
 
@@ -176,9 +180,9 @@ fn format_text<R: std::rt::Files + AllocGlobal, O: Write, E: Write>(
     text: &str,
     out: &mut O,
     err: &mut E,
-) -> u8
-    ensures known { result ≤ 4 }
-    ensures used { result ≢ 2 }
+) -> Ending
+    ensures known { result.status ≤ 4 }
+    ensures used { result.status ≢ 2 }
 {
     match formatted(rt.alloc(), 0, text) {
         Ok(made) => hand_over(
@@ -192,8 +196,8 @@ fn format_text<R: std::rt::Files + AllocGlobal, O: Write, E: Write>(
             out,
             err,
         ),
-        Err(ReadFault::Text(error)) => refuse(rt.alloc(), name, text, error, err),
-        Err(ReadFault::Memory(_)) => no_memory(err),
+        Err(ReadFault::Text(error)) => Ending::with(refuse(rt.alloc(), name, text, error, err)),
+        Err(ReadFault::Memory(_)) => Ending::with(no_memory(err)),
     }
 }
 
@@ -212,28 +216,31 @@ fn hand_over<R: std::rt::Files + AllocGlobal, O: Write, E: Write>(
     laid: Laid<'_>,
     out: &mut O,
     err: &mut E,
-) -> u8
-    ensures known { result ≤ 4 }
-    ensures used { result ≢ 2 }
+) -> Ending
+    ensures known { result.status ≤ 4 }
+    ensures used { result.status ≢ 2 }
     // with `check`, the status is 0 exactly where nothing would change
-    ensures checked { asked.now.check ≡ true → (result ≡ 0) ↔ (laid.entry.made.now ≡ laid.entry.text.now) }
+    ensures checked { asked.now.check ≡ true → (result.status ≡ 0) ↔ (laid.entry.made.now ≡ laid.entry.text.now) }
+    // without it, the layout of standard input is written
+    ensures printed { asked.now.check ≡ false → laid.entry.name.now ≡ codes "<stdin>"
+        → IsWrittenOut (O.contents out.old) (O.contents out.new) laid.entry.made.now 0 result }
 {
     if asked.check {
         return if laid.made == laid.text {
-            0
+            Ending::with(0)
         } else {
             say_changed(rt.alloc(), laid, asked.diff, out, err)
         };
     }
     if laid.name == "<stdin>" {
-        return write_text(laid.made, out, err);
+        return write_texts(laid.made, "", 0, out, err);
     }
     if laid.made == laid.text {
-        return 0;
+        return Ending::with(0);
     }
     match replace(rt, asked.folder, laid.name, laid.made) {
-        Ok(()) => 0,
-        Err(error) => cannot_write(rt.alloc(), laid.name, &error, err),
+        Ok(()) => Ending::with(0),
+        Err(error) => Ending::with(cannot_write(rt.alloc(), laid.name, &error, err)),
     }
 }
 
@@ -260,14 +267,14 @@ fn say_changed<O: Write, E: Write>(
     diff: bool,
     out: &mut O,
     err: &mut E,
-) -> u8
-    ensures known { result ≤ 4 }
-    ensures used { result ≢ 2 }
-    ensures told { result ≢ 0 }
+) -> Ending
+    ensures known { result.status ≤ 4 }
+    ensures used { result.status ≢ 2 }
+    ensures told { result.status ≢ 0 }
 {
     match changes_told(alloc, laid, diff) {
-        Ok(told) => write_text(&told, out, err).max(1),
-        Err(AllocError) => no_memory(err),
+        Ok(told) => write_texts(&told, "", 1, out, err),
+        Err(AllocError) => Ending::with(no_memory(err)),
     }
 }
 

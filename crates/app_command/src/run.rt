@@ -3,17 +3,19 @@
 ghost use Rattle.std.specs.Prelude.{◌≡◌, ◌≢◌, ◌⊎◌, ◌≤◌, [], ◌∷◌, false, map, string_bytes, true, IfErr, IfOk, MatchResult};
 ghost use Rattle.report_queries.specs.Samples.{names_sample};
 ghost use Rattle.app_command.specs.declared.words.Task.TheVariants.{Samples};
-ghost use Rattle.app_command.specs.Statuses.{IsStatusFor, IsStatusOfUnread, IsWritten};
+ghost use Rattle.app_command.specs.Outputs.{IsNothingWritten, IsWrittenOut};
+ghost use Rattle.app_command.specs.Statuses.{IsEndingFor, IsEndingOf, IsStatusOfUnread};
 
 use crate::answers::{Answer, answer_within};
 use crate::formatting::{Formatting, run_formatting};
 use crate::help::{VERSION, help_text};
 use crate::inputs::{Unread, read_files};
+use crate::output::{Ending, write_texts};
 use crate::progress::Unanswered;
 use crate::project::find_files;
 use crate::words::{Command, Request, Task, Unasked, asked_by};
 use cranelift_isle::syntax::Files;
-use report_queries::answers::{end, no_memory, write_text};
+use report_queries::answers::{end, no_memory};
 use report_queries::sample_run::run_sample;
 use report_queries::samples::sample_names;
 use report_stack::size_of_stack;
@@ -22,8 +24,8 @@ use std::env::{Env, FillError};
 use std::io::{Read, Write};
 
 /// Runs the command: `words` are its arguments without its own name, `input` is standard input, `terminal` says whether `err`
-/// is a terminal, and the answer is its status. A terminal shows what is being done, and errors in colours if the environment
-/// has no `NO_COLOR`.
+/// is a terminal, and the answer says by which status it ends, and whether nobody reads `out` any more. A terminal shows what is
+/// being done, and errors in colours if the environment has no `NO_COLOR`.
 ///
 /// 0: what is asked is on `out`. 1: what is wrong with the files is on `err`, or on `out` as JSON; or `err` says what there
 /// isn't; or two versions differ, as `out` says. 2: the words ask nothing, and `err` says why. 3: memory was refused, or a rule
@@ -36,21 +38,21 @@ pub fn run<R: std::rt::Files + Env + AllocGlobal, I: Read + Drop, O: Write, E: W
     terminal: bool,
     out: &mut O,
     err: &mut E,
-) -> u8
+) -> Ending
     // every status has its meaning
-    ensures { result ≤ 4 }
+    ensures { result.status ≤ 4 }
 {
     let colors = terminal && !has_variable(rt, "NO_COLOR");
     match asked_by(rt.alloc(), words, colors) {
         Ok(Command::Help(task)) => match help_text(rt.alloc(), task) {
-            Ok(text) => write_text(&text, out, err),
-            Err(AllocError) => no_memory(err),
+            Ok(text) => write_texts(&text, "", 0, out, err),
+            Err(AllocError) => Ending::with(no_memory(err)),
         },
-        Ok(Command::Version) => write_text(VERSION, out, err),
+        Ok(Command::Version) => write_texts(VERSION, "", 0, out, err),
         Ok(Command::Formatting(asked)) => format_asked(rt, asked, input, out, err),
         Ok(Command::Request(asked)) => run_asked(rt, asked, input, terminal, out, err),
-        Err(Unasked::Words(why)) => wrong_words(rt.alloc(), &why, err),
-        Err(Unasked::Memory) => no_memory(err),
+        Err(Unasked::Words(why)) => Ending::with(wrong_words(rt.alloc(), &why, err)),
+        Err(Unasked::Memory) => Ending::with(no_memory(err)),
     }
 }
 
@@ -81,12 +83,12 @@ fn format_asked<R: std::rt::Files + AllocGlobal, I: Read + Drop, O: Write, E: Wr
     input: I,
     out: &mut O,
     err: &mut E,
-) -> u8
-    ensures { result ≤ 4 }
+) -> Ending
+    ensures { result.status ≤ 4 }
 {
     match find_files(rt, asked.folder, &mut asked.files, err) {
         Ok(()) => run_formatting(rt, &asked, input, out, err),
-        Err(status) => status,
+        Err(status) => Ending::with(status),
     }
 }
 
@@ -98,12 +100,12 @@ fn run_asked<R: std::rt::Files + AllocGlobal, I: Read + Drop, O: Write, E: Write
     terminal: bool,
     out: &mut O,
     err: &mut E,
-) -> u8
-    ensures { result ≤ 4 }
+) -> Ending
+    ensures { result.status ≤ 4 }
 {
     if asked.task.has_project() {
         if let Err(status) = find_definitions(rt, &mut asked, err) {
-            return status;
+            return Ending::with(status);
         }
     }
     run_request(rt, &asked, input, terminal, out, err)
@@ -134,24 +136,34 @@ fn run_request<R: std::rt::Files + AllocGlobal, I: Read + Drop, O: Write, E: Wri
     terminal: bool,
     out: &mut O,
     err: &mut E,
-) -> u8
-    ensures known { result ≤ 4 }
+) -> Ending
+    ensures known { result.status ≤ 4 }
     // only samples have names that may be wrong words
-    ensures used { asked.now.task ≢ Samples → result ≢ 2 }
+    ensures used { asked.now.task ≢ Samples → result.status ≢ 2 }
+    ensures ending { asked.now.task ≢ Samples → IsEndingOf asked.now (O.contents out.old) (O.contents out.new) result }
 {
     if asked.task == Task::Samples {
         return run_samples(rt.alloc(), asked, out, err);
     }
     match read_files(rt, asked, input) {
         Ok(files) => {
-            let stack = size_of_stack(rt);
+            let stack = stack_for(rt, asked.task);
             run_files(rt.alloc(), asked, &files, stack, terminal, out, err)
         }
-        Err(why) => cannot_read(rt.alloc(), why, err),
+        Err(why) => Ending::with(cannot_read(rt.alloc(), why, err)),
     }
 }
 
-// Writes what is answered to files, and answers its status.
+// The bytes of stack that there are, for a task that lowers rules.
+fn stack_for<R: std::rt::Files + AllocGlobal>(rt: &R, task: Task) -> usize {
+    if task.lowers() {
+        size_of_stack(rt)
+    } else {
+        usize::MAX
+    }
+}
+
+// Writes what is answered to files.
 fn run_files<O: Write, E: Write>(
     alloc: Global,
     asked: &Request<'_>,
@@ -160,41 +172,30 @@ fn run_files<O: Write, E: Write>(
     terminal: bool,
     out: &mut O,
     err: &mut E,
-) -> u8
-    ensures status { IsStatusFor asked.now (map string_bytes files.now.texts.items) result }
-    ensures known { result ≤ 4 }
-    ensures used { result ≢ 2 }
+) -> Ending
+    ensures ending { IsEndingFor asked.now files.now (O.contents out.old) (O.contents out.new) result }
+    ensures known { result.status ≤ 4 }
+    ensures used { result.status ≢ 2 }
 {
     let answer = answer_within(alloc, asked, files, stack, terminal, err);
     write_answer(answer, out, err)
 }
 
-// Writes what is answered, and answers its status: 3 exactly where there is no answer.
+// Writes what is answered. The status is 3, and nothing is written, exactly where there is no answer.
+#[tactic(auto, using(crate::proofs::SinkBytes::nothing_kept))]
 fn write_answer<O: Write, E: Write>(
     answer: Result<Answer, Unanswered>,
     out: &mut O,
     err: &mut E,
-) -> u8
-    ensures { MatchResult answer (λ a. IsWritten a result) (λ _. result ≡ 3) }
+) -> Ending
+    ensures { MatchResult answer (λ a. IsWrittenOut (O.contents out.old) (O.contents out.new) (string_bytes a.out) a.status result)
+        (λ _. IsNothingWritten (O.contents out.old) (O.contents out.new) 3 result) }
 {
     match answer {
-        Ok(answer) => write_both(&answer, out, err),
-        Err(Unanswered::Memory) => no_memory(err),
-        Err(Unanswered::Stack) => 3,
+        Ok(answer) => write_texts(&answer.out, &answer.err, answer.status, out, err),
+        Err(Unanswered::Memory) => Ending::with(no_memory(err)),
+        Err(Unanswered::Stack) => Ending::with(3),
     }
-}
-
-// Writes both texts of an answer, and answers its status, or 4 where `out` can't be written.
-fn write_both<O: Write, E: Write>(answer: &Answer, out: &mut O, err: &mut E) -> u8
-    ensures { IsWritten answer.now result }
-{
-    if !answer.out.is_empty() {
-        let status = write_text(&answer.out, out, err);
-        if status != 0 {
-            return status;
-        }
-    }
-    end(err, &answer.err, answer.status)
 }
 
 /// Says why files can't be read, and answers the status for it.
@@ -224,14 +225,14 @@ fn run_samples<O: Write, E: Write>(
     asked: &Request<'_>,
     out: &mut O,
     err: &mut E,
-) -> u8
-    ensures { result ≤ 4 }
+) -> Ending
+    ensures { result.status ≤ 4 }
 {
     match asked.files.first() {
-        Some(name) => run_sample_named(alloc, name, out, err),
+        Some(name) => Ending::with(run_sample_named(alloc, name, out, err)),
         None => match sample_names(alloc) {
-            Ok(names) => write_text(&names, out, err),
-            Err(AllocError) => no_memory(err),
+            Ok(names) => write_texts(&names, "", 0, out, err),
+            Err(AllocError) => Ending::with(no_memory(err)),
         },
     }
 }

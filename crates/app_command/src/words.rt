@@ -131,6 +131,11 @@ impl Task {
         self == Task::Run || self == Task::Why
     }
 
+    /// Whether it lowers rules.
+    pub(crate) fn lowers(self) -> bool {
+        !matches!(self, Task::Print | Task::Samples)
+    }
+
     // Whether its files may be those of a project. Samples are no files, and two versions are two lists.
     pub(crate) fn has_project(self) -> bool {
         !matches!(self, Task::Samples | Task::Compare | Task::Diff)
@@ -292,7 +297,7 @@ pub fn wrong_as(alloc: Global, why: &str) -> Unasked {
 }
 
 /// That an option is given twice.
-pub(crate) fn given_twice(alloc: Global, option: &str) -> Unasked {
+pub fn given_twice(alloc: Global, option: &str) -> Unasked {
     wrong(format!(in alloc; "the option '{option}' is given twice"))
 }
 
@@ -708,6 +713,10 @@ impl<'a> Request<'a> {
         }
         if self.task == Task::Samples && sample_text(word).is_none() {
             return Err(wrong(format!(in alloc; "no sample is called '{word}'")));
+        }
+        // a tree shows the name behind `;`, where it must end with the line
+        if word.contains('\n') {
+            return Err(wrong_as(alloc, "the name of a file has a line break"));
         }
         if self.task != Task::Samples && self.has_file(word) {
             return Err(wrong(format!(in alloc; "the file '{word}' is given twice")));

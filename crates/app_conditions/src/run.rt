@@ -1,7 +1,7 @@
 //! What `conditions` does.
 
 ghost use Rattle.std.specs.Prelude.{◌≡◌, ◌≢◌, ◌≤◌, ◌⊎◌, map, string_bytes, IfOk};
-ghost use Rattle.app_conditions.specs.Accepted.{AreAcceptedTexts, IsMadeOf, IsRefusal};
+ghost use Rattle.app_conditions.specs.Accepted.{AreAcceptedTexts, IsMadeOf, IsMadeWritten, IsRefusal};
 ghost use Rattle.app_command.specs.Readings.{none_without, AreOfTexts};
 ghost use Rattle.cranelift_isle.specs.SyntaxViews.{definition_views};
 
@@ -11,6 +11,7 @@ use crate::judging::{Judge, wrong_places};
 use crate::reading::{Said, Texts, definitions_in, said_in, texts_of};
 use crate::told::Teller;
 use crate::words::{ConditionsRequest, WrittenTexts, ask_for_help, conditions_by};
+use app_command::output::{Ending, write_texts};
 use app_command::project::find_files;
 use app_command::reading::Reading;
 use app_command::run::cannot_read;
@@ -23,7 +24,7 @@ use report_errors::meant_rules::Called;
 use report_print::layout::{Layout, push_reports};
 use report_print::lines::FileLines;
 use report_print::report::{Level, Report};
-use report_queries::answers::{end, no_memory, write_text};
+use report_queries::answers::{end, no_memory};
 use report_stack::deep_rule;
 use spec_formulas::faults::SpecError;
 use spec_questions::answers::{Answers, answers_in};
@@ -33,7 +34,8 @@ use std::io::{Read, Write};
 use text_reader::errors::TextError;
 use text_reader::syntax::VerificationForm;
 
-/// Runs `isle conditions`: `words` are the words behind it, `input` is standard input, and the answer is the status.
+/// Runs `isle conditions`: `words` are the words behind it, `input` is standard input, and the answer says by which status it ends,
+/// and whether nobody reads `out` any more.
 ///
 /// 0: what is asked is on `out`: questions, or what is told of rules, none of which is wrong. 1: a text, a definition or a spec is
 /// wrong, or no rule is called so, as `err` says; or a rule is wrong, as `out` says. 2: the words ask nothing, and `err` says why. 3:
@@ -44,16 +46,16 @@ pub fn run<R: std::rt::Files + AllocGlobal, I: Read + Drop, O: Write, E: Write>(
     input: I,
     out: &mut O,
     err: &mut E,
-) -> u8
-    ensures { result ≤ 4 }
+) -> Ending
+    ensures { result.status ≤ 4 }
 {
     if ask_for_help(words) {
-        return write_text(HELP, out, err);
+        return write_texts(HELP, "", 0, out, err);
     }
     match conditions_by(rt.alloc(), words) {
         Ok(asked) => run_asked(rt, asked, input, out, err),
-        Err(Unasked::Words(why)) => wrong_words(rt.alloc(), &why, err),
-        Err(Unasked::Memory) => no_memory(err),
+        Err(Unasked::Words(why)) => Ending::with(wrong_words(rt.alloc(), &why, err)),
+        Err(Unasked::Memory) => Ending::with(no_memory(err)),
     }
 }
 
@@ -64,12 +66,12 @@ fn run_asked<R: std::rt::Files + AllocGlobal, I: Read + Drop, O: Write, E: Write
     input: I,
     out: &mut O,
     err: &mut E,
-) -> u8
-    ensures { result ≤ 4 }
+) -> Ending
+    ensures { result.status ≤ 4 }
 {
     match find_files(rt, asked.folder, &mut asked.files, err) {
         Ok(()) => run_conditions(rt, &asked, input, out, err),
-        Err(status) => status,
+        Err(status) => Ending::with(status),
     }
 }
 
@@ -90,13 +92,13 @@ fn run_conditions<R: std::rt::Files + AllocGlobal, I: Read + Drop, O: Write, E: 
     input: I,
     out: &mut O,
     err: &mut E,
-) -> u8
-    ensures known { result ≤ 4 }
-    ensures used { result ≢ 2 }
+) -> Ending
+    ensures known { result.status ≤ 4 }
+    ensures used { result.status ≢ 2 }
 {
     match texts_of(rt, asked, input) {
         Ok(texts) => answer(rt.alloc(), asked, &texts, out, err),
-        Err(why) => cannot_read(rt.alloc(), why, err),
+        Err(why) => Ending::with(cannot_read(rt.alloc(), why, err)),
     }
 }
 
@@ -120,28 +122,28 @@ fn answer<O: Write, E: Write>(
     texts: &Texts,
     out: &mut O,
     err: &mut E,
-) -> u8
-    ensures known { result ≤ 4 }
-    ensures used { result ≢ 2 }
+) -> Ending
+    ensures known { result.status ≤ 4 }
+    ensures used { result.status ≢ 2 }
     // success means that the definitions are accepted
-    ensures accepted { result ≡ 0 → AreAcceptedTexts (map string_bytes texts.now.files.texts.items) }
+    ensures accepted { result.status ≡ 0 → AreAcceptedTexts (map string_bytes texts.now.files.texts.items) }
 {
     match made_of(alloc, asked, texts) {
-        Ok(Made::Text(text)) => write_text(&text, out, err),
-        Ok(Made::Unshown(text)) => write_unshown(&text, out, err),
-        Ok(Made::Wrong(text)) => end(err, &text, 1),
-        Ok(Made::Deep(text)) => end(err, &text, 3),
-        Err(AllocError) => no_memory(err),
+        Ok(made) => write_made(&made, out, err),
+        Err(AllocError) => Ending::with(no_memory(err)),
     }
 }
 
-// Writes what is told of rules of which one is wrong or isn't shown to be right.
-fn write_unshown<O: Write, E: Write>(text: &str, out: &mut O, err: &mut E) -> u8
-    ensures { (result ≡ 1) ⊎ (result ≡ 4) }
+// Writes it: on `out` questions and what is told of rules, and all else on `err`.
+#[tactic(auto, using(crate::proofs::Made::nothing_kept))]
+fn write_made<O: Write, E: Write>(made: &Made, out: &mut O, err: &mut E) -> Ending
+    ensures { IsMadeWritten made.now (O.contents out.old) (O.contents out.new) result }
 {
-    match write_text(text, out, err) {
-        0 => 1,
-        status => status,
+    match made {
+        Made::Text(text) => write_texts(text, "", 0, out, err),
+        Made::Unshown(text) => write_texts(text, "", 1, out, err),
+        Made::Wrong(text) => Ending::with(end(err, text, 1)),
+        Made::Deep(text) => Ending::with(end(err, text, 3)),
     }
 }
 

@@ -1,6 +1,6 @@
 //! What `conditions` is asked by its words.
 
-use app_command::words::{Unasked, wrong, wrong_as};
+use app_command::words::{Unasked, given_twice, wrong, wrong_as};
 use std::alloc::Global;
 
 /// Which texts for solvers are written.
@@ -70,7 +70,7 @@ pub fn ask_for_help(words: &[String]) -> bool {
 }
 
 /// What the words behind `conditions` ask: `-C FOLDER`, `--above`, `--rule RULE`, `--format json`, `--answers FILE`, `--open`,
-/// `--asked`, `--deny`, `--expect FILE`, and files.
+/// `--asked`, `--deny`, `--expect FILE`, each at most once, and files.
 ///
 /// # Errors
 ///
@@ -91,8 +91,9 @@ pub fn conditions_by<'a>(
         files: Vec::new(alloc),
     };
     let mut awaited = Awaited::Any;
+    let mut seen = Vec::new(alloc);
     for word in words {
-        awaited = asked.read(alloc, awaited, word.as_str())?;
+        awaited = asked.read(alloc, &mut seen, awaited, word.as_str())?;
     }
     match missing(awaited) {
         Some(why) => Err(wrong_as(alloc, why)),
@@ -122,20 +123,47 @@ fn missing(awaited: Awaited) -> Option<&'static str> {
 
 impl<'a> ConditionsRequest<'a> {
     // Reads a word, and answers what is awaited then.
-    fn read(&mut self, alloc: Global, awaited: Awaited, word: &'a str) -> Result<Awaited, Unasked> {
+    fn read(
+        &mut self,
+        alloc: Global,
+        seen: &mut Vec<&'a str>,
+        awaited: Awaited,
+        word: &'a str,
+    ) -> Result<Awaited, Unasked> {
         match awaited {
             Awaited::Folder => self.folder = word,
             Awaited::Rule => self.rule = Some(word),
             Awaited::Format => self.json = is_json(alloc, word)?,
             Awaited::Answers => self.answers = Some(word),
             Awaited::Expected => self.expected = Some(word),
-            Awaited::Any => return self.read_any(alloc, word),
+            Awaited::Any => return self.read_any(alloc, seen, word),
         }
         Ok(Awaited::Any)
     }
 
-    // Reads an option or a file.
-    fn read_any(&mut self, alloc: Global, word: &'a str) -> Result<Awaited, Unasked> {
+    // Reads an option, which may be given once, or a file.
+    fn read_any(
+        &mut self,
+        alloc: Global,
+        seen: &mut Vec<&'a str>,
+        word: &'a str,
+    ) -> Result<Awaited, Unasked> {
+        if word.is_empty() {
+            return Err(wrong_as(alloc, "a file without a name"));
+        }
+        if word == "-" || !word.starts_with('-') {
+            self.files.push(String::from_str(alloc, word)?)?;
+            return Ok(Awaited::Any);
+        }
+        let awaited = self.read_option(alloc, word)?;
+        if seen.iter().any(|other| *other == word) {
+            return Err(given_twice(alloc, word));
+        }
+        seen.push(word)?;
+        Ok(awaited)
+    }
+
+    fn read_option(&mut self, alloc: Global, word: &str) -> Result<Awaited, Unasked> {
         match word {
             "-C" => return Ok(Awaited::Folder),
             "--rule" => return Ok(Awaited::Rule),
@@ -146,11 +174,7 @@ impl<'a> ConditionsRequest<'a> {
             "--asked" => self.texts = Some(WrittenTexts::All),
             "--above" => self.above = true,
             "--deny" => self.deny = true,
-            "" => return Err(wrong_as(alloc, "a file without a name")),
-            _ if word != "-" && word.starts_with('-') => {
-                return Err(wrong(format!(in alloc; "conditions has no option '{word}'")));
-            }
-            _ => self.files.push(String::from_str(alloc, word)?)?,
+            _ => return Err(wrong(format!(in alloc; "conditions has no option '{word}'"))),
         }
         Ok(Awaited::Any)
     }

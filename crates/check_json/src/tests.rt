@@ -1,7 +1,8 @@
 // The JSON that is answered to each sample, read back.
 mod forms;
 
-use app_command::answers::answer_to;
+use app_command::answers::answer_within;
+use app_command::progress::Unanswered;
 use app_command::words::{Command, asked_by};
 use cranelift_isle::syntax::Files;
 use forms::{check_document, check_sizes};
@@ -40,7 +41,11 @@ fn document(rt: &impl Abort, alloc: Global, asked: &str, text: &str) -> Result<V
     };
     let files = one_file(alloc, text)?;
     let mut told: Vec<u8> = Vec::new(alloc);
-    let answer = answer_to(alloc, &request, &files, false, &mut told)?;
+    let answer = match answer_within(alloc, &request, &files, usize::MAX, false, &mut told) {
+        Ok(answer) => answer,
+        Err(Unanswered::Memory) => return Err(Fail::from(AllocError)),
+        Err(Unanswered::Stack) => return Err(Fail::from("too deep")),
+    };
     assert!(rt; answer.err.is_empty() && told.is_empty());
     match Value::from_str(alloc, &answer.out) {
         Ok(value) => Ok(value),

@@ -4,6 +4,7 @@ use app_command::answers::{Answer, answer_within};
 use app_command::progress::Unanswered;
 use app_command::project::Project;
 use app_command::words::{Command, Request, Unasked, asked_by};
+use app_conditions::words::conditions_by;
 use cranelift_isle::syntax::Files;
 use std::alloc::{AllocError, Global};
 
@@ -12,7 +13,29 @@ const STACK: usize = 8 << 20;
 
 /// Adds what the command answers to a row's words and files: a line with the status, then what goes to standard output and
 /// standard error, of which what is told with `--progress` comes first. Wrong words are answered with what is wrong with them.
+/// Of `conditions`, `fmt` and words that ask for help, only that they ask it.
 pub fn push_command(
+    alloc: Global,
+    words: &[String],
+    files: &Files,
+    out: &mut String,
+) -> Result<(), AllocError> {
+    match words {
+        [task, rest @ ..] if task.as_str() == "conditions" => push_conditions(alloc, rest, out),
+        _ => push_asked(alloc, words, files, out),
+    }
+}
+
+// Adds that the words behind `conditions` ask something, or what is wrong with them.
+fn push_conditions(alloc: Global, words: &[String], out: &mut String) -> Result<(), AllocError> {
+    match conditions_by(alloc, words) {
+        Ok(_) => out.push_str("conditions\n"),
+        Err(Unasked::Words(why)) => write!(out, "status 2\n{why}\n"),
+        Err(Unasked::Memory) => Err(AllocError),
+    }
+}
+
+fn push_asked(
     alloc: Global,
     words: &[String],
     files: &Files,

@@ -3,6 +3,7 @@ use Rattle.std.proofs.Common.{◌≡◌, ◌≤◌, ◌⊎◌, ℕ, Bool, true, 
 use Rattle.std.proofs.lemmas.Bool.{eqb-false, eqb-true}
 use Rattle.std.specs.Prelude.{string_bytes}
 use Rattle.std.specs.declared.alloc.AllocError.{AllocError}
+use Rattle.core_syntax.specs.declared.syntax.Files.{Files}
 use Rattle.app_command.specs.declared.answers.Answer.{Answer}
 use Rattle.app_command.specs.declared.reading.Reading.{Reading}
 use Rattle.app_command.specs.declared.words.Request.{Request}
@@ -21,11 +22,12 @@ use Rattle.isle_capi.specs.declared.statuses.TheConstants.{DONE, ERRORS, NO_CODE
 use Rattle.isle_capi.specs.Told.{command_task, status_of, text_of, HandsOver, IsCommandAnswer, IsRequestOf, IsSaidTo, IsTextOf, IsTextOfCode, IsToldOf, StatusSays}
 
 -- an answer of the command to a request for a call
-pub command_answer : (asked : CallRequest) (reading : Reading) (request : Request) (answer : Result Answer AllocError)
-    → IsRequestOf asked request → IfOk answer (IsAnswerToReading request reading)
+pub command_answer : (asked : CallRequest) (reading : Reading) (request : Request) (files : Files) (answer : Result Answer AllocError)
+    → IsRequestOf asked request → IfOk answer (IsAnswerToReading request files reading)
     → IfOk answer (λ a. IsStatusOfReading request reading a.status) → IfOk answer (IsCommandAnswer asked reading)
-command_answer asked reading request (Ok answer) asks answers says = record { request = request; asks = asks; answers = answers; says = says }
-command_answer asked reading request (Err e) asks answers says = tt
+command_answer asked reading request files (Ok answer) asks answers says =
+    record { request = request; files = files; asks = asks; answers = answers; says = says }
+command_answer asked reading request files (Err e) asks answers says = tt
 
 pub none_is_not_some : {T : Type 0} (o : Option T) → is_none o ≡ true → is_some o ≡ false
 none_is_not_some None e = refl

@@ -1,5 +1,6 @@
 -- What a call answers to what the texts of files were read as, and with which text.
 use Rattle.std.specs.Prelude.{ℕ, ◌<◌, ◌≤◌, ◌≡◌, ◌⊎◌, false, true, List, [], ◌∷◌, is_none, length, nat_eq, string_bytes, take, if◌then◌else◌}
+use Rattle.core_syntax.specs.declared.syntax.Files.{Files}
 use Rattle.app_command.specs.declared.answers.Answer.{Answer}
 use Rattle.app_command.specs.declared.reading.Reading.{Reading}
 use Rattle.app_command.specs.declared.words.Format as CommandFormat
@@ -46,11 +47,12 @@ pub record IsRequestOf (asked : CallRequest) (request : Request) : Type 0 where
   pub terms : is_none request.terms ≡ true
   pub answers : is_none request.answers ≡ true
 
--- what the command answers to what was read, for a call
+-- what the command answers to what was read, for a call and some files of what was read
 pub record IsCommandAnswer (asked : CallRequest) (reading : Reading) (answer : Answer) : Type 0 where
   pub request : Request
+  pub files : Files
   pub asks : IsRequestOf asked request
-  pub answers : IsAnswerToReading request reading answer
+  pub answers : IsAnswerToReading request files reading answer
   pub says : IsStatusOfReading request reading answer.status
 
 -- the status of a call for an answer of the command

@@ -76,7 +76,7 @@ mutual
       let b = put_stands Token.begin_array ts outer (after ∷ outer) place P.List h (ap (λ o. opened outer o P.List) k) in
       let i = items_stand js (put Token.begin_array ts) (after ∷ outer) b.stands in
       let e : put_end (with_items js (put Token.begin_array ts)) ≡ with_items js (put Token.begin_array ts) ++ Token.end_array ∷ [] =
-          put_end_as (with_items js (put Token.begin_array ts)) (after ∷ outer) P.List i.stands in
+      put_end_as (with_items js (put Token.begin_array ts)) (after ∷ outer) P.List i.stands in
       record {
         same = e ∙ i.same ∙ ap (λ us. us ++ items_tokens js) b.same ∙ one_before Token.begin_array ts (items_tokens js);
         stands = ap nesting e ∙ nesting-more (with_items js (put Token.begin_array ts)) Token.end_array ∙ ap (λ n. nest n Token.end_array) i.stands;
@@ -85,7 +85,7 @@ mutual
       let b = put_stands Token.begin_object ts outer (after ∷ outer) place P.Object h (ap (λ o. opened outer o P.Object) k) in
       let m = members_stand ms (put Token.begin_object ts) (after ∷ outer) b.stands in
       let e : put_end (with_members ms (put Token.begin_object ts)) ≡ with_members ms (put Token.begin_object ts) ++ Token.end_object ∷ [] =
-          put_end_as (with_members ms (put Token.begin_object ts)) (after ∷ outer) P.Object m.stands in
+      put_end_as (with_members ms (put Token.begin_object ts)) (after ∷ outer) P.Object m.stands in
       record {
         same = e ∙ m.same ∙ ap (λ us. us ++ members_tokens ms) b.same ∙ one_before Token.begin_object ts (members_tokens ms);
         stands = ap nesting e ∙ nesting-more (with_members ms (put Token.begin_object ts)) Token.end_object ∙ ap (λ n. nest n Token.end_object) m.stands;

@@ -6,5 +6,5 @@ use Rattle.app_command.proofs.answers.answer_to_defs.Goals as goal
 pub returns-in-Ok : goal.returns-in-Ok
 returns-in-Ok g c =
     IfOk-weaker c.answer_to_lowered.result _ _
-    (λ answer. answer_of_lowered (definition_views c.args.defs.now) c.args.asked.now c.in-Ok.lowered answer c.in-Ok.ensures.accepted.1)
+    (λ answer. answer_of_lowered (definition_views c.args.defs.now) c.args.asked.now c.args.files.now c.in-Ok.lowered answer c.in-Ok.ensures.accepted.1)
     c.answer_to_lowered.ensures

@@ -12,7 +12,7 @@ returns-in-Unread g c =
     (λ answer h. (
       c.in_ok-reading.reading,
       c.in_ok-reading.ensures,
-      subst (λ r. IsAnswerToReading c.args.asked.now r answer) (sym c.in-Unread.is) (h.0, λ _. h.1 (λ none. is.0 (none_viewed _ (is.1 ∙ none)))),
+      subst (λ r. IsAnswerToReading c.args.asked.now c.args.files.now r answer) (sym c.in-Unread.is) (h.0, λ _. h.1 (λ none. is.0 (none_viewed _ (is.1 ∙ none)))),
     ))
     c.refusal_of_forms.ensures
 

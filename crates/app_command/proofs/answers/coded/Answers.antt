@@ -1,4 +1,4 @@
 use Rattle.app_command.proofs.answers.coded.Goals as goal
 
 pub returns : goal.returns
-returns c = (c.args.files.now, (c.in_ok-code.code, c.in_ok-code.ensures, c.answer_of_code.ensures))
+returns c = (c.in_ok-code.code, c.in_ok-code.ensures, c.answer_of_code.ensures)

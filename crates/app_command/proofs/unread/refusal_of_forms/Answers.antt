@@ -19,13 +19,13 @@ returns g c =
     let found = c.in_ok-found.found in
     let reports = c.in_ok-reports.reports.items in
     let more = c.in_ok-rest.ensures in
-    let told_mistakes = c.told.result.now in
+    let told_mistakes = c.told_of-told.result.now in
     let same : c.deref-2.result.now ≡ found.errors.items = search rules in
     let given : c.deref-3.result.now ≡ c.add_errors.new.reports.items = search rules in (
       c.in_ok-answer.ensures.refusal,
       λ some.
           let wrong : found.errors.items ≢ [] = λ none. some (c.recovered_texts_have_no_mistake.ensures has_none c.args.files.now.texts.items (ap (λ r. r.mistakes) (sym c.in_ok-found.ensures) ∙ ap (map wrong_view) none)) in
-          let some_told : told_mistakes ≢ [] = told_some c.wants_all.result c.deref-2.result.now told_mistakes c.told.ensures.all c.told.ensures.few (subst (λ es. es ≢ []) (sym same) wrong) in
+          let some_told : told_mistakes ≢ [] = told_some c.wants_all.result c.deref-2.result.now told_mistakes c.told_of-told.ensures.all c.told_of-told.ensures.few (subst (λ es. es ≢ []) (sym same) wrong) in
           let told : reports ≢ [] = zip_some BeginsAtError told_mistakes reports c.in_ok-reports.ensures some_told in
           c.in_ok-answer.ensures.told (subst (λ rs. rs ≢ []) (sym (given ∙ more.1)) (some_longer reports more.0 told)),
     )

@@ -7,5 +7,5 @@ pub returns-in_default : goal.returns-in_default
 returns-in_default c =
     let w = c.args.self.now in
     let none : slice_get w.outer.items (length w.outer.items - 1) ≡ None =
-        ap (λ (ps : List Place). slice_get ps (length ps - 1)) (sym c.deref.ensures.value) ∙ sym c.last.ensures.value ∙ sym c.copied.ensures ∙ c.in_default.is in
+    ap (λ (ps : List Place). slice_get ps (length ps - 1)) (sym c.deref.ensures.value) ∙ sym c.last.ensures.value ∙ sym c.copied.ensures ∙ c.in_default.is in
     whole_stays w.out.tokens w.outer.items w.place w.nested none
