@@ -1,6 +1,7 @@
 -- The tokens of a text, without where they lie in memory, and which token a word is.
-use Rattle.std.specs.Prelude.{ℕ, ℤ, Bool, List, [], ◌∷◌, drop, slice_index, Option, Some, None, option_map, Result, Ok, Err, if◌then◌else◌, ◌==◌}
+use Rattle.std.specs.Prelude.{ℕ, ℤ, Bool, false, not, List, [], ◌∷◌, drop, slice_index, Option, Some, None, option_map, Result, Ok, Err, if◌then◌else◌, ◌==◌}
 use Rattle.std.specs.Char.{is_ascii_digit}
+use Rattle.std.specs.List.{find}
 use Rattle.model.specs.lists.Syntax.{Position, Name}
 use Rattle.text_reader.specs.declared.errors.Mistake.{Mistake}
 use Rattle.text_reader.specs.declared.errors.Mistake.TheVariants.{BoundName}
@@ -47,9 +48,17 @@ abbrev pub at_place : {A : Type 0} → Position → Result A Mistake → Result 
 at_place p (Ok x) = Ok x
 at_place p (Err m) = Err (expected m, p)
 
--- whether a word begins as a number does
+abbrev pub is_some_digit : Option ℕ → Bool
+is_some_digit None = false
+is_some_digit (Some b) = is_ascii_digit b
+
+-- whether the first byte that isn't `_` is a digit
+abbrev pub begins_digits : List ℕ → Bool
+begins_digits bs = is_some_digit (find (λ b. not (b == 95)) bs)
+
+-- whether a word begins as a number does: with a digit, or with `-` and then a digit behind any `_`
 abbrev pub begins_number : List ℕ → Bool
-begins_number w = is_ascii_digit (slice_index (if slice_index w 0 == 45 then drop 1 w else w) 0)
+begins_number w = if slice_index w 0 == 45 then begins_digits (drop 1 w) else is_ascii_digit (slice_index w 0)
 
 -- the token that a word is
 unfoldable pub word_token : Name → Result Lexeme Wrong

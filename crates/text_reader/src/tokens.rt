@@ -1,10 +1,11 @@
 //! Characters to tokens: parentheses, words, numbers, constants, and names that `@` binds. Comments and white space part them.
 
-ghost use Rattle.std.specs.Prelude.{◌≡◌, ◌+◌, List, [], ◌∷◌, ◌++◌, length, Ok, option_map, slice_index, ◌==◌, IfSome, MatchResult, OnOk};
+ghost use Rattle.std.specs.Prelude.{◌≡◌, ◌+◌, List, [], ◌∷◌, ◌++◌, length, Ok, option_map, slice_index, ◌==◌, not, IfSome, MatchResult, OnOk};
 ghost use Rattle.std.specs.Str.{chars};
 ghost use Rattle.std.specs.Char.{encode_utf8};
+ghost use Rattle.std.specs.List.{find};
 ghost use Rattle.model.specs.lists.Syntax.{Name};
-ghost use Rattle.text_reader.specs.Lexemes.{begins_number, binder, binder_of, last_bound, or_mistake, word_token};
+ghost use Rattle.text_reader.specs.Lexemes.{begins_digits, begins_number, binder, binder_of, last_bound, or_mistake, word_token};
 ghost use Rattle.text_reader.specs.Pieces.{AreIn, Piece, is_in_word};
 ghost use Rattle.text_reader.specs.Lexing.{between, begun, finished, in_comment, run, step, tokens_after};
 ghost use Rattle.core_syntax.specs.SyntaxViews.{name_view, position};
@@ -284,7 +285,7 @@ fn add(at: Source, token: Token, tokens: &mut Vec<Token>) -> Result<(), ReadFaul
     Ok(())
 }
 
-// A word that begins with a digit, or with `-` and a digit, must be a number.
+// A word that begins as a number does must be one.
 #[tactic(auto, unfolding(crate::specs::Lexemes::word_token))]
 fn word_or_number(at: Source, name: Ident) -> Result<Token, ReadFault>
     requires { IdentIsWithin at.file at.len name }
@@ -310,14 +311,31 @@ fn word_of(at: Source, pos: Pos, c: char) -> Result<Ident, ReadFault>
     Ok(Ident(text, pos))
 }
 
-fn begins_number(word: &[u8]) -> bool
+/// Whether a word begins as a number does: with a digit, or with `-` and then a digit behind any `_`.
+pub fn begins_number(word: &[u8]) -> bool
     ensures { result ≡ begins_number word.now }
 {
     match word {
-        [b'-', digit, ..] => digit.is_ascii_digit(),
+        [b'-', digits @ ..] => begins_digits(digits),
         [digit, ..] => digit.is_ascii_digit(),
         [] => false,
     }
+}
+
+// Whether the first byte that isn't `_` is a digit.
+fn begins_digits(word: &[u8]) -> bool
+    ensures { result ≡ begins_digits word.now }
+{
+    match first_past_underscores(word) {
+        Some(byte) => byte.is_ascii_digit(),
+        None => false,
+    }
+}
+
+fn first_past_underscores(word: &[u8]) -> Option<u8>
+    ensures { result ≡ find (λ b. not (b == 95)) word.now }
+{
+    word.iter().copied().find(|b| *b != b'_')
 }
 
 fn begins_with_dash(word: &[u8]) -> bool

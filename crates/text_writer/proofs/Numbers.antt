@@ -14,7 +14,7 @@ use Rattle.std.proofs.lemmas.Str.Parse.{digit_from_value}
 use Rattle.model.specs.lists.Syntax.{Position}
 use Rattle.text_reader.specs.Pieces.{is_in_word}
 use Rattle.text_reader.specs.Numbers.{is_underscore_or_digit, are_digits, digits_after, has_mark, radix_of, sized, unsigned_number, number_of}
-use Rattle.text_reader.specs.Lexemes.{number, begins_number, word_token}
+use Rattle.text_reader.specs.Lexemes.{number, begins_digits, begins_number, word_token}
 use Rattle.text_writer.specs.Spellable.{is_signed_128, is_some_text}
 
 -- ---- digits
@@ -122,6 +122,10 @@ first_digit : (ds : List ℕ) → 0 < length ds → AllDigits 10 ds → is_ascii
 first_digit [] some h = absurd (omega (arith, some))
 first_digit (c ∷ cs) some h = digit_is_digit c h.0
 
+digits_begin : (ds : List ℕ) → 0 < length ds → AllDigits 10 ds → begins_digits ds ≡ true
+digits_begin [] some h = absurd (omega (arith, some))
+digits_begin (c ∷ cs) some h = rw (digit_no_underscore c h.0) (digit_is_digit c h.0)
+
 number_read : (z : ℤ) → is_signed_128 z ≡ true → number_of (signed_decimal z) ≡ Ok z
 unfolding number_of
 number_read (pos n) h =
@@ -141,7 +145,7 @@ begins_as_number (pos n) h =
 begins_as_number (negsuc n) h =
     let k = neg_small n h in
     let ds = decimal_is_IsNumeral_wide (suc n) (omega (arith, k)) in
-    first_digit (decimal (suc n)) ds.0.0 ds.0.1
+    digits_begin (decimal (suc n)) ds.0.0 ds.0.1
 
 pub number_token : (z : ℤ) (at : Position) → is_signed_128 z ≡ true → word_token (record { text = signed_decimal z; at = at }) ≡ Ok (number z at)
 unfolding word_token

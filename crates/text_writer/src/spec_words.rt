@@ -8,6 +8,7 @@ ghost use Rattle.text_writer.specs.Spellable.{begins_any_word, is_any_word};
 
 use crate::words::{has_word_characters, is_truth};
 use core_syntax::syntax::Ident;
+use text_reader::tokens::begins_number;
 
 /// Whether a name is written as a word, which may begin with `-`.
 #[tactic(auto, unfolding(crate::specs::Spellable::is_any_word))]
@@ -24,8 +25,7 @@ fn begins_any_word(text: &[u8]) -> bool
 {
     match text {
         [] | [b'$', ..] => false,
-        [b'-', digit, ..] => !digit.is_ascii_digit(),
-        [digit, ..] => !digit.is_ascii_digit(),
+        [_, ..] => !begins_number(text),
     }
 }
 
