@@ -1,11 +1,11 @@
 //! Priorities that have no effect.
 
-ghost use Rattle.std.specs.Prelude.{◌≡◌, length, map, true, IfOk, OnOk};
+ghost use Rattle.std.specs.Prelude.{◌≡◌, map, true, IfOk, OnOk};
 ghost use Rattle.core_syntax.specs.SyntaxViews.{position};
 ghost use Rattle.cranelift_isle.specs.SiteViews.{set_rule_view, set_rule_views};
 ghost use Rattle.laws_ways.specs.IdlePriorities.{idle_priorities, may_meet};
-ghost use Rattle.report_warnings.specs.Added.{AddsSoMany};
-ghost use Rattle.report_warnings.specs.IdlePriorities.{is_idle, meets_some};
+ghost use Rattle.report_warnings.specs.Added.{told_of, AddsTold};
+ghost use Rattle.report_warnings.specs.IdlePriorities.{is_idle, meets_some, told_of_idle};
 
 use crate::kinds::{Warning, begun};
 use cranelift_isle::syntax::{Def, Pos};
@@ -187,7 +187,7 @@ pub(crate) fn add_idle_priorities(
     defs: &[Def],
     rules: &[Rule],
 ) -> Result<(), AllocError>
-    ensures { OnOk result (AddsSoMany (length (idle_priorities (set_rule_views rules.now))) reports.old.items reports.new.items) }
+    ensures { OnOk result (AddsTold (map told_of_idle (idle_priorities (set_rule_views rules.now))) reports.old.items reports.new.items) }
 {
     let idle = idle_priorities(alloc, rules)?;
     for place in &idle {
@@ -197,7 +197,9 @@ pub(crate) fn add_idle_priorities(
 }
 
 // The warning of a rule whose priority changes nothing.
-fn idle_report(alloc: Global, defs: &[Def], pos: Pos) -> Result<Report, AllocError> {
+fn idle_report(alloc: Global, defs: &[Def], pos: Pos) -> Result<Report, AllocError>
+    ensures { IfOk result (λ report. told_of report ≡ told_of_idle (position pos)) }
+{
     let message = String::from_str(alloc, "a priority has no effect")?;
     let mut report = begun(alloc, Warning::Priority, message);
     let after = " never matches together with another rule of its term";
