@@ -1,0 +1,19 @@
+-- The terms that sites call, site by site.
+use Rattle.std.proofs.Common.{◌≡◌, ℕ, ◌+◌, ◌<◌, ◌≤◌, List, ◌∷◌, length, get_or, drop, sym, ap, ◌∙◌}
+use Rattle.std.proofs.lemmas.List.{at_drop_more, at_drop_all}
+use Rattle.core_rule_sets.specs.declared.trie_again.Binding.{Binding}
+use Rattle.cranelift_isle.specs.SiteViews.{site_view, site_views}
+use Rattle.report_traces.specs.EchoedTerms.{with_site, with_sites}
+
+module _ (sites : List Binding) (i : ℕ) where
+  pub called_more : (x : Binding) (before after all : List ℕ) → i < length sites → x ≡ get_or sites i x → after ≡ with_site before (site_view x)
+      → with_sites before (site_views (drop i sites)) ≡ all → with_sites after (site_views (drop (i + 1) sites)) ≡ all
+  called_more x before after all h at added inv =
+      let rest = drop (i + 1) sites in
+      ap (λ (ts : List ℕ). with_sites ts (site_views rest)) added
+      ∙ ap (λ (y : Binding). with_sites before (site_views (y ∷ rest))) at
+      ∙ sym (at_drop_more (λ (ss : List Binding). with_sites before (site_views ss)) sites i x h)
+      ∙ inv
+
+  pub called_all : (before all : List ℕ) → length sites ≤ i → with_sites before (site_views (drop i sites)) ≡ all → before ≡ all
+  called_all before all h inv = sym (at_drop_all (λ (ss : List Binding). with_sites before (site_views ss)) sites i h) ∙ inv
