@@ -1,9 +1,16 @@
 -- The terms that sites call, site by site.
-use Rattle.std.proofs.Common.{◌≡◌, ℕ, ◌+◌, ◌<◌, ◌≤◌, List, ◌∷◌, length, get_or, drop, sym, ap, ◌∙◌}
+use Rattle.std.proofs.Common.{◌≡◌, ℕ, Bool, ◌==◌, ◌||◌, ◌+◌, ◌<◌, ◌≤◌, List, [], ◌∷◌, map, refl, length, get_or, drop, sym, ap, ◌∙◌}
 use Rattle.std.proofs.lemmas.List.{at_drop_more, at_drop_all}
+use Rattle.std.specs.List.{list_any}
+use Rattle.core_types.specs.declared.ids.TermId.{TermId}
 use Rattle.core_rule_sets.specs.declared.trie_again.Binding.{Binding}
 use Rattle.cranelift_isle.specs.SiteViews.{site_view, site_views}
 use Rattle.report_traces.specs.EchoedTerms.{with_site, with_sites}
+
+-- among the numbers of terms is one, or among the terms
+pub among_numbers : (terms : List TermId) (n : ℕ) → list_any (λ other. other == n) (map (λ t. t.0) terms) ≡ list_any (λ other. other.0 == n) terms
+among_numbers [] n = refl
+among_numbers (t ∷ ts) n = ap (λ (b : Bool). (t.0 == n) || b) (among_numbers ts n)
 
 module _ (sites : List Binding) (i : ℕ) where
   pub called_more : (x : Binding) (before after all : List ℕ) → i < length sites → x ≡ get_or sites i x → after ≡ with_site before (site_view x)

@@ -51,6 +51,7 @@ fn push_site(terms: &mut Vec<TermId>, site: &Binding) -> Result<(), AllocError>
 }
 
 // Adds a term, unless it is there already.
+#[tactic(auto, using(crate::proofs::EchoedTerms::among_numbers))]
 fn push_term(terms: &mut Vec<TermId>, term: TermId) -> Result<(), AllocError>
     ensures { OnOk result (map (λ t. t.0) terms.new.items ≡ with_term (map (λ t. t.0) terms.old.items) term.0) }
 {
@@ -62,7 +63,7 @@ fn push_term(terms: &mut Vec<TermId>, term: TermId) -> Result<(), AllocError>
 }
 
 fn is_among(terms: &[TermId], term: TermId) -> bool
-    ensures { result ≡ list_any (λ other. other == term.0) (map (λ t. t.0) terms.now) }
+    ensures { result ≡ list_any (λ other. other.0 == term.0) terms.now }
 {
     terms.iter().any(|other| other.index() == term.index())
 }
