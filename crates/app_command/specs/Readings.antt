@@ -1,5 +1,5 @@
 -- What the texts of files are read as: the definitions that they spell, one text after another, or their first mistakes.
-use Rattle.std.specs.Prelude.{Bool, true, false, ℕ, ◌+◌, ◌==◌, ◌≡◌, ◌≢◌, ◌&&◌, ◌||◌, List, [], ◌∷◌, ◌++◌, All, is_some, length, map, slice_get, Some, Result, Ok, Err}
+use Rattle.std.specs.Prelude.{Bool, true, false, ℕ, ◌+◌, ◌≡◌, ◌≢◌, List, [], ◌∷◌, ◌++◌, All, length, map, slice_get, Some, Result, Ok, Err}
 use Rattle.cranelift_isle.specs.SyntaxViews.{definition_views}
 use Rattle.cranelift_isle.specs.Syntax.{Definition}
 use Rattle.cranelift_isle.specs.Lowerings.{AreAccepted}
@@ -14,9 +14,6 @@ use Rattle.core_syntax.specs.SyntaxViews.{position}
 use Rattle.text_reader.specs.Within.{DefinitionIsWithin}
 use Rattle.app_command.specs.declared.reading.Reading.{Reading}
 use Rattle.app_command.specs.declared.reading.Reading.TheVariants.{Defs, Unread}
-use Rattle.app_command.specs.declared.words.Request.{Request}
-use Rattle.app_command.specs.declared.words.Task.{Task}
-use Rattle.app_command.specs.declared.words.Task.TheVariants as T
 
 -- what an error says, and where
 abbrev pub error_view : TextError → Wrong
@@ -33,14 +30,6 @@ StandsInSome texts error = (number : ℕ) × (text : List ℕ) × (slice_get tex
 -- a definition lies in one of these texts
 abbrev pub LiesInSome : List (List ℕ) → Definition → Type 0
 LiesInSome texts def = (number : ℕ) × (text : List ℕ) × (slice_get texts number ≡ Some text) × DefinitionIsWithin number (length text) def
-
--- whether the file of this number, the last, has printed trees or answers, and no definitions
-abbrev pub is_comparison : Task → Bool
-is_comparison T.Compare = true
-is_comparison _ = false
-
-abbrev pub has_no_definitions : Request → ℕ → Bool
-has_no_definitions asked number = (is_comparison asked.task || is_some asked.answers) && (number + 1 == length asked.files.items)
 
 -- each file has definitions
 abbrev pub none_without : ℕ → Bool

@@ -8,9 +8,10 @@ use Rattle.report_print.specs.PlaceTexts.{texts_of}
 use Rattle.rust_text.specs.CodeOfTerms.{IsTextOfProgram}
 use Rattle.rust_text.specs.WrittenFunctions.{TextSetting}
 use Rattle.app_command.specs.declared.answers.Answer.{Answer}
-use Rattle.app_command.specs.declared.words.Request.{Request}
-use Rattle.app_command.specs.declared.words.Task.TheVariants.{Rust}
-use Rattle.app_command.specs.Readings.{has_no_definitions, AreOfTexts}
+use Rattle.app_words.specs.declared.requests.Request.{Request}
+use Rattle.app_words.specs.declared.tasks.Task.TheVariants.{Rust}
+use Rattle.app_command.specs.Readings.{AreOfTexts}
+use Rattle.app_words.specs.Requests.{has_no_definitions}
 use Rattle.app_command.specs.TaskAnswers.{IsAnswerToFiles}
 
 -- a text is code of what these texts spell: definitions that are accepted, with one function of each of their terms with rules, whose

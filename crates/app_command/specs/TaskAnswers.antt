@@ -18,14 +18,15 @@ use Rattle.app_command.specs.declared.calls.Told.{Told}
 use Rattle.app_command.specs.declared.calls.Told.TheVariants.{Text, Wrong}
 use Rattle.app_command.specs.declared.reading.Reading.{Reading}
 use Rattle.app_command.specs.declared.reading.Reading.TheVariants.{Defs, Unread}
-use Rattle.app_command.specs.declared.words.Format.{Format}
-use Rattle.app_command.specs.declared.words.Format.TheVariants as F
-use Rattle.app_command.specs.declared.words.Request.{Request}
-use Rattle.app_command.specs.declared.words.Task.{Task}
-use Rattle.app_command.specs.declared.words.Task.TheVariants as T
+use Rattle.app_words.specs.declared.tasks.Format.{Format}
+use Rattle.app_words.specs.declared.tasks.Format.TheVariants as F
+use Rattle.app_words.specs.declared.requests.Request.{Request}
+use Rattle.app_words.specs.declared.tasks.Task.{Task}
+use Rattle.app_words.specs.declared.tasks.Task.TheVariants as T
 use Rattle.app_command.specs.CallTexts.{IsTextOfRun}
 use Rattle.app_command.specs.Codes.{IsAnswerOfRust}
-use Rattle.app_command.specs.Readings.{has_no_definitions, IsAcceptedReading, IsReadingOf}
+use Rattle.app_command.specs.Readings.{IsAcceptedReading, IsReadingOf}
+use Rattle.app_words.specs.Requests.{has_no_definitions}
 use Rattle.app_command.specs.WantedTerms.{missing_name, wanted_terms}
 
 -- nothing stands on standard error

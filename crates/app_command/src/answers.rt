@@ -2,7 +2,7 @@
 
 ghost use Rattle.std.specs.Prelude.{◌≡◌, ◌==◌, ◌≢◌, ◌⊎◌, ◌≤◌, true, false, [], length, map, string_bytes, IfOk, OnOk};
 ghost use Rattle.cranelift_isle.specs.SyntaxViews.{definition_views};
-ghost use Rattle.app_command.specs.declared.words.Task.TheVariants.{Lower, Run};
+ghost use Rattle.app_words.specs.declared.tasks.Task.TheVariants.{Lower, Run};
 ghost use Rattle.app_command.specs.Codes.{IsAnswerOfCode, IsAnswerOfRust};
 ghost use Rattle.app_command.specs.Compared.{last_has_trees};
 ghost use Rattle.app_command.specs.TaskAnswers.{AreReports, AreSizes, HasNoReport, HasReport, IsDone, IsDoneWithText, IsDoneWithoutText, IsFailed, IsRefusal, IsStatusOfWarnings, denies};
@@ -17,7 +17,8 @@ use crate::reading::{Reading, reading_of};
 use crate::trees::{missing_term, text_of_trees, told, wanted};
 use crate::unread::{refusal_of_forms, refusal_of_texts};
 use crate::versions::answer_to_versions;
-use crate::words::{Format, Request, Task};
+use app_words::requests::Request;
+use app_words::tasks::{Format, Task};
 use cranelift_isle::lower::{Lowered, lower};
 use cranelift_isle::syntax::{Def, Error, Fault, Files};
 use report_compare::departures;

@@ -1,7 +1,7 @@
 //! The texts of `isle --help`, `isle TASK --help` and `isle --version`.
 
-use crate::options::OPTIONS;
-use crate::words::{TASKS, Task};
+use app_words::options::CHOICES;
+use app_words::tasks::{TASKS, Task};
 use std::alloc::{AllocError, Global};
 
 const HEAD: &str = "usage: isle TASK [OPTIONS] FILE..
@@ -34,9 +34,9 @@ pub(crate) fn help_text(alloc: Global, task: Option<Task>) -> Result<String, All
         None => push_tasks(&mut out)?,
     }
     out.push_str("Options:\n")?;
-    for option in &OPTIONS {
+    for option in &CHOICES {
         if task.map_or(true, |task| option.is_of(task)) {
-            out.push_str(option.help)?;
+            out.push_str(option.help())?;
         }
     }
     out.push_str(TAIL)?;

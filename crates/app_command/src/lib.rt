@@ -1,4 +1,4 @@
-//! The command `isle`: what it is asked by its words, and what it answers to files of ISLE text.
+//! The command `isle`: what it answers to files of ISLE text.
 #![tactic(auto)]
 
 pub mod answers;
@@ -8,7 +8,6 @@ pub mod formatting;
 mod graphs;
 mod help;
 pub mod inputs;
-mod options;
 pub mod output;
 mod printing;
 pub mod progress;
@@ -18,4 +17,3 @@ pub mod run;
 mod trees;
 pub mod unread;
 mod versions;
-pub mod words;

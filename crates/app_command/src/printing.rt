@@ -8,7 +8,7 @@ use crate::answers::{Answer, accepted, refusal};
 use crate::progress::Teller;
 use crate::reading::{Reading, reading_of};
 use crate::unread::refusal_of_texts;
-use crate::words::Request;
+use app_words::requests::Request;
 use cranelift_isle::syntax::{Def, Files, Pos};
 use report_print::report::{Label, Level, Note, Report};
 use std::alloc::{AllocError, Global};

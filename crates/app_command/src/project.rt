@@ -4,7 +4,7 @@ ghost use Rattle.std.specs.Prelude.{◌≡◌, ◌≢◌, ◌≤◌, [], IfOk, M
 
 use crate::inputs::{Unread, file_text, path_of, unread_folder};
 use crate::run::{cannot_read, wrong_words};
-use crate::words::{Unasked, wrong, wrong_as};
+use app_words::errors::{Unasked, wrong, wrong_as};
 use report_queries::answers::no_memory;
 use std::alloc::{AllocError, Global};
 use std::fs;

@@ -9,10 +9,11 @@ ghost use Rattle.text_reader.specs.Definitions.{Spells, reading};
 ghost use Rattle.text_reader.specs.Recovering.{beside, recovering};
 ghost use Rattle.text_reader.specs.RecoveryViews.{recovery_view};
 ghost use Rattle.text_reader.specs.declared.errors.TextError.{TextError};
-ghost use Rattle.app_command.specs.Readings.{has_no_definitions, error_view, mistake_in, mistakes_of_texts, recovered_texts, AreOfTexts, IsReadingOf, StandsIn};
+ghost use Rattle.app_command.specs.Readings.{error_view, mistake_in, mistakes_of_texts, recovered_texts, AreOfTexts, IsReadingOf, StandsIn};
+ghost use Rattle.app_words.specs.Requests.{has_no_definitions};
 
 use crate::progress::Teller;
-use crate::words::Request;
+use app_words::requests::Request;
 use cranelift_isle::syntax::{Def, Files};
 use report_print::lines::file_name;
 use std::alloc::{AllocError, Global};

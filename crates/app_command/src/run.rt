@@ -2,18 +2,22 @@
 
 ghost use Rattle.std.specs.Prelude.{◌≡◌, ◌≢◌, ◌⊎◌, ◌≤◌, [], ◌∷◌, false, map, string_bytes, true, IfErr, IfOk, MatchResult};
 ghost use Rattle.report_queries.specs.Samples.{names_sample};
-ghost use Rattle.app_command.specs.declared.words.Task.TheVariants.{Samples};
+ghost use Rattle.app_words.specs.declared.tasks.Task.TheVariants.{Samples};
 ghost use Rattle.app_command.specs.Outputs.{IsNothingWritten, IsWrittenOut};
 ghost use Rattle.app_command.specs.Statuses.{IsEndingFor, IsEndingOf, IsStatusOfUnread};
 
 use crate::answers::{Answer, answer_within};
-use crate::formatting::{Formatting, run_formatting};
+use crate::formatting::run_formatting;
 use crate::help::{VERSION, help_text};
 use crate::inputs::{Unread, read_files};
 use crate::output::{Ending, write_texts};
 use crate::progress::Unanswered;
 use crate::project::find_files;
-use crate::words::{Command, Request, Task, Unasked, asked_by};
+use app_words::errors::Unasked;
+use app_words::formatting::Formatting;
+use app_words::requests::Request;
+use app_words::tasks::Task;
+use app_words::words::{Command, asked_by};
 use cranelift_isle::syntax::Files;
 use report_queries::answers::{end, no_memory};
 use report_queries::sample_run::run_sample;

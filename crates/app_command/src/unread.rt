@@ -4,13 +4,14 @@ ghost use Rattle.std.specs.Prelude.{◌≡◌, ◌≢◌, ◌++◌, [], List, ma
 ghost use Rattle.std.specs.List.{AllZip};
 ghost use Rattle.report_errors.specs.Places.{BeginsAtError, IsAtError};
 ghost use Rattle.report_print.specs.declared.report.Report.{Report};
-ghost use Rattle.app_command.specs.Readings.{has_no_definitions, mistakes_of_texts};
+ghost use Rattle.app_command.specs.Readings.{mistakes_of_texts};
+ghost use Rattle.app_words.specs.Requests.{has_no_definitions};
 ghost use Rattle.app_command.specs.TaskAnswers.{HasReport, IsRefusal};
 
 use crate::answers::{Answer, refusal};
 use crate::progress::Teller;
 use crate::reading::{recovered_of, recovered_texts_have_no_mistake};
-use crate::words::Request;
+use app_words::requests::Request;
 use cranelift_isle::syntax::Files;
 use report_errors::diagnosis::{MOST_ERRORS, amount_wanted, reports_of};
 use report_errors::lost::{errors_beside, lost_parts, lost_report};

@@ -16,7 +16,7 @@ use app_command::project::find_files;
 use app_command::reading::Reading;
 use app_command::run::cannot_read;
 use app_command::unread::reports_of_texts;
-use app_command::words::Unasked;
+use app_words::errors::Unasked;
 use cranelift_isle::lower::{Lowered, lower};
 use cranelift_isle::syntax::{Def, Error, Fault, Files, Pos};
 use report_errors::diagnosis::{Amount, reports_of};

@@ -1,6 +1,6 @@
 //! What `conditions` is asked by its words.
 
-use app_command::words::{Unasked, given_twice, wrong, wrong_as};
+use app_words::errors::{Unasked, given_twice, wrong, wrong_as};
 use std::alloc::Global;
 
 /// Which texts for solvers are written.

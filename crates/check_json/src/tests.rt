@@ -3,7 +3,7 @@ mod forms;
 
 use app_command::answers::answer_within;
 use app_command::progress::Unanswered;
-use app_command::words::{Command, asked_by};
+use app_words::words::{Command, asked_by};
 use cranelift_isle::syntax::Files;
 use forms::{check_document, check_sizes};
 use report_queries::samples::SAMPLES;

@@ -3,8 +3,10 @@
 use app_command::answers::{Answer, answer_within};
 use app_command::progress::Unanswered;
 use app_command::project::Project;
-use app_command::words::{Command, Request, Unasked, asked_by};
 use app_conditions::words::conditions_by;
+use app_words::errors::Unasked;
+use app_words::requests::Request;
+use app_words::words::{Command, asked_by};
 use cranelift_isle::syntax::Files;
 use std::alloc::{AllocError, Global};
 

@@ -1,5 +1,8 @@
 //! The kinds of warnings.
 
+ghost use Rattle.std.specs.Prelude.{◌≡◌};
+ghost use Rattle.report_warnings.specs.Kinds.{warning_name, warning_named};
+
 use cranelift_isle::syntax::Pos;
 use report_print::report::{Label, Level, Report};
 use std::alloc::{AllocError, Global};
@@ -42,7 +45,9 @@ pub const WARNINGS: [Warning; 9] = [
 
 impl Warning {
     /// The name of the kind.
-    pub fn name(self) -> &'static str {
+    pub fn name(self) -> &'static str
+        ensures { result.now ≡ warning_name self }
+    {
         match self {
             Warning::NeverRun => "never-run",
             Warning::Priority => "priority",
@@ -57,13 +62,10 @@ impl Warning {
     }
 
     /// The kind of a name, if it is that of one.
-    pub fn of(name: &str) -> Option<Warning> {
-        for warning in WARNINGS {
-            if warning.name() == name {
-                return Some(warning);
-            }
-        }
-        None
+    pub fn of(name: &str) -> Option<Warning>
+        ensures { result ≡ warning_named name.now }
+    {
+        WARNINGS.iter().copied().find(|kind| kind.name() == name)
     }
 }
 

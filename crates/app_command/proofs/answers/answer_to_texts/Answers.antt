@@ -1,6 +1,7 @@
 use Rattle.std.proofs.Common.{◌∙◌, map, string_bytes, subst, sym}
 use Rattle.std.proofs.lemmas.Result.{IfOk-weaker}
-use Rattle.app_command.specs.Readings.{has_no_definitions, IsReadingOf}
+use Rattle.app_command.specs.Readings.{IsReadingOf}
+use Rattle.app_words.specs.Requests.{has_no_definitions}
 use Rattle.app_command.specs.TaskAnswers.{IsAnswerToReading}
 use Rattle.app_command.proofs.RecoveredTexts.{none_viewed}
 use Rattle.app_command.proofs.answers.answer_to_texts.Goals as goal

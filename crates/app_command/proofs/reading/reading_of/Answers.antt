@@ -4,7 +4,8 @@ use Rattle.std.proofs.lemmas.List.{length-map, nil_from_length}
 use Rattle.std.proofs.lemmas.Option.{slice_get_read}
 use Rattle.cranelift_isle.specs.SyntaxViews.{definition_views}
 use Rattle.model.proofs.Mapped.{get_map}
-use Rattle.app_command.specs.Readings.{error_view, has_no_definitions, LiesInSome, StandsInSome}
+use Rattle.app_command.specs.Readings.{error_view, LiesInSome, StandsInSome}
+use Rattle.app_words.specs.Requests.{has_no_definitions}
 use Rattle.app_command.proofs.TextsRead.{all_are, all_lie_in_some, all_mistakes, all_stand_in_some, mistaken_before, no_mistake_before, passed_before, read_before, AreBefore, AreMistakesBefore}
 use Rattle.app_command.proofs.reading.reading_of.Goals as goal
 use Rattle.app_command.proofs.reading.reading_of.Goals.{then-not-has_no_definitions+in_ok-read_text, else-not-has_no_definitions}

@@ -1,7 +1,8 @@
 -- The definitions and the mistakes so far are those of the texts so far, and lie in them.
 use Rattle.std.proofs.Common.{◌≡◌, [], All, map, string_bytes}
 use Rattle.cranelift_isle.specs.SyntaxViews.{definition_views}
-use Rattle.app_command.specs.Readings.{error_view, has_no_definitions, LiesInSome, StandsInSome}
+use Rattle.app_command.specs.Readings.{error_view, LiesInSome, StandsInSome}
+use Rattle.app_words.specs.Requests.{has_no_definitions}
 use Rattle.app_command.proofs.TextsRead.{AreBefore, AreMistakesBefore}
 use Rattle.app_command.proofs.reading.reading_of.Given as goal
 

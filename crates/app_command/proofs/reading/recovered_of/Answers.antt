@@ -3,7 +3,7 @@ use Rattle.std.proofs.lemmas.List.{length-map}
 use Rattle.std.proofs.lemmas.Option.{slice_get_read}
 use Rattle.model.proofs.Mapped.{get_map}
 use Rattle.text_reader.specs.RecoveryViews.{recovery_view}
-use Rattle.app_command.specs.Readings.{has_no_definitions}
+use Rattle.app_words.specs.Requests.{has_no_definitions}
 use Rattle.app_command.proofs.RecoveredTexts.{all_recovered, none_before, recovered_before, IsRecoveredBefore}
 use Rattle.app_command.proofs.reading.recovered_of.Goals as goal
 use Rattle.app_command.proofs.reading.recovered_of.Goals.{then-not-has_no_definitions+in_ok-add_recovered, else-not-has_no_definitions}

@@ -2,7 +2,8 @@ use Rattle.std.proofs.Common.{rules, Bool, true, false, List, ◌≡◌, ◌≢�
 use Rattle.report_errors.specs.Places.{BeginsAtError}
 use Rattle.text_reader.specs.declared.errors.TextError.{TextError}
 use Rattle.text_reader.specs.RecoveryViews.{wrong_view}
-use Rattle.app_command.specs.Readings.{has_no_definitions, mistakes_of_texts}
+use Rattle.app_command.specs.Readings.{mistakes_of_texts}
+use Rattle.app_words.specs.Requests.{has_no_definitions}
 use Rattle.app_command.proofs.Texts.{zip_some}
 use Rattle.app_command.proofs.RecoveredTexts.{some_longer}
 use Rattle.app_command.proofs.unread.refusal_of_forms.Goals as goal

@@ -1,5 +1,6 @@
 use Rattle.std.proofs.Common.{subst}
-use Rattle.app_command.specs.Readings.{has_no_definitions, IsReadingOf}
+use Rattle.app_command.specs.Readings.{IsReadingOf}
+use Rattle.app_words.specs.Requests.{has_no_definitions}
 use Rattle.app_command.proofs.versions.answer_to_versions.Goals as goal
 
 pub returns : goal.returns

@@ -1,5 +1,5 @@
 use Rattle.std.proofs.Common.{map, string_bytes, ap, is_some}
-use Rattle.app_command.specs.Readings.{is_comparison}
+use Rattle.app_words.specs.Requests.{is_comparison}
 use Rattle.app_command.proofs.AllRead.{all_read}
 use Rattle.app_conditions.proofs.reading.definitions_in.Goals as goal
 

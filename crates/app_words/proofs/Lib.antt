@@ -1,0 +1,4 @@
+pub mod Asking
+pub mod Flat
+pub mod ItemLemmas
+pub mod PartLemmas
