@@ -6,6 +6,7 @@ mod Fronts
 mod HasLists
 mod ItemsReadBack
 mod KeptTokens
+mod Matched
 mod Returns
 mod Scans
 mod Sound
