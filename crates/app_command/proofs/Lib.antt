@@ -1,4 +1,5 @@
 mod CallAnswers
+mod ContentsRead
 mod RecoveredTexts
 mod RustCode
 mod SinkBytes

@@ -1,7 +1,8 @@
 -- What the command answers to definitions, by what it is asked.
-use Rattle.std.specs.Prelude.{ℕ, ◌≡◌, ◌≢◌, ◌≤◌, ◌⊎◌, ◌||◌, ◌++◌, ⊤, Bool, true, false, List, [], ◌∷◌, drop, length, map, option_map, None, Option, Some, string_bytes, take}
+use Rattle.std.specs.Prelude.{ℕ, ◌≡◌, ◌≢◌, ◌≤◌, ◌⊎◌, ◌||◌, ◌++◌, ⊤, Bool, true, false, List, [], ◌∷◌, drop, length, map, option_map, None, Option, Some, string_bytes, take, Ok, Err}
 use Rattle.cranelift_isle.specs.SyntaxViews.{definition_views}
 use Rattle.cranelift_isle.specs.Syntax.{Definition}
+use Rattle.model.specs.lists.Syntax.{Position}
 use Rattle.cranelift_isle.specs.declared.lower.Lowered.{Lowered}
 use Rattle.cranelift_isle.specs.declared.lower.LoweredTerm.{LoweredTerm}
 use Rattle.cranelift_isle.specs.Lowerings.{AreAccepted, IsLowered}
@@ -11,8 +12,9 @@ use Rattle.report_print.specs.PlaceTexts.{texts_of}
 use Rattle.report_print.specs.declared.report.Report.{Report}
 use Rattle.report_queries.specs.TermTexts.{terms_text}
 use Rattle.text_json.specs.JsonLine.{IsJsonLine}
-use Rattle.text_writer.specs.Spellable.{first_unspelled}
-use Rattle.text_writer.specs.Texts.{printed}
+use Rattle.text_writer.specs.ReadsBack.{ReadsBackAs}
+use Rattle.text_writer.specs.Saying.{ReadsBackVerification}
+use Rattle.text_writer.specs.Woven.{unspelled, woven}
 use Rattle.app_command.specs.declared.answers.Answer.{Answer}
 use Rattle.app_command.specs.declared.calls.Told.{Told}
 use Rattle.app_command.specs.declared.calls.Told.TheVariants.{Text, Wrong}
@@ -25,6 +27,7 @@ use Rattle.app_command.specs.declared.words.Task.{Task}
 use Rattle.app_command.specs.declared.words.Task.TheVariants as T
 use Rattle.app_command.specs.CallTexts.{IsTextOfRun}
 use Rattle.app_command.specs.Codes.{IsAnswerOfRust}
+use Rattle.app_command.specs.Contents.{contents_of_texts, TextContents}
 use Rattle.app_command.specs.Readings.{has_no_definitions, IsAcceptedReading, IsReadingOf}
 use Rattle.app_command.specs.WantedTerms.{missing_name, wanted_terms}
 
@@ -170,28 +173,29 @@ IsAnswerToVersions asked texts answer =
     × IsReadingOf (has_no_definitions asked) (drop asked.old texts) new
     × IsAnswerToBoth (IsAcceptedReading asked.expand old) (IsAcceptedReading asked.expand new) asked answer
 
--- definitions are printed: their text, and nothing else, where all can be spelled; else it is told that one can't
-abbrev pub IsPrintOfDefinitions : List Definition → Request → Answer → Type 0
-IsPrintOfDefinitions defs asked answer =
-    ((first_unspelled defs ≡ None) × IsDone answer × (string_bytes answer.out ≡ printed defs))
-    ⊎ ((first_unspelled defs ≢ None) × IsRefusal asked answer × HasReport asked.format answer)
+-- a text of what texts have: each definition and each tree for a verifier on a line, in order. It is read as these, but for places
+abbrev pub IsTextOf : TextContents → (text : List ℕ) → Type 0
+IsTextOf contents text =
+    (contents.mistakes ≡ []) × (woven 0 contents.definitions contents.trees ≡ Ok text)
+    × ReadsBackAs text contents.definitions × ReadsBackVerification text contents.trees
 
--- what was read is printed: definitions, or mistakes of texts are told
-abbrev pub IsPrintOfReading : Request → Reading → Answer → Type 0
-IsPrintOfReading asked (Defs defs) answer = IsPrintOfDefinitions (definition_views defs.items) asked answer
-IsPrintOfReading asked (Unread mistakes) answer = IsRefusal asked answer × (mistakes.items ≢ [] → HasReport asked.format answer)
+-- there is none: texts have mistakes, or else the definition or the tree that stands there can't be spelled
+abbrev pub HasNoText : TextContents → Type 0
+HasNoText contents =
+    (contents.mistakes ≢ []) ⊎ ((at : Position) × (woven 0 contents.definitions contents.trees ≡ Err (unspelled at)))
 
--- texts are printed as something that they are read as
+-- what texts have is printed, and nothing else, if it has a text; else it is told why it has none
+abbrev pub IsPrintOfContents : TextContents → Request → Answer → Type 0
+IsPrintOfContents contents asked answer =
+    (IsDone answer × IsTextOf contents (string_bytes answer.out))
+    ⊎ (HasNoText contents × IsRefusal asked answer × HasReport asked.format answer)
+
 abbrev pub IsPrintOfTexts : Request → List (List ℕ) → Answer → Type 0
-IsPrintOfTexts asked texts answer = (reading : Reading) × IsReadingOf (has_no_definitions asked) texts reading × IsPrintOfReading asked reading answer
+IsPrintOfTexts asked texts answer = IsPrintOfContents (contents_of_texts 0 texts) asked answer
 
--- the places of a report, and where a definition is told of: nowhere if it has no place
+-- the places of a report
 abbrev pub label_places : Report → List Pos
 label_places report = map (λ label. label.pos) report.labels.items
-
-abbrev pub places_of : Option Pos → List Pos
-places_of None = []
-places_of (Some place) = place ∷ []
 
 -- files are answered together, or as two versions, or as one text of all their definitions, by the task
 abbrev pub IsAnswerToFiles : Request → Files → Answer → Type 0

@@ -1,0 +1,150 @@
+-- What texts have, one text more at a time; and that it goes together.
+use Rattle.std.proofs.Common.{◌≡◌, ℕ, suc, ◌+◌, ◌≤◌, List, [], ◌∷◌, ◌++◌, Some, length, map, drop, slice_get, refl, sym, ap, ◌∙◌, subst, append-nil, arith}
+use Rattle.std.specs.Prelude.{Option, None, Result, Ok, Err}
+use Rattle.std.proofs.lemmas.List.{append_assoc, length-append, map-append}
+use Rattle.std.proofs.Math.ListN.{drop_of_length-le}
+use Rattle.model.specs.lists.Syntax.{Position, Definition}
+use Rattle.core_syntax.specs.SyntaxViews.{definition_place}
+use Rattle.text_reader.specs.Definitions.{reading}
+use Rattle.text_reader.specs.Lexemes.{Wrong, ◌>>=◌}
+use Rattle.text_reader.specs.SpecTrees.{VerificationTree}
+use Rattle.text_reader.specs.Verifying.{verification_in}
+use Rattle.text_writer.specs.Woven.{AreMatched, Trees, number_by, other_numbers}
+use Rattle.app_command.specs.Contents.{TextContents, behind, contents_in, contents_of_text, contents_of_texts, followed_by, no_contents}
+use Rattle.app_command.proofs.TextsRead.{dropped}
+
+-- ---- contents behind one another
+
+alike : (ds es : List Definition) (vs ws : Trees) (ms ns : List Wrong) → ds ≡ es → vs ≡ ws → ms ≡ ns
+    → (let c : TextContents = record { definitions = ds; trees = vs; mistakes = ms } in let d : TextContents = record { definitions = es; trees = ws; mistakes = ns } in c ≡ d)
+alike ds es vs ws ms ns a b c =
+    ap (λ x. record { definitions = x; trees = vs; mistakes = ms }) a ∙ ap (λ x. record { definitions = es; trees = x; mistakes = ms }) b
+    ∙ ap (λ x. record { definitions = es; trees = ws; mistakes = x }) c
+
+behind_none : (vs : Trees) → map (behind 0) vs ≡ vs
+behind_none [] = refl
+behind_none (v ∷ vs) = first (0 + v.0) v.0 v.1 (map (behind 0) vs) vs (omega arith) (behind_none vs)
+  where
+    first : (m n : ℕ) (t : VerificationTree) (xs ys : Trees) → m ≡ n → xs ≡ ys → (m, t) ∷ xs ≡ (n, t) ∷ ys
+    first m n t xs ys e f = rw (e, f) refl
+
+behind_both : (m n k : ℕ) → m + n ≡ k → (vs : Trees) → map (behind m) (map (behind n) vs) ≡ map (behind k) vs
+behind_both m n k e [] = refl
+behind_both m n k e (v ∷ vs) = first (m + (n + v.0)) (k + v.0) v.1 (map (behind m) (map (behind n) vs)) (map (behind k) vs) (omega (arith, e)) (behind_both m n k e vs)
+  where
+    first : (m n : ℕ) (t : VerificationTree) (xs ys : Trees) → m ≡ n → xs ≡ ys → (m, t) ∷ xs ≡ (n, t) ∷ ys
+    first m n t xs ys e f = rw (e, f) refl
+
+behind_assoc : (a b c : TextContents) → followed_by (followed_by a b) c ≡ followed_by a (followed_by b c)
+behind_assoc a b c =
+    alike _ _ _ _ _ _ (append_assoc a.definitions b.definitions c.definitions)
+    (append_assoc a.trees (map (behind (length a.definitions)) b.trees) (map (behind (length (a.definitions ++ b.definitions))) c.trees)
+    ∙ ap (λ vs. a.trees ++ (map (behind (length a.definitions)) b.trees ++ vs))
+    (sym (behind_both (length a.definitions) (length b.definitions) (length (a.definitions ++ b.definitions)) (sym (length-append a.definitions b.definitions)) c.trees))
+    ∙ ap (λ vs. a.trees ++ vs) (sym (map-append (behind (length a.definitions)) b.trees (map (behind (length b.definitions)) c.trees))))
+    (append_assoc a.mistakes b.mistakes c.mistakes)
+
+nothing_behind : (c : TextContents) → followed_by c no_contents ≡ c
+nothing_behind c = alike _ _ _ _ _ _ (append-nil c.definitions) (append-nil c.trees) (append-nil c.mistakes)
+
+behind_nothing : (c : TextContents) → followed_by no_contents c ≡ c
+behind_nothing c = alike _ _ _ _ _ _ refl (behind_none c.trees) refl
+
+-- what the texts before a number have: with what the others have, it is what all have
+abbrev pub AreContentsBefore : (texts : List (List ℕ)) (number : ℕ) → TextContents → Type 0
+AreContentsBefore texts number before = followed_by before (contents_of_texts number (drop number texts)) ≡ contents_of_texts 0 texts
+
+pub none_before : (texts : List (List ℕ)) → AreContentsBefore texts 0 no_contents
+none_before texts = behind_nothing (contents_of_texts 0 texts)
+
+pub contents_before : (texts : List (List ℕ)) (number : ℕ) (text : List ℕ) (before after : TextContents)
+    → slice_get texts number ≡ Some text → after ≡ followed_by before (contents_of_text number text)
+    → AreContentsBefore texts number before → AreContentsBefore texts (number + 1) after
+contents_before texts number text before after at e old =
+    let rest = contents_of_texts (number + 1) (drop (number + 1) texts) in
+    ap (λ c. followed_by c rest) e
+    ∙ behind_assoc before (contents_of_text number text) rest
+    ∙ sym (ap (λ ts. followed_by before (contents_of_texts number ts)) (dropped texts number text at)) ∙ old
+
+pub all_contents : (texts : List (List ℕ)) (number : ℕ) (found : TextContents) → length texts ≤ number → AreContentsBefore texts number found → found ≡ contents_of_texts 0 texts
+all_contents texts number found over before =
+    sym (nothing_behind found)
+    ∙ ap (λ ts. followed_by found (contents_of_texts number ts)) (sym (drop_of_length-le texts over)) ∙ before
+
+-- ---- definitions and trees go together
+
+abbrev numbers : Trees → List ℕ
+numbers vs = map (λ v. v.0) vs
+
+behind_numbers : (k : ℕ) (vs : Trees) → numbers (map (behind k) vs) ≡ map (λ m. k + m) (numbers vs)
+behind_numbers k [] = refl
+behind_numbers k (v ∷ vs) = ap (λ ns. k + v.0 ∷ ns) (behind_numbers k vs)
+
+both : {xs ys zs ws : List ℕ} → xs ≡ zs → ys ≡ ws → xs ++ ys ≡ zs ++ ws
+both e f = rw (e, f) refl
+
+one_number : (o : Option Position) (k n : ℕ) → map (λ m. k + m) (number_by o (suc n)) ≡ map (λ m. suc k + m) (number_by o n)
+one_number None k n = ap (λ m. m ∷ []) (omega arith)
+one_number (Some p) k n = refl
+
+next_numbers : (ds : List Definition) (k n : ℕ) → map (λ m. k + m) (other_numbers (suc n) ds) ≡ map (λ m. suc k + m) (other_numbers n ds)
+next_numbers [] k n = refl
+next_numbers (d ∷ ds) k n =
+    map-append (λ m. k + m) (number_by (definition_place d) (suc n)) (other_numbers (suc (suc n)) ds)
+    ∙ both (one_number (definition_place d) k n) (next_numbers ds k (suc n))
+    ∙ sym (map-append (λ m. suc k + m) (number_by (definition_place d) n) (other_numbers (suc n) ds))
+
+same_numbers : (ns : List ℕ) → ns ≡ map (λ m. 0 + m) ns
+same_numbers [] = refl
+same_numbers (n ∷ ns) = first n (0 + n) (omega arith) (same_numbers ns)
+  where
+    first : (m n : ℕ) {xs ys : List ℕ} → m ≡ n → xs ≡ ys → m ∷ xs ≡ n ∷ ys
+    first m n e f = rw (e, f) refl
+
+joined_numbers : (ds es : List Definition) (n : ℕ) → other_numbers n (ds ++ es) ≡ other_numbers n ds ++ map (λ m. length ds + m) (other_numbers n es)
+joined_numbers [] es n = same_numbers (other_numbers n es)
+joined_numbers (d ∷ ds) es n =
+    ap (λ ns. number_by (definition_place d) n ++ ns) (joined_numbers ds es (suc n) ∙ ap (λ ns. other_numbers (suc n) ds ++ ns) (next_numbers es (length ds) n))
+    ∙ sym (append_assoc (number_by (definition_place d) n) (other_numbers (suc n) ds) (map (λ m. suc (length ds) + m) (other_numbers n es)))
+
+abbrev IsMatched : TextContents → Type 0
+IsMatched c = AreMatched 0 c.definitions c.trees
+
+matched_behind : (a b : TextContents) → IsMatched a → IsMatched b → IsMatched (followed_by a b)
+matched_behind a b h k =
+    map-append (λ v. v.0) a.trees (map (behind (length a.definitions)) b.trees)
+    ∙ both h (behind_numbers (length a.definitions) b.trees ∙ ap (map (λ m. length a.definitions + m)) k)
+    ∙ sym (joined_numbers a.definitions b.definitions 0)
+
+-- as the law says of one text
+abbrev pub AreMatchedEach : Type 0
+AreMatchedEach = (file : ℕ) (text : List ℕ) (ds : List Definition) (vs : Trees) → reading file text ≡ Ok ds → verification_in file text ≡ Ok vs → AreMatched 0 ds vs
+
+one_matched : AreMatchedEach → (number : ℕ) (text : List ℕ) → IsMatched (contents_of_text number text)
+one_matched each number text = by (reading number text) (verification_in number text) (each number text)
+  where
+    by : (r : Result (List Definition) Wrong) (s : Result Trees Wrong) → ((ds : List Definition) (vs : Trees) → r ≡ Ok ds → s ≡ Ok vs → AreMatched 0 ds vs)
+        → IsMatched (contents_in (r >>= (λ ds. s >>= (λ vs. Ok (ds, vs)))))
+    by (Ok ds) (Ok vs) h = h ds vs refl refl
+    by (Ok ds) (Err w) h = refl
+    by (Err w) s h = refl
+
+pub all_matched : AreMatchedEach → (number : ℕ) (texts : List (List ℕ)) → IsMatched (contents_of_texts number texts)
+all_matched each number [] = refl
+all_matched each number (text ∷ texts) =
+    matched_behind (contents_of_text number text) (contents_of_texts (number + 1) texts) (one_matched each number text) (all_matched each (number + 1) texts)
+
+-- ---- parts of contents that grow
+
+abbrev held : List Definition → Trees → List Wrong → TextContents
+held ds vs ms = record { definitions = ds; trees = vs; mistakes = ms }
+
+-- what is read of a text is added
+pub read_added : (ds new_ds more_ds : List Definition) (vs new_vs more_vs : Trees) (ms new_ms : List Wrong) → new_ds ≡ ds ++ more_ds → new_vs ≡ vs ++ map (behind (length ds)) more_vs → new_ms ≡ ms
+    → held new_ds new_vs new_ms ≡ followed_by (held ds vs ms) (held more_ds more_vs [])
+read_added ds new_ds more_ds vs new_vs more_vs ms new_ms d v m = alike _ _ _ _ _ _ d v (m ∙ sym (append-nil ms))
+
+-- its mistake is added
+pub mistake_added : (ds new_ds : List Definition) (vs new_vs : Trees) (ms new_ms : List Wrong) (mistake : Wrong) → new_ds ≡ ds → new_vs ≡ vs → new_ms ≡ ms ++ mistake ∷ []
+    → held new_ds new_vs new_ms ≡ followed_by (held ds vs ms) (held [] [] (mistake ∷ []))
+mistake_added ds new_ds vs new_vs ms new_ms mistake d v m = alike _ _ _ _ _ _ (d ∙ sym (append-nil ds)) (v ∙ sym (append-nil vs)) m
