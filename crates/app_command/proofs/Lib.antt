@@ -1,5 +1,4 @@
 mod CallAnswers
-mod ContentsRead
 mod RecoveredTexts
 mod RustCode
 mod SinkBytes

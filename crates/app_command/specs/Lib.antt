@@ -1,7 +1,6 @@
 pub mod CallTexts
 pub mod Codes
 pub mod Compared
-pub mod Contents
 pub mod Layouts
 pub mod Outputs
 pub mod Readings

@@ -12,6 +12,7 @@ use Rattle.report_print.specs.PlaceTexts.{texts_of}
 use Rattle.report_print.specs.declared.report.Report.{Report}
 use Rattle.report_queries.specs.TermTexts.{terms_text}
 use Rattle.text_json.specs.JsonLine.{IsJsonLine}
+use Rattle.text_writer.specs.Contents.{contents_of_texts, TextContents}
 use Rattle.text_writer.specs.ReadsBack.{ReadsBackAs}
 use Rattle.text_writer.specs.Saying.{ReadsBackVerification}
 use Rattle.text_writer.specs.Woven.{unspelled, woven}
@@ -27,7 +28,6 @@ use Rattle.app_command.specs.declared.words.Task.{Task}
 use Rattle.app_command.specs.declared.words.Task.TheVariants as T
 use Rattle.app_command.specs.CallTexts.{IsTextOfRun}
 use Rattle.app_command.specs.Codes.{IsAnswerOfRust}
-use Rattle.app_command.specs.Contents.{contents_of_texts, TextContents}
 use Rattle.app_command.specs.Readings.{has_no_definitions, IsAcceptedReading, IsReadingOf}
 use Rattle.app_command.specs.WantedTerms.{missing_name, wanted_terms}
 

@@ -1,6 +1,7 @@
 mod Again
 mod BareTrees
 mod Comments
+mod ContentsRead
 mod DigitTexts
 mod Fronts
 mod HasLists

@@ -1,10 +1,22 @@
-use Rattle.std.proofs.Common.{rules, ◌≡◌, ◌≤◌, ◌+◌, Some, length, map, refl, slice_get, string_bytes, subst, sym}
-use Rattle.std.proofs.lemmas.List.{length-map}
-use Rattle.std.proofs.lemmas.Option.{slice_get_read}
+use Rattle.std.proofs.Common.{rules, ◌≡◌, ◌≤◌, ◌<◌, ◌+◌, ◌++◌, ◌∷◌, ◌∙◌, [], List, Some, ap, length, map, refl, slice_get, string_bytes, subst, sym, take, ℕ}
+use Rattle.std.proofs.lemmas.List.{length-map, length-take-le, take_all, take_more}
+use Rattle.std.proofs.lemmas.Option.{get_or_from_slice_get, slice_get_read, slice_get_within}
 use Rattle.model.proofs.Mapped.{get_map}
-use Rattle.app_command.specs.Contents.{contents_view}
-use Rattle.app_command.proofs.ContentsRead.{all_contents, contents_before, none_before, AreContentsBefore}
+use Rattle.text_writer.specs.Contents.{TextContents, contents_of_text, contents_of_texts, contents_view, followed_by}
 use Rattle.app_command.proofs.printing.contents_of.Goals as goal
+
+-- the texts before a number, and the text of this number
+one_more : ((texts : List (List ℕ)) (text : List ℕ) → contents_of_texts 0 (texts ++ text ∷ []) ≡ followed_by (contents_of_texts 0 texts) (contents_of_text (length texts) text))
+    → (texts : List (List ℕ)) (number : ℕ) (text : List ℕ) (before after : TextContents)
+    → slice_get texts number ≡ Some text → after ≡ followed_by before (contents_of_text number text)
+    → before ≡ contents_of_texts 0 (take number texts) → after ≡ contents_of_texts 0 (take (number + 1) texts)
+one_more follow texts number text before after at e old =
+    let within = slice_get_within texts number text at in
+    e ∙ ap (λ c. followed_by c (contents_of_text number text)) old
+    ∙ ap (λ n. followed_by (contents_of_texts 0 (take number texts)) (contents_of_text n text)) (sym (length-take-le number texts (omega within)))
+    ∙ sym (follow (take number texts) text)
+    ∙ ap (λ t. contents_of_texts 0 (take number texts ++ t ∷ [])) (sym (get_or_from_slice_get texts number text text at))
+    ∙ ap (contents_of_texts 0) (sym (take_more texts number text within))
 
 pub loop-number-preserved : goal.loop-number-preserved
 loop-number-preserved g c =
@@ -17,7 +29,7 @@ loop-number-preserved g c =
     (slice_get_read c.deref-text-items.result.now (length c.deref-text-items.result.now) number c.text-item.result
     refl c.loop-number-test.true c.text-item.is)) in
     let here : slice_get texts number ≡ Some c.deref.result.now = search rules in
-    contents_before texts number c.deref.result.now _ _ here c.in_ok-add_text.ensures c.loop-number.invariant
+    one_more c.texts_follow.ensures texts number c.deref.result.now _ _ here c.in_ok-add_text.ensures c.loop-number.invariant
 
 pub returns : goal.returns
 returns g c =
@@ -26,4 +38,4 @@ returns g c =
     let same : c.deref-text-items.result.now ≡ c.args.files.now.texts.items = search rules in
     let all : length texts ≤ number
     = subst (λ n. n ≤ number) (sym (length-map c.args.files.now.texts.items string_bytes)) (subst (λ ts. length ts ≤ number) same c.loop-number-test.false) in
-    all_contents texts number (contents_view c.loop-number.found) all c.loop-number.invariant
+    c.loop-number.invariant ∙ ap (contents_of_texts 0) (take_all number texts all)

@@ -1,8 +1,7 @@
 -- What texts have, one text more at a time; and that it goes together.
-use Rattle.std.proofs.Common.{◌≡◌, ℕ, suc, ◌+◌, ◌≤◌, List, [], ◌∷◌, ◌++◌, Some, length, map, drop, slice_get, refl, sym, ap, ◌∙◌, subst, append-nil, arith}
-use Rattle.std.specs.Prelude.{Option, None, Result, Ok, Err}
+use Rattle.std.proofs.Common.{◌≡◌, ℕ, suc, ◌+◌, List, [], ◌∷◌, ◌++◌, length, map, refl, sym, ap, ◌∙◌, subst, append-nil, arith}
+use Rattle.std.specs.Prelude.{Option, None, Some, Result, Ok, Err}
 use Rattle.std.proofs.lemmas.List.{append_assoc, length-append, map-append}
-use Rattle.std.proofs.Math.ListN.{drop_of_length-le}
 use Rattle.model.specs.lists.Syntax.{Position, Definition}
 use Rattle.core_syntax.specs.SyntaxViews.{definition_place}
 use Rattle.text_reader.specs.Definitions.{reading}
@@ -10,10 +9,13 @@ use Rattle.text_reader.specs.Lexemes.{Wrong, ◌>>=◌}
 use Rattle.text_reader.specs.SpecTrees.{VerificationTree}
 use Rattle.text_reader.specs.Verifying.{verification_in}
 use Rattle.text_writer.specs.Woven.{AreMatched, Trees, number_by, other_numbers}
-use Rattle.app_command.specs.Contents.{TextContents, behind, contents_in, contents_of_text, contents_of_texts, followed_by, no_contents}
-use Rattle.app_command.proofs.TextsRead.{dropped}
+use Rattle.text_writer.specs.Contents.{TextContents, behind, contents_in, contents_of_text, contents_of_texts, followed_by, no_contents}
+use Rattle.text_writer.proofs.Matched.{text_matched}
 
 -- ---- contents behind one another
+
+abbrev pub held : List Definition → Trees → List Wrong → TextContents
+held ds vs ms = record { definitions = ds; trees = vs; mistakes = ms }
 
 alike : (ds es : List Definition) (vs ws : Trees) (ms ns : List Wrong) → ds ≡ es → vs ≡ ws → ms ≡ ns
     → (let c : TextContents = record { definitions = ds; trees = vs; mistakes = ms } in let d : TextContents = record { definitions = es; trees = ws; mistakes = ns } in c ≡ d)
@@ -50,26 +52,24 @@ nothing_behind c = alike _ _ _ _ _ _ (append-nil c.definitions) (append-nil c.tr
 behind_nothing : (c : TextContents) → followed_by no_contents c ≡ c
 behind_nothing c = alike _ _ _ _ _ _ refl (behind_none c.trees) refl
 
--- what the texts before a number have: with what the others have, it is what all have
-abbrev pub AreContentsBefore : (texts : List (List ℕ)) (number : ℕ) → TextContents → Type 0
-AreContentsBefore texts number before = followed_by before (contents_of_texts number (drop number texts)) ≡ contents_of_texts 0 texts
+-- one text more
+at_number : (m n : ℕ) → m ≡ n → (text : List ℕ) → followed_by (contents_of_text m text) no_contents ≡ followed_by no_contents (contents_of_text n text)
+at_number m n e text = nothing_behind (contents_of_text m text) ∙ ap (λ k. contents_of_text k text) e ∙ sym (behind_nothing (contents_of_text n text))
 
-pub none_before : (texts : List (List ℕ)) → AreContentsBefore texts 0 no_contents
-none_before texts = behind_nothing (contents_of_texts 0 texts)
+one_more : (first : ℕ) (texts : List (List ℕ)) (text : List ℕ)
+    → contents_of_texts first (texts ++ text ∷ []) ≡ followed_by (contents_of_texts first texts) (contents_of_text (first + length texts) text)
+one_more first [] text = at_number first (first + 0) (omega arith) text
+one_more first (t ∷ ts) text =
+    ap (followed_by (contents_of_text first t)) (one_more (first + 1) ts text
+    ∙ ap (λ n. followed_by (contents_of_texts (first + 1) ts) (contents_of_text n text)) (next first (length ts)))
+    ∙ sym (behind_assoc (contents_of_text first t) (contents_of_texts (first + 1) ts) (contents_of_text (first + suc (length ts)) text))
+  where
+    next : (m n : ℕ) → (m + 1) + n ≡ m + suc n
+    next m n = omega arith
 
-pub contents_before : (texts : List (List ℕ)) (number : ℕ) (text : List ℕ) (before after : TextContents)
-    → slice_get texts number ≡ Some text → after ≡ followed_by before (contents_of_text number text)
-    → AreContentsBefore texts number before → AreContentsBefore texts (number + 1) after
-contents_before texts number text before after at e old =
-    let rest = contents_of_texts (number + 1) (drop (number + 1) texts) in
-    ap (λ c. followed_by c rest) e
-    ∙ behind_assoc before (contents_of_text number text) rest
-    ∙ sym (ap (λ ts. followed_by before (contents_of_texts number ts)) (dropped texts number text at)) ∙ old
-
-pub all_contents : (texts : List (List ℕ)) (number : ℕ) (found : TextContents) → length texts ≤ number → AreContentsBefore texts number found → found ≡ contents_of_texts 0 texts
-all_contents texts number found over before =
-    sym (nothing_behind found)
-    ∙ ap (λ ts. followed_by found (contents_of_texts number ts)) (sym (drop_of_length-le texts over)) ∙ before
+pub text_follows : (texts : List (List ℕ)) (text : List ℕ)
+    → contents_of_texts 0 (texts ++ text ∷ []) ≡ followed_by (contents_of_texts 0 texts) (contents_of_text (length texts) text)
+text_follows texts text = one_more 0 texts text
 
 -- ---- definitions and trees go together
 
@@ -116,12 +116,8 @@ matched_behind a b h k =
     ∙ both h (behind_numbers (length a.definitions) b.trees ∙ ap (map (λ m. length a.definitions + m)) k)
     ∙ sym (joined_numbers a.definitions b.definitions 0)
 
--- as the law says of one text
-abbrev pub AreMatchedEach : Type 0
-AreMatchedEach = (file : ℕ) (text : List ℕ) (ds : List Definition) (vs : Trees) → reading file text ≡ Ok ds → verification_in file text ≡ Ok vs → AreMatched 0 ds vs
-
-one_matched : AreMatchedEach → (number : ℕ) (text : List ℕ) → IsMatched (contents_of_text number text)
-one_matched each number text = by (reading number text) (verification_in number text) (each number text)
+one_matched : (number : ℕ) (text : List ℕ) → IsMatched (contents_of_text number text)
+one_matched number text = by (reading number text) (verification_in number text) (text_matched number text)
   where
     by : (r : Result (List Definition) Wrong) (s : Result Trees Wrong) → ((ds : List Definition) (vs : Trees) → r ≡ Ok ds → s ≡ Ok vs → AreMatched 0 ds vs)
         → IsMatched (contents_in (r >>= (λ ds. s >>= (λ vs. Ok (ds, vs)))))
@@ -129,15 +125,16 @@ one_matched each number text = by (reading number text) (verification_in number 
     by (Ok ds) (Err w) h = refl
     by (Err w) s h = refl
 
-pub all_matched : AreMatchedEach → (number : ℕ) (texts : List (List ℕ)) → IsMatched (contents_of_texts number texts)
-all_matched each number [] = refl
-all_matched each number (text ∷ texts) =
-    matched_behind (contents_of_text number text) (contents_of_texts (number + 1) texts) (one_matched each number text) (all_matched each (number + 1) texts)
+all_matched : (number : ℕ) (texts : List (List ℕ)) → IsMatched (contents_of_texts number texts)
+all_matched number [] = refl
+all_matched number (text ∷ texts) =
+    matched_behind (contents_of_text number text) (contents_of_texts (number + 1) texts) (one_matched number text) (all_matched (number + 1) texts)
+
+-- what texts have is woven, or something can't be spelled
+pub contents_matched : (texts : List (List ℕ)) (ds : List Definition) (vs : Trees) (ms : List Wrong) → held ds vs ms ≡ contents_of_texts 0 texts → AreMatched 0 ds vs
+contents_matched texts ds vs ms e = subst IsMatched (sym e) (all_matched 0 texts)
 
 -- ---- parts of contents that grow
-
-abbrev held : List Definition → Trees → List Wrong → TextContents
-held ds vs ms = record { definitions = ds; trees = vs; mistakes = ms }
 
 -- what is read of a text is added
 pub read_added : (ds new_ds more_ds : List Definition) (vs new_vs more_vs : Trees) (ms new_ms : List Wrong) → new_ds ≡ ds ++ more_ds → new_vs ≡ vs ++ map (behind (length ds)) more_vs → new_ms ≡ ms

@@ -1,14 +1,17 @@
--- What the texts of files have: definitions, what is said for a verifier, and mistakes.
-use Rattle.std.specs.Prelude.{ℕ, ◌+◌, List, [], ◌∷◌, ◌++◌, length, map, Result, Ok, Err}
-use Rattle.core_syntax.specs.SyntaxViews.{definition_views}
+-- What texts have: definitions, what is said for a verifier, and mistakes.
+use Rattle.std.specs.Prelude.{ℕ, ◌+◌, ◌≡◌, List, [], ◌∷◌, ◌++◌, length, map, Result, Ok, Err, ⊤}
+use Rattle.core_syntax.specs.SyntaxViews.{definition_views, position}
 use Rattle.model.specs.lists.Syntax.{Definition}
 use Rattle.text_reader.specs.Definitions.{reading}
 use Rattle.text_reader.specs.Lexemes.{Wrong, ◌>>=◌}
+use Rattle.text_reader.specs.RecoveryViews.{wrong_view}
 use Rattle.text_reader.specs.SpecTrees.{VerificationTree}
 use Rattle.text_reader.specs.SpecViews.{numbered_view}
 use Rattle.text_reader.specs.Verifying.{verification_in}
-use Rattle.app_command.specs.declared.printing.Contents.{Contents}
-use Rattle.app_command.specs.Readings.{error_view}
+use Rattle.text_writer.specs.declared.contents.Contents.{Contents}
+use Rattle.text_writer.specs.declared.contents.ContentsFault.{ContentsFault}
+use Rattle.text_writer.specs.declared.contents.ContentsFault.TheVariants.{Memory, Unspellable}
+use Rattle.text_writer.specs.Woven.{Trouble, unspelled}
 
 -- definitions, trees for a verifier, each with the number of the definition that stands for it, and mistakes
 pub record TextContents : Type 0 where
@@ -18,7 +21,7 @@ pub record TextContents : Type 0 where
 
 abbrev pub contents_view : Contents → TextContents
 contents_view found =
-    record { definitions = definition_views found.defs.items; trees = map numbered_view found.forms.items; mistakes = map error_view found.mistakes.items }
+    record { definitions = definition_views found.defs.items; trees = map numbered_view found.forms.items; mistakes = map wrong_view found.mistakes.items }
 
 abbrev pub no_contents : TextContents
 no_contents = record { definitions = []; trees = []; mistakes = [] }
@@ -56,3 +59,12 @@ followed_by these others = record {
 abbrev pub contents_of_texts : (number : ℕ) → List (List ℕ) → TextContents
 contents_of_texts number [] = no_contents
 contents_of_texts number (text ∷ texts) = followed_by (contents_of_text number text) (contents_of_texts (number + 1) texts)
+
+-- these are what some texts have
+abbrev pub AreOfTexts : Contents → Type 0
+AreOfTexts found = (texts : List (List ℕ)) × (contents_view found ≡ contents_of_texts 0 texts)
+
+-- that memory was refused, or what can't be spelled stands there
+abbrev pub TellsUnspelled : {A : Type 0} → ContentsFault → Result A Trouble → Type 0
+TellsUnspelled (Memory e) woven = ⊤
+TellsUnspelled (Unspellable p) woven = woven ≡ Err (unspelled (position p))

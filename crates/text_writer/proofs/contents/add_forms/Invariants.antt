@@ -2,8 +2,8 @@
 use Rattle.std.proofs.Common.{◌≡◌, ◌++◌, map}
 use Rattle.std.specs.Vec.Iter.{into_iter_items}
 use Rattle.text_reader.specs.SpecViews.{numbered_view}
-use Rattle.app_command.specs.Contents.{behind}
-use Rattle.app_command.proofs.printing.add_forms.Given as goal
+use Rattle.text_writer.specs.Contents.{behind}
+use Rattle.text_writer.proofs.contents.add_forms.Given as goal
 
 abbrev pub invariant-loop-number : goal.invariant-loop-number
 invariant-loop-number l =
