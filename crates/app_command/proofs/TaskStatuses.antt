@@ -5,6 +5,8 @@ use Rattle.cranelift_isle.specs.Syntax.{Definition}
 use Rattle.cranelift_isle.specs.declared.lower.Lowered.{Lowered}
 use Rattle.cranelift_isle.specs.Lowerings.{IsLowered}
 use Rattle.core_syntax.specs.declared.syntax.Files.{Files}
+use Rattle.report_print.specs.PlaceTexts.{texts_of}
+use Rattle.text_writer.specs.Contents.{contents_of_texts, TextContents}
 use Rattle.app_command.specs.declared.answers.Answer.{Answer}
 use Rattle.app_command.specs.declared.code.Code.{Code}
 use Rattle.app_command.specs.declared.code.Code.TheVariants.{Names, Text}
@@ -17,7 +19,7 @@ use Rattle.app_command.specs.declared.words.Task.{Task}
 use Rattle.app_command.specs.declared.words.Task.TheVariants as T
 use Rattle.app_command.specs.Codes.{IsAnswerOfCode}
 use Rattle.app_command.specs.Outputs.{IsNothingWritten, IsWrittenOut}
-use Rattle.app_command.specs.TaskAnswers.{IsAnswerBy, IsAnswerToBoth, IsAnswerToDefinitions, IsAnswerToFiles, IsAnswerToReading, IsPrintOfReading}
+use Rattle.app_command.specs.TaskAnswers.{IsAnswerBy, IsAnswerToBoth, IsAnswerToDefinitions, IsAnswerToFiles, IsAnswerToReading, IsPrintOfContents}
 use Rattle.app_command.specs.Statuses.{may_fail, IsEndingFor, IsStatusOfReading}
 use Rattle.app_command.specs.WantedTerms.{missing_name}
 
@@ -96,16 +98,15 @@ status_of_both Old New asked answer (inl (old, new, inr different)) = let e = di
 status_of_both Old New asked answer (inr refused) = let e = refused.1.0 in omega (arith, e)
 
 -- and so has what is printed
-status_of_print : (asked : Request) (reading : Reading) (answer : Answer) → IsPrintOfReading asked reading answer → answer.status ≤ 1
-status_of_print asked (Defs defs) answer (inl done) = let e = done.1.0 in omega (arith, e)
-status_of_print asked (Defs defs) answer (inr refused) = let e = refused.1.0 in omega (arith, e)
-status_of_print asked (Unread mistakes) answer refused = let e = refused.0.0 in omega (arith, e)
+status_of_print : (contents : TextContents) (asked : Request) (answer : Answer) → IsPrintOfContents contents asked answer → answer.status ≤ 1
+status_of_print contents asked answer (inl done) = let e = done.0.0 in omega (arith, e)
+status_of_print contents asked answer (inr refused) = let e = refused.1.0 in omega (arith, e)
 
 -- and so has what files are answered
 status_of_files : (asked : Request) (files : Files) (answer : Answer) → IsAnswerToFiles asked files answer → answer.status ≤ 1
 status_of_files asked files answer (inl one) = (status_of_answer asked files one.2.0 answer one.2.2).known
 status_of_files asked files answer (inr (inl two)) = status_of_both _ _ asked answer two.1.4
-status_of_files asked files answer (inr (inr text)) = status_of_print asked text.1.0 answer text.1.2
+status_of_files asked files answer (inr (inr text)) = status_of_print (contents_of_texts 0 (texts_of files)) asked answer text.1
 
 -- an answer to files that is written, or isn't made
 module _ (asked : Request) (files : Files) (old new : Option (List ℕ)) (ending : Ending) where
