@@ -1,5 +1,13 @@
 //! The heads of terms: what they take and give, and what makes them and takes them apart.
 
+ghost use Rattle.std.specs.Prelude.{◌≡◌, [], ◌∷◌, OnOk};
+ghost use Rattle.text_json.specs.Data.{list_of, with_fields};
+ghost use Rattle.text_json.specs.Writing.{written};
+ghost use Rattle.report_json.specs.Names.{names_in};
+ghost use Rattle.report_json.specs.SiteData.{type_names};
+ghost use Rattle.report_json.specs.TypeViews.{type_numbers};
+
+use crate::names::type_text;
 use crate::places::LinePlaces;
 use crate::site_types::word_of_answer;
 use crate::templates::push_template;
@@ -56,10 +64,13 @@ pub(crate) fn push_type_names(
     names: NameTables<'_>,
     key: &str,
     types: &[TypeId],
-) -> Result<(), AllocError> {
+) -> Result<(), AllocError>
+    ensures { OnOk result (written json.new ≡ with_fields
+        ((key.now, list_of (type_names (names_in names.entry) (type_numbers types.now))) ∷ []) (written json.old)) }
+{
     json.begin_list_at(key)?;
     for ty in types {
-        json.string(names.ty(*ty))?;
+        json.string(type_text(names, *ty))?;
     }
     json.end()
 }

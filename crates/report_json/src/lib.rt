@@ -4,6 +4,7 @@
 pub mod documents;
 mod expressions;
 mod heads;
+mod names;
 mod patterns;
 pub mod places;
 mod reports;

@@ -1,5 +1,8 @@
 //! The types of sites.
 
+ghost use Rattle.std.specs.Prelude.{◌≡◌};
+ghost use Rattle.report_json.specs.TypeViews.{answer_word};
+
 use cranelift_isle::sema::{ExternalSig, Fields, ReturnKind, Type, TypeId, VariantId};
 use cranelift_isle::trie_again::{Binding, BindingId};
 use report_errors::names::NameTables;
@@ -23,7 +26,9 @@ impl Drop for SiteTypes {
 }
 
 /// An answer, in a word.
-pub(crate) fn word_of_answer(answer: ReturnKind) -> &'static str {
+pub(crate) fn word_of_answer(answer: ReturnKind) -> &'static str
+    ensures { result.now ≡ answer_word answer }
+{
     match answer {
         ReturnKind::Plain => "plain",
         ReturnKind::Option => "option",

@@ -1,6 +1,17 @@
 //! Sites, and what is asked of them.
 
+ghost use Rattle.std.specs.Prelude.{◌≡◌, [], ◌∷◌, OnOk, codes, false, map, option_map, slice_get, unwrap_or};
+ghost use Rattle.json.specs.Token.{begin_object};
+ghost use Rattle.text_json.specs.Data.{list_of, with_fields};
+ghost use Rattle.text_json.specs.Writing.{put, with_value, written};
+ghost use Rattle.cranelift_isle.specs.SiteViews.{constraint_view, site_view, site_views};
+ghost use Rattle.report_json.specs.Names.{names_in};
+ghost use Rattle.report_json.specs.SiteData.{asked, bound, constraint_field, head, integer, named, numbered, numbers};
+ghost use Rattle.report_json.specs.SiteData.{parts, site_data, sites_data, truth, types_of_site};
+ghost use Rattle.report_json.specs.TypeViews.{site_types};
+
 use crate::heads::push_type_names;
+use crate::names::{constant_text, term_text, type_text, variant_text};
 use crate::site_types::{SiteTypes, word_of_answer};
 use cranelift_isle::sema::TypeId;
 use cranelift_isle::trie_again::{Binding, BindingId, Constraint};
@@ -16,31 +27,62 @@ pub(crate) fn push_sites(
     bindings: &[Binding],
     types: &[SiteTypes],
     marked: &[bool],
-) -> Result<(), AllocError> {
+) -> Result<(), AllocError>
+    ensures { OnOk result (written json.new ≡ with_fields ((codes "sites", list_of (sites_data (names_in names.entry) marked.now
+        (map site_types types.now) 0 (site_views bindings.now))) ∷ []) (written json.old)) }
+{
     json.begin_list_at("sites")?;
     for (id, binding) in bindings.iter().enumerate() {
-        push_site(json, names, id, binding)?;
-        json.key_string("bound", bound_where(binding, is_marked(marked, id)))?;
-        if let Some(types) = types.get(id) {
-            push_types(json, names, types)?;
-        }
-        json.end()?;
+        push_site(json, names, id, binding, is_marked(marked, id), types_at(types, id))?;
     }
     json.end()
 }
 
-fn push_types(json: &mut Json, names: NameTables<'_>, types: &SiteTypes) -> Result<(), AllocError> {
-    push_type_names(json, names, "types", &types.types)?;
-    json.key_string("answer", word_of_answer(types.answer))
-}
-
-// Adds a site up to where it is bound.
+// Adds a site by its number. `in_step`: some step of the tree binds it.
 fn push_site(
     json: &mut Json,
     names: NameTables<'_>,
     id: usize,
     binding: &Binding,
-) -> Result<(), AllocError> {
+    in_step: bool,
+    types: Option<&SiteTypes>,
+) -> Result<(), AllocError>
+    ensures { OnOk result (written json.new ≡ with_value
+        (site_data (names_in names.entry) id (site_view binding.now) in_step (option_map (λ t. site_types t.now) types.entry))
+        (written json.old)) }
+{
+    begin_site(json, names, id, binding)?;
+    json.key_string("bound", bound_where(binding, in_step))?;
+    push_types(json, names, types)?;
+    json.end()
+}
+
+// Adds the names of the types of a site, where they are known.
+fn push_types(
+    json: &mut Json,
+    names: NameTables<'_>,
+    types: Option<&SiteTypes>,
+) -> Result<(), AllocError>
+    ensures { OnOk result (written json.new ≡ with_fields
+        (types_of_site (names_in names.entry) (option_map (λ t. site_types t.now) types.entry)) (written json.old)) }
+{
+    let Some(types) = types else {
+        return Ok(());
+    };
+    push_type_names(json, names, "types", &types.types)?;
+    json.key_string("answer", word_of_answer(types.answer))
+}
+
+// Adds a site up to where it is bound.
+fn begin_site(
+    json: &mut Json,
+    names: NameTables<'_>,
+    id: usize,
+    binding: &Binding,
+) -> Result<(), AllocError>
+    ensures { OnOk result (written json.new
+        ≡ with_fields (head (names_in names.entry) id (site_view binding.now)) (put begin_object (written json.old))) }
+{
     json.begin_object()?;
     json.key_number("id", id)?;
     json.begin_object_at("what")?;
@@ -49,7 +91,16 @@ fn push_site(
     json.end()
 }
 
-fn is_marked(marked: &[bool], id: usize) -> bool {
+// The types of a site, where they are known.
+fn types_at(types: &[SiteTypes], id: usize) -> Option<&SiteTypes>
+    ensures { option_map (λ t. t.now) result ≡ slice_get types.now id }
+{
+    types.get(id)
+}
+
+fn is_marked(marked: &[bool], id: usize) -> bool
+    ensures { result ≡ unwrap_or (slice_get marked.now id) false }
+{
     match marked.get(id) {
         Some(entry) => *entry,
         None => false,
@@ -57,7 +108,9 @@ fn is_marked(marked: &[bool], id: usize) -> bool {
 }
 
 // Where a site is bound. `in_step`: some step of the tree binds it.
-fn bound_where(binding: &Binding, in_step: bool) -> &'static str {
+fn bound_where(binding: &Binding, in_step: bool) -> &'static str
+    ensures { result.now ≡ bound in_step (site_view binding.now) }
+{
     if is_in_place(binding) {
         return "in place";
     }
@@ -70,22 +123,25 @@ fn bound_where(binding: &Binding, in_step: bool) -> &'static str {
 }
 
 // Adds what a site is, apart from the sites that it is made of.
-fn push_parts(json: &mut Json, names: NameTables<'_>, binding: &Binding) -> Result<(), AllocError> {
+fn push_parts(json: &mut Json, names: NameTables<'_>, binding: &Binding) -> Result<(), AllocError>
+    ensures { OnOk result (written json.new
+        ≡ with_fields (parts (names_in names.entry) (site_view binding.now)) (written json.old)) }
+{
     match binding {
         Binding::ConstBool { val, ty } => push_bool(json, names, *val, *ty),
         Binding::ConstInt { val, ty } => push_int(json, names, *val, *ty),
-        Binding::ConstPrim { val } => push_named(json, "constant", names.sym(*val)),
+        Binding::ConstPrim { val } => push_named(json, "constant", constant_text(names, *val)),
         Binding::Argument { index } => push_numbered(json, "argument", "index", index.index()),
-        Binding::Extractor { term, .. } => push_named(json, "extract", names.term(*term)),
+        Binding::Extractor { term, .. } => push_named(json, "extract", term_text(names, *term)),
         Binding::Constructor { term, instance, .. } => {
-            push_named(json, "call", names.term(*term))?;
+            push_named(json, "call", term_text(names, *term))?;
             json.key_number("impure", *instance as usize)
         }
         Binding::Iterator { .. } => json.key_string("kind", "each"),
         Binding::MakeVariant { ty, variant, .. } => {
-            push_named(json, "variant", names.variant(*ty, *variant))
+            push_named(json, "variant", variant_text(names, *ty, *variant))
         }
-        Binding::MakeStruct { ty, .. } => push_named(json, "struct", names.ty(*ty)),
+        Binding::MakeStruct { ty, .. } => push_named(json, "struct", type_text(names, *ty)),
         Binding::MatchVariant { variant, field, .. } => {
             push_numbered(json, "field", "field", field.index())?;
             json.key_number("variant", variant.index())
@@ -100,12 +156,16 @@ fn push_parts(json: &mut Json, names: NameTables<'_>, binding: &Binding) -> Resu
 }
 
 /// Adds a kind and a name.
-pub(crate) fn push_named(json: &mut Json, kind: &str, name: &str) -> Result<(), AllocError> {
+pub(crate) fn push_named(json: &mut Json, kind: &str, name: &str) -> Result<(), AllocError>
+    ensures { OnOk result (written json.new ≡ with_fields (named kind.now name.now) (written json.old)) }
+{
     json.key_string("kind", kind)?;
     json.key_string("name", name)
 }
 
-fn push_numbered(json: &mut Json, kind: &str, key: &str, number: usize) -> Result<(), AllocError> {
+fn push_numbered(json: &mut Json, kind: &str, key: &str, number: usize) -> Result<(), AllocError>
+    ensures { OnOk result (written json.new ≡ with_fields (numbered kind.now key.now number) (written json.old)) }
+{
     json.key_string("kind", kind)?;
     json.key_number(key, number)
 }
@@ -116,10 +176,12 @@ pub(crate) fn push_bool(
     names: NameTables<'_>,
     val: bool,
     ty: TypeId,
-) -> Result<(), AllocError> {
+) -> Result<(), AllocError>
+    ensures { OnOk result (written json.new ≡ with_fields (truth (names_in names.entry) val ty.0) (written json.old)) }
+{
     json.key_string("kind", "bool")?;
     json.key_flag("value", val)?;
-    json.key_string("type", names.ty(ty))
+    json.key_string("type", type_text(names, ty))
 }
 
 /// Adds an integer and its type.
@@ -128,14 +190,18 @@ pub(crate) fn push_int(
     names: NameTables<'_>,
     val: i128,
     ty: TypeId,
-) -> Result<(), AllocError> {
+) -> Result<(), AllocError>
+    ensures { OnOk result (written json.new ≡ with_fields (integer (names_in names.entry) val ty.0) (written json.old)) }
+{
     json.key_string("kind", "int")?;
     json.key_digits("value", val)?;
-    json.key_string("type", names.ty(ty))
+    json.key_string("type", type_text(names, ty))
 }
 
 /// Adds a list of sites.
-pub(crate) fn push_ids(json: &mut Json, key: &str, sites: &[BindingId]) -> Result<(), AllocError> {
+pub(crate) fn push_ids(json: &mut Json, key: &str, sites: &[BindingId]) -> Result<(), AllocError>
+    ensures { OnOk result (written json.new ≡ with_fields ((key.now, list_of (numbers sites.now)) ∷ []) (written json.old)) }
+{
     json.begin_list_at(key)?;
     for site in sites {
         json.number(site.index())?;
@@ -148,22 +214,32 @@ pub(crate) fn push_constraint(
     json: &mut Json,
     names: NameTables<'_>,
     constraint: Constraint,
-) -> Result<(), AllocError> {
+) -> Result<(), AllocError>
+    ensures { OnOk result (written json.new
+        ≡ with_fields (constraint_field (names_in names.entry) (constraint_view constraint) ∷ []) (written json.old)) }
+{
     json.begin_object_at("is")?;
     push_asked(json, names, constraint)?;
     json.end()
 }
 
 // Adds a kind, and what is asked.
-fn push_asked(json: &mut Json, names: NameTables<'_>, asked: Constraint) -> Result<(), AllocError> {
-    match asked {
+fn push_asked(
+    json: &mut Json,
+    names: NameTables<'_>,
+    constraint: Constraint,
+) -> Result<(), AllocError>
+    ensures { OnOk result (written json.new
+        ≡ with_fields (asked (names_in names.entry) (constraint_view constraint)) (written json.old)) }
+{
+    match constraint {
         Constraint::Variant { ty, variant, .. } => {
-            push_named(json, "variant", names.variant(ty, variant))
+            push_named(json, "variant", variant_text(names, ty, variant))
         }
-        Constraint::Struct { ty, .. } => push_named(json, "struct", names.ty(ty)),
+        Constraint::Struct { ty, .. } => push_named(json, "struct", type_text(names, ty)),
         Constraint::ConstBool { val, ty } => push_bool(json, names, val, ty),
         Constraint::ConstInt { val, ty } => push_int(json, names, val, ty),
-        Constraint::ConstPrim { val } => push_named(json, "constant", names.sym(val)),
+        Constraint::ConstPrim { val } => push_named(json, "constant", constant_text(names, val)),
         Constraint::Some => json.key_string("kind", "some"),
     }
 }

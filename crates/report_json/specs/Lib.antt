@@ -1,0 +1,4 @@
+pub mod Names
+pub mod SiteData
+pub mod TreeData
+pub mod TypeViews
