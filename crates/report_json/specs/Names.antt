@@ -8,9 +8,9 @@ use Rattle.model.specs.lists.Signatures.{text_of}
 use Rattle.report_queries.specs.NameTexts.{full_name_of_variant, name_of_term, name_of_type}
 use Rattle.report_errors.specs.declared.names.NameTables.{NameTables}
 
--- how constants, types, variants and terms are called, by their numbers
+-- how names, types, variants and terms are called, by their numbers
 pub record Names : Type 0 where
-  pub constant : ℕ → List ℕ
+  pub text : ℕ → List ℕ
   pub ty : ℕ → List ℕ
   pub variant : ℕ → ℕ → List ℕ
   pub term : ℕ → List ℕ
@@ -21,7 +21,7 @@ known name = unwrap_or name (codes "?")
 
 abbrev pub names_by : List (List ℕ) → List TypeEntry → List TermEntry → Names
 names_by names types terms = record {
-  constant = λ c. text_of names c;
+  text = λ s. text_of names s;
   ty = λ ty. known (name_of_type names types ty);
   variant = λ ty v. known (full_name_of_variant names types ty v);
   term = λ t. known (name_of_term names terms t);

@@ -29,7 +29,7 @@ numbers ss = map count ss
 abbrev pub parts : Names → Site → List Field
 parts n (bool_site b ty) = truth n b ty
 parts n (int_site z ty) = integer n z ty
-parts n (prim_site name) = named (codes "constant") (n.constant name)
+parts n (prim_site name) = named (codes "constant") (n.text name)
 parts n (argument_site i) = numbered (codes "argument") (codes "index") i
 parts n (extractor_site term source) = named (codes "extract") (n.term term)
 parts n (constructor_site term sources instance) = named (codes "call") (n.term term) ++ (codes "impure", count instance) ∷ []
@@ -87,7 +87,7 @@ asked n (is_variant ty variant fields) = named (codes "variant") (n.variant ty v
 asked n (is_struct ty fields) = named (codes "struct") (n.ty ty)
 asked n (is_bool b ty) = truth n b ty
 asked n (is_int z ty) = integer n z ty
-asked n (is_prim name) = named (codes "constant") (n.constant name)
+asked n (is_prim name) = named (codes "constant") (n.text name)
 asked n is_present = word (codes "some") ∷ []
 
 abbrev pub constraint_field : Names → Constraint → Field

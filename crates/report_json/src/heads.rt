@@ -1,13 +1,15 @@
 //! The heads of terms: what they take and give, and what makes them and takes them apart.
 
-ghost use Rattle.std.specs.Prelude.{◌≡◌, [], ◌∷◌, OnOk};
-ghost use Rattle.text_json.specs.Data.{list_of, with_fields};
+ghost use Rattle.std.specs.Prelude.{◌≡◌, [], ◌∷◌, OnOk, codes};
+ghost use Rattle.text_json.specs.Data.{list_of, object_of, with_fields};
 ghost use Rattle.text_json.specs.Writing.{written};
+ghost use Rattle.core_terms.specs.TermViews.{flags_view, kind_view, term_view};
+ghost use Rattle.report_json.specs.HeadData.{flag_fields, flags_of, head, signature};
 ghost use Rattle.report_json.specs.Names.{names_in};
 ghost use Rattle.report_json.specs.SiteData.{type_names};
 ghost use Rattle.report_json.specs.TypeViews.{type_numbers};
 
-use crate::names::type_text;
+use crate::names::{sym_text, type_text};
 use crate::places::LinePlaces;
 use crate::site_types::word_of_answer;
 use crate::templates::push_template;
@@ -49,13 +51,31 @@ pub(crate) fn push_head(
     json: &mut Json,
     names: NameTables<'_>,
     term: &Term,
-) -> Result<(), AllocError> {
-    json.key_string("name", names.sym(term.name))?;
-    json.begin_object_at("signature")?;
-    push_type_names(json, names, "arguments", &term.arg_tys)?;
-    json.key_string("result", names.ty(term.ret_ty))?;
-    json.end()?;
+) -> Result<(), AllocError>
+    ensures { OnOk result (written json.new
+        ≡ with_fields (head (names_in names.entry) (term_view term.now)) (written json.old)) }
+{
+    json.key_string("name", sym_text(names, term.name))?;
+    push_signature(json, names, &term.arg_tys, term.ret_ty)?;
     push_flags(json, flags_of(&term.kind))
+}
+
+// Adds the types that a term takes and gives.
+fn push_signature(
+    json: &mut Json,
+    names: NameTables<'_>,
+    arguments: &[TypeId],
+    given: TypeId,
+) -> Result<(), AllocError>
+    ensures { OnOk result (written json.new ≡ with_fields ((
+      codes "signature",
+      object_of (signature (names_in names.entry) (type_numbers arguments.now) given.0),
+    ) ∷ []) (written json.old)) }
+{
+    json.begin_object_at("signature")?;
+    push_type_names(json, names, "arguments", arguments)?;
+    json.key_string("result", type_text(names, given))?;
+    json.end()
 }
 
 /// Adds the names of types at a key.
@@ -76,7 +96,9 @@ pub(crate) fn push_type_names(
 }
 
 // The flags of a term: none where it isn't declared.
-fn flags_of(kind: &TermKind) -> TermFlags {
+fn flags_of(kind: &TermKind) -> TermFlags
+    ensures { flags_view result ≡ flags_of (kind_view kind.now) }
+{
     match kind {
         TermKind::Decl { flags, .. } => *flags,
         TermKind::EnumVariant { .. } | TermKind::Struct => TermFlags {
@@ -88,7 +110,10 @@ fn flags_of(kind: &TermKind) -> TermFlags {
     }
 }
 
-fn push_flags(json: &mut Json, flags: TermFlags) -> Result<(), AllocError> {
+fn push_flags(json: &mut Json, flags: TermFlags) -> Result<(), AllocError>
+    ensures { OnOk result (written json.new
+        ≡ with_fields ((codes "flags", object_of (flag_fields (flags_view flags))) ∷ []) (written json.old)) }
+{
     json.begin_object_at("flags")?;
     json.key_flag("pure", flags.pure)?;
     json.key_flag("multi", flags.multi)?;

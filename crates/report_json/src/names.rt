@@ -7,11 +7,11 @@ use cranelift_isle::sema::{Sym, TermId, TypeId, VariantId};
 use report_errors::names::NameTables;
 use report_queries::names::{full_variant_name, sym_name, type_name};
 
-/// The text of a constant's name.
-pub(crate) fn constant_text<'a>(names: NameTables<'a>, constant: Sym) -> &'a str
-    ensures { result.now ≡ (names_in names.entry).constant constant.0 }
+/// The text of a name, or the empty text where it is none of these.
+pub(crate) fn sym_text<'a>(names: NameTables<'a>, sym: Sym) -> &'a str
+    ensures { result.now ≡ (names_in names.entry).text sym.0 }
 {
-    names.tyenv.text_of(constant)
+    names.tyenv.text_of(sym)
 }
 
 /// The name of a type, or `?` where it is none of these.
@@ -22,11 +22,7 @@ pub(crate) fn type_text<'a>(names: NameTables<'a>, ty: TypeId) -> &'a str
 }
 
 /// The name of a variant with that of its enum before it, or `?` where it is none of these.
-pub(crate) fn variant_text<'a>(
-    names: NameTables<'a>,
-    ty: TypeId,
-    variant: VariantId,
-) -> &'a str
+pub(crate) fn variant_text<'a>(names: NameTables<'a>, ty: TypeId, variant: VariantId) -> &'a str
     ensures { result.now ≡ (names_in names.entry).variant ty.0 variant.0 }
 {
     known_text(full_variant_name(names.tyenv, ty, variant))

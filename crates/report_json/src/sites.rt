@@ -2,8 +2,8 @@
 
 ghost use Rattle.std.specs.Prelude.{◌≡◌, [], ◌∷◌, OnOk, codes, false, map, option_map, slice_get, unwrap_or};
 ghost use Rattle.json.specs.Token.{begin_object};
-ghost use Rattle.text_json.specs.Data.{list_of, with_fields};
-ghost use Rattle.text_json.specs.Writing.{put, with_value, written};
+ghost use Rattle.text_json.specs.Data.{list_of, with_fields, with_list};
+ghost use Rattle.text_json.specs.Writing.{put, put_end, with_value, written};
 ghost use Rattle.cranelift_isle.specs.SiteViews.{constraint_view, site_view, site_views};
 ghost use Rattle.report_json.specs.Names.{names_in};
 ghost use Rattle.report_json.specs.SiteData.{asked, bound, constraint_field, head, integer, named, numbered, numbers};
@@ -11,7 +11,7 @@ ghost use Rattle.report_json.specs.SiteData.{parts, site_data, sites_data, truth
 ghost use Rattle.report_json.specs.TypeViews.{site_types};
 
 use crate::heads::push_type_names;
-use crate::names::{constant_text, term_text, type_text, variant_text};
+use crate::names::{sym_text, term_text, type_text, variant_text};
 use crate::site_types::{SiteTypes, word_of_answer};
 use cranelift_isle::sema::TypeId;
 use cranelift_isle::trie_again::{Binding, BindingId, Constraint};
@@ -28,12 +28,22 @@ pub(crate) fn push_sites(
     types: &[SiteTypes],
     marked: &[bool],
 ) -> Result<(), AllocError>
-    ensures { OnOk result (written json.new ≡ with_fields ((codes "sites", list_of (sites_data (names_in names.entry) marked.now
-        (map site_types types.now) 0 (site_views bindings.now))) ∷ []) (written json.old)) }
+    ensures { OnOk result (written json.new ≡ with_fields ((
+      codes "sites",
+      list_of (sites_data (names_in names.entry) marked.now
+          (map site_types types.now) 0 (site_views bindings.now)),
+    ) ∷ []) (written json.old)) }
 {
     json.begin_list_at("sites")?;
     for (id, binding) in bindings.iter().enumerate() {
-        push_site(json, names, id, binding, is_marked(marked, id), types_at(types, id))?;
+        push_site(
+            json,
+            names,
+            id,
+            binding,
+            is_marked(marked, id),
+            types_at(types, id),
+        )?;
     }
     json.end()
 }
@@ -130,7 +140,7 @@ fn push_parts(json: &mut Json, names: NameTables<'_>, binding: &Binding) -> Resu
     match binding {
         Binding::ConstBool { val, ty } => push_bool(json, names, *val, *ty),
         Binding::ConstInt { val, ty } => push_int(json, names, *val, *ty),
-        Binding::ConstPrim { val } => push_named(json, "constant", constant_text(names, *val)),
+        Binding::ConstPrim { val } => push_named(json, "constant", sym_text(names, *val)),
         Binding::Argument { index } => push_numbered(json, "argument", "index", index.index()),
         Binding::Extractor { term, .. } => push_named(json, "extract", term_text(names, *term)),
         Binding::Constructor { term, instance, .. } => {
@@ -203,6 +213,13 @@ pub(crate) fn push_ids(json: &mut Json, key: &str, sites: &[BindingId]) -> Resul
     ensures { OnOk result (written json.new ≡ with_fields ((key.now, list_of (numbers sites.now)) ∷ []) (written json.old)) }
 {
     json.begin_list_at(key)?;
+    push_numbers(json, sites)
+}
+
+/// Adds the numbers of sites to a list, and ends it.
+pub(crate) fn push_numbers(json: &mut Json, sites: &[BindingId]) -> Result<(), AllocError>
+    ensures { OnOk result (written json.new ≡ put_end (with_list (numbers sites.now) (written json.old))) }
+{
     for site in sites {
         json.number(site.index())?;
     }
@@ -239,7 +256,7 @@ fn push_asked(
         Constraint::Struct { ty, .. } => push_named(json, "struct", type_text(names, ty)),
         Constraint::ConstBool { val, ty } => push_bool(json, names, val, ty),
         Constraint::ConstInt { val, ty } => push_int(json, names, val, ty),
-        Constraint::ConstPrim { val } => push_named(json, "constant", constant_text(names, val)),
+        Constraint::ConstPrim { val } => push_named(json, "constant", sym_text(names, val)),
         Constraint::Some => json.key_string("kind", "some"),
     }
 }

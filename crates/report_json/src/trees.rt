@@ -40,8 +40,11 @@ impl<'a> Sources<'a> {
         block: &Block,
     ) -> Result<(), AllocError>
         ensures { OnOk result (written json.new ≡ with_fields
-            ((key.now, list_of (steps_data (names_in self.now.names) (set_view self.now.set.now).rules
-                (tree_view block.now))) ∷ []) (written json.old)) }
+            ((
+              key.now,
+              list_of (steps_data (names_in self.now.names) (set_view self.now.set.now).rules
+                  (tree_view block.now)),
+            ) ∷ []) (written json.old)) }
     {
         json.begin_list_at(key)?;
         for step in &block.steps {
@@ -88,8 +91,11 @@ impl<'a> Sources<'a> {
     #[cycle(json)]
     fn push_arms(&self, json: &mut Json, arms: &[MatchArm]) -> Result<(), AllocError>
         ensures { OnOk result (written json.new ≡ with_fields
-            ((codes "arms", list_of (arms_data (names_in self.now.names) (set_view self.now.set.now).rules
-                (arms_view arms.now))) ∷ []) (written json.old)) }
+            ((
+              codes "arms",
+              list_of (arms_data (names_in self.now.names) (set_view self.now.set.now).rules
+                  (arms_view arms.now)),
+            ) ∷ []) (written json.old)) }
     {
         json.begin_list_at("arms")?;
         for arm in arms {

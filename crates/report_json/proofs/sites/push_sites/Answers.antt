@@ -21,7 +21,7 @@ views_at ts i (Some t) h = ap (option_map site_types) h ∙ sym (slice_get-map s
 
 sites_added : (n : Names) (marks : List Bool) (types : List Data.SiteTypes)
     → AddsEach (λ i (bs : List Binding) ts. with_list (sites_data n marks types i (site_views bs)) ts)
-      (λ i b ts. with_value (site_data n i (site_view b) (unwrap_or (slice_get marks i) false) (slice_get types i)) ts)
+    (λ i b ts. with_value (site_data n i (site_view b) (unwrap_or (slice_get marks i) false) (slice_get types i)) ts)
 sites_added n marks types = record { none = λ i ts. refl; more = λ i x xs ts. refl }
 
 pub loop-id-preserved : goal.loop-id-preserved

@@ -2,7 +2,7 @@ use Rattle.std.proofs.Common.{◌≡◌, drop}
 use Rattle.text_json.specs.Data.{with_list}
 use Rattle.text_json.specs.Writing.{written}
 use Rattle.report_json.specs.SiteData.{numbers}
-use Rattle.report_json.proofs.sites.push_ids.Given as goal
+use Rattle.report_json.proofs.sites.push_numbers.Given as goal
 
 abbrev pub invariant-loop-site : goal.invariant-loop-site
 invariant-loop-site l =
