@@ -38,13 +38,13 @@ push_step-returns t c =
     on_ok_weaker c.end.result (λ w. w ∙ ap put_end (c.in_ok-push_check.ensures ∙ ap (with_fields check)
     (c.in_ok-push_ids.ensures ∙ (λ i. with_fields ((codes "bind", list_of (numbers (c.deref.ensures.value i))) ∷ []) (c.in_ok-begin_object.ensures i))))) c.end.ensures
 
-pub push_check-returns-in_ok-begin_test : goal.push_check-returns-in_ok-begin_test
-push_check-returns-in_ok-begin_test t c =
+pub push_check-returns-in_ok-begin_test-in-Match : goal.push_check-returns-in_ok-begin_test-in-Match
+push_check-returns-in_ok-begin_test-in-Match t c =
     let n = names_in c.args.self.now.names in
     let rules = (set_view c.args.self.now.set.now).rules in
     let k = c.in-Match in
     rw (k.is, match_seen k.source k.arms) (on_ok_weaker c.push_arms.result (λ w. w
-    ∙ (λ i. with_fields ((codes "arms", list_of (arms_data n rules (arms_view (c.deref.ensures.value i)))) ∷ []) (c.in_ok-begin_test.ensures i))) c.push_arms.ensures)
+    ∙ (λ i. with_fields ((codes "arms", list_of (arms_data n rules (arms_view (c.deref.ensures.value i)))) ∷ []) (c.in_ok-begin_test-in-Match.ensures i))) c.push_arms.ensures)
 
 pub push_check-returns-in_ok-begin_test-in-Equal : goal.push_check-returns-in_ok-begin_test-in-Equal
 push_check-returns-in_ok-begin_test-in-Equal t c =
