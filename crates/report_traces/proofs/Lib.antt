@@ -1,3 +1,4 @@
+mod CallAnswers
 mod EchoSteps
 mod EchoesApart
 mod EchoesFit

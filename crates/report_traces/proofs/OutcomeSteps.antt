@@ -7,6 +7,8 @@ use Rattle.run_terms.specs.ValueViews.{content_view, content_views, value_view, 
 use Rattle.run_terms.specs.declared.state.Call.{Call}
 use Rattle.run_terms.specs.declared.values.Content.{Content}
 use Rattle.run_terms.specs.declared.values.Value.{Value}
+use Rattle.core_types.specs.declared.ids.TermId.{TermId}
+use Rattle.report_traces.specs.EchoedTerms.{each_name}
 use Rattle.report_traces.specs.OutcomeTexts.{Names, composed_words, content_words, contents_words, each_call, results_words, value_words, values_words}
 
 -- the text of a list is that of its elements, one behind another
@@ -35,6 +37,9 @@ module _ (n : Names) where
 
   pub calls_spelled : IsSpelled (λ (cs : List Call). each_call n (call_views cs)) (λ c. codes " " ++ composed_words (n.term c.term.0) (values_words n (value_views c.args.items)))
   calls_spelled = record { none = refl; more = λ x xs. refl }
+
+  pub names_spelled : IsSpelled (λ (ts : List TermId). each_name n ts) (λ t. codes " " ++ n.term t.0)
+  names_spelled = record { none = refl; more = λ x xs. refl }
 
   -- results are contents
   pub results_seen : (cs : List Content) → contents_words n (content_views cs) ≡ results_words n (content_list cs)

@@ -3,18 +3,18 @@ use Rattle.std.proofs.Common.{◌≡◌, ◌++◌, Bool, true, false, List, ℕ,
 use Rattle.cranelift_isle.specs.declared.lower.Lowered.{Lowered}
 use Rattle.cranelift_isle.specs.Layers.{LoweredTerm}
 use Rattle.cranelift_isle.specs.Values.{Value}
-use Rattle.report_traces.specs.CallAnswers.{answer_words}
+use Rattle.report_traces.specs.CallAnswers.{IsAnswer}
 use Rattle.report_traces.specs.RunTexts.{IsRunText, answers_as_echo, told_if}
 use Rattle.report_traces.specs.declared.replies.Replies.{Replies}
 use Rattle.report_traces.specs.declared.replies.Replies.TheVariants.{Echoes, Lines}
 
--- nothing stands above a line
-pub told_none : (tells : Bool) (line : List ℕ) → line ≡ told_if tells [] ++ line
-told_none true line = refl
-told_none false line = refl
+-- nothing stands above a text
+pub told_none : (tells : Bool) (text : List ℕ) → text ≡ told_if tells [] ++ text
+told_none true text = refl
+told_none false text = refl
 
--- where echoes answer, their words alone may be told
-pub echoed_run : (l : Lowered) (replies : Replies) (tells : Bool) (t : LoweredTerm) (args : List Value) (line : List ℕ)
-    → answers_as_echo replies ≡ true → line ≡ answer_words l t args → IsRunText l replies tells t args line
-echoed_run l Echoes tells t args line echo is = ([], line, ([], [], [], [], is), told_none tells line)
-echoed_run l (Lines lines) tells t args line echo is = absurd (cc echo)
+-- where echoes answer, their answer alone may be told
+pub echoed_run : (l : Lowered) (replies : Replies) (tells : Bool) (t : LoweredTerm) (args : List Value) (text : List ℕ)
+    → answers_as_echo replies ≡ true → IsAnswer l t args text → IsRunText l replies tells t args text
+echoed_run l Echoes tells t args text echo is = ([], text, ([], [], [], [], is), told_none tells text)
+echoed_run l (Lines lines) tells t args text echo is = absurd (cc echo)

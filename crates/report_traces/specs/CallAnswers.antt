@@ -15,8 +15,10 @@ use Rattle.cranelift_isle.specs.RuleViews.{rule_views}
 use Rattle.cranelift_isle.specs.Run.{run}
 use Rattle.cranelift_isle.specs.TermViews.{term_views}
 use Rattle.cranelift_isle.specs.Values.{Value}
+use Rattle.core_types.specs.declared.ids.TermId.{TermId}
 use Rattle.report_queries.specs.Lookups.{entry_of}
 use Rattle.run_terms.specs.SourceViews.{of_terms}
+use Rattle.report_traces.specs.EchoedTerms.{answering_only, echoed_words}
 use Rattle.report_traces.specs.Echoes.{echoes}
 use Rattle.report_traces.specs.OutcomeTexts.{names_in, outcome_words}
 
@@ -41,13 +43,30 @@ abbrev pub with_choice : (multi : Bool) → (told chosen : List ℕ) → List �
 with_choice true told chosen = told
 with_choice false told chosen = told ++ by_source_rules told chosen
 
-abbrev pub answer_by : (multi : Bool) → Lowered → LoweredTerm → List Value → List ℕ
-answer_by multi l t args =
-    with_choice multi (outcome_words (names_in l) multi (outcome_under (echoes_in l) multi t args)) (outcome_words (names_in l) false (choice_by_echoes l t.term args))
+-- the words of a tree's outcome, and those of the choice of its source rules, where echoes answer
+abbrev pub tree_words : (multi : Bool) → Lowered → LoweredTerm → List Value → List ℕ
+tree_words multi l t args = outcome_words (names_in l) multi (outcome_under (echoes_in l) multi t args)
 
--- what is told of a call of a term, where echoes answer
+abbrev pub choice_words : Lowered → (term : ℕ) → List Value → List ℕ
+choice_words l term args = outcome_words (names_in l) false (choice_by_echoes l term args)
+
+abbrev pub answer_by : (multi : Bool) → Lowered → LoweredTerm → List Value → List ℕ
+answer_by multi l t args = with_choice multi (tree_words multi l t args) (choice_words l t.term args)
+
+-- the line that tells the outcome of a call of a term, where echoes answer
 abbrev pub answer_words : Lowered → LoweredTerm → List Value → List ℕ
 answer_words l t args = answer_by (is_multi_in l t.term) l t args
+
+-- a tree's outcome has these words also where the calls of some terms alone are echoed, and all others give nothing
+abbrev pub IsByEchoesOf : List TermId → (multi : Bool) → Lowered → LoweredTerm → List Value → List ℕ → Type 0
+IsByEchoesOf terms multi l t args told = told ≡ outcome_words (names_in l) multi (outcome_under (answering_only terms (echoes_in l)) multi t args)
+
+-- what is told of a call of a term, where echoes answer: the terms that are echoed, beside which no call has a part in the tree's
+-- outcome; and the line
+abbrev pub IsAnswer : Lowered → LoweredTerm → List Value → List ℕ → Type 0
+IsAnswer l t args text =
+    (terms : List TermId) × IsByEchoesOf terms (is_multi_in l t.term) l t args (tree_words (is_multi_in l t.term) l t args)
+    × (text ≡ echoed_words (names_in l) terms ++ answer_words l t args)
 
 -- the entry of a term with rules
 abbrev pub IsEntry : Lowered → LoweredTerm → Type 0

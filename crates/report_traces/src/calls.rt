@@ -6,10 +6,13 @@ ghost use Rattle.cranelift_isle.specs.TermViews.{term_views};
 ghost use Rattle.cranelift_isle.specs.Envs.{constant_at};
 ghost use Rattle.run_terms.specs.RunViews.{arg_views};
 ghost use Rattle.report_traces.specs.Echoes.{echoes};
-ghost use Rattle.report_traces.specs.CallAnswers.{IsEntry, answer_by, answer_words, by_source_rules, choice_by_echoes, echoes_in, outcome_under};
-ghost use Rattle.report_traces.specs.OutcomeTexts.{names_in, outcome_words};
+ghost use Rattle.report_traces.specs.CallAnswers.{IsAnswer, IsByEchoesOf, IsEntry, by_source_rules, choice_words, echoes_in, tree_words, with_choice};
+ghost use Rattle.report_traces.specs.EchoedTerms.{answering_only, echoed_words};
+ghost use Rattle.report_traces.specs.OutcomeTexts.{names_in};
 
 use crate::echo::Echo;
+use crate::echoed::{EchoOf, push_echoed, terms_echoed};
+use crate::faults::{TraceFault, fault_saying};
 use crate::outcomes::outcome_text;
 use crate::values::{Unanswered, term_of, values_of, wrong};
 use cranelift_isle::lower::{Lowered, LoweredTerm};
@@ -63,41 +66,99 @@ pub fn read_call<'a>(
     }
 }
 
-/// The outcome of a term of lowered definitions on arguments in words: its tree is run by echoes. If the term isn't multi and its
-/// source rules have another outcome in words, that follows.
+/// The outcome of a term of lowered definitions on arguments in words: its tree is run by echoes. The terms that are echoed are named
+/// in the line before. If the term isn't multi and its source rules have another outcome in words, that follows.
 ///
 /// # Errors
 ///
-/// Where memory is refused.
+/// Where memory is refused. Other calls than those of the terms that are named have a part in the outcome: that doesn't happen, and
+/// no clause says so.
 pub fn answer_to(
     alloc: Global,
     lowered: &Lowered,
     entry: &LoweredTerm,
     args: &[Value],
-) -> Result<String, AllocError>
-    ensures { IfOk result (λ text. string_bytes text ≡ answer_words lowered.now (lowered_view entry.now) (arg_views args.now)) }
+) -> Result<String, TraceFault>
+    ensures { IfOk result (λ text. IsAnswer lowered.now (lowered_view entry.now) (arg_views args.now) (string_bytes text)) }
 {
     let multi = is_multi(&lowered.termenv, entry.id);
-    answer_by(alloc, lowered, multi, entry, args)
+    let told = tree_text(alloc, lowered, multi, entry, args)?;
+    let terms = terms_behind(alloc, lowered, multi, entry, args, &told)?;
+    let line = with_choice(alloc, lowered, multi, entry, args, told)?;
+    Ok(below_echoed(alloc, lowered, &terms, &line)?)
 }
 
-// The same of a term that is multi, or isn't.
-fn answer_by(
+// A line below that which names the terms that are echoed.
+fn below_echoed(
+    alloc: Global,
+    lowered: &Lowered,
+    terms: &[TermId],
+    line: &str,
+) -> Result<String, AllocError>
+    ensures { IfOk result (λ text. string_bytes text ≡ echoed_words (names_in lowered.now) terms.now ++ line.now) }
+{
+    let mut text = String::new(alloc);
+    push_echoed(&mut text, lowered, terms)?;
+    text.push_str(line)?;
+    Ok(text)
+}
+
+// The terms that the run of a term's tree by echoes calls, which comes to these words. By their echoes alone it comes to the same.
+fn terms_behind(
     alloc: Global,
     lowered: &Lowered,
     multi: bool,
     entry: &LoweredTerm,
     args: &[Value],
-) -> Result<String, AllocError>
-    ensures { IfOk result (λ text. string_bytes text ≡ answer_by multi lowered.now (lowered_view entry.now) (arg_views args.now)) }
+    told: &str,
+) -> Result<Vec<TermId>, TraceFault>
+    ensures { IfOk result (λ terms. IsByEchoesOf terms.items multi lowered.now (lowered_view entry.now) (arg_views args.now) told.now) }
 {
-    let mut told = tree_text(alloc, lowered, multi, entry, args)?;
+    let terms = terms_echoed(alloc, &echo_in(lowered), multi, entry, args)?;
+    let text = text_by(alloc, lowered, &terms, multi, entry, args)?;
+    if text.as_str() == told {
+        return Ok(terms);
+    }
+    Err(fault_saying(format!(in alloc;
+        "error[internal]: the run comes to `{told}`, but by the echoes that are named to `{text}`"
+    )))
+}
+
+// The outcome of a term's tree in words, where the calls of these terms alone are echoed.
+fn text_by(
+    alloc: Global,
+    lowered: &Lowered,
+    terms: &[TermId],
+    multi: bool,
+    entry: &LoweredTerm,
+    args: &[Value],
+) -> Result<String, AllocError>
+    ensures { IfOk result (λ text. IsByEchoesOf terms.now multi lowered.now (lowered_view entry.now) (arg_views args.now) (string_bytes text)) }
+{
+    let echo = echo_of(lowered, terms);
+    let outcome = run(alloc, &echo, &entry.rules, &entry.block, args, multi)?;
+    outcome_text(alloc, lowered, multi, &outcome)
+}
+
+// The outcome of a term that is multi, or isn't, where these are the words of its tree's.
+fn with_choice(
+    alloc: Global,
+    lowered: &Lowered,
+    multi: bool,
+    entry: &LoweredTerm,
+    args: &[Value],
+    told: String,
+) -> Result<String, AllocError>
+    ensures { IfOk result (λ text. string_bytes text
+        ≡ with_choice multi (string_bytes told) (choice_words lowered.now (lowered_view entry.now).term (arg_views args.now))) }
+{
     if multi {
         return Ok(told);
     }
+    let mut line = told;
     let chosen = choice_text(alloc, lowered, entry.id, args)?;
-    push_choice(&mut told, &chosen)?;
-    Ok(told)
+    push_choice(&mut line, &chosen)?;
+    Ok(line)
 }
 
 // The outcome of a term's tree by echoes in words.
@@ -108,8 +169,7 @@ fn tree_text(
     entry: &LoweredTerm,
     args: &[Value],
 ) -> Result<String, AllocError>
-    ensures { IfOk result (λ text. string_bytes text
-        ≡ outcome_words (names_in lowered.now) multi (outcome_under (echoes_in lowered.now) multi (lowered_view entry.now) (arg_views args.now))) }
+    ensures { IfOk result (λ text. string_bytes text ≡ tree_words multi lowered.now (lowered_view entry.now) (arg_views args.now)) }
 {
     let echo = echo_in(lowered);
     let outcome = run(alloc, &echo, &entry.rules, &entry.block, args, multi)?;
@@ -123,7 +183,7 @@ fn choice_text(
     term: TermId,
     args: &[Value],
 ) -> Result<String, AllocError>
-    ensures { IfOk result (λ text. string_bytes text ≡ outcome_words (names_in lowered.now) false (choice_by_echoes lowered.now term.0 (arg_views args.now))) }
+    ensures { IfOk result (λ text. string_bytes text ≡ choice_words lowered.now term.0 (arg_views args.now)) }
 {
     let env = &lowered.termenv;
     let echo = echo_in(lowered);
@@ -148,6 +208,17 @@ fn echo_in(lowered: &Lowered) -> Echo<'_>
     Echo {
         tyenv: &lowered.tyenv,
         terms: &lowered.termenv.terms,
+    }
+}
+
+// What answers calls of these terms as echoes.
+fn echo_of<'a>(lowered: &'a Lowered, terms: &'a [TermId]) -> EchoOf<'a>
+    ensures { answering_only result.terms.now (echoes (constant_at result.echo.tyenv.now) (term_views result.echo.terms.now))
+        ≡ answering_only terms.now (echoes_in lowered.now) }
+{
+    EchoOf {
+        echo: echo_in(lowered),
+        terms,
     }
 }
 

@@ -15,7 +15,8 @@ use report_queries::premises::is_multi;
 use std::alloc::{AllocError, Global};
 
 /// The outcome of a call of a term of `lowered`, by what answers calls, in one line. If `tells` is true, what happened in runs stands
-/// above it. If echoes answer, and the term isn't multi and its source rules have another outcome in words, that follows.
+/// above it. If echoes answer, the terms that are echoed are named in the line before; and if the term isn't multi and its source
+/// rules have another outcome in words, that follows.
 ///
 /// # Errors
 ///
@@ -31,11 +32,11 @@ pub fn run_text<'a, 'f>(
     ensures { IfOk result (λ text. IsRunText lowered.now replies.now tells (lowered_view call.now.entry.now) (arg_views call.now.args.items) (string_bytes text)) }
 {
     if !tells && answers_as_echo(replies) {
-        return Ok(answer_to(alloc, lowered, call.entry, &call.args)?);
+        return answer_to(alloc, lowered, call.entry, &call.args);
     }
     let mut runs = Runs::new(alloc, lowered, lines, replies, tells);
     let ended = runs.run(lowered, call.entry, &call.args)?;
-    let outcome = outcome_line(alloc, lowered, replies, call, &ended)?;
+    let outcome = outcome_told(alloc, lowered, replies, call, &ended)?;
     Ok(below(alloc, tells, runs.told(), &outcome)?)
 }
 
@@ -48,14 +49,14 @@ fn answers_as_echo(replies: &Replies) -> bool
     }
 }
 
-// The outcome of a call whose run came to this, in one line.
-fn outcome_line(
+// The outcome of a call whose run came to this.
+fn outcome_told(
     alloc: Global,
     lowered: &Lowered,
     replies: &Replies,
     call: &ReadCall<'_>,
     ended: &Ended,
-) -> Result<String, AllocError>
+) -> Result<String, TraceFault>
     ensures { IfOk result (λ text. IsOutcomeWords lowered.now replies.now (lowered_view call.now.entry.now) (arg_views call.now.args.items)
         (call_views ended.now.calls.items) (outcome_view ended.now.outcome) (string_bytes text)) }
 {
@@ -63,15 +64,15 @@ fn outcome_line(
         Replies::Echoes => answer_to(alloc, lowered, call.entry, &call.args),
         Replies::Lines(_) => {
             let multi = is_multi(&lowered.termenv, call.entry.id);
-            ended.text(alloc, lowered, multi)
+            Ok(ended.text(alloc, lowered, multi)?)
         }
     }
 }
 
-// A line below what happened in runs, where that is told.
-fn below(alloc: Global, tells: bool, told: &str, line: &str) -> Result<String, AllocError>
-    ensures { IfOk result (λ text. string_bytes text ≡ told_if tells told.now ++ line.now) }
+// A text below what happened in runs, where that is told.
+fn below(alloc: Global, tells: bool, told: &str, text: &str) -> Result<String, AllocError>
+    ensures { IfOk result (λ whole. string_bytes whole ≡ told_if tells told.now ++ text.now) }
 {
     let told = if tells { told } else { "" };
-    format!(in alloc; "{told}{line}")
+    format!(in alloc; "{told}{text}")
 }

@@ -1,6 +1,7 @@
 //! Walks of runs over trees: which tests are made, what they find, and which call has no answer yet.
 
 use crate::asked::{AskedCall, Side};
+use crate::echo::Echo;
 use crate::known::{Answered, key_of, known_in};
 use cranelift_isle::lower::LoweredTerm;
 use cranelift_isle::serialize::{Block, ControlFlow, EvalStep, MatchArm};
@@ -8,6 +9,7 @@ use cranelift_isle::syntax::Pos;
 use cranelift_isle::trie_again::{Binding, BindingId, Constraint};
 use run_terms::binds::bind_all;
 use run_terms::env::{bound, used, used_value, used_values};
+use run_terms::externs::Externs;
 use run_terms::fields::{bind_fields, content_fields};
 use run_terms::state::{Bound, Ending, Outcome, Stage, Trace};
 use run_terms::values::{Content, Value, same_value};
@@ -49,10 +51,47 @@ impl Drop for Walked {
     }
 }
 
-/// The walk of a run over a term's tree on arguments, by answers that are known. It ends at the first call that has none.
-pub fn walk_over(
+/// Answers calls, and says which of them it has an answer to.
+pub trait Answering: Externs {
+    /// Whether there is an answer to a call, before which so many impure calls were made.
+    ///
+    /// # Errors
+    ///
+    /// Where memory is refused.
+    fn has_answer(
+        &self,
+        alloc: Global,
+        asked: &AskedCall,
+        before: usize,
+    ) -> Result<bool, AllocError>;
+}
+
+impl<'a> Answering for Echo<'a> {
+    fn has_answer(
+        &self,
+        alloc: Global,
+        asked: &AskedCall,
+        before: usize,
+    ) -> Result<bool, AllocError> {
+        Ok(true)
+    }
+}
+
+impl<'a> Answering for Answered<'a> {
+    fn has_answer(
+        &self,
+        alloc: Global,
+        asked: &AskedCall,
+        before: usize,
+    ) -> Result<bool, AllocError> {
+        is_known(alloc, self, asked, before)
+    }
+}
+
+/// The walk of a run over a term's tree on arguments, by what answers calls. It ends at the first call that has no answer.
+pub fn walk_over<E: Answering>(
     alloc: Global,
-    answered: &Answered<'_>,
+    externs: &E,
     entry: &LoweredTerm,
     args: &[Value],
     multi: bool,
@@ -60,7 +99,7 @@ pub fn walk_over(
     let mut walk = Walk {
         stage: Stage {
             alloc,
-            externs: answered,
+            externs,
             sites: &entry.rules.bindings,
             args,
             multi,
@@ -79,8 +118,8 @@ pub fn walk_over(
 }
 
 // A walk as far as it has come.
-struct Walk<'a, 'b> {
-    stage: Stage<'a, Answered<'b>>,
+struct Walk<'a, E> {
+    stage: Stage<'a, E>,
     env: Vec<(BindingId, Content)>,
     trace: Trace,
     asked: Vec<AskedCall>,
@@ -88,7 +127,7 @@ struct Walk<'a, 'b> {
     answers: Vec<(BindingId, Content)>,
 }
 
-impl<'a, 'b> Drop for Walk<'a, 'b> {
+impl<'a, E> Drop for Walk<'a, E> {
     fn drop(self) {
         let Walk {
             stage: _,
@@ -101,7 +140,7 @@ impl<'a, 'b> Drop for Walk<'a, 'b> {
     }
 }
 
-impl<'a, 'b> Walk<'a, 'b> {
+impl<'a, E: Answering> Walk<'a, E> {
     fn into_walked(self, ending: Ending) -> Walked {
         let Walk {
             stage: _,
@@ -362,7 +401,8 @@ impl<'a, 'b> Walk<'a, 'b> {
     // Asks for the answer to a call, unless it is known. Whether it was asked for.
     fn ask(&mut self, asked: AskedCall) -> Result<bool, AllocError> {
         let alloc = self.stage.alloc;
-        if is_known(alloc, self.stage.externs, &asked, self.trace.calls.len())? {
+        let before = self.trace.calls.len();
+        if self.stage.externs.has_answer(alloc, &asked, before)? {
             return Ok(false);
         }
         self.asked.push(asked)?;
@@ -377,8 +417,8 @@ fn is_call(binding: Option<&Binding>) -> bool {
     }
 }
 
-/// Whether the answer to a call is known, before which so many impure calls were made.
-pub fn is_known(
+// Whether the answer to a call is known, before which so many impure calls were made.
+fn is_known(
     alloc: Global,
     answered: &Answered<'_>,
     asked: &AskedCall,
