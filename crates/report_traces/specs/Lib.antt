@@ -4,6 +4,7 @@ pub mod EchoedTerms
 pub mod Echoes
 pub mod KnownAnswers
 pub mod OutcomeTexts
+pub mod ReadCalls
 pub mod RuleVerdicts
 pub mod RunAnswers
 pub mod RunTexts

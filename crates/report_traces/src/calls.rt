@@ -1,7 +1,8 @@
 //! Calls of terms with rules.
 
-ghost use Rattle.std.specs.Prelude.{◌≡◌, ◌++◌, false, IfOk, OnOk, string_bytes};
+ghost use Rattle.std.specs.Prelude.{◌≡◌, ◌++◌, false, IfOk, IfSome, OnOk, string_bytes};
 ghost use Rattle.cranelift_isle.specs.Lowerings.{lowered_view};
+ghost use Rattle.cranelift_isle.specs.SyntaxViews.{definition_views};
 ghost use Rattle.cranelift_isle.specs.TermViews.{term_views};
 ghost use Rattle.cranelift_isle.specs.Envs.{constant_at};
 ghost use Rattle.run_terms.specs.RunViews.{arg_views};
@@ -9,12 +10,13 @@ ghost use Rattle.report_traces.specs.Echoes.{echoes};
 ghost use Rattle.report_traces.specs.CallAnswers.{IsAnswer, IsByEchoesOf, IsEntry, by_source_rules, choice_words, echoes_in, tree_words, with_choice};
 ghost use Rattle.report_traces.specs.EchoedTerms.{answering_only, echoed_words};
 ghost use Rattle.report_traces.specs.OutcomeTexts.{names_in};
+ghost use Rattle.report_traces.specs.ReadCalls.{IsEntryCalledBy, IsEntryOfCall, IsEntryOfName, IsOneCall, as_rule};
 
 use crate::echo::Echo;
 use crate::echoed::{EchoOf, push_echoed, terms_echoed};
 use crate::faults::{TraceFault, fault_saying};
 use crate::outcomes::outcome_text;
-use crate::values::{Unanswered, term_of, values_of, wrong};
+use crate::values::{Unanswered, values_of, wrong};
 use cranelift_isle::lower::{Lowered, LoweredTerm};
 use cranelift_isle::sema::TermId;
 use cranelift_isle::syntax::{Def, Expr, Ident};
@@ -49,18 +51,13 @@ pub fn read_call<'a>(
     lowered: &'a Lowered,
     call: &str,
 ) -> Result<ReadCall<'a>, Unanswered>
-    // what is called has rules
-    ensures { IfOk result (λ called. IsEntry lowered.now (lowered_view called.entry.now)) }
+    // what is called has rules, and is what the text calls
+    ensures entry { IfOk result (λ called. IsEntry lowered.now (lowered_view called.entry.now)) }
+    ensures called { IfOk result (λ called. IsEntryOfCall lowered.now call.now (lowered_view called.entry.now)) }
 {
-    let text = format!(in alloc; "{BEFORE}{call}\n)")?;
+    let text = rule_text(alloc, call)?;
     match read(alloc, 0, &text) {
-        Ok(defs) => match call_in(&defs) {
-            Some((name, args)) => call_of(alloc, lowered, name, args),
-            None => Err(wrong(String::from_str(
-                alloc,
-                "this isn't a call of a term, such as (f 1 2)",
-            ))),
-        },
+        Ok(defs) => call_by(alloc, lowered, &defs),
         Err(ReadFault::Text(error)) => Err(unread(alloc, call, &error)),
         Err(ReadFault::Memory(_)) => Err(Unanswered::Memory),
     }
@@ -228,8 +225,33 @@ fn unread(alloc: Global, call: &str, error: &TextError) -> Unanswered {
     wrong(format!(in alloc; "at column {column}: {error}"))
 }
 
+// A call as the right side of a rule.
+fn rule_text(alloc: Global, call: &str) -> Result<String, AllocError>
+    ensures { IfOk result (λ text. string_bytes text ≡ as_rule call.now) }
+{
+    format!(in alloc; "{BEFORE}{call}\n)")
+}
+
 // The call that is the right side of the one rule.
-fn call_in(defs: &[Def]) -> Option<(&Ident, &[Expr])> {
+fn call_by<'a>(
+    alloc: Global,
+    lowered: &'a Lowered,
+    defs: &[Def],
+) -> Result<ReadCall<'a>, Unanswered>
+    ensures { IfOk result (λ called. IsEntryCalledBy lowered.now (definition_views defs.now) (lowered_view called.entry.now)) }
+{
+    match call_in(defs) {
+        Some((name, args)) => call_of(alloc, lowered, name, args),
+        None => Err(wrong(String::from_str(
+            alloc,
+            "this isn't a call of a term, such as (f 1 2)",
+        ))),
+    }
+}
+
+fn call_in(defs: &[Def]) -> Option<(&Ident, &[Expr])>
+    ensures { IfSome result (λ call. IsOneCall (definition_views defs.now) (string_bytes call.0.now.0)) }
+{
     let [Def::Rule(rule)] = defs else {
         return None;
     };
@@ -248,14 +270,27 @@ fn call_of<'a>(
     name: &Ident,
     args: &[Expr],
 ) -> Result<ReadCall<'a>, Unanswered>
-    ensures { IfOk result (λ called. IsEntry lowered.now (lowered_view called.entry.now)) }
+    ensures { IfOk result (λ called. IsEntryOfName lowered.now (string_bytes name.now.0) (lowered_view called.entry.now)) }
 {
-    let Some(term) = term_of(lowered, name) else {
+    let Some(id) = lowered.termenv.get_term_by_name(&lowered.tyenv, name) else {
         return Err(wrong(format!(in alloc; "no term is called `{}`", name.0)));
     };
-    let Some(entry) = lowered_term(lowered, term.id) else {
+    let Some(entry) = lowered_term(lowered, id) else {
         return Err(wrong(format!(in alloc; "`{}` has no rules", name.0)));
     };
-    let args = values_of(alloc, lowered, term, args)?;
+    let args = values_for(alloc, lowered, id, args)?;
     Ok(ReadCall { entry, args })
+}
+
+// The values that expressions write for the arguments of a term.
+fn values_for(
+    alloc: Global,
+    lowered: &Lowered,
+    id: TermId,
+    args: &[Expr],
+) -> Result<Vec<Value>, Unanswered> {
+    match lowered.termenv.terms.get(id.index()) {
+        Some(term) => values_of(alloc, lowered, term, args),
+        None => Err(wrong(format!(in alloc; "term {} isn't declared", id.index()))),
+    }
 }
