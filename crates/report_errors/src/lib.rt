@@ -15,7 +15,6 @@ use std::alloc::{AllocError, Global};
 use text_reader::errors::{Mistake, Problem, TextError};
 use text_reader::heads::nearest;
 
-mod codes;
 mod declarations;
 pub mod definitions;
 pub mod diagnosis;
@@ -38,7 +37,6 @@ pub mod reports;
 pub mod site_words;
 mod template_errors;
 pub mod term_sizes;
-mod terms_in_errors;
 pub mod tree_sizes;
 pub mod undefined_terms;
 mod unknown;

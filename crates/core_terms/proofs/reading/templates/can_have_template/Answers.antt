@@ -8,11 +8,11 @@ pub returns-in_ok-report_again-in-Decl-default-default-Some-clause-places :
 returns-in_ok-report_again-in-Decl-default-default-Some-clause-places c =
     entry_taken _ (term_view c.args.entry.now) _ _ _ c.in_ok-report_again-in-Decl-default-default-Some.ensures.places (search rules)
 
-pub returns-in_ok-report-in-Decl-default-default-None-clause-places : goal.returns-in_ok-report-in-Decl-default-default-None-clause-places
-returns-in_ok-report-in-Decl-default-default-None-clause-places c = entry_first _ (term_view c.args.entry.now) _ _ c.in_ok-report-in-Decl-default-default-None.ensures.places
+pub returns-in_ok-report_name-in-Decl-default-default-None-clause-places : goal.returns-in_ok-report_name-in-Decl-default-default-None-clause-places
+returns-in_ok-report_name-in-Decl-default-default-None-clause-places c = entry_first _ (term_view c.args.entry.now) _ _ c.in_ok-report_name-in-Decl-default-default-None.ensures.places
 
-pub returns-in_ok-report-in-EnumVariant-clause-places : goal.returns-in_ok-report-in-EnumVariant-clause-places
-returns-in_ok-report-in-EnumVariant-clause-places c = entry_first _ (term_view c.args.entry.now) _ _ c.in_ok-report-in-EnumVariant.ensures.places
+pub returns-in_ok-report_name-in-EnumVariant-clause-places : goal.returns-in_ok-report_name-in-EnumVariant-clause-places
+returns-in_ok-report_name-in-EnumVariant-clause-places c = entry_first _ (term_view c.args.entry.now) _ _ c.in_ok-report_name-in-EnumVariant.ensures.places
 
-pub returns-in_ok-report-in-Struct-clause-places : goal.returns-in_ok-report-in-Struct-clause-places
-returns-in_ok-report-in-Struct-clause-places c = entry_first _ (term_view c.args.entry.now) _ _ c.in_ok-report-in-Struct.ensures.places
+pub returns-in_ok-report_name-in-Struct-clause-places : goal.returns-in_ok-report_name-in-Struct-clause-places
+returns-in_ok-report_name-in-Struct-clause-places c = entry_first _ (term_view c.args.entry.now) _ _ c.in_ok-report_name-in-Struct.ensures.places
