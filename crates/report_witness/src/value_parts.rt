@@ -4,6 +4,7 @@
 use crate::forms::{ValueForm, is_constant, is_same};
 use core_syntax::syntax::Pos;
 use std::alloc::{AllocError, Global};
+use std::collections::BTreeMap;
 use std::mem;
 
 // How many pairs of parts one equality may make equal. Rules within the limits on expansions make fewer.
@@ -86,6 +87,8 @@ pub(crate) struct Var<'a> {
 pub(crate) struct Parts<'a> {
     alloc: Global,
     parts: Vec<Part<'a>>,
+    // By a class, a form and how many parts this is made of: its place among the class's forms.
+    places: BTreeMap<(usize, ValueForm<'a>, usize), usize>,
     // The class of each part. Equal parts have one class, which is the number of its first part.
     classes: Vec<usize>,
     vars: Vec<Var<'a>>,
@@ -101,6 +104,7 @@ impl<'a> Drop for Parts<'a> {
         let Parts {
             alloc: _,
             parts: _,
+            places: _,
             classes: _,
             vars: _,
             calls: _,
@@ -116,6 +120,7 @@ impl<'a> Parts<'a> {
         Parts {
             alloc,
             parts: Vec::new(alloc),
+            places: BTreeMap::new(alloc),
             classes: Vec::new(alloc),
             vars: Vec::new(alloc),
             calls: Vec::new(alloc),
@@ -280,16 +285,16 @@ impl<'a> Parts<'a> {
 
     // The so many parts that a form of a class is made of.
     fn head_of(&self, class: usize, form: ValueForm<'a>, count: usize) -> Option<&[usize]> {
-        for head in &self.parts.get(class)?.heads {
-            if is_same(head.form, form) && head.parts.len() == count {
-                return Some(&head.parts);
-            }
-        }
-        None
+        let place = self.places.get(&(class, form, count)).copied()?;
+        let head = self.parts.get(class)?.heads.get(place)?;
+        Some(&head.parts)
     }
 
     fn push_head(&mut self, class: usize, head: Head<'a>) -> Result<(), AllocError> {
         if let Some(part) = self.parts.get_mut(class) {
+            let place = part.heads.len();
+            self.places
+                .insert((class, head.form, head.parts.len()), place)?;
             part.heads.push(head)?;
         }
         Ok(())
