@@ -1,2 +1,3 @@
 pub mod PlaceTexts
+pub mod Reports
 pub mod TreeTexts

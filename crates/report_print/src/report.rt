@@ -1,5 +1,8 @@
 //! A report: what is said of some files, and what mends it, apart from how it is laid out.
 
+ghost use Rattle.std.specs.Prelude.{◌≡◌, [], OnOk};
+ghost use Rattle.report_print.specs.Reports.{HasPlaceMore, SpeaksAlike};
+
 use core_syntax::syntax::Pos;
 use std::alloc::{AllocError, Global};
 
@@ -42,7 +45,10 @@ pub struct Report {
 
 impl Report {
     /// A report that says this, of no places yet. Its code is its kind.
-    pub fn new(alloc: Global, level: Level, kind: &'static str, message: String) -> Report {
+    pub fn new(alloc: Global, level: Level, kind: &'static str, message: String) -> Report
+        ensures kind { result.kind.now ≡ kind.now }
+        ensures places { result.labels.items ≡ [] }
+    {
         Report {
             level,
             kind,
@@ -59,7 +65,9 @@ impl Report {
     /// # Errors
     ///
     /// Where memory is refused.
-    pub fn add_label(&mut self, pos: Pos, text: String) -> Result<(), AllocError> {
+    pub fn add_label(&mut self, pos: Pos, text: String) -> Result<(), AllocError>
+        ensures { OnOk result (HasPlaceMore pos self.old self.new) }
+    {
         self.labels.push(Label { pos, text })?;
         Ok(())
     }
@@ -81,7 +89,9 @@ impl Report {
     /// # Errors
     ///
     /// Where memory is refused.
-    pub fn add_note(&mut self, word: &'static str, text: String) -> Result<(), AllocError> {
+    pub fn add_note(&mut self, word: &'static str, text: String) -> Result<(), AllocError>
+        ensures { OnOk result (SpeaksAlike self.old self.new) }
+    {
         self.notes.push(Note {
             word,
             text,
@@ -128,7 +138,9 @@ impl Report {
     /// # Errors
     ///
     /// Where memory is refused.
-    pub fn add_fix(&mut self, title: String, place: Place, text: String) -> Result<(), AllocError> {
+    pub fn add_fix(&mut self, title: String, place: Place, text: String) -> Result<(), AllocError>
+        ensures { OnOk result (SpeaksAlike self.old self.new) }
+    {
         let mut edits = Vec::new(*title.allocator());
         edits.push(Edit { place, text })?;
         self.fixes.push(Fix { title, edits })?;
