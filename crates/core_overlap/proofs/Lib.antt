@@ -4,6 +4,7 @@ mod DistinctKeys
 mod ListIteration
 mod Orders
 mod OverlapCounts
+mod Queues
 mod Reporting
 mod Rows
 mod SortedErrors

@@ -1,9 +1,12 @@
 -- The graph of wrong overlaps, by the positions of rules: which rules each one overlaps, and how many of these are unreported.
-use Rattle.std.specs.Prelude.{ℕ, ◌-◌, Bool, ◌&&◌, ◌||◌, List, [], ◌∷◌, length, map, nat_lt, unwrap_or, if◌then◌else◌}
+use Rattle.std.specs.Prelude.{ℕ, ◌-◌, ◌<◌, ◌≤◌, Bool, ◌&&◌, ◌||◌, IsTrue, List, [], ◌∷◌, get_or, length, map, nat_lt, unwrap_or, if◌then◌else◌}
 use Rattle.std.specs.Bool.{◌==◌}
 use Rattle.std.specs.List.{filter, flat_map}
 use Rattle.std.specs.Global.{Vec}
 use Rattle.std.specs.BTreeMap.{BTreeMap, get}
+use Rattle.std.specs.BTreeSet.{BTreeSet, contains}
+use Rattle.std.specs.Ordering.{nat_cmp, ordering_then}
+use Rattle.std.specs.declared.cmp.Ordering.{Ordering}
 use Rattle.model.specs.lists.Syntax.{Position}
 use Rattle.model.specs.sites.Overlap.{position_eq, position_lt, has_end, other_end}
 use Rattle.core_syntax.specs.SyntaxViews.{position}
@@ -45,3 +48,15 @@ unreported others m at = filter (λ o. nat_lt 0 (unreported_at m o)) (neighbours
 -- what is unreported of a rule once one is reported with these
 abbrev pub count_left : BTreeMap Pos ℕ → Pos → List Pos → Pos → ℕ
 count_left m at found q = if same_pos at q then 0 else unreported_at m q - position_count q found
+
+-- the order of entries, each a number of overlaps and the place of a rule
+abbrev pub entry_cmp : ℕ × Pos → ℕ × Pos → Ordering
+entry_cmp x y = ordering_then (nat_cmp x.0 y.0) (ghosts.cmp x.1 y.1)
+
+-- a rule has an entry, which says at least how many of its overlaps are unreported
+abbrev pub IsQueued : BTreeMap Pos ℕ → BTreeSet (ℕ × Pos) → Pos → Type 0
+IsQueued m queue q = (n : ℕ) × (unreported_at m q ≤ n) × IsTrue (contains entry_cmp queue (n, q))
+
+-- so does each of some rules
+abbrev pub AreQueued : BTreeMap Pos ℕ → List Pos → BTreeSet (ℕ × Pos) → Type 0
+AreQueued m rules queue = (k : ℕ) (d : Pos) → k < length rules → IsQueued m queue (get_or rules k d)

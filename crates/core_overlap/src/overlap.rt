@@ -11,13 +11,13 @@ ghost use Rattle.core_overlap.specs.Comparisons.{AreGrouped, list_views, masked_
 ghost use Rattle.core_overlap.specs.ErrorViews.{error_pos};
 ghost use Rattle.core_overlap.specs.ComparedRules.{HaveSingleSpans, found_shadows, found_wrong};
 ghost use Rattle.core_overlap.specs.Keys.{AreKeys, AreNext, IsAhead, IsFirst, nearer};
-ghost use Rattle.core_overlap.specs.Graphs.{unreported_at, count_left, counts_before, ends_of, neighbours_at, neighbours, same_pos, position_count, unreported};
+ghost use Rattle.core_overlap.specs.Graphs.{unreported_at, AreQueued, IsQueued, count_left, counts_before, ends_of, neighbours_at, neighbours, same_pos, position_count, unreported};
 
 use crate::keys::{Keys, equated, first_without, keys_of};
 use core_rule_sets::trie_again::{Overlap, Rule};
 use core_syntax::syntax::{Error, Pos, Span};
 use std::alloc::{AllocError, Global};
-use std::collections::BTreeMap;
+use std::collections::{BTreeMap, BTreeSet};
 
 /// What is wrong with rules that were compared: rules of one set and priority that may both match, and rules that are never
 /// taken since another one matches wherever they do. Upstream's `Errors`.
@@ -468,35 +468,39 @@ fn others_of(alloc: Global, wrong: &[(Pos, Pos)]) -> Result<BTreeMap<Pos, Vec<Po
     Ok(others)
 }
 
-// Whether the first of two rules is reported before the second: it has more overlaps, or as many and a later place.
-fn is_reported_before(counts: &BTreeMap<Pos, usize>, first: Pos, second: Pos) -> bool
-    ensures { result ≡ counts_before counts.now first second }
+// An entry for each of some rules: how many of its overlaps aren't reported, and its place. So the last entry is of the rule
+// that is reported first.
+fn queue_of(
+    alloc: Global,
+    counts: &BTreeMap<Pos, usize>,
+    rules: &[Pos],
+) -> Result<BTreeSet<(usize, Pos)>, AllocError>
+    ensures { IfOk result (λ queue. AreQueued counts.now rules.now queue) }
 {
-    let mine = count(counts, first);
-    let other = count(counts, second);
-    other < mine || mine == other && second < first
-}
-
-fn first_of_two(counts: &BTreeMap<Pos, usize>, first: Pos, second: Pos) -> Pos
-    ensures first { counts_before counts.now first result ≡ false }
-    ensures others { (q : Pos) → counts_before counts.now q second ≡ false → counts_before counts.now q result ≡ false }
-{
-    if is_reported_before(counts, first, second) {
-        first
-    } else {
-        second
-    }
-}
-
-// Of rules the one that is reported first.
-fn foremost(counts: &BTreeMap<Pos, usize>, rules: &[Pos]) -> Pos
-    ensures { (k : ℕ) (d : Pos) → k < length rules.now → counts_before counts.now (slice_index_or rules.now k d) result ≡ false }
-{
-    let mut first = Pos::default();
+    let mut queue = BTreeSet::new(alloc);
     for rule in rules {
-        first = first_of_two(counts, *rule, first);
+        queue.insert((count(counts, *rule), *rule))?;
     }
-    first
+    Ok(queue)
+}
+
+// Of rules that have an entry the one that is reported first. The last entry is made anew until it says what its rule has:
+// it may say what that had before.
+fn foremost(
+    counts: &BTreeMap<Pos, usize>,
+    queue: &mut BTreeSet<(usize, Pos)>,
+) -> Result<Pos, AllocError>
+    ensures first { IfOk result (λ first. (q : Pos) → IsQueued counts.now queue.old q → counts_before counts.now q first ≡ false) }
+    ensures queued { OnOk result ((q : Pos) → IsQueued counts.now queue.old q → IsQueued counts.now queue.new q) }
+{
+    while let Some((most, place)) = queue.pop_last() {
+        let left = count(counts, place);
+        queue.insert((left, place))?;
+        if most <= left {
+            return Ok(place);
+        }
+    }
+    Ok(Pos::default())
 }
 
 // The rules that a rule overlaps.
@@ -611,9 +615,10 @@ fn overlap_errors(alloc: Global, wrong: &[(Pos, Pos)]) -> Result<Vec<Error>, All
     let rules = ascending(ends(alloc, wrong)?)?;
     let others = others_of(alloc, wrong)?;
     let mut counts = counts_of(alloc, wrong)?;
+    let mut queue = queue_of(alloc, &counts, &rules)?;
     // Each report takes an overlap away, so there are no more reports than overlaps.
     for _ in 0..most {
-        let place = foremost(&counts, &rules);
+        let place = foremost(&counts, &mut queue)?;
         if count(&counts, place) == 0 {
             return Ok(errors);
         }

@@ -1,7 +1,10 @@
-use Rattle.std.proofs.Common.{◌≡◌, ℕ, ◌<◌, false, get_or}
 use Rattle.core_syntax.specs.declared.syntax.Pos.{Pos}
-use Rattle.core_overlap.specs.Graphs.{counts_before}
+use Rattle.core_overlap.specs.Graphs.{IsQueued}
+use Rattle.core_overlap.proofs.Queues.{said}
 use Rattle.core_overlap.proofs.overlap.foremost.Given as goal
 
-abbrev pub invariant-loop-rule : goal.invariant-loop-rule
-invariant-loop-rule l = (k : ℕ) (d : Pos) → k < l.rule-index → counts_before l.counts (get_or l.rules k d) l.first ≡ false
+abbrev pub invariant-loop-most : goal.invariant-loop-most
+invariant-loop-most l = (q : Pos) → IsQueued l.counts l.fn.queue q → IsQueued l.counts l.queue q
+
+abbrev pub decreases-loop-most : goal.decreases-loop-most
+decreases-loop-most l = said l.queue.keys
