@@ -6,7 +6,8 @@ use Rattle.text_reader.specs.declared.errors.Problem.TheVariants as P
 use Rattle.text_reader.specs.declared.errors.TextError.{TextError}
 use Rattle.report_print.specs.declared.report.Label.{Label}
 use Rattle.report_print.specs.declared.report.Report.{Report}
-use Rattle.report_errors.specs.Places.{begin_of, first_of, places_of, BeginsAtError, IsAtError}
+use Rattle.report_print.specs.Reports.{places_of}
+use Rattle.report_errors.specs.Places.{begin_of, first_of, BeginsAtError, IsAtError}
 
 -- places begin with this one
 abbrev pub BeginWith : Pos → List Pos → Type 0

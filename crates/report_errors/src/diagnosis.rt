@@ -1,5 +1,8 @@
 //! What is wrong with definitions, as reports.
 
+ghost use Rattle.std.specs.Prelude.{OnOk};
+ghost use Rattle.report_print.specs.Reports.{HasPlaceMore, SpeaksAlike};
+
 use crate::definitions::{constants_of, declaration_of, root_of, rule_around};
 use crate::error_order::{Order, place_of, words_of};
 use crate::meanings::meant_by;
@@ -604,7 +607,9 @@ pub fn add_priority(
     defs: &[Def],
     pos: Pos,
     priority: i64,
-) -> Result<(), AllocError> {
+) -> Result<(), AllocError>
+    ensures { OnOk result (SpeaksAlike report.old report.new) }
+{
     let Some(rule) = rule_at(defs, pos) else {
         return Ok(());
     };
@@ -701,7 +706,9 @@ pub fn add_first(
     report: &mut Report,
     defs: &[Def],
     other: Pos,
-) -> Result<(), AllocError> {
+) -> Result<(), AllocError>
+    ensures { OnOk result (SpeaksAlike report.old report.new) }
+{
     match report.labels.first() {
         Some(label) => {
             let pos = label.pos;
@@ -722,7 +729,9 @@ pub fn add_rule(
     pos: Pos,
     before: &str,
     after: &str,
-) -> Result<(), AllocError> {
+) -> Result<(), AllocError>
+    ensures { OnOk result (HasPlaceMore pos report.old report.new) }
+{
     let mut text = String::from_str(alloc, before)?;
     push_rule(&mut text, defs, pos)?;
     text.push_str(after)?;
@@ -745,7 +754,9 @@ fn push_rule(text: &mut String, defs: &[Def], pos: Pos) -> Result<(), AllocError
 }
 
 /// Adds a line that helps.
-pub fn add_help(alloc: Global, report: &mut Report, text: &str) -> Result<(), AllocError> {
+pub fn add_help(alloc: Global, report: &mut Report, text: &str) -> Result<(), AllocError>
+    ensures { OnOk result (SpeaksAlike report.old report.new) }
+{
     report.add_note("help", String::from_str(alloc, text)?)
 }
 

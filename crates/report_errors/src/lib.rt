@@ -5,7 +5,8 @@
 
 ghost use Rattle.std.specs.Prelude.{◌≡◌, ◌++◌, ◌∷◌, [], IfOk, List, OnOk};
 ghost use Rattle.core_syntax.specs.declared.syntax.Pos.{Pos};
-ghost use Rattle.report_errors.specs.Places.{AreAtError, IsAtError, begin_of, places_of};
+ghost use Rattle.report_errors.specs.Places.{AreAtError, IsAtError, begin_of};
+ghost use Rattle.report_print.specs.Reports.{places_of};
 
 use crate::extents::line_with_list;
 use crate::misspelled::add_question_at;
