@@ -1,5 +1,5 @@
 -- The dead returns of a block that stands behind a return, or behind none.
-use Rattle.std.specs.Prelude.{◌≡◌, ℕ, List, ◌++◌, map, Option, Some, None}
+use Rattle.std.specs.Prelude.{◌≡◌, ℕ, List, [], ◌∷◌, ◌++◌, map, Option, Some, None, codes}
 use Rattle.core_syntax.specs.declared.syntax.Pos.{Pos}
 use Rattle.core_syntax.specs.SyntaxViews.{position}
 use Rattle.model.specs.lists.Syntax.{Position}
@@ -26,3 +26,7 @@ dead_among_from (Some first) arms = map (λ at. (at, position first)) (returns_a
 abbrev pub PassesStep : (first after : Option Pos) → Check → (before now : List (Pos × Pos)) → Type 0
 PassesStep first after check before now =
     (binds : List ℕ) (rest : Tree) → place_pairs now ++ dead_from after rest ≡ place_pairs before ++ dead_from first (step binds check rest)
+
+-- of a dead return and the one that it stands behind: that its rule never runs, and the places of both rules
+abbrev pub told_of_dead : Position × Position → List ℕ × List Position
+told_of_dead d = (codes "never-run", d.0 ∷ d.1 ∷ [])

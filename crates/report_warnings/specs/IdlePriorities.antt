@@ -1,5 +1,5 @@
 -- Rules of a set that overlap others of it, as they lie in memory.
-use Rattle.std.specs.Prelude.{pos, Bool, not, ◌&&◌, List, map}
+use Rattle.std.specs.Prelude.{pos, ℕ, Bool, not, ◌&&◌, List, [], ◌∷◌, codes, map}
 use Rattle.std.specs.List.{filter, list_any}
 use Rattle.std.specs.Ordering.{int_eq}
 use Rattle.core_syntax.specs.SyntaxViews.{position}
@@ -18,3 +18,7 @@ is_idle rules rule = not (int_eq rule.prio (pos 0)) && not (meets_some rules rul
 -- the places of those of some rules that have a priority and overlap none of the set
 abbrev pub idle_places : (all some : List Rule) → List Position
 idle_places all some = map (λ r. position r.pos) (filter (is_idle all) some)
+
+-- of the rule at a place: that its priority has no effect
+abbrev pub told_of_idle : Position → List ℕ × List Position
+told_of_idle at = (codes "priority", at ∷ [])

@@ -2,3 +2,4 @@
 pub mod Added
 pub mod DeadReturns
 pub mod IdlePriorities
+pub mod Kinds

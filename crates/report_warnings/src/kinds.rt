@@ -1,5 +1,8 @@
 //! The kinds of warnings.
 
+ghost use Rattle.std.specs.Prelude.{◌≡◌, []};
+ghost use Rattle.report_warnings.specs.Kinds.{kind_name};
+
 use cranelift_isle::syntax::Pos;
 use report_print::report::{Label, Level, Report};
 use std::alloc::{AllocError, Global};
@@ -42,7 +45,9 @@ pub const WARNINGS: [Warning; 9] = [
 
 impl Warning {
     /// The name of the kind.
-    pub fn name(self) -> &'static str {
+    pub fn name(self) -> &'static str
+        ensures { result.now ≡ kind_name self }
+    {
         match self {
             Warning::NeverRun => "never-run",
             Warning::Priority => "priority",
@@ -87,7 +92,10 @@ pub fn is_one_of(report: &Report, kinds: &[Warning]) -> bool {
 }
 
 // A warning with these words and places to come.
-pub(crate) fn begun(alloc: Global, kind: Warning, message: String) -> Report {
+pub(crate) fn begun(alloc: Global, kind: Warning, message: String) -> Report
+    ensures kind { result.kind.now ≡ kind_name kind }
+    ensures places { result.labels.items ≡ [] }
+{
     Report::new(alloc, Level::Warning, kind.name(), message)
 }
 

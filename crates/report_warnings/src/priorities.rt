@@ -1,11 +1,11 @@
 //! Priorities that have no effect.
 
-ghost use Rattle.std.specs.Prelude.{◌≡◌, length, map, true, IfOk, OnOk};
+ghost use Rattle.std.specs.Prelude.{◌≡◌, map, true, IfOk, OnOk};
 ghost use Rattle.core_syntax.specs.SyntaxViews.{position};
 ghost use Rattle.cranelift_isle.specs.SiteViews.{set_rule_view, set_rule_views};
 ghost use Rattle.laws_ways.specs.IdlePriorities.{idle_priorities, may_meet};
-ghost use Rattle.report_warnings.specs.Added.{AddsSoMany};
-ghost use Rattle.report_warnings.specs.IdlePriorities.{is_idle, meets_some};
+ghost use Rattle.report_warnings.specs.Added.{told_of, AddsTold};
+ghost use Rattle.report_warnings.specs.IdlePriorities.{is_idle, meets_some, told_of_idle};
 
 use crate::kinds::{Warning, begun};
 use cranelift_isle::syntax::{Def, Pos};
@@ -187,23 +187,37 @@ pub(crate) fn add_idle_priorities(
     defs: &[Def],
     rules: &[Rule],
 ) -> Result<(), AllocError>
-    ensures { OnOk result (AddsSoMany (length (idle_priorities (set_rule_views rules.now))) reports.old.items reports.new.items) }
+    ensures { OnOk result (AddsTold (map told_of_idle (idle_priorities (set_rule_views rules.now))) reports.old.items reports.new.items) }
 {
     let idle = idle_priorities(alloc, rules)?;
-    for place in &idle {
-        reports.push(idle_report(alloc, defs, *place)?)?;
+    add_reports(alloc, reports, defs, &idle)
+}
+
+// Adds a warning for the rule at each of these places.
+fn add_reports(
+    alloc: Global,
+    reports: &mut Vec<Report>,
+    defs: &[Def],
+    idle: &[Pos],
+) -> Result<(), AllocError>
+    ensures { OnOk result (AddsTold (map told_of_idle (map position idle.now)) reports.old.items reports.new.items) }
+{
+    for place in idle {
+        reports.push(idle_report(alloc, defs, place)?)?;
     }
     Ok(())
 }
 
 // The warning of a rule whose priority changes nothing.
-fn idle_report(alloc: Global, defs: &[Def], pos: Pos) -> Result<Report, AllocError> {
+fn idle_report(alloc: Global, defs: &[Def], place: &Pos) -> Result<Report, AllocError>
+    ensures { IfOk result (λ report. told_of report ≡ told_of_idle (position place.now)) }
+{
     let message = String::from_str(alloc, "a priority has no effect")?;
     let mut report = begun(alloc, Warning::Priority, message);
     let after = " never matches together with another rule of its term";
-    add_rule(alloc, &mut report, defs, pos, "", after)?;
+    add_rule(alloc, &mut report, defs, *place, "", after)?;
     add_help(alloc, &mut report, "remove the priority")?;
-    if let Some(rule) = rule_at(defs, pos) {
+    if let Some(rule) = rule_at(defs, *place) {
         let title = String::from_str(alloc, "Remove the priority")?;
         let place = Place::Between(rule.pos, rule.pattern.pos(), Word::Priority);
         report.add_fix(title, place, String::new(alloc))?;

@@ -1,12 +1,12 @@
 //! Rules that never run.
 
-ghost use Rattle.std.specs.Prelude.{◌≡◌, ◌++◌, ℕ, length, IfOk, OnOk};
+ghost use Rattle.std.specs.Prelude.{◌≡◌, ◌++◌, ℕ, map, IfOk, OnOk};
 ghost use Rattle.core_syntax.specs.SyntaxViews.{position};
 ghost use Rattle.cranelift_isle.specs.Trees.{return_at};
 ghost use Rattle.cranelift_isle.specs.TreeViews.{arms_view, check_view, tree_view};
 ghost use Rattle.laws_ways.specs.DeadReturns.{dead_returns};
-ghost use Rattle.report_warnings.specs.DeadReturns.{dead_among_from, dead_from, place_pairs, PassesStep};
-ghost use Rattle.report_warnings.specs.Added.{AddsSoMany};
+ghost use Rattle.report_warnings.specs.DeadReturns.{dead_among_from, dead_from, place_pair, place_pairs, told_of_dead, PassesStep};
+ghost use Rattle.report_warnings.specs.Added.{told_of, AddsTold};
 
 use crate::kinds::{Warning, begun};
 use cranelift_isle::serialize::{Block, ControlFlow, MatchArm};
@@ -109,17 +109,32 @@ pub(crate) fn add_dead(
     defs: &[Def],
     block: &Block,
 ) -> Result<(), AllocError>
-    ensures { OnOk result (AddsSoMany (length (dead_returns (tree_view block.now))) reports.old.items reports.new.items) }
+    ensures { OnOk result (AddsTold (map told_of_dead (dead_returns (tree_view block.now))) reports.old.items reports.new.items) }
 {
     let dead = dead_returns(alloc, block)?;
-    for places in &dead {
-        reports.push(dead_report(alloc, defs, places.0, places.1)?)?;
+    add_reports(alloc, reports, defs, &dead)
+}
+
+// Adds a warning for each of these returns, with the return that it stands behind.
+fn add_reports(
+    alloc: Global,
+    reports: &mut Vec<Report>,
+    defs: &[Def],
+    dead: &[(Pos, Pos)],
+) -> Result<(), AllocError>
+    ensures { OnOk result (AddsTold (map told_of_dead (place_pairs dead.now)) reports.old.items reports.new.items) }
+{
+    for places in dead {
+        reports.push(dead_report(alloc, defs, places)?)?;
     }
     Ok(())
 }
 
-// The warning of a rule that never runs, since another one returns first.
-fn dead_report(alloc: Global, defs: &[Def], pos: Pos, first: Pos) -> Result<Report, AllocError> {
+// The warning of a rule that never runs, since another one returns first: their places.
+fn dead_report(alloc: Global, defs: &[Def], places: &(Pos, Pos)) -> Result<Report, AllocError>
+    ensures { IfOk result (λ report. told_of report ≡ told_of_dead (place_pair places.now)) }
+{
+    let (pos, first) = *places;
     let message = String::from_str(alloc, "a rule never runs")?;
     let mut report = begun(alloc, Warning::NeverRun, message);
     let is_alike = are_alike(alloc, defs, pos, first)?;
