@@ -25,6 +25,7 @@ use Rattle.app_command.specs.declared.words.Task.{Task}
 use Rattle.app_command.specs.declared.words.Task.TheVariants as T
 use Rattle.app_command.specs.CallTexts.{IsTextOfRun}
 use Rattle.app_command.specs.Codes.{IsAnswerOfRust}
+use Rattle.app_command.specs.Compared.{last_has_trees}
 use Rattle.app_command.specs.Readings.{has_no_definitions, IsAcceptedReading, IsReadingOf}
 use Rattle.app_command.specs.WantedTerms.{missing_name, wanted_terms}
 
@@ -124,7 +125,12 @@ abbrev pub IsAnswerOfRun : Request → Lowered → Answer → Type 0
 IsAnswerOfRun asked l answer =
     (IsDone answer × ((text : List ℕ) × IsTextOfRun asked l text × (string_bytes answer.out ≡ text ++ (10 ∷ [])))) ⊎ IsFailed answer
 
--- what the lowered definitions of files are answered, by the task. `lower` fails where no term has a name that is asked for. Of the
+-- the last of some texts is compared with printed trees: it is silent, and the status is 0, exactly where it has just these
+abbrev pub IsAnswerOfComparing : List (List ℕ) → (trees : List ℕ) → Answer → Type 0
+IsAnswerOfComparing texts trees answer =
+    ((last_has_trees texts trees ≡ true) × IsDoneWithoutText answer) ⊎ ((last_has_trees texts trees ≡ false) × IsFailed answer)
+
+-- what the lowered definitions of files are answered, by the task. `lower` and `compare` fail where no term has a name that is asked for. Of the
 -- other tasks that may fail it isn't said when they do
 abbrev pub IsAnswerBy : Task → Request → Files → Lowered → Answer → Type 0
 IsAnswerBy T.Lower asked files l answer =
@@ -135,7 +141,10 @@ IsAnswerBy T.Rust asked files l answer = IsAnswerOfRust l files asked.code asked
 IsAnswerBy T.Check asked files l answer = AreReports asked.format answer × IsStatusOfWarnings asked answer
 IsAnswerBy T.Explain asked files l answer = IsDoneWithText answer ⊎ IsFailed answer
 IsAnswerBy T.Stats asked files l answer = IsDone answer × AreSizes asked.format (string_bytes answer.out)
-IsAnswerBy T.Compare asked files l answer = IsDoneWithoutText answer ⊎ IsFailed answer
+IsAnswerBy T.Compare asked files l answer =
+    ((missing_name (asked_names asked) l ≡ None) × IsAnswerOfComparing (map string_bytes files.texts.items)
+    (terms_text files l (wanted_terms (asked_names asked) l)) answer)
+    ⊎ ((missing_name (asked_names asked) l ≢ None) × IsFailed answer)
 IsAnswerBy T.Diff asked files l answer = IsDoneWithoutText answer
 IsAnswerBy T.Print asked files l answer = IsDoneWithoutText answer
 IsAnswerBy T.Samples asked files l answer = IsDoneWithoutText answer

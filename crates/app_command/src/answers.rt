@@ -1,12 +1,11 @@
 //! What the command answers to texts.
 
-ghost use Rattle.std.specs.Prelude.{◌≡◌, ◌==◌, ◌≢◌, ◌⊎◌, ◌≤◌, true, false, [], length, map, string_bytes, IfOk, OnOk};
+ghost use Rattle.std.specs.Prelude.{◌≡◌, ◌≢◌, ◌⊎◌, ◌≤◌, true, false, [], length, map, string_bytes, IfOk, OnOk};
 ghost use Rattle.cranelift_isle.specs.SyntaxViews.{definition_views};
-ghost use Rattle.app_command.specs.declared.words.Task.TheVariants.{Lower, Run};
+ghost use Rattle.app_command.specs.declared.words.Task.TheVariants.{Compare, Lower, Run};
 ghost use Rattle.app_command.specs.Codes.{IsAnswerOfCode, IsAnswerOfRust};
-ghost use Rattle.app_command.specs.Compared.{last_has_trees};
 ghost use Rattle.app_command.specs.TaskAnswers.{AreReports, AreSizes, HasNoReport, HasReport, IsDone, IsDoneWithText, IsDoneWithoutText, IsFailed, IsRefusal, IsStatusOfWarnings, denies};
-ghost use Rattle.app_command.specs.TaskAnswers.{IsAnswerBy, IsAnswerOfTold, IsAnswerToDefinitions, IsAnswerToFiles, IsAnswerToOneReading, IsAnswerToReading};
+ghost use Rattle.app_command.specs.TaskAnswers.{IsAnswerBy, IsAnswerOfComparing, IsAnswerOfTold, IsAnswerToDefinitions, IsAnswerToFiles, IsAnswerToOneReading, IsAnswerToReading};
 ghost use Rattle.app_command.specs.Statuses.{IsStatusOfReading};
 
 use crate::calls::{Told, ran, told_why};
@@ -451,7 +450,7 @@ fn compared<E: Write>(
     lowered: &Lowered,
     teller: &mut Teller<'_, E>,
 ) -> Result<Answer, AllocError>
-    ensures { IfOk result (λ a. IsDoneWithoutText a ⊎ IsFailed a) }
+    ensures { IfOk result (IsAnswerBy Compare asked.now files.now lowered.now) }
 {
     if let Some(name) = missing_term(asked.terms, lowered) {
         return missing(alloc, "term with rules", name);
@@ -463,9 +462,7 @@ fn compared<E: Write>(
 
 // Where the trees of the last file depart from these: in all terms, or the first line.
 fn compared_with(alloc: Global, all: bool, files: &Files, trees: &str) -> Result<Answer, AllocError>
-    ensures answer { IfOk result (λ a. IsDoneWithoutText a ⊎ IsFailed a) }
-    // the status is 0 exactly where the file has just these trees
-    ensures same { IfOk result (λ a. (a.status == 0) ≡ last_has_trees (map string_bytes files.now.texts.items) trees.now) }
+    ensures { IfOk result (IsAnswerOfComparing (map string_bytes files.now.texts.items) trees.now) }
 {
     let Some(text) = files.texts.last() else {
         return Ok(accepted(alloc, String::new(alloc)));
