@@ -15,7 +15,7 @@ use std::alloc::{AllocError, Global};
 use std::fs::{self, File, OpenFile};
 use std::io::{self, ErrorKind, Read, Write};
 use text_reader::errors::{ReadFault, TextError};
-use text_writer::formatted::formatted;
+use text_writer::formatted::{Indentation, formatted};
 
 /// What `fmt` is asked.
 pub struct Formatting<'a> {
@@ -184,7 +184,7 @@ fn format_text<R: std::rt::Files + AllocGlobal, O: Write, E: Write>(
     ensures known { result.status ≤ 4 }
     ensures used { result.status ≢ 2 }
 {
-    match formatted(rt.alloc(), 0, text) {
+    match formatted(rt.alloc(), 0, Indentation::UnderPart, text) {
         Ok(made) => hand_over(
             rt,
             asked,

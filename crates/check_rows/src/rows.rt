@@ -96,7 +96,7 @@ fn push_row(
         "reply" => push_answer(alloc, &words, text, out),
         "files" => push_files(alloc, &words, text, out),
         "code" => push_code(alloc, &words, &row.files, out),
-        "laid" => push_laid(alloc, text, out),
+        "laid" => push_laid(alloc, &words, text, out),
         "printed" => push_printed(alloc, text, out),
         "sample" => push_sample(alloc, &words, out),
         "tree" | "rules" => push_text(alloc, &words, text, out),
