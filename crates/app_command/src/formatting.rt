@@ -1,6 +1,7 @@
 //! `isle fmt`: files in the usual layout.
 
 ghost use Rattle.std.specs.Prelude.{◌≡◌, ◌≢◌, ◌⊎◌, ◌≤◌, ◌↔◌, codes, false, true};
+ghost use Rattle.app_command.specs.Layouts.{indentation_asked, IsLaidOut, IsLayoutWritten};
 ghost use Rattle.app_command.specs.Outputs.{IsWrittenOut};
 
 use crate::inputs::{file_text, path_of, standard_text};
@@ -23,6 +24,8 @@ pub struct Formatting<'a> {
     pub check: bool,
     /// Whether then the lines are shown that would change.
     pub diff: bool,
+    /// Where lines begin, if that is said.
+    pub indentation: Option<Indentation>,
     /// Where files are looked for whose names don't begin with `/`; the empty text for where the command runs.
     pub folder: &'a str,
     /// The files, where `-` is standard input, whose layout goes to standard output.
@@ -34,6 +37,7 @@ impl<'a> Drop for Formatting<'a> {
         let Self {
             check: _,
             diff: _,
+            indentation: _,
             folder: _,
             files: _,
         } = self;
@@ -44,11 +48,12 @@ impl<'a> Drop for Formatting<'a> {
 #[derive(Clone, Copy, PartialEq, Eq)]
 enum Awaited {
     Folder,
+    Indentation,
     // An option or a file.
     Any,
 }
 
-/// What the words behind `fmt` ask: `--check`, `--diff`, `-C FOLDER`, and files, of which `-` and `--stdin` are standard input.
+/// What the words behind `fmt` ask: `--check`, `--diff`, `--indent 2`, `-C FOLDER`, and files, of which `-` and `--stdin` are standard input.
 ///
 /// # Errors
 ///
@@ -57,6 +62,7 @@ pub fn formatting_by<'a>(alloc: Global, words: &'a [String]) -> Result<Formattin
     let mut asked = Formatting {
         check: false,
         diff: false,
+        indentation: None,
         folder: "",
         files: Vec::new(alloc),
     };
@@ -64,8 +70,10 @@ pub fn formatting_by<'a>(alloc: Global, words: &'a [String]) -> Result<Formattin
     for word in words {
         awaited = asked.read(alloc, awaited, word.as_str())?;
     }
-    if awaited == Awaited::Folder {
-        return Err(wrong_as(alloc, "nothing after '-C'"));
+    match awaited {
+        Awaited::Folder => return Err(wrong_as(alloc, "nothing after '-C'")),
+        Awaited::Indentation => return Err(wrong_as(alloc, "nothing after '--indent'")),
+        Awaited::Any => {}
     }
     asked.check = asked.check || asked.diff;
     Ok(asked)
@@ -82,13 +90,21 @@ fn set(alloc: Global, option: &mut bool, word: &str) -> Result<(), Unasked> {
 
 impl<'a> Formatting<'a> {
     fn read(&mut self, alloc: Global, awaited: Awaited, word: &'a str) -> Result<Awaited, Unasked> {
-        if awaited == Awaited::Folder {
-            self.folder = word;
-            return Ok(Awaited::Any);
+        match awaited {
+            Awaited::Folder => {
+                self.folder = word;
+                return Ok(Awaited::Any);
+            }
+            Awaited::Indentation => return self.read_indentation(alloc, word),
+            Awaited::Any => {}
+        }
+        if let Some(value) = word.strip_prefix("--indent=") {
+            return self.read_indentation(alloc, value);
         }
         match word {
             "--check" => set(alloc, &mut self.check, word)?,
             "--diff" => set(alloc, &mut self.diff, word)?,
+            "--indent" => return Ok(Awaited::Indentation),
             "-C" if self.folder.is_empty() => return Ok(Awaited::Folder),
             "-C" => return Err(given_twice(alloc, word)),
             "--stdin" => self.read_file(alloc, "-")?,
@@ -98,6 +114,28 @@ impl<'a> Formatting<'a> {
             }
             _ => self.read_file(alloc, word)?,
         }
+        Ok(Awaited::Any)
+    }
+
+    // Where lines begin.
+    fn indentation_asked(&self) -> Indentation
+        ensures { result ≡ indentation_asked self.now.indentation }
+    {
+        match self.indentation {
+            Some(indentation) => indentation,
+            None => Indentation::UnderPart,
+        }
+    }
+
+    // Reads how many columns lines begin in, which may be given once.
+    fn read_indentation(&mut self, alloc: Global, word: &str) -> Result<Awaited, Unasked> {
+        if self.indentation.is_some() {
+            return Err(given_twice(alloc, "--indent"));
+        }
+        if word != "2" {
+            return Err(wrong(format!(in alloc; "--indent is 2, not '{word}'")));
+        }
+        self.indentation = Some(Indentation::TwoColumns);
         Ok(Awaited::Any)
     }
 
@@ -183,8 +221,13 @@ fn format_text<R: std::rt::Files + AllocGlobal, O: Write, E: Write>(
 ) -> Ending
     ensures known { result.status ≤ 4 }
     ensures used { result.status ≢ 2 }
+    // with `check`, the status is 0 only where the text is its layout, by the indentation that is asked for
+    ensures checked { asked.now.check ≡ true → result.status ≡ 0 → IsLaidOut asked.now.indentation text.now }
+    // without it, the layout of standard input is written where the status is 0
+    ensures printed { asked.now.check ≡ false → name.now ≡ codes "<stdin>" → result.status ≡ 0
+        → IsLayoutWritten asked.now.indentation text.now (O.contents out.old) (O.contents out.new) result }
 {
-    match formatted(rt.alloc(), 0, Indentation::UnderPart, text) {
+    match formatted(rt.alloc(), 0, asked.indentation_asked(), text) {
         Ok(made) => hand_over(
             rt,
             asked,

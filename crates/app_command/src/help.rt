@@ -14,7 +14,7 @@ definitions. A task that is given no file takes those that the file isle.files n
 // What is said of tasks that have options of their own.
 const OTHERS: &str =
     "  fmt FILE..             lays out files, in place. The layout of - goes to standard output. --check only names the files
-                         that would change, and --diff shows their lines too.
+                         that would change, and --diff shows their lines too. --indent 2 indents lines by two columns.
   conditions FILE..      makes questions for a solver: whether each rule does what its specs say (docs/VERIFYING.md). It has
                          options of its own: isle conditions --help
   lsp                    answers an editor (docs/EDITORS.md)
