@@ -1,6 +1,6 @@
 //! What the command answers to texts.
 
-ghost use Rattle.std.specs.Prelude.{◌≡◌, ◌≢◌, ◌⊎◌, ◌≤◌, true, false, [], length, map, string_bytes, IfOk, OnOk};
+ghost use Rattle.std.specs.Prelude.{◌≡◌, ◌≢◌, ◌⊎◌, true, false, [], map, string_bytes, take, IfOk, OnOk};
 ghost use Rattle.cranelift_isle.specs.SyntaxViews.{definition_views};
 ghost use Rattle.app_command.specs.declared.words.Task.TheVariants.{Compare, Lower, Run};
 ghost use Rattle.app_command.specs.Codes.{IsAnswerOfCode, IsAnswerOfRust};
@@ -20,7 +20,7 @@ use crate::words::{Format, Request, Task};
 use cranelift_isle::lower::{Lowered, lower};
 use cranelift_isle::syntax::{Def, Error, Fault, Files};
 use report_compare::departures;
-use report_errors::diagnosis::{amount_wanted, reports_of};
+use report_errors::diagnosis::{MOST_ERRORS, amount_wanted, reports_of};
 use report_errors::explanation::explanation;
 use report_errors::term_sizes::stats;
 use report_json::documents::{
@@ -347,26 +347,24 @@ fn warned(
     if asked.format == Format::Json {
         out = document_of_warnings(alloc, files, warnings)?;
     } else {
-        let shown = shown_of(asked, warnings);
+        let shown = shown_of(asked.wants_all(), warnings);
         push_reports(&mut err, files, shown, asked.layout())?;
         push_rest(&mut err, warnings.len().saturating_sub(shown.len()))?;
     }
     Ok(Answer { status, out, err })
 }
 
-// How many warnings are shown, if not all are wanted.
-const MOST_WARNINGS: usize = 20;
-
-// The warnings that are shown.
-fn shown_of<'a>(asked: &Request<'_>, warnings: &'a [Report]) -> &'a [Report]
-    ensures none { warnings.now ≡ [] → result.now ≡ [] }
-    ensures some { warnings.now ≢ [] → result.now ≢ [] }
-    ensures within { length result.now ≤ length warnings.now }
+/// The errors or warnings that are shown: all, if all are wanted, or the first 20.
+pub(crate) fn shown_of<T>(all: bool, found: &[T]) -> &[T]
+    ensures all { all ≡ true → result.now ≡ found.now }
+    ensures few { all ≡ false → result.now ≡ take 20 found.now }
+    ensures none { found.now ≡ [] → result.now ≡ [] }
+    ensures some { found.now ≢ [] → result.now ≢ [] }
 {
-    if asked.wants_all() || warnings.len() <= MOST_WARNINGS {
-        return warnings;
+    if all || found.len() <= MOST_ERRORS {
+        return found;
     }
-    &warnings[..MOST_WARNINGS]
+    &found[..MOST_ERRORS]
 }
 
 // Whether one of these warnings counts as an error.
