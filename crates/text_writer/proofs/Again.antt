@@ -11,7 +11,8 @@ use Rattle.text_writer.specs.declared.gaps.Last.{Last}
 use Rattle.text_writer.specs.declared.gaps.Last.TheVariants as L
 use Rattle.text_writer.specs.Placing.{Placed, all_placed, placed, kept}
 use Rattle.text_writer.specs.Plans.{Planned, planned, last_of, gap_before, broken, spaces_in_line, first_last, is_marked}
-use Rattle.text_writer.specs.Pages.{Layout, first_layout, layout_behind, indent, laid_from, laid_plan, laid, text_of, white}
+use Rattle.text_writer.specs.declared.lists.Indentation.{Indentation}
+use Rattle.text_writer.specs.Pages.{Layout, first_layout, layout_behind, line_start, laid_from, laid_plan, laid, text_of, white}
 use Rattle.text_writer.proofs.Sound.{IsWhole, AreWhole}
 use Rattle.text_writer.proofs.Whole.{last_break, regrouped, some_break, laid_once}
 
@@ -100,7 +101,7 @@ again [] last so_far w = refl
 again (q ∷ qs) last so_far w =
     let g = gap_before last q in
     let p : Planned = record { gap = g; piece = q.piece } in
-    let column = indent so_far.lists q.piece in
+    let column = line_start so_far q.piece in
     let rest = laid_from (layout_behind so_far p) (planned (last_of q.piece) qs) in
     ap (λ x. planned last (all_placed 0 0 x)) (regrouped (white column g) q.piece rest last_break)
     ∙ ap (planned last) (white_counted column g (q.piece ∷ (rest ++ last_break)) ∙ as_kept q.piece (breaks_of g) (spaces_of column g) (rest ++ last_break) w.0 w.1)
@@ -109,24 +110,24 @@ again (q ∷ qs) last so_far w =
 unmarked : (q : Placed) (column : ℕ) (ps : List Piece) → is_marked (white column (gap_before L.Nothing q) ++ (q.piece ∷ ps)) ≡ false
 unmarked q column ps = elim (cases_Bool (begins_with 65279 (spelling q.piece))) [ inl m ↦ rw m refl | inr m ↦ rw m m ]
 
-plan_again : (marked : Bool) (ps : List Placed) → AreWhole ps
-    → (let r = laid_plan marked (planned (first_last marked) ps) in (is_marked r ≡ marked) × (planned (first_last marked) (all_placed 0 0 r) ≡ planned (first_last marked) ps))
-plan_again false [] w = (refl, refl)
-plan_again false (q ∷ qs) w =
-    let so_far = first_layout false in
+plan_again : (i : Indentation) (marked : Bool) (ps : List Placed) → AreWhole ps
+    → (let r = laid_plan i marked (planned (first_last marked) ps) in (is_marked r ≡ marked) × (planned (first_last marked) (all_placed 0 0 r) ≡ planned (first_last marked) ps))
+plan_again i false [] w = (refl, refl)
+plan_again i false (q ∷ qs) w =
+    let so_far = first_layout i false in
     let p : Planned = record { gap = gap_before L.Nothing q; piece = q.piece } in
     let rest = laid_from (layout_behind so_far p) (planned (last_of q.piece) qs) in (
-      ap is_marked (regrouped (white (indent so_far.lists q.piece) (gap_before L.Nothing q)) q.piece rest last_break) ∙ unmarked q (indent so_far.lists q.piece) (rest ++ last_break),
+      ap is_marked (regrouped (white (line_start so_far q.piece) (gap_before L.Nothing q)) q.piece rest last_break) ∙ unmarked q (line_start so_far q.piece) (rest ++ last_break),
       again (q ∷ qs) L.Nothing so_far w,
     )
-plan_again true [] w = (refl, refl)
-plan_again true (q ∷ qs) w = (refl, again (q ∷ qs) L.Mark (first_layout true) w)
+plan_again i true [] w = (refl, refl)
+plan_again i true (q ∷ qs) w = (refl, again (q ∷ qs) L.Mark (first_layout i true) w)
 
-pub laid_twice : (ps : List Piece) → AreWhole (all_placed 0 0 ps) → laid (laid ps) ≡ laid ps
-laid_twice ps w =
+pub laid_twice : (i : Indentation) (ps : List Piece) → AreWhole (all_placed 0 0 ps) → laid i (laid i ps) ≡ laid i ps
+laid_twice i ps w =
     let marked = is_marked ps in
-    let h = plan_again marked (all_placed 0 0 ps) w in
-    ap (λ b. laid_plan b (planned (first_last b) (all_placed 0 0 (laid ps)))) h.0 ∙ ap (laid_plan marked) h.1
+    let h = plan_again i marked (all_placed 0 0 ps) w in
+    ap (λ b. laid_plan i b (planned (first_last b) (all_placed 0 0 (laid i ps)))) h.0 ∙ ap (laid_plan i marked) h.1
 
-pub twice : (ps qs : List Piece) → AreWhole (all_placed 0 0 ps) → AreIn 0 (text_of (laid ps)) qs → laid qs ≡ laid ps
-twice ps qs w h = ap laid (laid_once ps qs w h) ∙ laid_twice ps w
+pub twice : (i : Indentation) (ps qs : List Piece) → AreWhole (all_placed 0 0 ps) → AreIn 0 (text_of (laid i ps)) qs → laid i qs ≡ laid i ps
+twice i ps qs w h = ap (laid i) (laid_once i ps qs w h) ∙ laid_twice i ps w

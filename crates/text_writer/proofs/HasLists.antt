@@ -9,6 +9,7 @@ use Rattle.text_reader.specs.Lexing.{Tokens, tokens_after}
 use Rattle.text_reader.specs.Pieces.{Piece, AreIn, pieces_of}
 use Rattle.text_reader.specs.Solid.{stripped}
 use Rattle.text_writer.specs.Layouts.{layout_in}
+use Rattle.text_writer.specs.declared.lists.Indentation.{Indentation}
 use Rattle.text_writer.specs.Pages.{laid, text_of}
 
 abbrev fine : Result ⊤ Wrong
@@ -22,16 +23,16 @@ pub had_tokens : (r : Result Tokens Wrong) (f : Tokens → Result FormTrees Wron
 had_tokens (Ok ts) f h = (ts, refl)
 had_tokens (Err w) f h = absurd (cc h)
 
-pub has_layout : (file : ℕ) (text made : List ℕ) → lists_in file text ≡ fine → made ≡ text_of (laid (pieces_of (chars text))) → layout_in file text ≡ Ok made
-has_layout file text made h e = anything (forms_in file text) _ h ∙ ap (λ m. Ok m) (sym e)
+pub has_layout : (file : ℕ) (i : Indentation) (text made : List ℕ) → lists_in file text ≡ fine → made ≡ text_of (laid i (pieces_of (chars text))) → layout_in file i text ≡ Ok made
+has_layout file i text made h e = anything (forms_in file text) _ h ∙ ap (λ m. Ok m) (sym e)
 
 -- what holds of all pieces of a text with tokens holds of those of a text with lists
-pub has_same : (file : ℕ) (text made : List ℕ) → lists_in file text ≡ fine
+pub has_same : (file : ℕ) (i : Indentation) (text made : List ℕ) → lists_in file text ≡ fine
     → ((ps : List Piece) → AreIn 0 (chars text) ps → ps ≡ pieces_of (chars text))
-    → ((ps : List Piece) → AreIn 0 (chars text) ps → made ≡ text_of (laid ps))
-    → ((ps qs : List Piece) (ts : Tokens) → AreIn 0 (chars text) ps → tokens_after file 0 ps [] ≡ Ok ts → AreIn 0 (text_of (laid ps)) qs
+    → ((ps : List Piece) → AreIn 0 (chars text) ps → made ≡ text_of (laid i ps))
+    → ((ps qs : List Piece) (ts : Tokens) → AreIn 0 (chars text) ps → tokens_after file 0 ps [] ≡ Ok ts → AreIn 0 (text_of (laid i ps)) qs
     → stripped (tokens_after file 0 qs []) ≡ stripped (tokens_after file 0 ps []))
     → (ps qs : List Piece) → AreIn 0 (chars text) ps → AreIn 0 made qs → stripped (tokens_after file 0 ps []) ≡ stripped (tokens_after file 0 qs [])
-has_same file text made h one is keeps ps qs are become =
+has_same file i text made h one is keeps ps qs are become =
     let t = had_tokens (tokens_in file text) _ h in
     sym (keeps ps qs t.0 are (ap (λ rs. tokens_after file 0 rs []) (one ps are) ∙ t.1) (subst (λ m. AreIn 0 m qs) (is ps are) become))

@@ -1,11 +1,13 @@
 mod Again
 mod BareTrees
 mod Comments
+mod ContentsRead
 mod DigitTexts
 mod Fronts
 mod HasLists
 mod ItemsReadBack
 mod KeptTokens
+mod Matched
 mod Returns
 mod Scans
 mod Sound

@@ -6,6 +6,7 @@ use Rattle.std.proofs.lemmas.List.{append_assoc, reverse-append, reverse-reverse
 use Rattle.text_reader.specs.Pieces.{Piece, space, spelling}
 use Rattle.text_writer.specs.declared.gaps.Gap.TheVariants.{Breaks}
 use Rattle.text_writer.specs.declared.gaps.Last.{Last}
+use Rattle.text_writer.specs.declared.lists.Indentation.{Indentation}
 use Rattle.text_writer.specs.declared.lists.OpenList.{OpenList}
 use Rattle.text_writer.specs.declared.lists.LineColumn.{LineColumn}
 use Rattle.text_writer.specs.declared.parts.PlacedPart.{PlacedPart}
@@ -35,9 +36,9 @@ gap_written old broken new n column e f =
 pub innermost : (xs ys : List OpenList) (o : OpenList) → xs ≡ ys ++ o ∷ [] → reverse xs ≡ o ∷ reverse ys
 innermost xs ys o e = ap reverse e ∙ reverse-append ys (o ∷ [])
 
-pub noted_one : (p : Piece) (at : LineColumn) (o : OpenList) (os : List OpenList) → noted p at (o ∷ os) ≡ with_part o.column o.head o.second (kind_of (length os == 0) p) at ∷ os
+pub noted_one : (p : Piece) (at : LineColumn) (o : OpenList) (os : List OpenList) → noted p at (o ∷ os) ≡ with_part o (kind_of (length os == 0) p) at ∷ os
 noted_one p at o [] = refl
-noted_one p at o (q ∷ os) = sym (ap (λ b. with_part o.column o.head o.second (kind_of b p) at ∷ q ∷ os) (not_empty (length os)))
+noted_one p at o (q ∷ os) = sym (ap (λ b. with_part o (kind_of b p) at ∷ q ∷ os) (not_empty (length os)))
 
 -- one part is written
 pub turned : (so_far next : Layout) (before after whole : List ℕ) (q : Planned) (qs : List Planned) → after ≡ before ++ text_of (written so_far q) → next ≡ layout_behind so_far q
@@ -67,21 +68,21 @@ ends_with last [] = refl
 ends_with last (p ∷ ps) = sym (ap (λ b. if b then [] else 10 ∷ []) (not_empty (length ps)))
 
 -- the whole is written
-pub written_whole : (marked : Bool) (parts : List PlacedPart) (end : List ℕ) → end ≡ text_of (mark marked) ++ text_of (laid_from (first_layout marked) (planned (first_last marked) (placed_views parts)))
-    → end ++ (if length parts == 0 then [] else 10 ∷ []) ≡ text_of (laid_plan marked (planned (first_last marked) (placed_views parts)))
-written_whole marked parts end e =
+pub written_whole : (i : Indentation) (marked : Bool) (parts : List PlacedPart) (end : List ℕ) → end ≡ text_of (mark marked) ++ text_of (laid_from (first_layout i marked) (planned (first_last marked) (placed_views parts)))
+    → end ++ (if length parts == 0 then [] else 10 ∷ []) ≡ text_of (laid_plan i marked (planned (first_last marked) (placed_views parts)))
+written_whole i marked parts end e =
     let qs = planned (first_last marked) (placed_views parts) in
     ap₂ (λ x y. x ++ y) e (sym (ends_with (first_last marked) parts))
-    ∙ append_assoc (text_of (mark marked)) (text_of (laid_from (first_layout marked) qs)) (text_of (ending qs))
-    ∙ ap (λ x. text_of (mark marked) ++ x) (sym (text_joined (laid_from (first_layout marked) qs) (ending qs)))
-    ∙ sym (text_joined (mark marked) (laid_from (first_layout marked) qs ++ ending qs))
+    ∙ append_assoc (text_of (mark marked)) (text_of (laid_from (first_layout i marked) qs)) (text_of (ending qs))
+    ∙ ap (λ x. text_of (mark marked) ++ x) (sym (text_joined (laid_from (first_layout i marked) qs) (ending qs)))
+    ∙ sym (text_joined (mark marked) (laid_from (first_layout i marked) qs ++ ending qs))
 
 -- the innermost list with one more part
 pub noted_list : (p : Piece) (at : LineColumn) (old popped new : List OpenList) (o n : OpenList) (b : Bool) → old ≡ popped ++ o ∷ [] → new ≡ popped ++ n ∷ []
-    → n ≡ with_part o.column o.head o.second (kind_of b p) at → b ≡ (length popped == 0) → reverse new ≡ noted p at (reverse old)
+    → n ≡ with_part o (kind_of b p) at → b ≡ (length popped == 0) → reverse new ≡ noted p at (reverse old)
 noted_list p at old popped new o n b e f g h =
     innermost new popped n f
-    ∙ ap (λ x. x ∷ reverse popped) (g ∙ ap (λ k. with_part o.column o.head o.second (kind_of k p) at) (h ∙ ap (λ m. m == 0) (sym (length-reverse popped))))
+    ∙ ap (λ x. x ∷ reverse popped) (g ∙ ap (λ k. with_part o (kind_of k p) at) (h ∙ ap (λ m. m == 0) (sym (length-reverse popped))))
     ∙ sym (ap (noted p at) (innermost old popped o e) ∙ noted_one p at o (reverse popped))
 
 pub no_list : (p : Piece) (at : LineColumn) (old popped : List OpenList) → old ≡ [] → popped ≡ old → reverse popped ≡ noted p at (reverse old)
@@ -91,16 +92,16 @@ last_of_all : (os : List OpenList) (o x : OpenList) → slice_get (os ++ o ∷ [
 last_of_all [] o x e = cc e
 last_of_all (q ∷ os) o x e = last_of_all os o x e
 
-last_turned : (rs : List OpenList) (o : OpenList) (p : Piece) → Some o ≡ slice_get (reverse rs) (length (reverse rs) - 1) → list_indent o p ≡ indent rs p
-last_turned [] o p e = absurd (cc e)
-last_turned (r ∷ rs) o p e =
+last_turned : (i : Indentation) (rs : List OpenList) (o : OpenList) (p : Piece) → Some o ≡ slice_get (reverse rs) (length (reverse rs) - 1) → list_indent i o p ≡ indent i rs p
+last_turned i [] o p e = absurd (cc e)
+last_turned i (r ∷ rs) o p e =
     let f = reverse-append (r ∷ []) rs in
     let n : length (reverse rs ++ r ∷ []) - 1 ≡ length (reverse rs) = omega (arith, length-append (reverse rs) (r ∷ [])) in
-    ap (λ x. list_indent x p) (sym (last_of_all (reverse rs) r o (ap (slice_get (reverse rs ++ r ∷ [])) (sym n) ∙ ap (λ xs. slice_get xs (length xs - 1)) (sym f) ∙ sym e)))
+    ap (λ x. list_indent i x p) (sym (last_of_all (reverse rs) r o (ap (slice_get (reverse rs ++ r ∷ [])) (sym n) ∙ ap (λ xs. slice_get xs (length xs - 1)) (sym f) ∙ sym e)))
 
 -- the innermost list is the last
-pub last_indent : (xs os : List OpenList) (o : OpenList) (p : Piece) → xs ≡ os → Some o ≡ slice_get xs (length xs - 1) → list_indent o p ≡ indent (reverse os) p
-last_indent xs os o p e h = last_turned (reverse os) o p (h ∙ ap (λ ys. slice_get ys (length ys - 1)) (e ∙ sym (reverse-reverse os)))
+pub last_indent : (i : Indentation) (xs os : List OpenList) (o : OpenList) (p : Piece) → xs ≡ os → Some o ≡ slice_get xs (length xs - 1) → list_indent i o p ≡ indent i (reverse os) p
+last_indent i xs os o p e h = last_turned i (reverse os) o p (h ∙ ap (λ ys. slice_get ys (length ys - 1)) (e ∙ sym (reverse-reverse os)))
 
 end_turned : (rs : List OpenList) → reverse (take (length (reverse rs) - 1) (reverse rs)) ≡ drop 1 rs
 end_turned [] = refl

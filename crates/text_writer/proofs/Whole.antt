@@ -14,7 +14,8 @@ use Rattle.text_writer.specs.declared.gaps.Last.{Last}
 use Rattle.text_writer.specs.declared.gaps.Last.TheVariants as L
 use Rattle.text_writer.specs.Placing.{Placed, all_placed, kept}
 use Rattle.text_writer.specs.Plans.{Planned, planned, last_of, gap_before, broken, spaces_in_line, first_last, is_marked}
-use Rattle.text_writer.specs.Pages.{Layout, first_layout, layout_behind, indent, laid_from, laid_plan, laid, text_of, white, ending}
+use Rattle.text_writer.specs.declared.lists.Indentation.{Indentation}
+use Rattle.text_writer.specs.Pages.{Layout, first_layout, layout_behind, line_start, laid_from, laid_plan, laid, text_of, white, ending}
 use Rattle.text_writer.proofs.Scans.{sized, past_zero, one_division}
 use Rattle.text_writer.proofs.Sound.{IsWhole, AreWhole, Ends, standing}
 
@@ -114,9 +115,9 @@ rest_ends p so_far [] w = last_ends p
 rest_ends p so_far (q ∷ qs) w =
     let r = planned (last_of p) (q ∷ qs) in
     subst (λ x. Ends p (text_of x))
-    (sym (regrouped (white (indent so_far.lists q.piece) (gap_before (last_of p) q)) q.piece
+    (sym (regrouped (white (line_start so_far q.piece) (gap_before (last_of p) q)) q.piece
     (laid_from (layout_behind so_far (record { gap = gap_before (last_of p) q; piece = q.piece })) (planned (last_of q.piece) qs)) last_break))
-    (gap_ends p q (indent so_far.lists q.piece) _ w.0)
+    (gap_ends p q (line_start so_far q.piece) _ w.0)
 
 -- ---- pieces where they stand
 times : (n c : ℕ) (ps : List Piece) → is_whitespace c ≡ true → AreLater ps → AreLater (replicate n (space c) ++ ps)
@@ -143,8 +144,8 @@ later [] last so_far w = λ o pos. ([], refl, refl, refl)
 later (q ∷ qs) last so_far w =
     let p : Planned = record { gap = gap_before last q; piece = q.piece } in
     let rest = laid_from (layout_behind so_far p) (planned (last_of q.piece) qs) in
-    subst AreLater (sym (regrouped (white (indent so_far.lists q.piece) (gap_before last q)) q.piece rest last_break))
-    (white_are (indent so_far.lists q.piece) (gap_before last q) (q.piece ∷ (rest ++ last_break))
+    subst AreLater (sym (regrouped (white (line_start so_far q.piece) (gap_before last q)) q.piece rest last_break))
+    (white_are (line_start so_far q.piece) (gap_before last q) (q.piece ∷ (rest ++ last_break))
     (λ o pos. piece_is q.piece (rest ++ last_break) o w.0 (rest_ends q.piece (layout_behind so_far p) qs w.2) (later qs (last_of q.piece) (layout_behind so_far p) w.2)
     (past_zero (begins_with 65279 (spelling q.piece)) o pos)))
 
@@ -156,8 +157,8 @@ first (q ∷ qs) so_far w =
     let rest = laid_from (layout_behind so_far p) (planned (last_of q.piece) qs) in
     let ends = rest_ends q.piece (layout_behind so_far p) qs w.2 in
     let are = later qs (last_of q.piece) (layout_behind so_far p) w.2 in
-    subst (λ x. AreIn 0 (text_of x) x) (sym (regrouped (white (indent so_far.lists q.piece) (gap_before L.Nothing q)) q.piece rest last_break))
-    (begun q (indent so_far.lists q.piece) (rest ++ last_break) w.0 ends are)
+    subst (λ x. AreIn 0 (text_of x) x) (sym (regrouped (white (line_start so_far q.piece) (gap_before L.Nothing q)) q.piece rest last_break))
+    (begun q (line_start so_far q.piece) (rest ++ last_break) w.0 ends are)
   where
     begun : (q : Placed) (column : ℕ) (rest : List Piece) → IsWhole q.piece → Ends q.piece (text_of rest) → AreLater rest
         → (let r = white column (gap_before L.Nothing q) ++ (q.piece ∷ rest) in AreIn 0 (text_of r) r)
@@ -172,18 +173,18 @@ first (q ∷ qs) so_far w =
       | inr m ↦ rw m (piece_is q.piece rest 0 w e h (ap (λ b. b && 0 == 0) m))
     ]
 
-plan_is_laid : (marked : Bool) (ps : List Placed) → AreWhole ps → (let r = laid_plan marked (planned (first_last marked) ps) in AreIn 0 (text_of r) r)
-plan_is_laid false ps w = first ps (first_layout false) w
-plan_is_laid true [] w = ([], refl, refl, refl)
-plan_is_laid true (q ∷ qs) w = (
-  text_of (laid_from (first_layout true) (planned L.Mark (q ∷ qs)) ++ last_break),
+plan_is_laid : (i : Indentation) (marked : Bool) (ps : List Placed) → AreWhole ps → (let r = laid_plan i marked (planned (first_last marked) ps) in AreIn 0 (text_of r) r)
+plan_is_laid i false ps w = first ps (first_layout i false) w
+plan_is_laid i true [] w = ([], refl, refl, refl)
+plan_is_laid i true (q ∷ qs) w = (
+  text_of (laid_from (first_layout i true) (planned L.Mark (q ∷ qs)) ++ last_break),
   refl,
   refl,
-  later (q ∷ qs) L.Mark (first_layout true) w (0 + size (65279 ∷ [])) (omega (arith, sized (space 65279) [] 0 refl)),
+  later (q ∷ qs) L.Mark (first_layout i true) w (0 + size (65279 ∷ [])) (omega (arith, sized (space 65279) [] 0 refl)),
 )
 
-pub laid_are : (ps : List Piece) → AreWhole (all_placed 0 0 ps) → AreIn 0 (text_of (laid ps)) (laid ps)
-laid_are ps w = plan_is_laid (is_marked ps) (all_placed 0 0 ps) w
+pub laid_are : (i : Indentation) (ps : List Piece) → AreWhole (all_placed 0 0 ps) → AreIn 0 (text_of (laid i ps)) (laid i ps)
+laid_are i ps w = plan_is_laid i (is_marked ps) (all_placed 0 0 ps) w
 
 -- ---- the pieces but white space
 pub solid_piece : (p : Piece) (ps : List Piece) → IsWhole p → solid (p ∷ ps) ≡ p ∷ solid ps
@@ -214,16 +215,16 @@ solid_from [] last so_far w = refl
 solid_from (q ∷ qs) last so_far w =
     let p : Planned = record { gap = gap_before last q; piece = q.piece } in
     let rest = laid_from (layout_behind so_far p) (planned (last_of q.piece) qs) in
-    ap solid (regrouped (white (indent so_far.lists q.piece) (gap_before last q)) q.piece rest last_break)
-    ∙ solid_white (indent so_far.lists q.piece) (gap_before last q) (q.piece ∷ (rest ++ last_break))
+    ap solid (regrouped (white (line_start so_far q.piece) (gap_before last q)) q.piece rest last_break)
+    ∙ solid_white (line_start so_far q.piece) (gap_before last q) (q.piece ∷ (rest ++ last_break))
     ∙ solid_piece q.piece (rest ++ last_break) w.0
     ∙ ap (λ x. q.piece ∷ x) (solid_from qs (last_of q.piece) (layout_behind so_far p) w.2)
 
-solid_plan : (marked : Bool) (ps : List Placed) → AreWhole ps → solid (laid_plan marked (planned (first_last marked) ps)) ≡ pieces_of ps
-solid_plan false [] w = refl
-solid_plan false (q ∷ qs) w = solid_from (q ∷ qs) L.Nothing (first_layout false) w
-solid_plan true [] w = refl
-solid_plan true (q ∷ qs) w = solid_from (q ∷ qs) L.Mark (first_layout true) w
+solid_plan : (i : Indentation) (marked : Bool) (ps : List Placed) → AreWhole ps → solid (laid_plan i marked (planned (first_last marked) ps)) ≡ pieces_of ps
+solid_plan i false [] w = refl
+solid_plan i false (q ∷ qs) w = solid_from (q ∷ qs) L.Nothing (first_layout i false) w
+solid_plan i true [] w = refl
+solid_plan i true (q ∷ qs) w = solid_from (q ∷ qs) L.Mark (first_layout i true) w
 
 placed_pieces : (ps : List Piece) (b s : ℕ) → pieces_of (all_placed b s ps) ≡ map kept (solid ps)
 placed_pieces [] b s = refl
@@ -238,8 +239,8 @@ placed_pieces (sign cs ∷ ps) b s = ap (λ x. kept (sign cs) ∷ x) (placed_pie
 placed_pieces (endless cs ∷ ps) b s = ap (λ x. kept (endless cs) ∷ x) (placed_pieces ps 0 0)
 placed_pieces (alone ∷ ps) b s = ap (λ x. kept (alone) ∷ x) (placed_pieces ps 0 0)
 
-pub laid_solid : (ps : List Piece) → AreWhole (all_placed 0 0 ps) → solid (laid ps) ≡ map kept (solid ps)
-laid_solid ps w = solid_plan (is_marked ps) (all_placed 0 0 ps) w ∙ placed_pieces ps 0 0
+pub laid_solid : (i : Indentation) (ps : List Piece) → AreWhole (all_placed 0 0 ps) → solid (laid i ps) ≡ map kept (solid ps)
+laid_solid i ps w = solid_plan i (is_marked ps) (all_placed 0 0 ps) w ∙ placed_pieces ps 0 0
 
-pub laid_once : (ps qs : List Piece) → AreWhole (all_placed 0 0 ps) → AreIn 0 (text_of (laid ps)) qs → qs ≡ laid ps
-laid_once ps qs w h = one_division (text_of (laid ps)) qs (laid ps) h (laid_are ps w)
+pub laid_once : (i : Indentation) (ps qs : List Piece) → AreWhole (all_placed 0 0 ps) → AreIn 0 (text_of (laid i ps)) qs → qs ≡ laid i ps
+laid_once i ps qs w h = one_division (text_of (laid i ps)) qs (laid i ps) h (laid_are i ps w)

@@ -10,7 +10,7 @@ use Rattle.text_writer.specs.PartViews.{placed_view, part_view}
 use Rattle.text_writer.specs.Plans.{Planned, gap_before}
 
 abbrev pub page_view : Page → Layout
-page_view page = record { last = page.last; at = page.at; lists = lists_view page.lists }
+page_view page = record { indentation = page.indentation; last = page.last; at = page.at; lists = lists_view page.lists }
 
 abbrev pub page_chars : Page → List ℕ
 page_chars page = chars (string_bytes page.text)

@@ -1,6 +1,6 @@
 -- Definitions and trees for a verifier woven into one text: each tree stands in the place of the definition for other tools that has
 -- its number.
-use Rattle.std.specs.Prelude.{ℕ, suc, List, [], ◌∷◌, ◌++◌, drop, Option, Some, None, Result, Ok, Err, if◌then◌else◌, ◌==◌}
+use Rattle.std.specs.Prelude.{◌≡◌, ℕ, suc, List, [], ◌∷◌, ◌++◌, drop, map, Option, Some, None, Result, Ok, Err, if◌then◌else◌, ◌==◌}
 use Rattle.model.specs.lists.Syntax.{Position, Definition}
 use Rattle.core_syntax.specs.SyntaxViews.{definition_place}
 use Rattle.text_writer.specs.Spellable as D
@@ -66,3 +66,18 @@ abbrev pub woven : ℕ → List Definition → Trees → Result (List ℕ) Troub
 woven n [] [] = Ok []
 woven n [] (v ∷ vs) = Err (unmatched v.0)
 woven n (d ∷ ds) vs = item_before (item_at n d vs) (woven (suc n) ds (left_behind d vs))
+
+-- ---- definitions and trees of one text
+
+abbrev pub number_by : Option Position → ℕ → List ℕ
+number_by None n = n ∷ []
+number_by (Some p) n = []
+
+-- the numbers of definitions for other tools, where the first definition has this number
+abbrev pub other_numbers : ℕ → List Definition → List ℕ
+other_numbers n [] = []
+other_numbers n (d ∷ ds) = number_by (definition_place d) n ++ other_numbers (suc n) ds
+
+-- each tree has the number of a definition for other tools, and each of these a tree, in their order
+abbrev pub AreMatched : ℕ → List Definition → Trees → Type 0
+AreMatched n ds vs = map (λ v. v.0) vs ≡ other_numbers n ds

@@ -10,7 +10,7 @@ ghost use Rattle.text_writer.specs.PartViews.{part_view, placed_views};
 ghost use Rattle.text_writer.specs.Plans.{first_last, planned};
 
 use crate::gaps::{Gap, Last, gap_before, last_of};
-use crate::lists::{LineColumn, Lists, sum};
+use crate::lists::{Indentation, LineColumn, Lists, sum};
 use crate::parts::{Part, PlacedPart};
 use std::alloc::{AllocError, Global};
 
@@ -18,6 +18,7 @@ use std::alloc::{AllocError, Global};
 #[derive(Drop)]
 struct Page {
     text: String,
+    indentation: Indentation,
     // where it ends
     at: LineColumn,
     lists: Lists,
@@ -28,17 +29,22 @@ struct Page {
 ///
 /// Line breaks stay where they are, but at most one empty line stands between parts, and none at the beginning. Parts of one line
 /// have one space between them, but none after `(` and none before `)`. Before a comment that ends a line as many spaces stay,
-/// and at least one. A line begins under the second part of its list if that stands in the line of the list's first word, else
-/// one column in from the list's parenthesis; in a `let` two columns in; in a definition that is passed over four columns in; and
-/// under the parenthesis of the list where it begins with `)`.
+/// and at least one. In a list that begins with a word, a line begins as the indentation says; in other lists one column in from the
+/// parenthesis. A line that begins with `)` begins under the list's parenthesis; or, by two columns, where the line begins that the
+/// list begins in, if that begins with a word.
 ///
 /// # Errors
 ///
 /// Where memory is refused.
-pub fn laid_out(alloc: Global, is_marked: bool, parts: &[PlacedPart]) -> Result<String, AllocError>
-    ensures { IfOk result (λ text. chars (string_bytes text) ≡ text_of (laid_plan is_marked (planned (first_last is_marked) (placed_views parts.now)))) }
+pub fn laid_out(
+    alloc: Global,
+    indentation: Indentation,
+    is_marked: bool,
+    parts: &[PlacedPart],
+) -> Result<String, AllocError>
+    ensures { IfOk result (λ text. chars (string_bytes text) ≡ text_of (laid_plan indentation is_marked (planned (first_last is_marked) (placed_views parts.now)))) }
 {
-    let mut page = first_page(alloc, is_marked)?;
+    let mut page = first_page(alloc, indentation, is_marked)?;
     for placed in parts {
         page.add(placed)?;
     }
@@ -58,13 +64,18 @@ fn ended(mut text: String, is_empty: bool) -> Result<String, AllocError>
 }
 
 // A page with nothing but a byte order mark, if there is one.
-fn first_page(alloc: Global, is_marked: bool) -> Result<Page, AllocError>
-    ensures page { IfOk result (λ page. page_view page ≡ first_layout is_marked) }
+fn first_page(alloc: Global, indentation: Indentation, is_marked: bool) -> Result<Page, AllocError>
+    ensures page { IfOk result (λ page. page_view page ≡ first_layout indentation is_marked) }
     ensures text { IfOk result (λ page. page_chars page ≡ text_of (mark is_marked)) }
 {
     Ok(Page {
         text: marked_text(alloc, is_marked)?,
-        at: LineColumn { line: 0, column: 0 },
+        indentation,
+        at: LineColumn {
+            line: 0,
+            column: 0,
+            start: 0,
+        },
         lists: Lists::new(alloc),
         last: first_last(is_marked),
     })
@@ -95,7 +106,7 @@ impl Page {
         ensures page { IfOk result (λ _. page_view self.new ≡ layout_behind (page_view self.old) (planned_view self.old.last placed.now)) }
         ensures text { IfOk result (λ _. page_chars self.new ≡ page_chars self.old ++ text_of (written (page_view self.old) (planned_view self.old.last placed.now))) }
     {
-        let column = self.lists.indent(&placed.part)?;
+        let column = self.lists.indent(self.indentation, &placed.part)?;
         let gap = gap_before(self.last, placed);
         let at = push_gap(&mut self.text, self.at, column, gap)?;
         self.lists.read(self.last, &placed.part, at)?;
@@ -119,8 +130,8 @@ fn push_gap(
         Gap::Spaces(spaces) => {
             push_times(text, ' ', spaces)?;
             Ok(LineColumn {
-                line: at.line,
                 column: sum(at.column, spaces)?,
+                ..at
             })
         }
         Gap::Breaks(breaks) => {
@@ -129,6 +140,7 @@ fn push_gap(
             Ok(LineColumn {
                 line: sum(at.line, breaks)?,
                 column,
+                start: column,
             })
         }
     }
@@ -198,11 +210,12 @@ fn past(at: LineColumn, c: char) -> Result<LineColumn, AllocError>
         return Ok(LineColumn {
             line: sum(at.line, 1)?,
             column: 0,
+            start: at.start,
         });
     }
     Ok(LineColumn {
-        line: at.line,
         column: sum(at.column, 1)?,
+        ..at
     })
 }
 

@@ -20,6 +20,7 @@ use definitions::{first_unspelled, push_definitions};
 use faults::PrintFault;
 use std::alloc::{AllocError, Global};
 
+pub mod contents;
 pub mod definitions;
 mod expressions;
 pub mod faults;

@@ -3,13 +3,23 @@
 
 ghost use Rattle.std.specs.Prelude.{◌≡◌, ◌+◌, [], ◌∷◌, drop, IfOk, None};
 ghost use Rattle.text_writer.specs.ListViews.{lists_view};
-ghost use Rattle.text_writer.specs.Pages.{counted, indent, inner_column, kind_of, kind_of_word, list_indent, listed, noted, with_part};
+ghost use Rattle.text_writer.specs.Pages.{begins_with_word, column_under, counted, end_column, indent, inner_column, kind_of, kind_of_word, list_indent, listed, noted, with_part};
 ghost use Rattle.text_writer.specs.PartViews.{part_view};
 
 use crate::gaps::Last;
 use crate::parts::Part;
 use std::alloc::{AllocError, Global};
 use text_reader::heads::is_passed_over;
+
+/// Where lines in a list begin that begins with a word.
+#[derive(Clone, Copy)]
+pub enum Indentation {
+    /// Under the list's second part, if that stands in the line of the first word, else one column in from the parenthesis. In a
+    /// `let` two columns in; in a definition that is passed over four.
+    UnderPart,
+    /// Two columns in from where the line begins that the list begins in.
+    TwoColumns,
+}
 
 /// A place in a text.
 #[derive(Clone, Copy)]
@@ -18,18 +28,20 @@ pub struct LineColumn {
     pub line: usize,
     /// How many characters stand before it in its line.
     pub column: usize,
+    /// How many stand before the line's first part.
+    pub start: usize,
 }
 
 // What a list's first part says of its lines.
 #[derive(Clone, Copy)]
 enum Kind {
-    // Lines begin under the second part, if it stands in the line of the first word.
+    // a word that isn't one of those below
     Word,
-    // Lines are two columns in.
+    // `let`
     Let,
-    // Lines are four columns in: a definition that is passed over.
+    // a word by which a definition is passed over
     PassedOver,
-    // Lines are one column in: the first part is no word.
+    // no word: lines are one column in from the parenthesis
     Other,
 }
 
@@ -44,6 +56,8 @@ struct Head {
 struct OpenList {
     // the column of its parenthesis
     column: usize,
+    // where the line of that begins
+    start: usize,
     head: Option<Head>,
     // where its second part begins
     second: Option<LineColumn>,
@@ -70,12 +84,12 @@ impl Lists {
     /// # Errors
     ///
     /// Where no number is so great.
-    pub fn indent(&self, part: &Part) -> Result<usize, AllocError>
-        ensures { IfOk result (λ column. column ≡ indent (lists_view self.now) (part_view part.now)) }
+    pub fn indent(&self, indentation: Indentation, part: &Part) -> Result<usize, AllocError>
+        ensures { IfOk result (λ column. column ≡ indent indentation (lists_view self.now) (part_view part.now)) }
     {
         match self.open.last() {
             None => Ok(0),
-            Some(list) => list.indent(part),
+            Some(list) => list.indent(indentation, part),
         }
     }
 
@@ -90,7 +104,7 @@ impl Lists {
         match part {
             Part::Open => {
                 self.count(last, part, at)?;
-                self.begin(at.column)
+                self.begin(at)
             }
             Part::Close => {
                 self.end();
@@ -101,12 +115,13 @@ impl Lists {
         }
     }
 
-    // Begins a list whose parenthesis stands at this column.
-    fn begin(&mut self, column: usize) -> Result<(), AllocError>
-        ensures { IfOk result (λ _. lists_view self.new ≡ record { column = column; head = None; second = None } ∷ lists_view self.old) }
+    // Begins a list whose parenthesis stands at this place.
+    fn begin(&mut self, at: LineColumn) -> Result<(), AllocError>
+        ensures { IfOk result (λ _. lists_view self.new ≡ record { column = at.column; start = at.start; head = None; second = None } ∷ lists_view self.old) }
     {
         self.open.push(OpenList {
-            column,
+            column: at.column,
+            start: at.start,
             head: None,
             second: None,
         })?;
@@ -145,22 +160,40 @@ impl Lists {
 
 impl OpenList {
     // The column where a line begins whose first part is this.
-    fn indent(&self, part: &Part) -> Result<usize, AllocError>
-        ensures { IfOk result (λ column. column ≡ list_indent self.now (part_view part.now)) }
+    fn indent(&self, indentation: Indentation, part: &Part) -> Result<usize, AllocError>
+        ensures { IfOk result (λ column. column ≡ list_indent indentation self.now (part_view part.now)) }
     {
         match part {
-            Part::Close => Ok(self.column),
-            _ => self.inner_column(),
+            Part::Close => Ok(self.end_column(indentation)),
+            _ => self.inner_column(indentation),
+        }
+    }
+
+    // The column where a line begins with the list's end.
+    fn end_column(&self, indentation: Indentation) -> usize
+        ensures { result ≡ end_column indentation self.now }
+    {
+        match (indentation, self.head) {
+            (Indentation::TwoColumns, Some(head)) if head.kind.is_word() => self.start,
+            _ => self.column,
         }
     }
 
     // The column where a line in the list begins.
-    fn inner_column(&self) -> Result<usize, AllocError>
-        ensures { IfOk result (λ column. column ≡ inner_column self.now.column self.now.head self.now.second) }
+    fn inner_column(&self, indentation: Indentation) -> Result<usize, AllocError>
+        ensures { IfOk result (λ column. column ≡ inner_column indentation self.now) }
     {
-        let Some(head) = self.head else {
-            return sum(self.column, 1);
-        };
+        match (indentation, self.head) {
+            (Indentation::TwoColumns, Some(head)) if head.kind.is_word() => sum(self.start, 2),
+            (Indentation::UnderPart, Some(head)) => self.column_under(head),
+            _ => sum(self.column, 1),
+        }
+    }
+
+    // The column where a line begins in a list with this first part, by the list's kind and its second part.
+    fn column_under(&self, head: Head) -> Result<usize, AllocError>
+        ensures { IfOk result (λ column. column ≡ column_under self.now.column head.kind head.line self.now.second) }
+    {
         match (head.kind, self.second) {
             (Kind::PassedOver, _) => sum(self.column, 4),
             (Kind::Let, _) => sum(self.column, 2),
@@ -171,7 +204,7 @@ impl OpenList {
 
     // The list with one more part, of which the first two are noted.
     fn with_part(self, is_outermost: bool, part: &Part, at: LineColumn) -> OpenList
-        ensures { result ≡ with_part self.column self.head self.second (kind_of is_outermost (part_view part.now)) at }
+        ensures { result ≡ with_part self (kind_of is_outermost (part_view part.now)) at }
     {
         match (self.head, self.second) {
             (None, _) => OpenList {
@@ -186,6 +219,18 @@ impl OpenList {
                 ..self
             },
             (Some(_), Some(_)) => self,
+        }
+    }
+}
+
+impl Kind {
+    // Whether the first part is a word.
+    fn is_word(self) -> bool
+        ensures { result ≡ begins_with_word self }
+    {
+        match self {
+            Kind::Word | Kind::Let | Kind::PassedOver => true,
+            Kind::Other => false,
         }
     }
 }

@@ -7,4 +7,4 @@ use Rattle.text_writer.proofs.layout.laid_out.Given as goal
 
 abbrev pub invariant-loop-placed : goal.invariant-loop-placed
 invariant-loop-placed l = page_chars l.page ++ text_of (laid_from (page_view l.page) (planned l.page.last (placed_views (drop l.placed-index l.parts))))
-    ≡ text_of (mark l.is_marked) ++ text_of (laid_from (first_layout l.is_marked) (planned (first_last l.is_marked) (placed_views l.parts)))
+    ≡ text_of (mark l.is_marked) ++ text_of (laid_from (first_layout l.fn.indentation l.is_marked) (planned (first_last l.is_marked) (placed_views l.parts)))

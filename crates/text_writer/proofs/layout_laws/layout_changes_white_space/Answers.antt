@@ -5,6 +5,6 @@ use Rattle.text_writer.proofs.Whole.{laid_once, laid_solid}
 use Rattle.text_writer.proofs.layout_laws.layout_changes_white_space.Goals as goal
 
 pub returns : goal.returns
-returns c = λ file text ps qs ts h t k.
+returns c = λ i file text ps qs ts h t k.
     let w = wholes file ps 0 text 0 0 _ ts h t in
-    ap solid (laid_once ps qs w k) ∙ laid_solid ps w
+    ap solid (laid_once i ps qs w k) ∙ laid_solid i ps w

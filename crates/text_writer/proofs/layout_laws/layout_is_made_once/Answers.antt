@@ -5,4 +5,4 @@ use Rattle.text_writer.proofs.Again.{twice}
 use Rattle.text_writer.proofs.layout_laws.layout_is_made_once.Goals as goal
 
 pub returns : goal.returns
-returns c = λ file text ps qs ts h t k. ap text_of (twice ps qs (wholes file ps 0 text 0 0 _ ts h t) k)
+returns c = λ i file text ps qs ts h t k. ap text_of (twice i ps qs (wholes file ps 0 text 0 0 _ ts h t) k)

@@ -3,4 +3,4 @@ use Rattle.text_writer.proofs.Whole.{laid_are}
 use Rattle.text_writer.proofs.layout_laws.layout_writes_pieces.Goals as goal
 
 pub returns : goal.returns
-returns c = λ file text ps ts h t. laid_are ps (wholes file ps 0 text 0 0 _ ts h t)
+returns c = λ i file text ps ts h t. laid_are i ps (wholes file ps 0 text 0 0 _ ts h t)
