@@ -1,5 +1,5 @@
 -- Numbers that ascend: those that a filter keeps do, and so do all numbers below n.
-use Rattle.std.proofs.Common.{◌≡◌, ℕ, zero, suc, ◌<◌, Bool, true, nat_lt, List, [], ◌∷◌, ◌++◌, Contains, filter, refl, ap, ◌∙◌, subst, inl, inr, arith, ltb-true, lt-ltb}
+use Rattle.std.proofs.Common.{◌≡◌, ℕ, zero, suc, ◌<◌, ◌≤◌, Bool, true, nat_lt, List, [], ◌∷◌, ◌++◌, drop, get_or, length, Contains, filter, refl, ap, ◌∙◌, subst, inl, inr, arith, ltb-true, lt-ltb}
 use Rattle.std.proofs.lemmas.Bool.{cases_Bool, cond-true, cond-false, and_parts, and_from}
 use Rattle.std.proofs.lemmas.List.Elements.{Contains-append_cases}
 use Rattle.model.specs.trees.Tests.{up_to}
@@ -34,6 +34,16 @@ ascends_kept p (x ∷ xs) h =
           ∙ and_from (is_below_first x (filter p xs)) (ascends (filter p xs)) (below_first x (filter p xs) (λ y c. ascends_head x xs h y (from_filter p xs y c).0)) rest
       | inr f ↦ ap ascends (cond-false (p x) (x ∷ filter p xs) (filter p xs) f) ∙ rest
     ]
+
+-- none behind a place is below the number that stands there
+pub ascends_behind : (xs : List ℕ) (k x y : ℕ) → ascends xs ≡ true → k < length xs → x ≡ get_or xs k x → Contains (drop k xs) y → x ≤ y
+ascends_behind [] k x y a l e m = omega (arith, l)
+ascends_behind (z ∷ zs) zero x y a l e m =
+    elim (in_cases z y zs m) [
+      | inl i ↦ let j : x ≡ y = e ∙ i in omega (arith, j)
+      | inr n ↦ let g = ascends_head z zs a y n in omega (arith, g, e)
+    ]
+ascends_behind (z ∷ zs) (suc k) x y a l e m = ascends_behind zs k x y (ascends_tail z zs a) (omega (arith, l)) e m
 
 ascends_push : (xs : List ℕ) (n : ℕ) → ascends xs ≡ true → ((y : ℕ) → Contains xs y → y < n) → ascends (xs ++ n ∷ []) ≡ true
 ascends_push [] n h f = refl

@@ -1,7 +1,7 @@
 -- The search for the best open test: one test more, those of one more thing, and when all that may cover a rule are tried.
 use Rattle.std.proofs.Common.{◌≡◌, ℕ, ◌+◌, ◌<◌, Bool, true, false, not, ◌&&◌, ◌==◌, nat_lt, List, [], ◌∷◌, ◌++◌, map, option_map, take, drop, get_or, length, is_some, Option, Some, None, Contains, slice_get, refl, sym, ap, ◌∙◌, subst, inl, inr, ◌⊎◌, eqb-true, eq-eqb, arith, zero, suc, ◌≤◌}
 use Rattle.std.specs.Global.{Vec}
-use Rattle.std.specs.List.{filter, find, list_any}
+use Rattle.std.specs.List.{filter, find, flat_map, list_all, list_any}
 use Rattle.std.proofs.lemmas.Bool.{cases_Bool, cond-true, cond-false, and_from, and_parts, not-false, or_cases, false≢true}
 use Rattle.std.proofs.lemmas.List.{take_more, take-append-drop}
 use Rattle.std.proofs.lemmas.Option.{none-some}
@@ -10,8 +10,8 @@ use Rattle.model.specs.sites.Sites.{iterator_site, SetRule, Site, SiteSet}
 use Rattle.model.specs.trees.Places.{Around, is_in, class, joins, joins_in, constraint_at}
 use Rattle.model.specs.trees.Tests as Tests
 use Rattle.model.specs.trees.Tests.{match_test, equal_test, loop_test, needs, is_needed, needs_at, cover, IsOpen, is_at_hand}
-use Rattle.model.proofs.Members.{nothing_in, in_cases, in_head, in_map, in_tail, in_alone, from_map, one_passes, member_found, member_from_get, passes_any}
-use Rattle.core_rule_sets.specs.Listings.{ascends, class_lists, sites_of}
+use Rattle.model.proofs.Members.{nothing_in, each_passes, in_cases, in_head, in_map, in_tail, in_alone, from_map, one_passes, member_found, member_from_get, passes_any}
+use Rattle.core_rule_sets.specs.Listings.{are_listed, ascends, class_lists, is_listed_class, sites_of}
 use Rattle.core_rule_sets.specs.SiteViews.{constraint_views}
 use Rattle.core_rule_sets.specs.declared.trie_again.Constraint.{Constraint as WrittenConstraint}
 use Rattle.core_serialize.specs.declared.open_tests.BestSearch.{BestSearch}
@@ -19,14 +19,13 @@ use Rattle.core_serialize.specs.declared.tests.Scored.{Scored}
 use Rattle.core_serialize.specs.declared.tests.Test.{Test}
 use Rattle.core_serialize.specs.AroundViews.{AreAtHand}
 use Rattle.core_serialize.specs.Bars.{reaches}
-use Rattle.core_serialize.specs.FieldTests.{is_iterator_of}
-use Rattle.core_serialize.specs.Growing.{CanGrow}
-use Rattle.core_serialize.specs.NeededTests.{EmittedAreJoined, IsBestSearch, SearchesMore, OfSome, IsTest, IsMatch, IsMatchOf, IsEqualOf, IsPairOf, IsPairWith, IsWanted, IsLoopBy, IsLoopOf}
+use Rattle.core_serialize.specs.declared.calls.CallsByRule.{CallsByRule}
+use Rattle.core_serialize.specs.RuleCalls.{calls_of, AreCalls, AreCounts}
+use Rattle.core_serialize.specs.NeededTests.{AllJoined, EmittedAreJoined, IsBestSearch, SearchesMore, OfSome, IsTest, IsMatch, IsMatchAsked, IsMatchOf, IsEqualOf, IsPair, IsPairOf, IsPairWith, IsWanted, IsLoop, IsLoopOf}
 use Rattle.core_serialize.specs.TestViews.{test_view, greater_test, IsBestOpen, IsFrom, IsNoBetter, IsOpenScored, IsScored}
-use Rattle.core_serialize.proofs.Ascents.{ascends_head, ascends_tail}
+use Rattle.core_serialize.proofs.Ascents.{ascends_behind, ascends_head, ascends_tail}
 use Rattle.core_serialize.proofs.BarSteps.{highest_need}
-use Rattle.core_serialize.proofs.FieldSteps.{picks_call}
-use Rattle.core_serialize.proofs.TestSteps.{greater_open, no_better_itself, no_better_kept}
+use Rattle.core_serialize.proofs.TestSteps.{cover_needed, greater_open, no_better_itself, no_better_kept}
 
 -- one of the first of a list is one of it
 pub in_first : {X : Type 0} (i : ℕ) (xs : List X) (x : X) → Contains (take i xs) x → Contains xs x
@@ -118,15 +117,71 @@ module _ (set : SiteSet) (ar : Around) (here : List ℕ) where
         | inr f ↦ f
       ]
 
-  -- no equality of a site is better
-  pub pairs_below : (sites : List ℕ) (a : ℕ) (are_joined : Bool) (search : BestSearch) → (are_joined ≡ true → EmittedAreJoined ar sites) → Contains sites a
-      → ((b : ℕ) → (are_joined ≡ true → (is_in a ar.emitted && is_in b ar.emitted) ≡ false) → IsNoBetter set ar here search.best (equal_test a b))
-      → IsBestSearch set ar here search → SearchesMore set ar here (IsPairWith sites a) search search
-  pairs_below sites a are_joined search j c n h = record {
+  -- the equality of two sites that aren't in order, or are joined, isn't open
+  pub pair_closed : (a b : ℕ) (search : BestSearch) → (nat_lt a b && not (joins ar.joined a b)) ≡ false → IsBestSearch set ar here search → SearchesMore set ar here (IsPair a b) search search
+  pair_closed a b search f h = record {
     now = h;
-    kept = λ u l. l;
-    tried = λ u o k. subst (IsNoBetter set ar here search.best) k.2 (n k.0 (λ t. none_both sites a k.0 (j t) c k.1 (subst (IsOpen set ar) (sym k.2) o)));
+    kept = λ u n. n;
+    tried = λ u o i.
+        let p = and_parts (nat_lt a b && is_at_hand set ar a && is_at_hand set ar b) (not (joins ar.joined a b)) (subst (IsOpen set ar) (sym i) o) in
+        let q = and_parts (nat_lt a b && is_at_hand set ar a) (is_at_hand set ar b) p.0 in
+        let r = and_parts (nat_lt a b) (is_at_hand set ar a) q.0 in
+        absurd (false≢true (sym f ∙ and_from (nat_lt a b) (not (joins ar.joined a b)) r.0 p.1));
   }
+
+  -- nor is any of sites that are all joined
+  pub pairs_closed : (sites : List ℕ) (search : BestSearch) → AllJoined ar sites → IsBestSearch set ar here search → SearchesMore set ar here (IsPairOf sites) search search
+  pairs_closed sites search j h = record {
+    now = h;
+    kept = λ u n. n;
+    tried = λ u o k.
+        let a = k.0 in
+        let b = k.2.0 in
+        absurd (false≢true (ap not (sym (j a b k.1 k.2.1)) ∙ (and_parts (nat_lt a b && is_at_hand set ar a && is_at_hand set ar b) (not (joins ar.joined a b)) (subst (IsOpen set ar) (sym k.2.2) o)).1));
+  }
+
+  -- where no equality of a site and another one, or one behind that, is better, those with the sites before it are all
+  pub pairs_below : (sites : List ℕ) (a k x : ℕ) (are_joined : Bool) (old new : BestSearch) → ascends sites ≡ true → (are_joined ≡ true → EmittedAreJoined ar sites) → Contains sites a → k < length sites → x ≡ get_or sites k x
+      → SearchesMore set ar here (OfSome (IsPair a) (take k sites)) old new
+      → ((b : ℕ) → x ≤ b → (are_joined ≡ true → (is_in a ar.emitted && is_in b ar.emitted) ≡ false) → IsNoBetter set ar here new.best (equal_test a b)) → SearchesMore set ar here (IsPairWith sites a) old new
+  pairs_below sites a k x are_joined old new s j c l i h n = record {
+    now = h.now;
+    kept = h.kept;
+    tried = λ u o w.
+        elim (Contains-append_cases (take k sites) (drop k sites) w.0 (subst (λ y. Contains y w.0) (sym (take-append-drop k sites)) w.1)) [
+          | inl b ↦ h.tried u o (w.0, b, w.2)
+          | inr b ↦
+              subst (IsNoBetter set ar here new.best) w.2
+              (n w.0 (ascends_behind sites k x w.0 s l i b) (λ t. none_both sites a w.0 (j t) c w.1 (subst (IsOpen set ar) (sym w.2) o)))
+        ];
+  }
+
+  -- where no equality of a site or a later one is better, those of the sites before it are all
+  pub pairs_behind : (sites : List ℕ) (k x : ℕ) (old new : BestSearch) → ascends sites ≡ true → k < length sites → x ≡ get_or sites k x → SearchesMore set ar here (OfSome (IsPairWith sites) (take k sites)) old new
+      → ((u : Tests.Test) → IsFrom 1 x u → IsNoBetter set ar here new.best u) → SearchesMore set ar here (IsPairOf sites) old new
+  pairs_behind sites k x old new s l i h f = record {
+    now = h.now;
+    kept = h.kept;
+    tried = λ u o w.
+        elim (Contains-append_cases (take k sites) (drop k sites) w.0 (subst (λ y. Contains y w.0) (sym (take-append-drop k sites)) w.1)) [
+          | inl b ↦ h.tried u o (w.0, b, w.2)
+          | inr b ↦ subst (IsNoBetter set ar here new.best) w.2.2 (f (equal_test w.0 w.2.0) (refl, ascends_behind sites k x w.0 s l i b))
+        ];
+  }
+
+-- sites that are all joined with one of them
+pub joined_with : (ar : Around) (sites : List ℕ) (one : ℕ) → list_all (joins ar.joined one) sites ≡ true → AllJoined ar sites
+joined_with ar sites one h a b c d = eq-eqb (class ar.joined a) (class ar.joined b) (sym (alike a c) ∙ alike b d)
+  where
+    alike : (s : ℕ) → Contains sites s → class ar.joined one ≡ class ar.joined s
+    alike s c = eqb-true (class ar.joined one) (class ar.joined s) (each_passes (joins ar.joined one) sites h s c)
+
+-- a class that a rule lists ascends
+pub class_ascends : (cs : List (Vec ℕ)) (k : ℕ) (x : Vec ℕ) → are_listed (class_lists cs) ≡ true → k < length cs → x ≡ get_or cs k x → ascends x.items ≡ true
+class_ascends cs k x h l e =
+    let all = (and_parts (list_all is_listed_class (class_lists cs)) (ascends (flat_map (take 1) (class_lists cs))) h).0 in
+    let one = each_passes is_listed_class (class_lists cs) all x.items (in_map (λ c. c.items) cs x (k, l, sym e)) in
+    (and_parts (ascends x.items) (nat_lt 1 (length x.items)) one).0
 
 -- sites of which all that are emitted are joined with one of them
 pub all_joined : (ar : Around) (sites : List ℕ) (one : ℕ) → list_any (λ s. is_in s ar.emitted && not (joins ar.joined one s)) sites ≡ false → EmittedAreJoined ar sites
@@ -164,7 +219,7 @@ asked_one (c ∷ cs) s h =
       | inr f ↦ let r = asked_one cs s (sym (ap is_some (cond-false (c.0 == s) _ (constraint_at (constraint_views cs) s) f)) ∙ h) in (r.0, in_tail c r.0 cs r.1, r.2)
     ]
 
-pub matches_of : (cs : List (ℕ × WrittenConstraint)) (r : SetRule) → r.constraints ≡ constraint_views cs → (u : Tests.Test) → IsMatchOf r u → OfSome (λ c. IsMatch c.0) cs u
+pub matches_of : (cs : List (ℕ × WrittenConstraint)) (r : SetRule) → r.constraints ≡ constraint_views cs → (u : Tests.Test) → IsMatchOf r u → OfSome IsMatchAsked cs u
 matches_of cs r e (match_test s) h = let k = asked_one cs s (sym (ap (λ l. is_some (constraint_at l s)) e) ∙ h) in (k.0, k.1, ap match_test k.2)
 matches_of cs r e (equal_test a b) h = absurd h
 matches_of cs r e (loop_test s) h = absurd h
@@ -182,20 +237,40 @@ behind_ascends (d ∷ ds) zero x c a l e m =
     ]
 behind_ascends (d ∷ ds) (suc k) x c a l e m = behind_ascends ds k x c (ascends_tail d.0 (sites_of ds) a) (omega (arith, l)) e m
 
--- where no match of a site or a later one is better, the matches before that site are all that a rule needs
-pub matches_below : (set : SiteSet) (ar : Around) (here : List ℕ) (cs : List (ℕ × WrittenConstraint)) (r : SetRule) (k : ℕ) (x : ℕ × WrittenConstraint) (old new : BestSearch) → r.constraints ≡ constraint_views cs
-    → ascends (sites_of cs) ≡ true → k < length cs → x ≡ get_or cs k x → SearchesMore set ar here (OfSome (λ c. IsMatch c.0) (take k cs)) old new
-    → ((u : Tests.Test) → IsFrom 0 x.0 u → IsNoBetter set ar here new.best u) → SearchesMore set ar here (IsMatchOf r) old new
-matches_below set ar here cs r k x old new e a l i h f = record {
-  now = h.now;
-  kept = h.kept;
-  tried = λ u o m.
-      let w = matches_of cs r e u m in
-      elim (Contains-append_cases (take k cs) (drop k cs) w.0 (subst (λ y. Contains y w.0) (sym (take-append-drop k cs)) w.1)) [
-        | inl b ↦ h.tried u o (w.0, b, w.2)
-        | inr b ↦ subst (IsNoBetter set ar here new.best) w.2 (f (match_test w.0.0) (refl, behind_ascends cs k x w.0 a l i b))
-      ];
-}
+-- those behind a place ascend too
+pub ascends_drop : (n : ℕ) (cs : List (ℕ × WrittenConstraint)) → ascends (sites_of cs) ≡ true → ascends (sites_of (drop n cs)) ≡ true
+ascends_drop zero cs a = a
+ascends_drop (suc n) [] a = a
+ascends_drop (suc n) (c ∷ cs) a = ascends_drop n cs (ascends_tail c.0 (sites_of cs) a)
+
+module _ (set : SiteSet) (ar : Around) (here : List ℕ) where
+  -- where no match of a site or a later one is better, the matches before that site are all
+  pub matches_below : (cs : List (ℕ × WrittenConstraint)) (k : ℕ) (x : ℕ × WrittenConstraint) (old new : BestSearch) → ascends (sites_of cs) ≡ true → k < length cs → x ≡ get_or cs k x
+      → SearchesMore set ar here (OfSome IsMatchAsked (take k cs)) old new → ((u : Tests.Test) → IsFrom 0 x.0 u → IsNoBetter set ar here new.best u) → SearchesMore set ar here (OfSome IsMatchAsked cs) old new
+  matches_below cs k x old new a l i h f = record {
+    now = h.now;
+    kept = h.kept;
+    tried = λ u o w.
+        elim (Contains-append_cases (take k cs) (drop k cs) w.0 (subst (λ y. Contains y w.0) (sym (take-append-drop k cs)) w.1)) [
+          | inl b ↦ h.tried u o (w.0, b, w.2)
+          | inr b ↦ subst (IsNoBetter set ar here new.best) w.2 (f (match_test w.0.0) (refl, behind_ascends cs k x w.0 a l i b))
+        ];
+  }
+
+  -- where the first sites of a rule are sources around, the matches of those behind them are all that it needs
+  pub matches_behind : (cs : List (ℕ × WrittenConstraint)) (r : SetRule) (n : ℕ) (old new : BestSearch) → r.constraints ≡ constraint_views cs → ((c : ℕ × WrittenConstraint) → Contains (take n cs) c → is_in c.0 (Tests.sources_around ar) ≡ true)
+      → SearchesMore set ar here (OfSome IsMatchAsked (drop n cs)) old new → SearchesMore set ar here (IsMatchOf r) old new
+  matches_behind cs r n old new e g h = record {
+    now = h.now;
+    kept = h.kept;
+    tried = λ u o m.
+        let w = matches_of cs r e u m in
+        elim (Contains-append_cases (take n cs) (drop n cs) w.0 (subst (λ y. Contains y w.0) (sym (take-append-drop n cs)) w.1)) [
+          | inl b ↦
+              absurd (false≢true (ap not (sym (g w.0 b)) ∙ (and_parts (is_at_hand set ar w.0.0) (not (is_in w.0.0 (Tests.sources_around ar))) (subst (IsOpen set ar) (sym w.2) o)).1))
+          | inr b ↦ h.tried u o (w.0, b, w.2)
+        ];
+  }
 
 joined_one : (cs : List (Vec ℕ)) (a b : ℕ) → joins_in (class_lists cs) a b ≡ true → (c : Vec ℕ) × Contains cs c × (Contains c.items a × Contains c.items b)
 joined_one [] a b h = absurd (false≢true h)
@@ -217,46 +292,48 @@ module _ (set : SiteSet) (ar : Around) (here : List ℕ) where
   wanted_of i r e (equal_test a b) h = inr (sym (ap (is_needed (equal_test a b)) e) ∙ h)
   wanted_of i r e (loop_test s) h = absurd h
 
-  -- the call of the site for its answers
-  abbrev call_of : Site → ℕ
-  call_of (iterator_site s) = s
-  call_of _ = 0
+  -- the loops that a rule needs are those over the calls that are listed for it
+  pub loops_of : (calls : CallsByRule) → AreCalls set calls → (i : ℕ) (u : Tests.Test) → IsLoopOf set.rules i u → OfSome IsLoop (calls_of calls i) u
+  loops_of calls h i (match_test s) k = absurd k
+  loops_of calls h i (equal_test a b) k = absurd k
+  loops_of calls h i (loop_test s) k = (s, member_found s (calls_of calls i) (sym (h.listed i s) ∙ k), refl)
 
-  -- each call that a rule goes over has a site for its answers
-  loop_at : CanGrow set → (numbers : List ℕ) (s i : ℕ) → list_any (needs_at set.rules (loop_test s)) numbers ≡ true → (o : Option SetRule) → slice_get set.rules i ≡ o → needs_at set.rules (loop_test s) i ≡ true
-      → OfSome (IsLoopBy set.rules numbers) set.sites (loop_test s)
-  loop_at g numbers s i k None e n = absurd (false≢true (sym (ap (is_needed (loop_test s)) e) ∙ n))
-  loop_at g numbers s i k (Some r) e n =
-      let p = g.picks r s (member_from_get set.rules i r e) (member_found s r.iterators (sym (ap (is_needed (loop_test s)) e) ∙ n)) in
-      let q = one_passes (is_iterator_of s) set.sites p in
-      (q.0, q.1, (s, picks_call s q.0 q.2, refl, k))
+  -- none of some rules that go over no call needs a loop
+  pub no_loops : (numbers : List ℕ) (search : BestSearch) → ((s : ℕ) → list_any (needs_at set.rules (loop_test s)) numbers ≡ false) → IsBestSearch set ar here search
+      → SearchesMore set ar here (OfSome (IsLoopOf set.rules) numbers) search search
+  no_loops numbers search f h = record { now = h; kept = λ u n. n; tried = λ u o k. none u k.0 k.1 k.2 }
+    where
+      none : (u : Tests.Test) (i : ℕ) → Contains numbers i → IsLoopOf set.rules i u → IsNoBetter set ar here search.best u
+      none (match_test s) i c k = absurd k
+      none (equal_test a b) i c k = absurd k
+      none (loop_test s) i c k = absurd (false≢true (sym (f s) ∙ passes_any (needs_at set.rules (loop_test s)) numbers i c k))
 
-  pub loops_of : CanGrow set → (numbers : List ℕ) (u : Tests.Test) → IsLoopOf set.rules numbers u → OfSome (IsLoopBy set.rules numbers) set.sites u
-  loops_of g numbers (match_test s) k = absurd k
-  loops_of g numbers (equal_test a b) k = absurd k
-  loops_of g numbers (loop_test s) k = let m = one_passes (needs_at set.rules (loop_test s)) numbers k in loop_at g numbers s m.0 k (slice_get set.rules m.0) refl m.2
+  -- a loop is no better, where it isn't though it covered as many rules as are counted
+  pub loop_below : (s most : ℕ) (counts : List ℕ) (search : BestSearch) → AreCounts set.rules here counts → most ≡ get_or counts s (length here)
+      → (length (cover set.rules here (loop_test s)) ≤ most → IsNoBetter set ar here search.best (loop_test s)) → IsBestSearch set ar here search → SearchesMore set ar here (IsLoop s) search search
+  loop_below s most counts search c e f h =
+      let some = cover_needed set here (loop_test s) in
+      let counted = c s in
+      let n = f (omega (arith, some, counted, e)) in
+      record { now = h; kept = λ u l. l; tried = λ u o i. subst (IsNoBetter set ar here search.best) i n }
 
   -- where all that the highest rules need is tried, other open tests cover no rule
   abbrev highest : List ℕ
   highest = filter (reaches set.rules (slice_get here 0)) here
 
-  needed_one : (u : Tests.Test) → list_any (needs_at set.rules u) highest ≡ true → OfSome (IsWanted set.rules) highest u ⊎ IsLoopOf set.rules highest u
+  needed_one : (u : Tests.Test) → list_any (needs_at set.rules u) highest ≡ true → OfSome (IsWanted set.rules) highest u ⊎ OfSome (IsLoopOf set.rules) highest u
   needed_one (match_test s) k = inl (one_passes (needs_at set.rules (match_test s)) highest k)
   needed_one (equal_test a b) k = inl (one_passes (needs_at set.rules (equal_test a b)) highest k)
-  needed_one (loop_test s) k = inr k
+  needed_one (loop_test s) k = inr (one_passes (needs_at set.rules (loop_test s)) highest k)
 
-  pub best_found : (top : List ℕ) (start some all : BestSearch) → top ≡ highest → SearchesMore set ar here (OfSome (IsWanted set.rules) top) start some → SearchesMore set ar here (IsLoopOf set.rules top) some all → IsBestOpen set ar here all.best
+  pub best_found : (top : List ℕ) (start some all : BestSearch) → top ≡ highest → SearchesMore set ar here (OfSome (IsWanted set.rules) top) start some → SearchesMore set ar here (OfSome (IsLoopOf set.rules) top) some all → IsBestOpen set ar here all.best
   best_found top start some all e g h = record {
     scored = h.now.best;
     others = λ u o. elim (cases_Bool (list_any (needs_at set.rules u) highest)) [
       | inl y ↦ elim (needed_one u y) [
         | inl w ↦ inl (h.kept u (g.tried u o (subst (λ l. OfSome (IsWanted set.rules) l u) (sym e) w)))
-        | inr w ↦ inl (h.tried u o (subst (λ l. IsLoopOf set.rules l u) (sym e) w))
+        | inr w ↦ inl (h.tried u o (subst (λ l. OfSome (IsLoopOf set.rules) l u) (sym e) w))
       ]
       | inr f ↦ inr (highest_need set.rules here u f)
     ];
   }
-
--- of what is seen of some things
-pub of_seen : {X Y : Type 0} (f : X → Y) (Kind : Y → Tests.Test → Type 0) (xs : List X) (u : Tests.Test) → OfSome Kind (map f xs) u → OfSome (λ x. Kind (f x)) xs u
-of_seen f Kind xs u k = let m = from_map f xs k.0 k.1 in (m.0, m.1, subst (λ y. Kind y u) (sym m.2) k.2)

@@ -56,7 +56,7 @@ none_passes p n (a ∷ rest) e =
       | inr f ↦ ap (λ b. b || list_any p rest) f ∙ none_passes p (suc n) rest (sym (cond-false (p a) (Some n) (site_from (suc n) p rest) f) ∙ e)
     ]
 
-pub picks_call : (call : ℕ) (b : Site) → is_iterator_of call b ≡ true → b ≡ iterator_site call
+picks_call : (call : ℕ) (b : Site) → is_iterator_of call b ≡ true → b ≡ iterator_site call
 picks_call call (iterator_site source) h = ap iterator_site (eqb-true source call h)
 picks_call call _ h = absurd (false≢true h)
 

@@ -5,6 +5,8 @@ mod AvailableSites
 mod BarSteps
 mod BestSearches
 mod BodySteps
+mod CallLists
+mod ClassNames
 mod Descents
 mod EndSteps
 mod EqualSurroundings
@@ -13,6 +15,7 @@ mod FieldSteps
 mod Growth
 mod ListChanges
 mod ListedSites
+mod MatchCounts
 mod PlaceSteps
 mod StepsJoined
 mod Tables

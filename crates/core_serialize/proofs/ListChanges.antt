@@ -1,15 +1,18 @@
 -- Lists of what stands around a place that grow and are cut again.
-use Rattle.std.proofs.Common.{◌≡◌, ℕ, true, List, [], ◌++◌, Contains, get_or, length, take, refl, sym, ap, ◌∙◌, subst}
+use Rattle.std.proofs.Common.{◌≡◌, ◌==◌, ℕ, true, List, [], ◌++◌, Contains, get_or, length, take, refl, sym, ap, ◌∙◌, subst}
 use Rattle.std.specs.List.{remove}
 use Rattle.std.proofs.lemmas.Bool.{or_left}
 use Rattle.std.proofs.lemmas.List.{append_assoc, append-nil, take_at}
-use Rattle.model.specs.sites.Sites.{Site, SiteSet}
-use Rattle.model.specs.trees.Places.{class, is_in}
+use Rattle.model.specs.sites.Sites.{SiteSet}
+use Rattle.model.specs.trees.Places.{is_in, joins}
 use Rattle.core_containers.specs.Places.{Extends}
 use Rattle.core_serialize.specs.declared.around.Around.{Around}
 use Rattle.core_serialize.specs.declared.around.Mark.{Mark}
-use Rattle.core_serialize.specs.AroundViews.{around_view, Alike, after_uses, where_emitted, where_joined, AreEmitted, NamesClasses}
+use Rattle.core_serialize.specs.declared.around.Renamed.{Renamed}
+use Rattle.core_serialize.specs.AroundViews.{around_view, names_before, Alike, after_uses, where_emitted, where_joined, AreEmitted, NamesClasses}
 use Rattle.core_serialize.specs.Changes.{Emits, Goes, IsBack, IsCutBack, IsKept, IsMark, JoinsPair, TakesApart}
+use Rattle.core_serialize.specs.Matches.{AreMatched}
+use Rattle.core_serialize.proofs.MatchCounts.{raised_back, raised_same, same_itself, same_more, same_raised, still_matched}
 use Rattle.core_serialize.proofs.Tables.{is_in_append}
 
 -- 1. lists with more at their ends
@@ -25,12 +28,12 @@ extends_more xs ys zs e f = (e.0 ++ f.0, f.1 ∙ ap (λ l. l ++ f.0) e.1 ∙ app
 cut_back : (xs ys zs : List ℕ) (n : ℕ) → n ≡ length xs → Extends xs ys → zs ≡ take n ys → zs ≡ xs
 cut_back xs ys zs n m e c = c ∙ ap (λ k. take k ys) m ∙ ap (take (length xs)) e.1 ∙ take_at xs e.0 (length xs) refl
 
-extended_in : (xs ys : List ℕ) (s : ℕ) → Extends xs ys → is_in s xs ≡ true → is_in s ys ≡ true
+pub extended_in : (xs ys : List ℕ) (s : ℕ) → Extends xs ys → is_in s xs ≡ true → is_in s ys ≡ true
 extended_in xs ys s e h = ap (is_in s) e.1 ∙ is_in_append s xs e.0 ∙ or_left (is_in s xs) (is_in s e.0) h
 
 -- 2. what stands around a place
 pub back_itself : (a : Around) → IsBack a a
-back_itself a = record { sources = refl; joined = refl; brought = refl; emitted = refl; closed = refl; names = refl }
+back_itself a = record { sources = refl; joined = refl; brought = refl; emitted = refl; closed = refl; names = refl; matched = same_itself a.matched }
 
 pub back_more : (a b c : Around) → IsBack a b → IsBack b c → IsBack a c
 back_more a b c h k = record {
@@ -40,10 +43,11 @@ back_more a b c h k = record {
   emitted = k.emitted ∙ h.emitted;
   closed = k.closed ∙ h.closed;
   names = k.names ∙ h.names;
+  matched = same_more a.matched b.matched c.matched h.matched k.matched;
 }
 
 pub emits_itself : (a : Around) → Emits a a
-emits_itself a = record { sources = refl; joined = refl; brought = refl; emitted = extends_itself a.emitted; closed = extends_itself a.closed; names = refl }
+emits_itself a = record { sources = refl; joined = refl; brought = refl; emitted = extends_itself a.emitted; closed = extends_itself a.closed; names = refl; matched = same_itself a.matched }
 
 pub emits_more : (a b c : Around) → Emits a b → Emits b c → Emits a c
 emits_more a b c h k = record {
@@ -53,6 +57,7 @@ emits_more a b c h k = record {
   emitted = extends_more a.emitted b.emitted c.emitted h.emitted k.emitted;
   closed = extends_more a.closed b.closed c.closed h.closed k.closed;
   names = k.names ∙ h.names;
+  matched = same_more a.matched b.matched c.matched h.matched k.matched;
 }
 
 pub emits_back : (a b c : Around) → Emits a b → IsBack b c → Emits a c
@@ -63,6 +68,7 @@ emits_back a b c h k = record {
   emitted = subst (Extends a.emitted) (sym k.emitted) h.emitted;
   closed = subst (Extends a.closed) (sym k.closed) h.closed;
   names = k.names ∙ h.names;
+  matched = same_more a.matched b.matched c.matched h.matched k.matched;
 }
 
 -- cut to where they were
@@ -74,6 +80,7 @@ emits_cut a b c m k h t = record {
   emitted = cut_back a.emitted b.emitted c.emitted m.emitted k.emitted h.emitted t.emitted;
   closed = cut_back a.closed b.closed c.closed m.closed k.closed h.closed t.closed;
   names = t.names ∙ h.names;
+  matched = raised_back a.matched b.matched c.matched m.raised k.raised (same_raised a.matched b.matched h.matched) t.matched;
 }
 
 pub goes_cut : (a b c d : Around) (m : Mark) → IsMark a m → Goes a b → IsBack b c → IsCutBack c m d → IsBack a d
@@ -84,29 +91,34 @@ goes_cut a b c d m k h r t = record {
   emitted = cut_back a.emitted c.emitted d.emitted m.emitted k.emitted (subst (Extends a.emitted) (sym r.emitted) h.emitted) t.emitted;
   closed = cut_back a.closed c.closed d.closed m.closed k.closed (subst (Extends a.closed) (sym r.closed) h.closed) t.closed;
   names = t.names ∙ r.names ∙ h.names;
+  matched = raised_back a.matched c.matched d.matched m.raised k.raised (raised_same a.matched b.matched c.matched h.matched r.matched) t.matched;
 }
 
 -- where nothing is joined, nothing is named
 pub no_names : (a : Around) → a.joined.items ≡ [] → a.names.items ≡ [] → NamesClasses a.joined.items a.names.items
-no_names a j n s = ap (λ l. get_or l s s) n ∙ sym (ap (λ ps. class ps s) j)
+no_names a j n s t = ap (λ l. get_or l s s == get_or l t t) n ∙ sym (ap (λ ps. joins ps s t) j)
 
 -- names stay those of the same pairs
 pub still_named : (a b : Around) → b.joined.items ≡ a.joined.items → b.names.items ≡ a.names.items → NamesClasses a.joined.items a.names.items → NamesClasses b.joined.items b.names.items
-still_named a b j n h s = ap (λ l. get_or l s s) n ∙ h s ∙ sym (ap (λ ps. class ps s) j)
+still_named a b j n h s t = ap (λ l. get_or l s s == get_or l t t) n ∙ h s t ∙ sym (ap (λ ps. joins ps s t) j)
 
 -- closed sites stay emitted
-pub kept_back : (sites : List Site) (a b : Around) → IsBack a b → IsKept sites a → IsKept sites b
-kept_back sites a b h k = record {
+pub kept_back : (set : SiteSet) (a b : Around) → IsBack a b → IsKept set a → IsKept set b
+kept_back set a b h k = record {
   closed = record { whole = λ s x c u. subst (λ l. Contains l x) (sym h.closed) (k.closed.whole s x (subst (λ l. Contains l s) h.closed c) u) };
   within = λ s e. ap (is_in s) h.emitted ∙ k.within s (sym (ap (is_in s) h.closed) ∙ e);
   named = still_named a b h.joined h.names k.named;
+  matched = still_matched set.rules a.matched.counts.items b.matched.counts.items a.sources b.sources h.matched.counts (λ s e. ap (is_in s) h.sources ∙ e) k.matched;
 }
 
-pub kept_goes : (sites : List Site) (a b : Around) → Goes a b → b.closed ≡ a.closed → IsKept sites a → IsKept sites b
-kept_goes sites a b h q k = record {
+-- and where more is around, if the counts of rules hold
+pub kept_goes : (set : SiteSet) (a b : Around) → Extends a.sources b.sources → Extends a.emitted b.emitted → b.closed ≡ a.closed → b.joined.items ≡ a.joined.items → b.names.items ≡ a.names.items
+    → AreMatched set.rules b.matched.counts.items b.sources → IsKept set a → IsKept set b
+kept_goes set a b sources emitted q j n m k = record {
   closed = record { whole = λ s x c u. subst (λ l. Contains l x) (sym q) (k.closed.whole s x (subst (λ l. Contains l s) q c) u) };
-  within = λ s e. extended_in a.emitted b.emitted s h.emitted (k.within s (sym (ap (is_in s) q) ∙ e));
-  named = still_named a b h.joined h.names k.named;
+  within = λ s e. extended_in a.emitted b.emitted s emitted (k.within s (sym (ap (is_in s) q) ∙ e));
+  named = still_named a b j n k.named;
+  matched = m;
 }
 
 -- 3. what is said of it
@@ -137,20 +149,22 @@ joined_view a b x y h =
     let e = h.emitted in
     λ i. record { tested = []; joined = j i; looped = s i; brought = r i; emitted = e i }
 
-pub kept_joined : (sites : List Site) (a b : Around) (x y : ℕ) → JoinsPair x y a b → IsKept sites a → IsKept sites b
-kept_joined sites a b x y h k = record {
+pub kept_joined : (set : SiteSet) (a b : Around) (x y : ℕ) → JoinsPair x y a b → IsKept set a → IsKept set b
+kept_joined set a b x y h k = record {
   closed = record { whole = λ s z c u. subst (λ l. Contains l z) (sym h.closed) (k.closed.whole s z (subst (λ l. Contains l s) h.closed c) u) };
   within = λ s e. ap (is_in s) h.emitted ∙ k.within s (sym (ap (is_in s) h.closed) ∙ e);
   named = h.named;
+  matched = still_matched set.rules a.matched.counts.items b.matched.counts.items a.sources b.sources h.matched.counts (λ s e. ap (is_in s) h.sources ∙ e) k.matched;
 }
 
 -- and taken apart again
-pub joined_back : (a b c d : Around) (x y : ℕ) (names : List ℕ) → JoinsPair x y a b → IsBack b c → names ≡ a.names.items → TakesApart names c d → IsBack a d
-joined_back a b c d x y names h k n t = record {
+pub joined_back : (a b c d : Around) (x y : ℕ) (r : Renamed) → JoinsPair x y a b → IsBack b c → names_before r b.names.items ≡ a.names.items → TakesApart r c d → IsBack a d
+joined_back a b c d x y r h k n t = record {
   sources = t.sources ∙ k.sources ∙ h.sources;
   joined = t.joined ∙ ap (λ l. remove l 0) (k.joined ∙ h.joined);
   brought = t.brought ∙ k.brought ∙ h.brought;
   emitted = t.emitted ∙ k.emitted ∙ h.emitted;
   closed = t.closed ∙ k.closed ∙ h.closed;
-  names = t.names ∙ n;
+  names = t.names ∙ ap (names_before r) k.names ∙ n;
+  matched = same_more a.matched c.matched d.matched (same_more a.matched b.matched c.matched h.matched k.matched) t.matched;
 }

@@ -1,12 +1,12 @@
 -- What a rule needs, by the look-ups of its parts.
-use Rattle.std.proofs.Common.{◌≡◌, ℕ, zero, suc, ◌<◌, ◌==◌, Bool, true, false, ◌||◌, cond, List, [], ◌∷◌, ◌++◌, map, length, Option, option_map, slice_get, refl, sym, ap, ◌∙◌, inl, inr, arith, eqb-true, eq-eqb}
+use Rattle.std.proofs.Common.{◌≡◌, ℕ, zero, suc, ◌<◌, ◌==◌, Bool, true, false, ◌||◌, cond, List, [], ◌∷◌, ◌++◌, map, set, length, get_or, Option, Some, option_map, slice_get, refl, sym, ap, ◌∙◌, inl, inr, arith, eqb-true, eq-eqb}
 use Rattle.std.proofs.lemmas.Bool.{cases_Bool, cond-true, cond-false, or_cases, or_left, or_right, false≢true, cases_lt}
 use Rattle.std.proofs.Math.Bool.{or_assoc}
 use Rattle.core_syntax.specs.Stable.{Members, contains}
 use Rattle.model.specs.trees.Places.{is_in}
 use Rattle.model.specs.trees.Tests.{up_to}
 use Rattle.std.specs.Set.{is_member}
-use Rattle.std.proofs.lemmas.Option.{slice_get-map}
+use Rattle.std.proofs.lemmas.Option.{slice_get-get_or, slice_get-map}
 use Rattle.model.specs.trees.Tests.{Test, is_needed, needs_at}
 use Rattle.laws_sites.proofs.overlaps.Overlaps.{bool_same}
 use Rattle.core_rule_sets.proofs.SitesIn.{none_passing}
@@ -75,7 +75,17 @@ module _ {X : Type 0} (f : ℕ → X) where
 pub needed_at : (rules : List Rule) (t : Test) (i : ℕ) (o : Option Rule) → slice_get rules i ≡ o → needs_at (set_rule_views rules) t i ≡ is_needed t (option_map set_rule_view o)
 needed_at rules t i o e = ap (is_needed t) (slice_get-map set_rule_view rules i ∙ ap (option_map set_rule_view) e)
 
+pub rule_at : (rules items : List Rule) (i : ℕ) (rule : Rule) → rules ≡ items → i < length items → rule ≡ get_or items i rule → slice_get (set_rule_views rules) i ≡ Some (set_rule_view rule)
+rule_at rules items i rule e l g =
+    slice_get-map set_rule_view rules i ∙ ap (option_map set_rule_view) (ap (λ l. slice_get l i) e ∙ slice_get-get_or items i rule l ∙ ap Some (sym g))
+
 -- a set without members has no sites
 pub no_members : (m : Members ℕ) (values : List ℕ) → ((y : ℕ) → is_member ◌==◌ values y ≡ contains ◌==◌ m y) → length values ≡ 0 → (s : ℕ) → is_in s (member_sites m) ≡ false
 no_members m [] same e s = ap (is_in s) (none_passing 65536 (contains ◌==◌ m) (λ i. sym (same i)))
 no_members m (x ∷ xs) same e s = absurd (omega arith)
+
+-- 4. an entry that is put twice
+pub set_again : (xs : List ℕ) (i a b : ℕ) → set (set xs i a) i b ≡ set xs i b
+set_again [] i a b = refl
+set_again (x ∷ xs) zero a b = refl
+set_again (x ∷ xs) (suc i) a b = ap (λ l. x ∷ l) (set_again xs i a b)

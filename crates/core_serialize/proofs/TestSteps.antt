@@ -1,13 +1,13 @@
 -- Tests of a place by their scores: the better one of two, and bounds of scores.
 use Rattle.std.proofs.Common.{◌≡◌, ℕ, ◌≤◌, ◌==◌, ◌||◌, ◌&&◌, not, nat_lt, Bool, true, false, cond, length, ap, arith, eqb-true, eq-eqb, ltb-true, ltb-false, List, [], ◌∷◌, Option, Some, None, option_map, Contains, refl, sym, ◌∙◌, subst, inl, inr}
-use Rattle.std.specs.List.{filter}
-use Rattle.std.proofs.lemmas.Bool.{cases_Bool, cond-true, cond-false, or_parts, false≢true}
+use Rattle.std.specs.List.{filter, list_all}
+use Rattle.std.proofs.lemmas.Bool.{and_parts, cases_Bool, cond-true, cond-false, or_parts, false≢true}
 use Rattle.std.proofs.lemmas.List.Filters.{length-filter_both}
 use Rattle.model.specs.sites.Sites.{SiteSet}
 use Rattle.model.specs.trees.Places.{Around, is_in}
 use Rattle.model.specs.trees.Tests as Tests
 use Rattle.model.specs.trees.Sound.{as_number, or_later}
-use Rattle.model.specs.trees.Tests.{match_test, equal_test, loop_test, cover, is_covered, IsOpen, score, is_greater}
+use Rattle.model.specs.trees.Tests.{match_test, equal_test, loop_test, cover, is_covered, is_lower, needs_at, IsOpen, score, is_greater}
 use Rattle.model.proofs.Members.{in_head, in_tail}
 use Rattle.laws_trees.proofs.Scores.{scores_are_ordered_lem}
 use Rattle.core_serialize.specs.declared.tests.Test.{Test}
@@ -22,6 +22,24 @@ module _ {X : Type 0} where
       let e = h x (in_head x xs) in
       let r = kept_alike p q xs (λ y c. h y (in_tail x y xs c)) in
       λ i. cond (e i) (x ∷ r i) (r i)
+
+  -- fewer pass a test that asks more
+  pub fewer_pass : (p q : X → Bool) → ((x : X) → p x ≡ true → q x ≡ true) → (xs : List X) → length (filter p xs) ≤ length (filter q xs)
+  fewer_pass p q h [] = omega arith
+  fewer_pass p q h (x ∷ xs) =
+      let rest = fewer_pass p q h xs in
+      elim (cases_Bool (p x)) [
+        | inl t ↦
+            let a = ap length (cond-true (p x) (x ∷ filter p xs) (filter p xs) t) in
+            let b = ap length (cond-true (q x) (x ∷ filter q xs) (filter q xs) (h x t)) in
+            omega (arith, rest, a, b)
+        | inr f ↦
+            let a = ap length (cond-false (p x) (x ∷ filter p xs) (filter p xs) f) in
+            elim (cases_Bool (q x)) [
+              | inl u ↦ let b = ap length (cond-true (q x) (x ∷ filter q xs) (filter q xs) u) in omega (arith, rest, a, b)
+              | inr g ↦ let b = ap length (cond-false (q x) (x ∷ filter q xs) (filter q xs) g) in omega (arith, rest, a, b)
+            ]
+      ]
 
 -- 2. the better one of two
 module _ (set : SiteSet) (ar : Around) (here : List ℕ) where
@@ -98,22 +116,31 @@ fewer_counted ar (match_test s) y n m l h = fewer n m y.count _ _ l (λ e. e) h
 fewer_counted ar (equal_test a b) y n m l h = fewer n m y.count _ _ l (λ e. e) h
 fewer_counted ar (loop_test s) y n m l h = fewer n m y.count _ _ l (λ e. e) h
 
-pub below_bound : (set : SiteSet) (ar : Around) (here : List ℕ) (t : Tests.Test) (y : Tests.Score) (n : ℕ) → n ≡ length here → is_greater (counted_score ar t n) y ≡ false → is_greater (score set ar here t) y ≡ false
-below_bound set ar here t y n e h =
-    let both = length-filter_both (is_covered set.rules here t) (λ i. not (is_covered set.rules here t i)) (λ i. refl) here in
-    let most : length (cover set.rules here t) ≤ n = omega (arith, both, e) in
+pub below_bound : (set : SiteSet) (ar : Around) (here : List ℕ) (t : Tests.Test) (y : Tests.Score) (n : ℕ) → length (cover set.rules here t) ≤ n → is_greater (counted_score ar t n) y ≡ false → is_greater (score set ar here t) y ≡ false
+below_bound set ar here t y n most h =
     ap (λ x. is_greater x y) (sym (score_counted set ar here t (length (cover set.rules here t)) refl)) ∙ fewer_counted ar t y n (length (cover set.rules here t)) most h
 
--- the equalities of a site, where both sites are emitted as one bound says
-pub pair_below : (set : SiteSet) (ar : Around) (here : List ℕ) (a b : ℕ) (are_joined : Bool) (y : Tests.Score) → (are_joined ≡ true → (is_in a ar.emitted && is_in b ar.emitted) ≡ false)
-    → is_greater (record { count = length here; emitted = as_number (is_in a ar.emitted && not are_joined); form = 1; site = a; other = 0 }) y ≡ false → is_greater (score set ar here (equal_test a b)) y ≡ false
-pair_below set ar here a b are_joined y none h =
+-- a test covers no more rules than there are
+pub cover_within : (set : SiteSet) (here : List ℕ) (t : Tests.Test) → length (cover set.rules here t) ≤ length here
+cover_within set here t =
+    let both = length-filter_both (is_covered set.rules here t) (λ i. not (is_covered set.rules here t i)) (λ i. refl) here in
+    omega (arith, both)
+
+-- nor than there are that need it
+pub cover_needed : (set : SiteSet) (here : List ℕ) (t : Tests.Test) → length (cover set.rules here t) ≤ length (filter (needs_at set.rules t) here)
+cover_needed set here t =
+    fewer_pass (is_covered set.rules here t) (needs_at set.rules t) (λ i h. (and_parts (needs_at set.rules t i) (list_all (λ j. needs_at set.rules t j || not (is_lower set.rules i j)) here) h).0) here
+
+-- the equalities of a site and another one or one behind that, where both sites are emitted as one bound says
+pub pair_below : (set : SiteSet) (ar : Around) (here : List ℕ) (a b other : ℕ) (are_joined : Bool) (y : Tests.Score) → other ≤ b → (are_joined ≡ true → (is_in a ar.emitted && is_in b ar.emitted) ≡ false)
+    → is_greater (record { count = length here; emitted = as_number (is_in a ar.emitted && not are_joined); form = 1; site = a; other = other }) y ≡ false → is_greater (score set ar here (equal_test a b)) y ≡ false
+pair_below set ar here a b other are_joined y behind none h =
     let both = length-filter_both (is_covered set.rules here (equal_test a b)) (λ i. not (is_covered set.rules here (equal_test a b) i)) (λ i. refl) here in
     let count = length (cover set.rules here (equal_test a b)) in
     let most : count ≤ length here = omega (arith, both) in
     fewer (length here) count y.count _ _ most
     (fewer (as_number (is_in a ar.emitted && not are_joined)) (as_number (is_in a ar.emitted && is_in b ar.emitted)) y.emitted _ _ (emitted (is_in a ar.emitted) (is_in b ar.emitted) are_joined none)
-    (behind_same (nat_lt 1 y.form) (1 == y.form) _ _ (behind_same (nat_lt a y.site) (a == y.site) (nat_lt 0 y.other) (nat_lt b y.other) (no_other b y.other)))) h
+    (behind_same (nat_lt 1 y.form) (1 == y.form) _ _ (behind_same (nat_lt a y.site) (a == y.site) (nat_lt other y.other) (nat_lt b y.other) (no_other y.other)))) h
   where
     emitted : (p q j : Bool) → (j ≡ true → (p && q) ≡ false) → as_number (p && q) ≤ as_number (p && not j)
     emitted true true true h = absurd (false≢true (sym (h refl)))
@@ -122,10 +149,10 @@ pair_below set ar here a b are_joined y none h =
     emitted true false false h = omega arith
     emitted false q j h = omega arith
 
-    no_other : (n m : ℕ) → nat_lt 0 m ≡ false → nat_lt n m ≡ false
-    no_other n m h =
-        elim (cases_Bool (nat_lt n m)) [
-          | inl t ↦ let k = ltb-true n m t in let g = ltb-false 0 m h in absurd (omega (arith, k, g))
+    no_other : (m : ℕ) → nat_lt other m ≡ false → nat_lt b m ≡ false
+    no_other m h =
+        elim (cases_Bool (nat_lt b m)) [
+          | inl t ↦ let k = ltb-true b m t in let g = ltb-false other m h in absurd (omega (arith, k, g, behind))
           | inr f ↦ f
         ]
 

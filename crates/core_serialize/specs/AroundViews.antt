@@ -1,18 +1,33 @@
 -- What stands around a place, as it is kept: the sources of arms and loops in one list.
-use Rattle.std.specs.Prelude.{◌≡◌, ℕ, true, List, [], ◌∷◌, ◌++◌, get_or}
+use Rattle.std.specs.Prelude.{◌≡◌, ℕ, true, List, [], ◌∷◌, ◌++◌, if◌then◌else◌, get_or, set, take}
+use Rattle.std.specs.Bool.{◌==◌}
 use Rattle.model.specs.sites.Sites.{Site, SiteSet}
 use Rattle.model.specs.trees.Places as Places
-use Rattle.model.specs.trees.Places.{is_in, class, all_below, available}
+use Rattle.model.specs.trees.Places.{is_in, joins, all_below, available}
 use Rattle.model.specs.trees.Tests.{sources_around}
 use Rattle.core_serialize.specs.declared.around.Around.{Around}
+use Rattle.core_serialize.specs.declared.around.Renamed.{Renamed}
 
 -- of the arms around only the sources are kept, and they stand with those of the loops: no more is asked of them
 abbrev pub around_view : Around → Places.Around
 around_view a = record { tested = []; joined = a.joined.items; looped = a.sources; brought = a.brought; emitted = a.emitted }
 
--- the table has the class of each site under pairs; a site behind its end is its own class
+-- two sites have one name in the table exactly where pairs join them; a site behind its end is its own name
 abbrev pub NamesClasses : List (ℕ × ℕ) → List ℕ → Type 0
-NamesClasses pairs names = (s : ℕ) → get_or names s s ≡ class pairs s
+NamesClasses pairs names = (s t : ℕ) → (get_or names s s == get_or names t t) ≡ joins pairs s t
+
+-- a name where one stands for another
+abbrev pub renamed : ℕ → ℕ → ℕ → ℕ
+renamed from to n = if n == from then to else n
+
+-- a table in which some sites have a name
+abbrev pub named_as : List ℕ → ℕ → List ℕ → List ℕ
+named_as [] name names = names
+named_as (s ∷ sites) name names = set (named_as sites name names) s name
+
+-- what a table was before sites got another name
+abbrev pub names_before : Renamed → List ℕ → List ℕ
+names_before r names = take r.len (named_as r.sites.items r.name names)
 
 -- each of some sites is available
 abbrev pub AreAtHand : List Site → Places.Around → List ℕ → Type 0

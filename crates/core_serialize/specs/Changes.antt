@@ -8,8 +8,10 @@ use Rattle.model.specs.trees.Tests.{Test}
 use Rattle.core_containers.specs.Places.{Extends}
 use Rattle.core_serialize.specs.declared.around.Around.{Around}
 use Rattle.core_serialize.specs.declared.around.Mark.{Mark}
-use Rattle.core_serialize.specs.AroundViews.{Alike, after_uses, NamesClasses}
+use Rattle.core_serialize.specs.declared.around.Renamed.{Renamed}
+use Rattle.core_serialize.specs.AroundViews.{Alike, after_uses, names_before, NamesClasses}
 use Rattle.core_serialize.specs.Growing.{test_emits}
+use Rattle.core_serialize.specs.Matches.{AreMatched, IsRaised, IsSame, IsUndone}
 
 -- the sites below s are listed after those already listed, however many of these count as emitted
 abbrev pub ListsBelow : List Site → ℕ → List ℕ → List ℕ → Type 0
@@ -23,11 +25,12 @@ ListsAll sites ss old new = (start done : List ℕ) → old ≡ start ++ done �
 pub record IsClosed (sites : List Site) (list : List ℕ) : Type 0 where
   pub whole : (s x : ℕ) → Contains list s → Contains (below (suc s) sites s) x → Contains list x
 
--- closed sites are emitted, with all below, and the classes of joined sites have their names
-pub record IsKept (sites : List Site) (around : Around) : Type 0 where
-  pub closed : IsClosed sites around.closed
+-- closed sites are emitted, with all below, the classes of joined sites have their names, and the counts of rules hold
+pub record IsKept (set : SiteSet) (around : Around) : Type 0 where
+  pub closed : IsClosed set.sites around.closed
   pub within : (s : ℕ) → is_in s around.closed ≡ true → is_in s around.emitted ≡ true
   pub named : NamesClasses around.joined.items around.names.items
+  pub matched : AreMatched set.rules around.matched.counts.items around.sources
 
 -- how long the lists are
 pub record IsMark (around : Around) (mark : Mark) : Type 0 where
@@ -35,6 +38,7 @@ pub record IsMark (around : Around) (mark : Mark) : Type 0 where
   pub brought : mark.brought ≡ length around.brought
   pub emitted : mark.emitted ≡ length around.emitted
   pub closed : mark.closed ≡ length around.closed
+  pub raised : mark.raised ≡ length around.matched.raised.items
 
 -- lists that are cut to so many sites
 pub record IsCutBack (old : Around) (mark : Mark) (new : Around) : Type 0 where
@@ -44,6 +48,7 @@ pub record IsCutBack (old : Around) (mark : Mark) (new : Around) : Type 0 where
   pub emitted : new.emitted ≡ take mark.emitted old.emitted
   pub closed : new.closed ≡ take mark.closed old.closed
   pub names : new.names.items ≡ old.names.items
+  pub matched : IsUndone mark.raised old.matched new.matched
 
 -- lists that have more at their ends
 pub record Goes (old new : Around) : Type 0 where
@@ -53,6 +58,7 @@ pub record Goes (old new : Around) : Type 0 where
   pub emitted : Extends old.emitted new.emitted
   pub closed : Extends old.closed new.closed
   pub names : new.names.items ≡ old.names.items
+  pub matched : IsRaised old.matched new.matched
 
 -- more sites are emitted, and nothing else
 pub record Emits (old new : Around) : Type 0 where
@@ -62,6 +68,7 @@ pub record Emits (old new : Around) : Type 0 where
   pub emitted : Extends old.emitted new.emitted
   pub closed : Extends old.closed new.closed
   pub names : new.names.items ≡ old.names.items
+  pub matched : IsSame old.matched new.matched
 
 -- all lists are what they were
 pub record IsBack (old new : Around) : Type 0 where
@@ -71,6 +78,7 @@ pub record IsBack (old new : Around) : Type 0 where
   pub emitted : new.emitted ≡ old.emitted
   pub closed : new.closed ≡ old.closed
   pub names : new.names.items ≡ old.names.items
+  pub matched : IsSame old.matched new.matched
 
 -- two more sites are joined, and nothing else
 pub record JoinsPair (a b : ℕ) (old new : Around) : Type 0 where
@@ -80,15 +88,17 @@ pub record JoinsPair (a b : ℕ) (old new : Around) : Type 0 where
   pub emitted : new.emitted ≡ old.emitted
   pub closed : new.closed ≡ old.closed
   pub named : NamesClasses new.joined.items new.names.items
+  pub matched : IsSame old.matched new.matched
 
--- the last pair isn't joined any more, and classes have these names again
-pub record TakesApart (before : List ℕ) (old new : Around) : Type 0 where
+-- the last pair isn't joined any more, and classes have the names of before
+pub record TakesApart (renamed : Renamed) (old new : Around) : Type 0 where
   pub sources : new.sources ≡ old.sources
   pub joined : new.joined.items ≡ remove old.joined.items 0
   pub brought : new.brought ≡ old.brought
   pub emitted : new.emitted ≡ old.emitted
   pub closed : new.closed ≡ old.closed
-  pub names : new.names.items ≡ before
+  pub names : new.names.items ≡ names_before renamed old.names.items
+  pub matched : IsSame old.matched new.matched
 
 -- a place is that where a test was made, but that what the test emits is emitted
 abbrev pub IsAfterTest : SiteSet → Places.Around → Test → Places.Around → Type 0

@@ -4,7 +4,9 @@ pub mod Bars
 pub mod Changes
 pub mod FieldTests
 pub mod Growing
+pub mod Matches
 pub mod NeededTests
 pub mod PlaceViews
+pub mod RuleCalls
 pub mod TestViews
 pub mod TreeViews

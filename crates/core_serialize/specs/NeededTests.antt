@@ -1,10 +1,10 @@
 -- The search for the best test of a place, and which tests a rule needs, form by form.
 use Rattle.std.specs.Prelude.{◌≡◌, ℕ, true, List, Contains}
-use Rattle.std.specs.List.{list_any}
-use Rattle.model.specs.sites.Sites.{iterator_site, SetRule, Site, SiteSet}
+use Rattle.model.specs.sites.Sites.{SetRule, SiteSet}
 use Rattle.model.specs.trees.Places.{Around, is_in, joins}
 use Rattle.model.specs.trees.Tests as Tests
 use Rattle.model.specs.trees.Tests.{match_test, equal_test, loop_test, needs, needs_at, IsOpen}
+use Rattle.core_rule_sets.specs.declared.trie_again.Constraint.{Constraint}
 use Rattle.core_serialize.specs.declared.tests.Test.{Test}
 use Rattle.core_serialize.specs.declared.open_tests.BestSearch.{BestSearch}
 use Rattle.core_serialize.specs.declared.place.Place.{Place}
@@ -36,6 +36,10 @@ SearchesAt place Kind old new = SearchesMore (set_at place) (around_at place) (h
 abbrev pub EmittedAreJoined : Around → List ℕ → Type 0
 EmittedAreJoined ar sites = (a b : ℕ) → Contains sites a → Contains sites b → is_in a ar.emitted ≡ true → is_in b ar.emitted ≡ true → joins ar.joined a b ≡ true
 
+-- all of these sites are joined
+abbrev pub AllJoined : Around → List ℕ → Type 0
+AllJoined ar sites = (a b : ℕ) → Contains sites a → Contains sites b → joins ar.joined a b ≡ true
+
 -- what was found to be available at a place is
 abbrev pub AreFoundAt : Place → List ℕ → Type 0
 AreFoundAt place found = AreAtHand (set_at place).sites (around_at place) found
@@ -51,6 +55,10 @@ IsTest t u = test_view t ≡ u
 -- the match of a site
 abbrev pub IsMatch : ℕ → Tests.Test → Type 0
 IsMatch s u = match_test s ≡ u
+
+-- the match of a site of which something is asked
+abbrev pub IsMatchAsked : ℕ × Constraint → Tests.Test → Type 0
+IsMatchAsked asked u = IsMatch asked.0 u
 
 -- a match that a rule needs
 abbrev pub IsMatchOf : SetRule → Tests.Test → Type 0
@@ -82,12 +90,12 @@ IsWanted rules i (match_test s) = needs_at rules (match_test s) i ≡ true
 IsWanted rules i (equal_test a b) = needs_at rules (equal_test a b) i ≡ true
 IsWanted rules i (loop_test s) = ⊥
 
--- a loop that one of some rules needs, over the call whose answers a site stands for
-abbrev pub IsLoopBy : List SetRule → List ℕ → Site → Tests.Test → Type 0
-IsLoopBy rules numbers site u = (call : ℕ) × (site ≡ iterator_site call) × (loop_test call ≡ u) × (list_any (needs_at rules (loop_test call)) numbers ≡ true)
+-- the loop over the answers of a call
+abbrev pub IsLoop : ℕ → Tests.Test → Type 0
+IsLoop s u = loop_test s ≡ u
 
--- a loop that one of some rules needs
-abbrev pub IsLoopOf : List SetRule → List ℕ → Tests.Test → Type 0
-IsLoopOf rules numbers (match_test s) = ⊥
-IsLoopOf rules numbers (equal_test a b) = ⊥
-IsLoopOf rules numbers (loop_test s) = list_any (needs_at rules (loop_test s)) numbers ≡ true
+-- a loop that the rule at a place of the set needs
+abbrev pub IsLoopOf : List SetRule → ℕ → Tests.Test → Type 0
+IsLoopOf rules i (match_test s) = ⊥
+IsLoopOf rules i (equal_test a b) = ⊥
+IsLoopOf rules i (loop_test s) = needs_at rules (loop_test s) i ≡ true

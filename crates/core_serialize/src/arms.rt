@@ -1,6 +1,6 @@
 //! The arms of a match: one for each constraint that some rule asks of its source, by ascending constraints.
 
-ghost use Rattle.std.specs.Prelude.{◌≡◌, ◌≤◌, ◌∷◌, [], IfOk, drop, length, option_map};
+ghost use Rattle.std.specs.Prelude.{◌≡◌, ◌≤◌, ◌∷◌, [], IfOk, length, option_map};
 ghost use Rattle.std.specs.List.{filter, prefix_len};
 ghost use Rattle.std.specs.Ordering.{is_lt};
 ghost use Rattle.model.specs.trees.Sound as Sound;
@@ -114,16 +114,6 @@ fn numbers_of(alloc: Global, turns: &[AskingRule]) -> Result<Vec<usize>, AllocEr
         rules.push(asked.number)?;
     }
     Ok(rules)
-}
-
-/// Those behind the first of these.
-pub fn behind(turns: &[AskingRule], count: usize) -> &[AskingRule]
-    ensures { result.now ≡ drop count turns.now }
-{
-    match turns.get(count..) {
-        Some(rest) => rest,
-        None => &[],
-    }
 }
 
 /// The next arm of a match, of the least constraint of those that are left, and none where none is left.

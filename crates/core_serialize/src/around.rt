@@ -1,17 +1,18 @@
 //! What stands around a place of a tree.
 
-ghost use Rattle.std.specs.Prelude.{◌≡◌, ◌<◌, ◌==◌, ◌∷◌, [], ℕ, List, if◌then◌else◌, Some, IfOk, OnOk, get_or, length, map};
-ghost use Rattle.model.specs.trees.Places.{nothing_around, class, is_in, joins, waits};
+ghost use Rattle.std.specs.Prelude.{◌≡◌, ◌<◌, [], ℕ, Some, IfOk, OnOk, get_or, length, set, take};
+ghost use Rattle.model.specs.trees.Places.{nothing_around, is_in, joins, waits};
 ghost use Rattle.core_rule_sets.specs.SiteViews.{site_view};
-ghost use Rattle.core_serialize.specs.AroundViews.{around_view, NamesClasses};
+ghost use Rattle.core_serialize.specs.AroundViews.{around_view, named_as, names_before, renamed, NamesClasses};
 ghost use Rattle.core_serialize.specs.Changes.{IsCutBack, IsMark, JoinsPair, TakesApart};
 ghost use Rattle.core_serialize.specs.PlaceViews.{around_at};
 
+use crate::matched::Matched;
+use crate::parts::put;
 use crate::place::Place;
 use core_containers::stacks::Stack;
 use core_rule_sets::trie_again::{Binding, BindingId};
 use std::alloc::{AllocError, Global};
-use std::mem;
 
 /// What the steps around a place of a tree have tested, joined, brought and used. A whole tree is made with one: what a block
 /// adds is taken away again at its end.
@@ -28,8 +29,10 @@ pub struct Around {
     /// Emitted sites below which all is emitted. What a loop brought isn't among them before it is used: its call may be
     /// bound again.
     pub closed: Stack,
-    /// By sites, the name of each one's class. A site behind the end is its own class.
+    /// By sites, the name of each one's class. A site behind the end is its own name.
     pub names: Vec<BindingId>,
+    /// By rules, how many of the first sites that each asks something of are known to be among the sources.
+    pub matched: Matched,
 }
 
 /// How far the lists of what stands around a place go.
@@ -43,24 +46,40 @@ pub struct Mark {
     pub emitted: usize,
     /// Below how many all is emitted.
     pub closed: usize,
+    /// How many counts of rules were raised.
+    pub raised: usize,
+}
+
+/// The sites that got another name when two sites were joined, and what the table of names was before.
+#[derive(Debug, Drop)]
+pub struct Renamed {
+    /// The sites.
+    pub sites: Vec<usize>,
+    /// The name that they had.
+    pub name: BindingId,
+    /// How long the table was.
+    pub len: usize,
 }
 
 impl Around {
-    /// Nothing stands around the first step of a tree.
-    pub fn new(alloc: Global) -> Around
-        ensures view { around_view result ≡ nothing_around }
-        ensures closed { result.closed ≡ [] }
-        ensures joined { result.joined.items ≡ [] }
-        ensures names { result.names.items ≡ [] }
+    /// Nothing stands around the first step of a tree of so many rules.
+    pub fn new(alloc: Global, rules: usize) -> Result<Around, AllocError>
+        ensures view { IfOk result (λ a. around_view a ≡ nothing_around) }
+        ensures closed { IfOk result (λ a. a.closed ≡ []) }
+        ensures joined { IfOk result (λ a. a.joined.items ≡ []) }
+        ensures names { IfOk result (λ a. a.names.items ≡ []) }
+        ensures matched { IfOk result (λ a. (i : ℕ) → get_or a.matched.counts.items i 0 ≡ 0) }
     {
-        Around {
+        let matched = Matched::new(alloc, rules)?;
+        Ok(Around {
             sources: Stack::new(alloc),
             joined: Vec::new(alloc),
             brought: Stack::new(alloc),
             emitted: Stack::new(alloc),
             closed: Stack::new(alloc),
             names: Vec::new(alloc),
-        }
+            matched,
+        })
     }
 
     /// How far the lists go now.
@@ -72,6 +91,7 @@ impl Around {
             brought: self.brought.len(),
             emitted: self.emitted.len(),
             closed: self.closed.len(),
+            raised: self.matched.raised.len(),
         }
     }
 
@@ -83,6 +103,7 @@ impl Around {
         self.brought.truncate(mark.brought);
         self.emitted.truncate(mark.emitted);
         self.closed.truncate(mark.closed);
+        self.matched.go_back(mark.raised);
     }
 }
 
@@ -151,7 +172,7 @@ pub fn must_wait(binding: &Binding) -> bool
     }
 }
 
-// The name of a site's class, by the table of names: a site behind its end is its own class.
+// The name of a site's class, by the table of names: a site behind its end is its own name.
 fn name_of(site: BindingId, names: &[BindingId]) -> BindingId
     ensures { result ≡ get_or names.now site site }
 {
@@ -161,32 +182,10 @@ fn name_of(site: BindingId, names: &[BindingId]) -> BindingId
     }
 }
 
-// The name of a class after the classes of these two names were joined.
-fn renamed(name: BindingId, from: BindingId, to: BindingId) -> BindingId
-    ensures { result ≡ (if name == from then to else name) }
-{
-    if name == from { to } else { name }
-}
-
-// The names in a table after the classes of these two names were joined.
-fn all_renamed(
-    alloc: Global,
-    names: &[BindingId],
-    from: BindingId,
-    to: BindingId,
-) -> Result<Vec<BindingId>, AllocError>
-    ensures { IfOk result (λ v. v.items ≡ map (λ n. if n == from then to else n) names.now) }
-{
-    let mut all = Vec::with_capacity(alloc, names.len())?;
-    for name in names {
-        all.push(renamed(*name, from, to))?;
-    }
-    Ok(all)
-}
-
-// Makes a table of names go as far as a site: the sites that it had no name for are their own classes.
+// Makes a table of names go as far as a site: the sites that it had no name for are their own names.
 fn grow_to(names: &mut Vec<BindingId>, site: BindingId) -> Result<(), AllocError>
     ensures names { OnOk result ((s : ℕ) → get_or names.new.items s s ≡ get_or names.old.items s s) }
+    ensures before { OnOk result (take (length names.old.items) names.new.items ≡ names.old.items) }
     ensures reached { OnOk result (site < length names.new.items) }
 {
     while names.len() <= site.index() {
@@ -195,46 +194,82 @@ fn grow_to(names: &mut Vec<BindingId>, site: BindingId) -> Result<(), AllocError
     Ok(())
 }
 
-// The names of the classes of joined sites after two sites were joined.
-fn joining(
-    alloc: Global,
-    names: &[BindingId],
-    a: BindingId,
-    b: BindingId,
-) -> Result<Vec<BindingId>, AllocError>
-    ensures { IfOk result (λ v. (pairs : List (ℕ × ℕ)) → NamesClasses pairs names.now → NamesClasses ((a, b) ∷ pairs) v.items) }
+// Gives the site of a number another name, where it has this one, and lists it then.
+fn rename_at(
+    names: &mut Vec<BindingId>,
+    sites: &mut Vec<usize>,
+    site: usize,
+    from: BindingId,
+    to: BindingId,
+) -> Result<(), AllocError>
+    requires { site < length names.old.items }
+    ensures names { OnOk result (names.new.items ≡ set names.old.items site (renamed from to (get_or names.old.items site site))) }
+    ensures undone { OnOk result (named_as sites.new.items from names.new.items ≡ named_as sites.old.items from names.old.items) }
 {
-    let from = name_of(a, names);
-    let to = name_of(b, names);
-    let mut joined = all_renamed(alloc, names, from, to)?;
-    if joined.len() <= from.index() {
-        grow_to(&mut joined, from)?;
-        joined[from.index()] = to;
+    if names[site] == from {
+        names[site] = to;
+        sites.push(site)?;
     }
-    Ok(joined)
+    Ok(())
 }
 
-/// Joins two sites, and answers the names of classes as they were: `take_apart` puts them back.
+// Gives all sites of one name another one, and lists them.
+fn rename(
+    alloc: Global,
+    names: &mut Vec<BindingId>,
+    from: BindingId,
+    to: BindingId,
+) -> Result<Vec<usize>, AllocError>
+    requires { from < length names.old.items }
+    ensures names { OnOk result ((s : ℕ) → get_or names.new.items s s ≡ renamed from to (get_or names.old.items s s)) }
+    ensures undone { IfOk result (λ v. named_as v.items from names.new.items ≡ names.old.items) }
+{
+    let mut sites = Vec::new(alloc);
+    for site in 0..names.len() {
+        rename_at(names, &mut sites, site, from, to)?;
+    }
+    Ok(sites)
+}
+
+/// Joins two sites. Answers how `take_apart` undoes that.
 pub fn join(
     alloc: Global,
     around: &mut Around,
     a: BindingId,
     b: BindingId,
-) -> Result<Vec<BindingId>, AllocError>
+) -> Result<Renamed, AllocError>
     requires { NamesClasses around.old.joined.items around.old.names.items }
-    ensures before { IfOk result (λ v. v.items ≡ around.old.names.items) }
+    ensures before { IfOk result (λ r. names_before r around.new.names.items ≡ around.old.names.items) }
     ensures joins { OnOk result (JoinsPair a b around.old around.new) }
 {
-    let names = joining(alloc, &around.names, a, b)?;
+    let len = around.names.len();
+    let from = name_of(b, &around.names);
+    let to = name_of(a, &around.names);
+    grow_to(&mut around.names, from)?;
+    let sites = rename(alloc, &mut around.names, from, to)?;
     around.joined.insert(0, (a, b))?;
-    Ok(mem::replace(&mut around.names, names))
+    Ok(Renamed {
+        sites,
+        name: from,
+        len,
+    })
 }
 
-/// Takes the pair that was joined last apart, where the names of classes were these before.
-pub fn take_apart(around: &mut Around, names: Vec<BindingId>)
+// Gives some sites a name.
+fn put_names(names: &mut Vec<BindingId>, sites: &[usize], name: BindingId)
+    ensures { names.new.items ≡ named_as sites.now name names.old.items }
+{
+    for site in sites {
+        put(names, *site, name);
+    }
+}
+
+/// Takes the pair that was joined last apart: these sites then have the name of before.
+pub fn take_apart(around: &mut Around, renamed: Renamed)
     requires { 0 < length around.old.joined.items }
-    ensures { TakesApart names.items around.old around.new }
+    ensures { TakesApart renamed around.old around.new }
 {
     around.joined.remove(0);
-    around.names = names;
+    put_names(&mut around.names, &renamed.sites, renamed.name);
+    around.names.truncate(renamed.len);
 }

@@ -11,10 +11,11 @@ ghost use Rattle.core_serialize.specs.PlaceViews.{set_in};
 ghost use Rattle.core_serialize.specs.TestViews.{test_view};
 ghost use Rattle.core_serialize.specs.TreeViews.{arms_view, check_view, tree_view};
 
-use crate::arms::{asked_in_turn, behind, next_arm};
+use crate::arms::{asked_in_turn, next_arm};
 use crate::around::{Around, join, number_of, take_apart};
 use crate::bodies::{field_sites, go_in};
 use crate::ends::returns_of;
+use crate::parts::behind;
 use crate::place::IndexedSet;
 use crate::serialize::{Block, ControlFlow, EvalStep, MatchArm};
 use crate::steps::{bind_test, next_test, pick_of};
@@ -35,7 +36,7 @@ pub fn block_of(
     here: Vec<usize>,
 ) -> Result<Block, AllocError>
     requires order { IsTrue (descend (set_in indexed.now).rules here.items) }
-    requires kept { IsKept (set_in indexed.now).sites around.old }
+    requires kept { IsKept (set_in indexed.now) around.old }
     ensures best { IfOk result (λ b. IsBestFrom (set_in indexed.now) (around_view around.old) here.items (tree_view b)) }
     ensures back { OnOk result (IsBack around.old around.new) }
 {
@@ -66,7 +67,7 @@ fn check_of(
 ) -> Result<ControlFlow, AllocError>
     requires order { IsTrue (descend (set_in indexed.now).rules here.items) }
     requires step { IsStepOf (set_in indexed.now) (around_view around.old) (test_view test) here.items }
-    requires kept { IsKept (set_in indexed.now).sites around.old }
+    requires kept { IsKept (set_in indexed.now) around.old }
     ensures best { IfOk result (λ check. (ar : Places.Around) → IsAfterTest (set_in indexed.now) ar (test_view test) (around_view around.old) → IsBestBody (set_in indexed.now) ar (test_view test) here.items (check_view check)) }
     ensures back { OnOk result (IsBack around.old around.new) }
 {
@@ -100,7 +101,7 @@ fn arms_of(
 ) -> Result<Vec<MatchArm>, AllocError>
     requires order { IsTrue (descend (set_in indexed.now).rules here.items) }
     requires step { IsStepOf (set_in indexed.now) (around_view around.old) (Tests.match_test source) here.items }
-    requires kept { IsKept (set_in indexed.now).sites around.old }
+    requires kept { IsKept (set_in indexed.now) around.old }
     ensures best { IfOk result (λ v. (ar : Places.Around) → IsAfterTest (set_in indexed.now) ar (Tests.match_test source) (around_view around.old) → AreBestArms (set_in indexed.now) ar source None here.items (arms_view v.items)) }
     ensures back { OnOk result (IsBack around.old around.new) }
 {
@@ -134,12 +135,12 @@ fn body_of(
 ) -> Result<Block, AllocError>
     requires order { IsTrue (descend (set_in indexed.now).rules here.items) }
     requires source { IsNewSource (set_in indexed.now) (around_view around.old) source }
-    requires kept { IsKept (set_in indexed.now).sites around.old }
+    requires kept { IsKept (set_in indexed.now) around.old }
     ensures best { IfOk result (λ b. IsBestFrom (set_in indexed.now) (brings (around_view around.old) source sites.now) here.items (tree_view b)) }
     ensures back { OnOk result (IsBack around.old around.new) }
 {
     let start = around.mark();
-    go_in(around, source, sites)?;
+    go_in(indexed, around, source, sites, &here)?;
     let body = block_of(alloc, indexed, around, found, here)?;
     around.go_back(start);
     Ok(body)
@@ -158,12 +159,12 @@ fn joined_body(
 ) -> Result<Block, AllocError>
     requires order { IsTrue (descend (set_in indexed.now).rules here.items) }
     requires pair { Tests.IsOpen (set_in indexed.now) (around_view around.old) (Tests.equal_test a b) }
-    requires kept { IsKept (set_in indexed.now).sites around.old }
+    requires kept { IsKept (set_in indexed.now) around.old }
     ensures best { IfOk result (λ body. IsBestFrom (set_in indexed.now) (where_joined (around_view around.old) a b) here.items (tree_view body)) }
     ensures back { OnOk result (IsBack around.old around.new) }
 {
-    let names = join(alloc, around, a, b)?;
+    let renamed = join(alloc, around, a, b)?;
     let body = block_of(alloc, indexed, around, found, here)?;
-    take_apart(around, names);
+    take_apart(around, renamed);
     Ok(body)
 }

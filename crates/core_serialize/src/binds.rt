@@ -133,10 +133,10 @@ fn emit_all(
     around: &mut Around,
     used: &[BindingId],
 ) -> Result<(), AllocError>
-    requires { IsKept (set_in indexed.now).sites around.old }
+    requires { IsKept (set_in indexed.now) around.old }
     ensures emitted { OnOk result (AreEmitted (set_in indexed.now) (around_view around.old) used.now around.new.emitted) }
     ensures emits { OnOk result (Emits around.old around.new) }
-    ensures kept { OnOk result (IsKept (set_in indexed.now).sites around.new) }
+    ensures kept { OnOk result (IsKept (set_in indexed.now) around.new) }
 {
     let start = around.closed.len();
     list_all(indexed, used, &mut around.closed)?;
@@ -153,11 +153,11 @@ pub fn bind(
     sites: &[BindingId],
     used: &[BindingId],
 ) -> Result<Vec<BindingId>, AllocError>
-    requires { IsKept (set_in indexed.now).sites around.old }
+    requires { IsKept (set_in indexed.now) around.old }
     ensures binds { IfOk result (λ v. v.items ≡ Places.bind_order (set_in indexed.now).sites (around_view around.old) sites.now) }
     ensures emitted { OnOk result (AreEmitted (set_in indexed.now) (around_view around.old) used.now around.new.emitted) }
     ensures emits { OnOk result (Emits around.old around.new) }
-    ensures kept { OnOk result (IsKept (set_in indexed.now).sites around.new) }
+    ensures kept { OnOk result (IsKept (set_in indexed.now) around.new) }
 {
     let bound = bind_order(alloc, indexed, &mut around.emitted, sites)?;
     emit_all(indexed, around, used)?;

@@ -70,12 +70,12 @@ fn return_step(
     around: &mut Around,
     number: usize,
 ) -> Result<EvalStep, AllocError>
-    requires { IsKept (set_in indexed.now).sites around.old }
+    requires { IsKept (set_in indexed.now) around.old }
     ensures binds { IfOk result (λ s. s.bind_order.items ≡ Places.bind_order (set_in indexed.now).sites (around_view around.old) (return_uses (slice_get (set_in indexed.now).rules number))) }
     ensures check { IfOk result (λ s. check_view s.check ≡ Trees.return_of (slice_get (set_in indexed.now).rules number)) }
     ensures emitted { OnOk result (AreEmitted (set_in indexed.now) (around_view around.old) (return_uses (slice_get (set_in indexed.now).rules number)) around.new.emitted) }
     ensures emits { OnOk result (Emits around.old around.new) }
-    ensures kept { OnOk result (IsKept (set_in indexed.now).sites around.new) }
+    ensures kept { OnOk result (IsKept (set_in indexed.now) around.new) }
 {
     let used = used_by(alloc, indexed.set, number)?;
     let bind_order = bind(alloc, indexed, around, &used, &used)?;
@@ -91,7 +91,7 @@ pub fn returns_of(
     here: &[usize],
 ) -> Result<Vec<EvalStep>, AllocError>
     requires order { IsTrue (descend (set_in indexed.now).rules here.now) }
-    requires kept { IsKept (set_in indexed.now).sites around.old }
+    requires kept { IsKept (set_in indexed.now) around.old }
     ensures ends { IfOk result (λ v. AreEnds (set_in indexed.now) (around_view around.old) here.now (steps_view v.items)) }
     ensures emits { OnOk result (Emits around.old around.new) }
 {

@@ -1,22 +1,27 @@
 //! The open tests of a place that its highest rules need: all other open tests cover no rule.
 
-ghost use Rattle.std.specs.Prelude.{◌≡◌, ◌<◌, ◌&&◌, ◌||◌, [], false, true, not, None, ℕ, Contains, IfOk, OnOk, slice_get};
-ghost use Rattle.std.specs.List.{find, list_any};
+ghost use Rattle.std.specs.Prelude.{◌≡◌, ◌<◌, ◌&&◌, ◌||◌, [], false, true, not, nat_lt, None, Some, ℕ, Contains, IfOk, IsTrue, OnOk, slice_get};
+ghost use Rattle.std.specs.List.{find, list_all, list_any};
 ghost use Rattle.model.specs.trees.Places.{available, is_in, joins, waits};
 ghost use Rattle.model.specs.trees.Tests as Tests;
-ghost use Rattle.core_rule_sets.specs.SiteViews.{set_rule_view, set_view, site_view};
+ghost use Rattle.core_rule_sets.specs.Listings.{ascends, sites_of};
+ghost use Rattle.core_rule_sets.specs.SiteViews.{set_rule_view, set_view};
 ghost use Rattle.core_serialize.specs.PlaceViews.{around_at, here_at, set_at};
-ghost use Rattle.core_serialize.specs.NeededTests.{AreFoundAt, EmittedAreJoined, IsSearchAt, SearchesAt, IsEqualOf, IsLoopBy, IsLoopOf, IsMatch, IsMatchOf, IsPairOf, IsPairWith, IsTest, IsWanted, OfSome};
+ghost use Rattle.core_serialize.specs.RuleCalls.{AreCounts};
+ghost use Rattle.core_serialize.specs.NeededTests.{AllJoined, AreFoundAt, EmittedAreJoined, IsSearchAt, SearchesAt, IsEqualOf, IsLoop, IsLoopOf, IsMatch, IsMatchAsked, IsMatchOf, IsPair, IsPairOf, IsPairWith, IsTest, IsWanted, OfSome};
 ghost use Rattle.core_serialize.specs.TestViews.{test_view, IsBestOpen};
 
 use crate::around::{are_joined, is_brought, is_emitted, is_source, must_wait, number_of};
 use crate::binds::sources_of;
+use crate::calls::{call_counts, count_at};
+use crate::parts::behind;
 use crate::place::Place;
 use crate::tests::{
     Scored, Test, all_stay_below, greater_of, needs_at, pairs_stay_below, reach_count, stays_below,
+    stays_below_with,
 };
 use core_containers::stacks::Stack;
-use core_rule_sets::trie_again::{Binding, BindingId, Rule, RuleSet};
+use core_rule_sets::trie_again::{BindingId, Constraint, Rule, RuleSet};
 use std::alloc::{AllocError, Global};
 use std::mem;
 
@@ -216,18 +221,19 @@ fn try_match(
     try_test(place, search, earlier, Test::Match { source: site })
 }
 
-// Tries the matches of the sites of which a rule asks something, by ascending sites: those behind a site are left out where the best
+// Tries the matches of the sites of which something is asked, by ascending sites: those behind a site are left out where the best
 // test so far is better than any match of that site or a later one.
-fn try_matches(
+fn try_matches_of(
     place: &Place<'_>,
     search: &mut BestSearch,
-    rule: &Rule,
+    all_asked: &[(BindingId, Constraint)],
     earlier: usize,
 ) -> Result<(), AllocError>
-    requires { IsSearchAt place.now search.old }
-    ensures { OnOk result (SearchesAt place.now (IsMatchOf (set_rule_view rule.now)) search.old search.new) }
+    requires search { IsSearchAt place.now search.old }
+    requires ascending { IsTrue (ascends (sites_of all_asked.now)) }
+    ensures { OnOk result (SearchesAt place.now (OfSome IsMatchAsked all_asked.now) search.old search.new) }
 {
-    for asked in rule.constraints() {
+    for asked in all_asked {
         if all_stay_below(place, search.best, 0, asked.0) {
             return Ok(());
         }
@@ -236,24 +242,50 @@ fn try_matches(
     Ok(())
 }
 
-fn try_pairs_with(
+// Tries the matches of the sites of which the rule of a number asks something, but for the first ones that are sources of arms
+// around.
+fn try_matches(
     place: &Place<'_>,
     search: &mut BestSearch,
-    a: BindingId,
-    others: &[BindingId],
+    number: usize,
+    rule: &Rule,
     earlier: usize,
 ) -> Result<(), AllocError>
-    requires { IsSearchAt place.now search.old }
-    ensures { OnOk result (SearchesAt place.now (IsPairWith others.now a) search.old search.new) }
+    requires search { IsSearchAt place.now search.old }
+    requires numbered { slice_get (set_at place.now).rules number ≡ Some (set_rule_view rule.now) }
+    ensures { OnOk result (SearchesAt place.now (IsMatchOf (set_rule_view rule.now)) search.old search.new) }
 {
-    for b in others {
-        let test = Test::Equal { a, b: *b };
-        try_test(place, search, earlier, test)?;
-    }
+    let count = place.around.matched.count_of(number);
+    try_matches_of(place, search, behind(rule.constraints(), count), earlier)?;
     Ok(())
 }
 
-// Tries the equalities of a site and those of its class, where one of them may be better than the best so far.
+// Whether the second of two sites is behind the first, and the equalities around don't join them.
+fn is_apart(place: &Place<'_>, a: BindingId, b: BindingId) -> bool
+    ensures { result ≡ (nat_lt a b && not (joins (around_at place.now).joined a b)) }
+{
+    a.index() < b.index() && !are_joined(place, a, b)
+}
+
+// Tries the equality of two sites, the lesser first. Most are left out at once, since the equalities around join the two.
+fn try_pair(
+    place: &Place<'_>,
+    search: &mut BestSearch,
+    a: BindingId,
+    b: BindingId,
+    earlier: usize,
+) -> Result<(), AllocError>
+    requires { IsSearchAt place.now search.old }
+    ensures { OnOk result (SearchesAt place.now (IsPair a b) search.old search.new) }
+{
+    if !is_apart(place, a, b) {
+        return Ok(());
+    }
+    try_test(place, search, earlier, Test::Equal { a, b })
+}
+
+// Tries the equalities of a site and those of its class, by ascending sites: those with a site or a later one are left out where
+// the best test so far is better than any of them.
 fn try_pairs_of(
     place: &Place<'_>,
     search: &mut BestSearch,
@@ -263,18 +295,22 @@ fn try_pairs_of(
     earlier: usize,
 ) -> Result<(), AllocError>
     requires search { IsSearchAt place.now search.old }
+    requires ascending { IsTrue (ascends class.now) }
     requires member { Contains class.now a }
     requires joined { are_joined ≡ true → EmittedAreJoined (around_at place.now) class.now }
     ensures { OnOk result (SearchesAt place.now (IsPairWith class.now a) search.old search.new) }
 {
-    if pairs_stay_below(place, search.best, a, are_joined) {
-        return Ok(());
+    for b in class {
+        if pairs_stay_below(place, search.best, a, *b, are_joined) {
+            return Ok(());
+        }
+        try_pair(place, search, a, *b, earlier)?;
     }
-    try_pairs_with(place, search, a, class, earlier)
+    Ok(())
 }
 
 // Whether a site is emitted, and isn't joined with another one.
-fn is_apart(place: &Place<'_>, other: BindingId, site: BindingId) -> bool
+fn is_emitted_apart(place: &Place<'_>, other: BindingId, site: BindingId) -> bool
     ensures { result ≡ (is_in site (around_at place.now).emitted && not (joins (around_at place.now).joined other site)) }
 {
     is_emitted(place, site) && !are_joined(place, other, site)
@@ -283,7 +319,9 @@ fn is_apart(place: &Place<'_>, other: BindingId, site: BindingId) -> bool
 fn some_apart(place: &Place<'_>, other: BindingId, sites: &[BindingId]) -> bool
     ensures { result ≡ list_any (λ s. is_in s (around_at place.now).emitted && not (joins (around_at place.now).joined other s)) sites.now }
 {
-    sites.iter().any(|site| is_apart(place, other, *site))
+    sites
+        .iter()
+        .any(|site| is_emitted_apart(place, other, *site))
 }
 
 fn first_emitted(place: &Place<'_>, sites: &[BindingId]) -> Option<BindingId>
@@ -302,21 +340,61 @@ fn emitted_are_joined(place: &Place<'_>, sites: &[BindingId]) -> bool
     }
 }
 
-// Tries the equalities of two sites of a class.
+fn joins_all(place: &Place<'_>, one: BindingId, sites: &[BindingId]) -> bool
+    ensures { result ≡ list_all (joins (around_at place.now).joined one) sites.now }
+{
+    sites.iter().all(|site| are_joined(place, one, *site))
+}
+
+// Whether all of these sites are joined: no equality of two of them is open then.
+fn are_all_joined(place: &Place<'_>, sites: &[BindingId]) -> bool
+    ensures { result ≡ true → AllJoined (around_at place.now) sites.now }
+{
+    match sites.first() {
+        Some(first) => joins_all(place, *first, sites),
+        None => true,
+    }
+}
+
+// Tries the equalities of two sites of a class, by ascending sites: those behind a site are left out where the best test so far is
+// better than any equality of that site or a later one.
+fn try_pairs_from(
+    place: &Place<'_>,
+    search: &mut BestSearch,
+    class: &[BindingId],
+    are_joined: bool,
+    earlier: usize,
+) -> Result<(), AllocError>
+    requires search { IsSearchAt place.now search.old }
+    requires ascending { IsTrue (ascends class.now) }
+    requires joined { are_joined ≡ true → EmittedAreJoined (around_at place.now) class.now }
+    ensures { OnOk result (SearchesAt place.now (IsPairOf class.now) search.old search.new) }
+{
+    for a in class {
+        if all_stay_below(place, search.best, 1, *a) {
+            return Ok(());
+        }
+        try_pairs_of(place, search, *a, class, are_joined, earlier)?;
+    }
+    Ok(())
+}
+
+// Tries the equalities of two sites of a class, where not all of its sites are joined.
 fn try_pairs(
     place: &Place<'_>,
     search: &mut BestSearch,
     class: &[BindingId],
     earlier: usize,
 ) -> Result<(), AllocError>
-    requires { IsSearchAt place.now search.old }
+    requires search { IsSearchAt place.now search.old }
+    requires ascending { IsTrue (ascends class.now) }
     ensures { OnOk result (SearchesAt place.now (IsPairOf class.now) search.old search.new) }
 {
-    let are_joined = emitted_are_joined(place, class);
-    for a in class {
-        try_pairs_of(place, search, *a, class, are_joined, earlier)?;
+    if are_all_joined(place, class) {
+        return Ok(());
     }
-    Ok(())
+    let are_joined = emitted_are_joined(place, class);
+    try_pairs_from(place, search, class, are_joined, earlier)
 }
 
 fn try_equalities(
@@ -347,7 +425,7 @@ fn try_wanted(place: &Place<'_>, search: &mut BestSearch, number: usize) -> Resu
         return Ok(());
     };
     let earlier = search.scored.len();
-    try_matches(place, search, rule, earlier)?;
+    try_matches(place, search, number, rule, earlier)?;
     try_equalities(place, search, rule, earlier)?;
     Ok(())
 }
@@ -374,48 +452,76 @@ fn some_goes_over(set: &RuleSet, numbers: &[usize]) -> bool
     false
 }
 
-fn some_needs(set: &RuleSet, numbers: &[usize], test: &Test) -> bool
-    ensures { result ≡ list_any (Tests.needs_at (set_view set.now).rules (test_view test.now)) numbers.now }
-{
-    numbers.iter().any(|number| needs_at(set, test, *number))
-}
-
-// Tries the loop over a call's answers, where a site stands for these and one of some rules needs it.
+// Tries the loop over the answers of a call, where it may be better than the best so far though it covered all rules that go over
+// the call.
 fn try_loop(
     place: &Place<'_>,
     search: &mut BestSearch,
-    highest: &[usize],
-    binding: &Binding,
+    counts: &[usize],
+    call: BindingId,
 ) -> Result<(), AllocError>
-    requires { IsSearchAt place.now search.old }
-    ensures { OnOk result (SearchesAt place.now (IsLoopBy (set_at place.now).rules highest.now (site_view binding.now)) search.old search.new) }
+    requires search { IsSearchAt place.now search.old }
+    requires counts { AreCounts (set_at place.now).rules (here_at place.now) counts.now }
+    ensures { OnOk result (SearchesAt place.now (IsLoop call) search.old search.new) }
 {
-    let Binding::Iterator { source } = binding else {
+    let test = Test::Loop { source: call };
+    let most = count_at(counts, call, place.here.len());
+    if stays_below_with(place, search.best, &test, most) {
         return Ok(());
-    };
-    let test = Test::Loop { source: *source };
-    if some_needs(place.indexed.set, highest, &test) {
-        let earlier = search.scored.len();
-        try_test(place, search, earlier, test)?;
+    }
+    let earlier = search.scored.len();
+    try_test(place, search, earlier, test)
+}
+
+// Tries the loops that the rule of a number needs.
+fn try_loops_of(
+    place: &Place<'_>,
+    search: &mut BestSearch,
+    counts: &[usize],
+    number: usize,
+) -> Result<(), AllocError>
+    requires search { IsSearchAt place.now search.old }
+    requires counts { AreCounts (set_at place.now).rules (here_at place.now) counts.now }
+    ensures { OnOk result (SearchesAt place.now (IsLoopOf (set_at place.now).rules number) search.old search.new) }
+{
+    for call in place.indexed.calls.calls_of(number) {
+        try_loop(place, search, counts, *call)?;
     }
     Ok(())
 }
 
+// Tries the loops that some rules need.
+fn try_all_loops(
+    place: &Place<'_>,
+    search: &mut BestSearch,
+    counts: &[usize],
+    highest: &[usize],
+) -> Result<(), AllocError>
+    requires search { IsSearchAt place.now search.old }
+    requires counts { AreCounts (set_at place.now).rules (here_at place.now) counts.now }
+    ensures { OnOk result (SearchesAt place.now (OfSome (IsLoopOf (set_at place.now).rules) highest.now) search.old search.new) }
+{
+    for number in highest {
+        try_loops_of(place, search, counts, *number)?;
+    }
+    Ok(())
+}
+
+// Tries the loops that some rules need, where one of them goes over the answers of some call.
 fn try_loops(
+    alloc: Global,
     place: &Place<'_>,
     search: &mut BestSearch,
     highest: &[usize],
 ) -> Result<(), AllocError>
     requires { IsSearchAt place.now search.old }
-    ensures { OnOk result (SearchesAt place.now (IsLoopOf (set_at place.now).rules highest.now) search.old search.new) }
+    ensures { OnOk result (SearchesAt place.now (OfSome (IsLoopOf (set_at place.now).rules) highest.now) search.old search.new) }
 {
     if !some_goes_over(place.indexed.set, highest) {
         return Ok(());
     }
-    for binding in &place.indexed.set.bindings {
-        try_loop(place, search, highest, binding)?;
-    }
-    Ok(())
+    let counts = call_counts(alloc, place)?;
+    try_all_loops(place, search, &counts, highest)
 }
 
 // Tries the matches and equalities that some rules need.
@@ -447,7 +553,7 @@ pub fn best_open(
     let highest = &place.here[..count];
     let mut search = BestSearch::new(alloc, mem::replace(found, Stack::new(alloc)));
     try_all_wanted(place, &mut search, highest)?;
-    try_loops(place, &mut search, highest)?;
+    try_loops(alloc, place, &mut search, highest)?;
     *found = search.found;
     Ok(search.best)
 }

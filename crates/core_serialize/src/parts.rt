@@ -1,6 +1,6 @@
 //! Lists that are parted by a test.
 
-ghost use Rattle.std.specs.Prelude.{◌≡◌, ◌∷◌, ◌++◌, [], cond, not, OnOk};
+ghost use Rattle.std.specs.Prelude.{◌≡◌, ◌∷◌, ◌++◌, [], cond, drop, not, set, OnOk};
 
 use std::alloc::AllocError;
 
@@ -26,4 +26,23 @@ pub fn part(
 {
     keep(asking, number, asks)?;
     keep(others, number, !asks)
+}
+
+/// Those behind the first of some items.
+pub fn behind<T: Copy>(items: &[T], count: usize) -> &[T]
+    ensures { result.now ≡ drop count items.now }
+{
+    match items.get(count..) {
+        Some(rest) => rest,
+        None => &[],
+    }
+}
+
+/// Puts an item at a place of a list, where the list has the place.
+pub fn put<T: Copy>(items: &mut Vec<T>, place: usize, item: T)
+    ensures { items.new.items ≡ set items.old.items place item }
+{
+    if place < items.len() {
+        items[place] = item;
+    }
 }

@@ -13,6 +13,7 @@ ghost use Rattle.core_serialize.specs.TreeViews.{tree_view};
 
 use crate::around::Around;
 use crate::best::block_of;
+use crate::calls::calls_by_rule;
 use crate::fields::fields_by_source;
 use crate::place::IndexedSet;
 use crate::tests::priority;
@@ -167,11 +168,13 @@ pub fn serialize(alloc: Global, set: &RuleSet) -> Result<Block, AllocError>
     let numbers = all_rules(alloc, set)?;
     let here = in_order(set, numbers)?;
     let fields = fields_by_source(alloc, set)?;
+    let calls = calls_by_rule(alloc, set)?;
     let indexed = IndexedSet {
         set,
         fields: &fields,
+        calls: &calls,
     };
-    let mut around = Around::new(alloc);
+    let mut around = Around::new(alloc, set.rules.len())?;
     let mut found = Stack::new(alloc);
     block_of(alloc, &indexed, &mut around, &mut found, here)
 }

@@ -7,6 +7,7 @@ ghost use Rattle.core_serialize.specs.AroundViews.{around_view, NamesClasses};
 ghost use Rattle.core_serialize.specs.Changes.{Emits, IsKept};
 ghost use Rattle.core_serialize.specs.FieldTests.{HasIterator, IsIteratorOf};
 ghost use Rattle.core_serialize.specs.Growing.{test_sites, AreEmittedBy, IsNext};
+ghost use Rattle.core_serialize.specs.Matches.{AreMatched};
 ghost use Rattle.core_serialize.specs.PlaceViews.{around_at, here_at, set_at, set_in};
 ghost use Rattle.core_serialize.specs.TestViews.{test_view, IsBestOpen, IsChosen};
 
@@ -38,11 +39,11 @@ pub fn bind_test(
     around: &mut Around,
     test: &Test,
 ) -> Result<Vec<BindingId>, AllocError>
-    requires { IsKept (set_in indexed.now).sites around.old }
+    requires { IsKept (set_in indexed.now) around.old }
     ensures binds { IfOk result (λ v. v.items ≡ Places.bind_order (set_in indexed.now).sites (around_view around.old) (test_sites (test_view test.now))) }
     ensures emitted { OnOk result (AreEmittedBy (set_in indexed.now) (around_view around.old) (test_view test.now) around.new.emitted) }
     ensures emits { OnOk result (Emits around.old around.new) }
-    ensures kept { OnOk result (IsKept (set_in indexed.now).sites around.new) }
+    ensures kept { OnOk result (IsKept (set_in indexed.now) around.new) }
 {
     match test {
         Test::Match { source } => {
@@ -100,6 +101,7 @@ pub fn next_test(
 ) -> Result<Option<NextTest>, AllocError>
     requires order { IsTrue (descend (set_in indexed.now).rules here.now) }
     requires named { NamesClasses around.now.joined.items around.now.names.items }
+    requires matched { AreMatched (set_in indexed.now).rules around.now.matched.counts.items around.now.sources }
     ensures { IfOk result (λ o. IsNext (set_in indexed.now) (around_view around.now) here.now o) }
 {
     if here.is_empty() {

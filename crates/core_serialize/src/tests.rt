@@ -71,8 +71,8 @@ fn is_equated(rule: &Rule, a: BindingId, b: BindingId) -> bool
     rule.equals.in_same_set(a, b)
 }
 
-// Whether a rule goes over the answers of a call. No call has a number of more than 16 bits.
-fn goes_over(rule: &Rule, call: BindingId) -> bool
+/// Whether a rule goes over the answers of a call. No call has a number of more than 16 bits.
+pub fn goes_over(rule: &Rule, call: BindingId) -> bool
     ensures { result ≡ is_in call (set_rule_view rule.now).iterators }
 {
     call.index() < 65536 && rule.iterators.contains(&call)
@@ -296,14 +296,21 @@ fn with_score(place: &Place<'_>, test: &Test) -> Scored
     }
 }
 
+/// Whether a test can't be better than the best so far, where it covers at most so many rules of the place.
+pub fn stays_below_with(place: &Place<'_>, best: Option<Scored>, test: &Test, most: usize) -> bool
+    ensures { result ≡ true → length (Tests.cover (set_at place.now).rules (here_at place.now) (test_view test.now)) ≤ most → IsNoBetter (set_at place.now) (around_at place.now) (here_at place.now) best (test_view test.now) }
+{
+    match best {
+        Some(best) => !is_greater(score_by(place, test, most), best.score),
+        None => false,
+    }
+}
+
 /// Whether a test can't be better than the best so far, though it covered all rules of the place.
 pub fn stays_below(place: &Place<'_>, best: Option<Scored>, test: &Test) -> bool
     ensures { result ≡ true → IsNoBetter (set_at place.now) (around_at place.now) (here_at place.now) best (test_view test.now) }
 {
-    match best {
-        Some(best) => !is_greater(score_by(place, test, place.here.len()), best.score),
-        None => false,
-    }
+    stays_below_with(place, best, test, place.here.len())
 }
 
 // A score that no test of a form, of this site or a later one, exceeds: it covers all rules of the place, and its sites are emitted.
@@ -330,32 +337,33 @@ pub fn all_stay_below(place: &Place<'_>, best: Option<Scored>, form: u8, site: B
     }
 }
 
-// A score that no equality of a site and one of these exceeds, where it is known whether those of them that are emitted
-// are joined: then no equality can have two emitted sites.
-fn most_with(place: &Place<'_>, site: BindingId, are_joined: bool) -> Score
-    ensures { score_view result ≡ record { count = length (here_at place.now); emitted = as_number (is_in site (around_at place.now).emitted && not are_joined); form = 1; site = site; other = 0 } }
+// A score that no equality of a site and another one, or of the site and one behind that, exceeds. It may be known of these that all
+// that are emitted are joined: then no equality can have two emitted sites.
+fn most_with(place: &Place<'_>, site: BindingId, other: BindingId, are_joined: bool) -> Score
+    ensures { score_view result ≡ record { count = length (here_at place.now); emitted = as_number (is_in site (around_at place.now).emitted && not are_joined); form = 1; site = site; other = other } }
 {
     Score {
         count: place.here.len(),
         is_emitted: is_emitted(place, site) && !are_joined,
         form: 1,
         site,
-        other: BindingId::from(0),
+        other,
     }
 }
 
-/// Whether no equality of a site and one of its class can be better than the best so far, where it is known whether those
-/// of the class that are emitted are joined.
+/// Whether no equality of a site and another one of its class, or of the site and one behind that, can be better than the best so
+/// far, where it is known whether those of the class that are emitted are joined.
 pub fn pairs_stay_below(
     place: &Place<'_>,
     best: Option<Scored>,
     a: BindingId,
+    other: BindingId,
     are_joined: bool,
 ) -> bool
-    ensures { result ≡ true → (b : ℕ) → (are_joined ≡ true → (is_in a (around_at place.now).emitted && is_in b (around_at place.now).emitted) ≡ false) → IsNoBetter (set_at place.now) (around_at place.now) (here_at place.now) best (Tests.equal_test a b) }
+    ensures { result ≡ true → (b : ℕ) → other ≤ b → (are_joined ≡ true → (is_in a (around_at place.now).emitted && is_in b (around_at place.now).emitted) ≡ false) → IsNoBetter (set_at place.now) (around_at place.now) (here_at place.now) best (Tests.equal_test a b) }
 {
     match best {
-        Some(best) => !is_greater(most_with(place, a, are_joined), best.score),
+        Some(best) => !is_greater(most_with(place, a, other, are_joined), best.score),
         None => false,
     }
 }

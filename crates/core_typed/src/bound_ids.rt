@@ -1,6 +1,6 @@
 //! The variables that are bound so far, and what each is bound to.
 
-ghost use Rattle.std.specs.Prelude.{◌≡◌, [], IfErr, IfOk, IsTrue, MatchResult, Some, alloc_error};
+ghost use Rattle.std.specs.Prelude.{◌≡◌, ◌≤◌, [], IfErr, IfOk, IsTrue, MatchResult, OnErr, OnOk, Some, alloc_error, insert, vec_len};
 ghost use Rattle.std.specs.List.Sorted.{IsStrictlySortedBy};
 ghost use Rattle.std.specs.Ordering.{nat_cmp};
 ghost use Rattle.model.specs.trees.Places.{is_in};
@@ -70,7 +70,7 @@ impl<P: Copy> BoundIds<P> {
     {
         match place_of(&self.entries, var) {
             Ok(place) => self.entries[place] = (var, id),
-            Err(place) => self.entries.insert(place, (var, id))?,
+            Err(place) => put_entry(&mut self.entries, place, (var, id))?,
         }
         Ok(())
     }
@@ -90,6 +90,25 @@ impl<P: Copy> BoundIds<P> {
         }
         Ok(BoundIds { entries })
     }
+}
+
+// Puts an entry at a place: nearly always at the end, where nothing has to move.
+fn put_entry<P: Copy>(
+    entries: &mut Vec<(VarId, P)>,
+    place: usize,
+    entry: (VarId, P),
+) -> Result<(), VisitFault>
+    requires { place ≤ vec_len entries.old }
+    ensures items { OnOk result (entries.new.items ≡ insert entries.old.items place entry) }
+    ensures kept { OnErr result (entries.new.items ≡ entries.old.items) }
+    ensures err { IfErr result (λ fault. fault ≡ Memory alloc_error) }
+{
+    if place == entries.len() {
+        entries.push(entry)?;
+    } else {
+        entries.insert(place, entry)?;
+    }
+    Ok(())
 }
 
 // The place of a variable among entries that ascend, or the one where it fits.

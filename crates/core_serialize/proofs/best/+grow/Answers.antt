@@ -13,7 +13,7 @@ use Rattle.core_serialize.specs.TreeViews.{tree_view, arms_view, check_view, ste
 use Rattle.core_serialize.specs.PlaceViews.{set_in}
 use Rattle.core_serialize.proofs.ArmSteps.{ArmsGrow, arms_start, fewer_left, asking_ordered, arms_more, arms_whole}
 use Rattle.core_serialize.proofs.Growth.{from_alike}
-use Rattle.core_serialize.proofs.ListChanges.{back_itself, back_more, emits_alike, emits_back, emits_cut, emits_itself, emits_more, emits_view, goes_cut, joined_back, joined_view, kept_back, kept_goes, kept_joined, same_view}
+use Rattle.core_serialize.proofs.ListChanges.{back_itself, back_more, emits_alike, emits_back, emits_cut, emits_itself, emits_more, emits_view, goes_cut, joined_back, joined_view, kept_back, kept_joined, same_view}
 use Rattle.core_serialize.proofs.PlaceSteps.{covered_ordered, covered_step, fewer_others, block_more, block_whole, equal_body, equal_fewer, loop_body, loop_source, match_source, pick_made, source_fewer, step_emitted, untried_after}
 use Rattle.core_serialize.proofs.TreeLaws.{block_seen, arm_seen, match_seen}
 use Rattle.core_serialize.proofs.UntriedTests.{untried}
@@ -32,7 +32,7 @@ block_of-loop-left-init t c = record {
 }
 
 pub block_of-next_test-requires : goal.block_of-next_test-requires
-block_of-next_test-requires t c = record { order = subst (λ l. descend (set_in c.args.indexed.now).rules l ≡ true) (sym c.deref.ensures.value) c.loop-left.invariant.grows.ordered; named = c.loop-left.invariant.kept.named }
+block_of-next_test-requires t c = record { order = subst (λ l. descend (set_in c.args.indexed.now).rules l ≡ true) (sym c.deref.ensures.value) c.loop-left.invariant.grows.ordered; named = c.loop-left.invariant.kept.named; matched = c.loop-left.invariant.kept.matched }
 
 pub block_of-check_of-requires : goal.block_of-check_of-requires
 block_of-check_of-requires t c =
@@ -77,7 +77,7 @@ block_of-loop-left-preserved t c =
       grows = block_more set (around_view start) c.args.here.items ar (around_view checked) c.loop-left.left.items next c.loop-left.steps.items c.push.new.self.items
           (record { bind_order = c.in_ok-bind_order.bind_order; check = c.in_ok-check.check }) h after e.binds (c.in_ok-check.ensures.best ar alike) c.in_ok-push.ensures.items c.loop-left.invariant.grows;
       emits = emits_back start bound checked (emits_more start now bound c.loop-left.invariant.emits e.emits) back;
-      kept = kept_back set.sites bound checked back e.kept;
+      kept = kept_back set bound checked back e.kept;
     }
 
 pub block_of-returns-clause-best : goal.block_of-returns-clause-best
@@ -128,7 +128,7 @@ arms_of-body_of-requires t c =
     let same : untried (length set.sites) (around_view now) ≡ untried (length set.sites) (around_view start) = ap (untried (length set.sites)) view in
     let source = subst (λ v. IsNewSource set v c.args.source) (sym view) (match_source set start c.args.source c.requires.step.open_here) in (
       search (rules, arith, same),
-      (asking_ordered set start c.args.source c.args.here.items left next h c.loop-arms.invariant.grows, (source, kept_back set.sites start now back c.requires.kept)),
+      (asking_ordered set start c.args.source c.args.here.items left next h c.loop-arms.invariant.grows, (source, kept_back set start now back c.requires.kept)),
     )
 
 pub arms_of-loop-arms-smaller : goal.arms_of-loop-arms-smaller
@@ -176,6 +176,9 @@ arms_of-returns t c =
     }
 
 -- bodies
+pub body_of-go_in-requires : goal.body_of-go_in-requires
+body_of-go_in-requires t c = c.requires.kept
+
 pub body_of-block_of-requires : goal.body_of-block_of-requires
 body_of-block_of-requires t c =
     let set = set_in c.args.indexed.now in
@@ -183,7 +186,7 @@ body_of-block_of-requires t c =
     let inside = c.go_in.new.around in
     let e = c.in_ok-go_in.ensures in
     let smaller : untried (length set.sites) (around_view inside) < untried (length set.sites) (around_view old) = source_fewer set old c.args.source c.args.sites.now (around_view inside) c.requires.source e.inside in
-    (search (rules, arith, smaller), (c.requires.order, kept_goes set.sites old inside e.goes e.closed c.requires.kept))
+    (search (rules, arith, smaller), (c.requires.order, e.kept))
 
 pub body_of-returns : goal.body_of-returns
 body_of-returns t c =
@@ -201,14 +204,14 @@ joined_body-block_of-requires t c =
     let set = set_in c.args.indexed.now in
     let old = c.args.around.now in
     let inside = c.join.new.around in
-    let e = c.in_ok-names.ensures in
+    let e = c.in_ok-renamed.ensures in
     let view = joined_view old inside c.args.a c.args.b e.joins in
     let smaller : untried (length set.sites) (around_view inside) < untried (length set.sites) (around_view old) = equal_fewer set old c.args.a c.args.b (around_view inside) c.requires.pair view in
-    (search (rules, arith, smaller), (c.requires.order, kept_joined set.sites old inside c.args.a c.args.b e.joins c.requires.kept))
+    (search (rules, arith, smaller), (c.requires.order, kept_joined set old inside c.args.a c.args.b e.joins c.requires.kept))
 
 pub joined_body-take_apart-requires : goal.joined_body-take_apart-requires
 joined_body-take_apart-requires t c =
-    let many = ap length (c.in_ok-body.ensures.back.joined ∙ c.in_ok-names.ensures.joins.joined) in
+    let many = ap length (c.in_ok-body.ensures.back.joined ∙ c.in_ok-renamed.ensures.joins.joined) in
     omega (arith, many)
 
 pub joined_body-returns : goal.joined_body-returns
@@ -216,11 +219,11 @@ joined_body-returns t c =
     let set = set_in c.args.indexed.now in
     let old = c.args.around.now in
     let inside = c.join.new.around in
-    let e = c.in_ok-names.ensures in
+    let e = c.in_ok-renamed.ensures in
     let view = joined_view old inside c.args.a c.args.b e.joins in
     record {
       best = subst (λ v. IsBestFrom set v c.args.here.items (tree_view c.in_ok-body.body)) view c.in_ok-body.ensures.best;
-      back = joined_back old inside c.block_of.new.around c.take_apart.new.around c.args.a c.args.b c.in_ok-names.names.items e.joins c.in_ok-body.ensures.back e.before c.take_apart.ensures;
+      back = joined_back old inside c.block_of.new.around c.take_apart.new.around c.args.a c.args.b c.in_ok-renamed.renamed e.joins c.in_ok-body.ensures.back e.before c.take_apart.ensures;
     }
 
 -- tests

@@ -26,7 +26,7 @@ abbrev pub invariant-block_of-loop-left : goal.invariant-block_of-loop-left
 invariant-block_of-loop-left l = record {
   grows : BlockGrows (set_in l.indexed) (around_view l.fn.around) l.fn.here.items (around_view l.around) l.left.items l.steps.items;
   emits : Emits l.fn.around l.around;
-  kept : IsKept (set_in l.indexed).sites l.around;
+  kept : IsKept (set_in l.indexed) l.around;
 }
 
 abbrev pub decreases-block_of-loop-left : goal.decreases-block_of-loop-left

@@ -2,6 +2,7 @@ use Rattle.std.proofs.Common.{◌∙◌, ◌||◌, ℕ, drop, refl, ap}
 use Rattle.model.specs.trees.Places.{is_in}
 use Rattle.core_serialize.specs.PlaceViews.{set_in}
 use Rattle.core_serialize.proofs.ListedSites.{after_closed, after_within, closed_grown, emitted_after}
+use Rattle.core_serialize.proofs.MatchCounts.{same_itself}
 use Rattle.core_serialize.proofs.binds.emit_all.Goals as goal
 
 pub returns : goal.returns
@@ -19,10 +20,11 @@ returns c =
     let kept = c.requires in
     record {
       emitted = emitted_after sites sources used closed after emitted next kept.closed kept.within c.in_ok-list_all.ensures grows;
-      emits = record { sources = refl; joined = refl; brought = refl; emitted = c.in_ok-insert_all.ensures.grown; closed = closed_grown sites sources used closed after emitted next kept.closed kept.within c.in_ok-list_all.ensures grows; names = refl };
+      emits = record { sources = refl; joined = refl; brought = refl; emitted = c.in_ok-insert_all.ensures.grown; closed = closed_grown sites sources used closed after emitted next kept.closed kept.within c.in_ok-list_all.ensures grows; names = refl; matched = same_itself old.matched };
       kept = record {
         closed = after_closed sites sources used closed after emitted next kept.closed kept.within c.in_ok-list_all.ensures grows;
         within = after_within sites sources used closed after emitted next kept.closed kept.within c.in_ok-list_all.ensures grows;
         named = kept.named;
+        matched = kept.matched;
       };
     }

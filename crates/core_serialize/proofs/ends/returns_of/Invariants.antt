@@ -8,5 +8,5 @@ abbrev pub invariant-loop-number : goal.invariant-loop-number
 invariant-loop-number l = record {
   far : EndsSoFar (set_in l.indexed) (around_view l.initial.around) l.here (around_view l.around) l.number-index l.steps.items;
   emits : Emits l.initial.around l.around;
-  kept : IsKept (set_in l.indexed).sites l.around;
+  kept : IsKept (set_in l.indexed) l.around;
 }

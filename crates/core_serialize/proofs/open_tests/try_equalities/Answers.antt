@@ -1,13 +1,20 @@
-use Rattle.std.proofs.Common.{sym, subst, take}
+use Rattle.std.proofs.Common.{◌≡◌, true, sym, subst, take}
+use Rattle.core_rule_sets.specs.Listings.{ascends}
 use Rattle.core_rule_sets.specs.SiteViews.{set_rule_view}
 use Rattle.core_serialize.specs.NeededTests.{SearchesMore, IsEqualOf, IsPairOf, OfSome}
 use Rattle.core_serialize.specs.PlaceViews.{around_at, here_at, set_at}
-use Rattle.core_serialize.proofs.BestSearches.{equalities_below, searches_as, searches_more, searches_none, equalities_of}
+use Rattle.core_serialize.proofs.BestSearches.{class_ascends, equalities_below, searches_as, searches_more, searches_none, equalities_of}
 use Rattle.core_serialize.proofs.open_tests.try_equalities.Goals as goal
 use Rattle.std.proofs.lemmas.List.{take_all}
 
 pub loop-class-init : goal.loop-class-init
 loop-class-init c = searches_none (set_at c.args.place.now) (around_at c.args.place.now) (here_at c.args.place.now) (λ d. IsPairOf d.items) c.args.search.now c.requires
+
+pub try_pairs-requires : goal.try_pairs-requires
+try_pairs-requires c = record {
+  search = c.loop-class.invariant.now;
+  ascending = subst (λ l. ascends l ≡ true) (sym c.deref.ensures.value) (class_ascends c.classes-class-items.result.now c.loop-class.class-index c.class-item.result c.classes-class-items.ensures.listed c.loop-class-test.true c.class-item.is);
+}
 
 pub loop-class-preserved : goal.loop-class-preserved
 loop-class-preserved c =

@@ -1,10 +1,16 @@
-use Rattle.std.proofs.Common.{◌≡◌, ◌∙◌, ◌⊎◌, Some, ap, sym, option_map, slice_get}
+use Rattle.std.proofs.Common.{◌⊎◌, sym}
 use Rattle.core_rule_sets.specs.SiteViews.{set_rule_view}
 use Rattle.core_serialize.specs.NeededTests.{IsEqualOf, IsMatchOf, IsWanted}
 use Rattle.core_serialize.specs.PlaceViews.{around_at, here_at, set_at}
 use Rattle.core_serialize.proofs.BestSearches.{searches_as, searches_both, wanted_of}
+use Rattle.core_serialize.proofs.Tables.{rule_at}
 use Rattle.core_serialize.proofs.open_tests.try_wanted.Goals as goal
-use Rattle.std.proofs.lemmas.Option.{slice_get-get_or, slice_get-map}
+
+pub try_matches-requires : goal.try_matches-requires
+try_matches-requires c =
+    let rule = c.in-Some.rule.now in
+    let found = c.in-Some.ensures.lookup in
+    record { search = c.requires; numbered = rule_at c.args.place.now.indexed.set.now.rules.items c.deref.result.now c.args.number rule (sym c.deref.ensures.value) found.3.0 found.1 }
 
 pub returns : goal.returns
 returns c =
@@ -14,9 +20,7 @@ returns c =
     let rule = c.in-Some.rule.now in
     let r = set_rule_view rule in
     let found = c.in-Some.ensures.lookup in
-    let at : slice_get set.rules i ≡ Some r =
-    slice_get-map set_rule_view c.args.place.now.indexed.set.now.rules.items i
-    ∙ ap (option_map set_rule_view) (ap (λ l. slice_get l i) (sym c.deref.ensures.value) ∙ slice_get-get_or c.deref.result.now i rule found.3.0 ∙ ap Some (sym found.1)) in
+    let at = rule_at c.args.place.now.indexed.set.now.rules.items c.deref.result.now i rule (sym c.deref.ensures.value) found.3.0 found.1 in
     let here = here_at c.args.place.now in
     let old = c.args.search.now in
     let mid = c.try_matches.new.search in

@@ -7,10 +7,10 @@ use Rattle.core_serialize.proofs.TestSteps.{pair_below}
 use Rattle.core_serialize.proofs.tests.pairs_stay_below.Goals as goal
 
 pub returns-in-Some : goal.returns-in-Some
-returns-in-Some c h b none =
+returns-in-Some c h b behind none =
     let set = set_at c.args.place.now in
     let ar = around_at c.args.place.now in
     let here = here_at c.args.place.now in
     let y = score_view c.in-Some.best.score in
     let most = ap (λ x. is_greater x y) (sym c.most_with.ensures) ∙ sym c.is_greater.ensures ∙ not-true c.is_greater.result h in
-    subst (λ o. IsNoBetter set ar here o (equal_test c.args.a b)) (sym c.in-Some.is) (pair_below set ar here c.args.a b c.args.are_joined y none most)
+    subst (λ o. IsNoBetter set ar here o (equal_test c.args.a b)) (sym c.in-Some.is) (pair_below set ar here c.args.a b c.args.other c.args.are_joined y behind none most)
