@@ -3,6 +3,7 @@
 ghost use Rattle.std.specs.Prelude.{OnOk};
 ghost use Rattle.report_print.specs.Reports.{HasPlaceMore, SpeaksAlike};
 
+use crate::conflicts::{RuleConflicts, times_before};
 use crate::definitions::{constants_of, declaration_of, root_of, rule_around};
 use crate::error_order::{Order, place_of, words_of};
 use crate::meanings::meant_by;
@@ -16,8 +17,9 @@ use crate::undefined_terms::add_uses;
 use crate::unmatched_templates::{Templates, report_of_template};
 use cranelift_isle::syntax::{Decl, Def, Error, Limit, Pos, Rule, Span};
 use report_print::report::{Edit, Fix, Level, Place, Report, Word};
+use report_witness::extractors::Extractors;
 use report_witness::forms::{ValueForm, push_form};
-use report_witness::witness::{Conflict, conflict_in, left_side, witness};
+use report_witness::witness::{Conflict, left_side, witness};
 use std::alloc::{AllocError, Global};
 use std::slice;
 
@@ -114,23 +116,39 @@ pub fn reports_of(
     } else {
         Order::by_causes(alloc, defs, errors, &uses)?
     };
+    let extractors = if expand {
+        Extractors::of(alloc, defs)?
+    } else {
+        Extractors::none(alloc)
+    };
+    let before = times_before(alloc, errors)?;
     let templates = if all || !expand {
         Templates::none(alloc)
     } else {
-        Templates::behind(alloc, defs, errors)?
+        Templates::behind(alloc, defs, &extractors, errors, &before)?
     };
     let shown = templates.leading(alloc, &order.shown)?;
     let chosen = Chosen::among(alloc, errors, &shown, amount)?;
     let mut reports = Vec::new(alloc);
+    let mut conflicts = RuleConflicts::new(alloc, defs, &extractors);
     for number in &chosen.numbers {
         match templates.told_with(*number) {
-            Some(one) => reports.push(report_of_template(alloc, defs, one)?)?,
+            Some(one) => reports.push(report_of_template(alloc, defs, &extractors, one)?)?,
             None => {
                 let source = Source {
                     is_explained: reports.len() < MOST_EXPLAINED,
                     ..source
                 };
-                add_report(source, &mut reports, errors, &order, &uses, *number)?;
+                let conflict = conflict_told(&mut conflicts, errors, &before, *number)?;
+                add_report(
+                    source,
+                    &mut reports,
+                    errors,
+                    &order,
+                    &uses,
+                    *number,
+                    conflict,
+                )?;
             }
         }
     }
@@ -222,7 +240,22 @@ pub fn begin_of_error(error: &Error) -> Option<Pos> {
     }
 }
 
-// Adds the report of the error of a number.
+// The conflict that the error of a number tells, where it says that a rule can't match.
+fn conflict_told<'a>(
+    conflicts: &mut RuleConflicts<'_, 'a>,
+    errors: &[Error],
+    before: &[usize],
+    number: usize,
+) -> Result<Option<Conflict<'a>>, AllocError> {
+    match (errors.get(number), before.get(number)) {
+        (Some(Error::UnreachableError { span, .. }), Some(before)) => {
+            conflicts.of_rule(span.from, *before)
+        }
+        _ => Ok(None),
+    }
+}
+
+// Adds the report of the error of a number, which tells this conflict if there is one.
 fn add_report(
     source: Source<'_>,
     reports: &mut Vec<Report>,
@@ -230,12 +263,12 @@ fn add_report(
     order: &Order,
     uses: &[Option<TemplateUse<'_>>],
     number: usize,
+    conflict: Option<Conflict<'_>>,
 ) -> Result<(), AllocError> {
     let Some(error) = errors.get(number) else {
         return Ok(());
     };
-    let before = times_before(errors, number, error);
-    let mut report = report_of(source, error, before)?;
+    let mut report = report_of(source, error, conflict)?;
     if source.is_explained {
         add_uses(
             source.alloc,
@@ -310,28 +343,12 @@ fn place_of_priority(def: &Def, term: &str) -> Option<Place> {
     }
 }
 
-/// How many of the first errors, so many, say that the rule of an error can't match.
-pub(crate) fn times_before(errors: &[Error], count: usize, error: &Error) -> usize {
-    let Error::UnreachableError { span, .. } = error else {
-        return 0;
-    };
-    errors
-        .iter()
-        .take(count)
-        .filter(|other| is_unreachable(other, *span))
-        .count()
-}
-
-// Whether an error says that the rule there can't match.
-fn is_unreachable(error: &Error, place: Span) -> bool {
-    match error {
-        Error::UnreachableError { span, .. } => *span == place,
-        _ => false,
-    }
-}
-
-// The report of an error. `before` is how many reports say that its rule can't match.
-fn report_of(source: Source<'_>, error: &Error, before: usize) -> Result<Report, AllocError> {
+// The report of an error, which tells this conflict if there is one.
+fn report_of(
+    source: Source<'_>,
+    error: &Error,
+    conflict: Option<Conflict<'_>>,
+) -> Result<Report, AllocError> {
     match error {
         Error::TypeError { msg, span } => {
             report_of_type_error(
@@ -342,7 +359,7 @@ fn report_of(source: Source<'_>, error: &Error, before: usize) -> Result<Report,
                 source.is_explained,
             )
         }
-        Error::UnreachableError { msg, span } => unreachable(source, msg, *span, before),
+        Error::UnreachableError { msg, span } => unreachable(source, msg, *span, conflict),
         Error::LimitError { limit, msg, span } => of_rule(
             source,
             ("limit", msg),
@@ -359,13 +376,9 @@ fn unreachable(
     source: Source<'_>,
     msg: &str,
     span: Span,
-    before: usize,
+    conflict: Option<Conflict<'_>>,
 ) -> Result<Report, AllocError> {
-    let found = match rule_at(source.defs, span.from) {
-        Some(rule) => conflict_in(source.alloc, source.defs, source.expand, rule, before)?,
-        None => None,
-    };
-    match found {
+    match conflict {
         Some(conflict) => of_conflict(source, span, conflict),
         None => of_words(source, msg, span),
     }

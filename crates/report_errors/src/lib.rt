@@ -17,6 +17,7 @@ use text_reader::errors::{Mistake, Problem, TextError};
 use text_reader::heads::nearest;
 
 mod codes;
+mod conflicts;
 mod declarations;
 pub mod definitions;
 pub mod diagnosis;

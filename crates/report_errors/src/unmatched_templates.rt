@@ -1,11 +1,12 @@
 //! Rules that can't match because no value matches an internal extractor that they use.
 
-use crate::diagnosis::{add_form, add_help, times_before};
+use crate::conflicts::RuleConflicts;
+use crate::diagnosis::{add_form, add_help};
 use crate::names::rule_at;
 use cranelift_isle::syntax::{Def, Error, Rule};
 use report_print::report::{Level, Report};
+use report_witness::extractors::Extractors;
 use report_witness::templates::{Impossible, cause_in, count_users, impossible_in};
-use report_witness::witness::conflict_in;
 use std::alloc::{AllocError, Global};
 
 /// The internal extractors that no value matches, and the errors that say no more than this.
@@ -37,13 +38,16 @@ impl<'a> Templates<'a> {
     pub(crate) fn behind(
         alloc: Global,
         defs: &'a [Def],
+        extractors: &Extractors<'a>,
         errors: &[Error],
+        before: &[usize],
     ) -> Result<Templates<'a>, AllocError> {
         let rules = rules_of(alloc, defs, errors)?;
-        let impossible = impossible_in(alloc, defs, &rules)?;
+        let impossible = impossible_in(alloc, defs, extractors, &rules)?;
+        let mut conflicts = RuleConflicts::new(alloc, defs, extractors);
         let mut causes = Vec::new(alloc);
-        for number in 0..errors.len() {
-            let cause = cause_of(alloc, defs, errors, number, &impossible)?;
+        for (error, before) in errors.iter().zip(before) {
+            let cause = cause_of(&mut conflicts, error, *before, &impossible)?;
             causes.push(cause)?;
         }
         Ok(Templates { impossible, causes })
@@ -88,17 +92,21 @@ impl<'a> Templates<'a> {
     }
 }
 
-// The rules that errors say can't match.
+// The rules that errors say can't match. The errors of a rule stand together.
 fn rules_of<'a>(
     alloc: Global,
     defs: &'a [Def],
     errors: &[Error],
 ) -> Result<Vec<&'a Rule>, AllocError> {
     let mut rules = Vec::new(alloc);
+    let mut last = None;
     for error in errors {
         if let Error::UnreachableError { span, .. } = error {
-            if let Some(rule) = rule_at(defs, span.from) {
-                rules.push(rule)?;
+            if last != Some(span.from) {
+                last = Some(span.from);
+                if let Some(rule) = rule_at(defs, span.from) {
+                    rules.push(rule)?;
+                }
             }
         }
     }
@@ -106,39 +114,30 @@ fn rules_of<'a>(
 }
 
 // The number of the extractor that an error is told with: its rule asks two forms of one value by one pattern, which uses the
-// extractor.
+// extractor. So many errors before it say that its rule can't match.
 fn cause_of(
-    alloc: Global,
-    defs: &[Def],
-    errors: &[Error],
-    number: usize,
+    conflicts: &mut RuleConflicts<'_, '_>,
+    error: &Error,
+    before: usize,
     impossible: &[Impossible<'_>],
 ) -> Result<Option<usize>, AllocError> {
     if impossible.is_empty() {
         return Ok(None);
     }
-    let Some(error) = errors.get(number) else {
-        return Ok(None);
-    };
     let Error::UnreachableError { span, .. } = error else {
         return Ok(None);
     };
-    let Some(rule) = rule_at(defs, span.from) else {
-        return Ok(None);
-    };
-    let before = times_before(errors, number, error);
-    match conflict_in(alloc, defs, true, rule, before)? {
-        Some(conflict) if conflict.is_by_one() => {
-            cause_in(alloc, defs, rule, impossible, &conflict)
-        }
+    match conflicts.of_rule(span.from, before)? {
+        Some(conflict) if conflict.is_by_one() => conflicts.cause_in(impossible, &conflict),
         _ => Ok(None),
     }
 }
 
 /// The report of an internal extractor that no value matches.
-pub(crate) fn report_of_template(
+pub(crate) fn report_of_template<'a>(
     alloc: Global,
-    defs: &[Def],
+    defs: &'a [Def],
+    extractors: &Extractors<'a>,
     one: &Impossible<'_>,
 ) -> Result<Report, AllocError> {
     let name = &one.extractor.term.0;
@@ -148,7 +147,7 @@ pub(crate) fn report_of_template(
     let mut report = Report::new(alloc, Level::Error, "unreachable", message);
     add_form(alloc, &mut report, "must be ", one.conflict.first)?;
     add_form(alloc, &mut report, "must be ", one.conflict.second)?;
-    let count = count_users(alloc, defs, one.extractor)?;
+    let count = count_users(alloc, defs, extractors, one.extractor)?;
     report.add_counted("note", users_text(alloc, count)?)?;
     add_help(
         alloc,

@@ -1,5 +1,6 @@
 //! The conditions of a rule in its own words, a line for each.
 
+use crate::extractors::Extractors;
 use crate::forms::{ValueForm, is_constant};
 use crate::parts_text::Writing;
 use crate::rule_demands::parts_of;
@@ -73,7 +74,7 @@ pub enum DemandKind<'a> {
 
 /// The conditions of a rule.
 pub fn conditions_of<'a>(alloc: Global, rule: &'a Rule) -> Result<Conditions<'a>, AllocError> {
-    let parts = parts_of(alloc, Vec::new(alloc), &[rule])?;
+    let parts = parts_of(alloc, &Extractors::none(alloc), &[rule])?;
     let mut lines = Lines::new(alloc, &parts)?;
     let mut call = String::new(alloc);
     let arguments = lines.push_term(term_of(rule), &mut call)?;

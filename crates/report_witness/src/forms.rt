@@ -4,7 +4,7 @@ use core_syntax::syntax::{Def, TypeValue};
 use std::alloc::AllocError;
 
 /// A constant, or a term that makes values or takes them apart.
-#[derive(Clone, Copy)]
+#[derive(Clone, Copy, PartialEq, Eq, PartialOrd, Ord)]
 pub enum ValueForm<'a> {
     /// A truth value.
     Bool(bool),
@@ -18,13 +18,7 @@ pub enum ValueForm<'a> {
 
 /// Whether two forms are one.
 pub fn is_same(left: ValueForm<'_>, right: ValueForm<'_>) -> bool {
-    match (left, right) {
-        (ValueForm::Bool(left), ValueForm::Bool(right)) => left == right,
-        (ValueForm::Int(left), ValueForm::Int(right)) => left == right,
-        (ValueForm::Const(left), ValueForm::Const(right)) => left == right,
-        (ValueForm::Term(left), ValueForm::Term(right)) => left == right,
-        _ => false,
-    }
+    left == right
 }
 
 /// Whether a form is a constant.

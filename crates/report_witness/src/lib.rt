@@ -2,6 +2,7 @@
 #![tactic(auto)]
 
 pub mod conditions;
+pub mod extractors;
 pub mod forms;
 mod part_names;
 mod parts_text;

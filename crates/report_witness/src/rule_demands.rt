@@ -1,8 +1,9 @@
 //! What rules ask of the values that they look at.
 
+use crate::extractors::Extractors;
 use crate::forms::ValueForm;
 use crate::value_parts::Parts;
-use core_syntax::syntax::{Def, Expr, Extractor, Ident, IfLet, LetDef, Pattern, Pos, Rule};
+use core_syntax::syntax::{Expr, Extractor, Ident, IfLet, LetDef, Pattern, Pos, Rule};
 use std::alloc::{AllocError, Global};
 
 // How many patterns are read below one, templates included. Rules within the limits on expansions have fewer.
@@ -29,51 +30,50 @@ struct Task<'a> {
 }
 
 // The parts that were read.
-struct Reader<'a> {
+struct Reader<'e, 'a> {
     alloc: Global,
     parts: Parts<'a>,
     scopes: Vec<Scope<'a>>,
     // The extractors that are replaced by their templates.
-    extractors: Vec<&'a Extractor>,
+    extractors: &'e Extractors<'a>,
+    // Where the one among them is defined that isn't replaced.
+    unknown: Option<Pos>,
 }
 
-impl<'a> Drop for Reader<'a> {
+impl<'e, 'a> Drop for Reader<'e, 'a> {
     fn drop(self) {
         let Reader {
             alloc: _,
             parts: _,
             scopes: _,
             extractors: _,
+            unknown: _,
         } = self;
     }
-}
-
-/// The extractors that definitions have templates for.
-pub(crate) fn extractors_of(alloc: Global, defs: &[Def]) -> Result<Vec<&Extractor>, AllocError> {
-    let mut extractors = Vec::new(alloc);
-    for def in defs {
-        if let Def::Extractor(extractor) = def {
-            extractors.push(extractor)?;
-        }
-    }
-    Ok(extractors)
 }
 
 /// What all of these rules of one term ask together. These extractors are replaced by their templates.
 pub(crate) fn parts_of<'a>(
     alloc: Global,
-    extractors: Vec<&'a Extractor>,
+    extractors: &Extractors<'a>,
     rules: &[&'a Rule],
 ) -> Result<Parts<'a>, AllocError> {
-    let mut reader = Reader {
-        alloc,
-        parts: Parts::new(alloc),
-        scopes: Vec::new(alloc),
-        extractors,
-    };
+    let mut reader = Reader::new(alloc, extractors, None);
     for rule in rules {
         reader.add_rule(rule)?;
     }
+    Ok(reader.into_parts())
+}
+
+/// What a rule asks, if nothing is known of what one of these extractors asks. The others are replaced by their templates.
+pub(crate) fn parts_without<'a>(
+    alloc: Global,
+    extractors: &Extractors<'a>,
+    rule: &'a Rule,
+    unknown: &Extractor,
+) -> Result<Parts<'a>, AllocError> {
+    let mut reader = Reader::new(alloc, extractors, Some(unknown.pos));
+    reader.add_rule(rule)?;
     Ok(reader.into_parts())
 }
 
@@ -81,26 +81,32 @@ pub(crate) fn parts_of<'a>(
 /// templates.
 pub(crate) fn parts_of_template<'a>(
     alloc: Global,
-    extractors: Vec<&'a Extractor>,
+    extractors: &Extractors<'a>,
     extractor: &'a Extractor,
 ) -> Result<Parts<'a>, AllocError> {
-    let mut reader = Reader {
-        alloc,
-        parts: Parts::new(alloc),
-        scopes: Vec::new(alloc),
-        extractors,
-    };
+    let mut reader = Reader::new(alloc, extractors, None);
     reader.add_template(extractor)?;
     Ok(reader.into_parts())
 }
 
-impl<'a> Reader<'a> {
+impl<'e, 'a> Reader<'e, 'a> {
+    fn new(alloc: Global, extractors: &'e Extractors<'a>, unknown: Option<Pos>) -> Reader<'e, 'a> {
+        Reader {
+            alloc,
+            parts: Parts::new(alloc),
+            scopes: Vec::new(alloc),
+            extractors,
+            unknown,
+        }
+    }
+
     fn into_parts(self) -> Parts<'a> {
         let Reader {
             alloc: _,
             parts,
             scopes: _,
             extractors: _,
+            unknown: _,
         } = self;
         parts
     }
@@ -352,13 +358,10 @@ impl<'a> Reader<'a> {
     }
 
     // The extractor of a name that is replaced by its template.
-    fn extractor(&self, name: &str) -> Option<&'a Extractor> {
-        for extractor in &self.extractors {
-            if extractor.term.0.as_str() == name {
-                return Some(*extractor);
-            }
-        }
-        None
+    fn extractor(&self, name: &'a str) -> Option<&'a Extractor> {
+        self.extractors
+            .get(name)
+            .filter(|extractor| Some(extractor.pos) != self.unknown)
     }
 }
 

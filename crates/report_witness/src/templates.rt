@@ -1,6 +1,6 @@
 //! The internal extractors that rules use, and those among them whose templates no value matches.
 
-use crate::rule_demands::extractors_of;
+use crate::extractors::Extractors;
 use crate::witness::{Conflict, conflict_in_template, stays_without};
 use core_syntax::syntax::{Def, Extractor, Pattern, Rule};
 use std::alloc::{AllocError, Global};
@@ -25,12 +25,13 @@ pub struct Impossible<'a> {
 /// If memory is refused.
 pub fn impossible_in<'a>(
     alloc: Global,
-    defs: &'a [Def],
+    defs: &[Def],
+    extractors: &Extractors<'a>,
     rules: &[&'a Rule],
 ) -> Result<Vec<Impossible<'a>>, AllocError> {
     let mut impossible = Vec::new(alloc);
-    for extractor in &extractors_used(alloc, defs, rules)? {
-        if let Some(conflict) = conflict_in_template(alloc, defs, *extractor)? {
+    for extractor in &extractors_used(alloc, extractors, rules)? {
+        if let Some(conflict) = conflict_in_template(alloc, defs, extractors, *extractor)? {
             impossible.push(Impossible {
                 extractor: *extractor,
                 conflict,
@@ -45,17 +46,18 @@ pub fn impossible_in<'a>(
 /// # Errors
 ///
 /// If memory is refused.
-pub fn cause_in(
+pub fn cause_in<'a>(
     alloc: Global,
     defs: &[Def],
-    rule: &Rule,
+    extractors: &Extractors<'a>,
+    rule: &'a Rule,
     impossible: &[Impossible<'_>],
     conflict: &Conflict<'_>,
 ) -> Result<Option<usize>, AllocError> {
-    let used = extractors_used(alloc, defs, &[rule])?;
+    let used = extractors_used(alloc, extractors, &[rule])?;
     for (number, one) in impossible.iter().enumerate() {
         if has(&used, one.extractor)
-            && !stays_without(alloc, defs, rule, one.extractor, conflict)?
+            && !stays_without(alloc, defs, extractors, rule, one.extractor, conflict)?
         {
             return Ok(Some(number));
         }
@@ -68,15 +70,16 @@ pub fn cause_in(
 /// # Errors
 ///
 /// If memory is refused.
-pub fn count_users(
+pub fn count_users<'a>(
     alloc: Global,
-    defs: &[Def],
+    defs: &'a [Def],
+    extractors: &Extractors<'a>,
     extractor: &Extractor,
 ) -> Result<usize, AllocError> {
     let mut count = 0usize;
     for def in defs {
         if let Def::Rule(rule) = def {
-            let used = extractors_used(alloc, defs, &[rule])?;
+            let used = extractors_used(alloc, extractors, &[rule])?;
             if has(&used, extractor) {
                 count = count.saturating_add(1);
             }
@@ -92,10 +95,9 @@ fn has(extractors: &[&Extractor], extractor: &Extractor) -> bool {
 // The internal extractors that rules use, directly or in other templates, each once.
 fn extractors_used<'a>(
     alloc: Global,
-    defs: &'a [Def],
+    extractors: &Extractors<'a>,
     rules: &[&'a Rule],
 ) -> Result<Vec<&'a Extractor>, AllocError> {
-    let extractors = extractors_of(alloc, defs)?;
     let mut used = Vec::new(alloc);
     let mut waiting = Vec::new(alloc);
     for rule in rules {
@@ -105,7 +107,7 @@ fn extractors_used<'a>(
         let Some(pattern) = waiting.pop() else {
             return Ok(used);
         };
-        add_used(&extractors, pattern, &mut used, &mut waiting)?;
+        add_used(extractors, pattern, &mut used, &mut waiting)?;
     }
     Ok(used)
 }
@@ -123,7 +125,7 @@ fn add_patterns<'a>(waiting: &mut Vec<&'a Pattern>, rule: &'a Rule) -> Result<()
 
 // Adds the extractor that a pattern is a use of. What the pattern is made of waits then, and a template that wasn't read before.
 fn add_used<'a>(
-    extractors: &[&'a Extractor],
+    extractors: &Extractors<'a>,
     pattern: &'a Pattern,
     used: &mut Vec<&'a Extractor>,
     waiting: &mut Vec<&'a Pattern>,
@@ -136,7 +138,7 @@ fn add_used<'a>(
         Pattern::And { subpats, .. } => add_all(waiting, subpats),
         Pattern::Term { sym, args, .. } => {
             add_all(waiting, args)?;
-            if let Some(extractor) = extractor_of(extractors, &sym.0) {
+            if let Some(extractor) = extractors.get(&sym.0) {
                 if !has(used, extractor) {
                     used.push(extractor)?;
                     waiting.push(&extractor.template)?;
@@ -158,13 +160,4 @@ fn add_all<'a>(waiting: &mut Vec<&'a Pattern>, patterns: &'a [Pattern]) -> Resul
         waiting.push(pattern)?;
     }
     Ok(())
-}
-
-fn extractor_of<'a>(extractors: &[&'a Extractor], name: &str) -> Option<&'a Extractor> {
-    for extractor in extractors {
-        if extractor.term.0.as_str() == name {
-            return Some(*extractor);
-        }
-    }
-    None
 }

@@ -4,6 +4,7 @@
 use crate::forms::{ValueForm, is_constant, is_same};
 use core_syntax::syntax::Pos;
 use std::alloc::{AllocError, Global};
+use std::collections::BTreeMap;
 use std::mem;
 
 // How many pairs of parts one equality may make equal. Rules within the limits on expansions make fewer.
@@ -74,22 +75,115 @@ impl<'a> Drop for Call<'a> {
 /// A variable.
 #[derive(Clone, Copy)]
 pub(crate) struct Var<'a> {
-    // The number of the rule, or of the use of a template, that has it.
-    scope: usize,
     /// Its name.
     pub name: &'a str,
     /// What it is bound to.
     pub part: usize,
 }
 
+// Where calls stand among the calls.
+struct CallNumbers<'a> {
+    alloc: Global,
+    // By the result of each.
+    by_results: BTreeMap<usize, usize>,
+    // By the form of those without arguments.
+    plain: BTreeMap<ValueForm<'a>, usize>,
+    // By the class of the first argument.
+    by_classes: BTreeMap<usize, Vec<usize>>,
+    // By the constant that the first argument is or was.
+    by_constants: BTreeMap<ValueForm<'a>, Vec<usize>>,
+}
+
+impl<'a> Drop for CallNumbers<'a> {
+    fn drop(self) {
+        let CallNumbers {
+            alloc: _,
+            by_results: _,
+            plain: _,
+            by_classes: _,
+            by_constants: _,
+        } = self;
+    }
+}
+
+impl<'a> CallNumbers<'a> {
+    fn new(alloc: Global) -> CallNumbers<'a> {
+        CallNumbers {
+            alloc,
+            by_results: BTreeMap::new(alloc),
+            plain: BTreeMap::new(alloc),
+            by_classes: BTreeMap::new(alloc),
+            by_constants: BTreeMap::new(alloc),
+        }
+    }
+
+    // Adds the number of a call whose first argument is of this class, and may be a constant.
+    fn add(
+        &mut self,
+        class: usize,
+        constant: Option<ValueForm<'a>>,
+        number: usize,
+    ) -> Result<(), AllocError> {
+        self.by_classes.entry(class)?.or_default().push(number)?;
+        if let Some(constant) = constant {
+            self.by_constants
+                .entry(constant)?
+                .or_default()
+                .push(number)?;
+        }
+        Ok(())
+    }
+
+    // Notes that a class of which nothing was asked is a constant.
+    fn make_constant(&mut self, class: usize, form: ValueForm<'a>) -> Result<(), AllocError> {
+        let numbers = copied(self.alloc, self.of_class(class))?;
+        if !numbers.is_empty() {
+            self.by_constants
+                .entry(form)?
+                .or_default()
+                .extend_from_slice(&numbers)?;
+        }
+        Ok(())
+    }
+
+    // Notes that a class is now part of another one, and a constant, if it becomes one thereby.
+    fn merge(
+        &mut self,
+        gone: usize,
+        kept: usize,
+        constant: Option<ValueForm<'a>>,
+    ) -> Result<(), AllocError> {
+        if let Some(numbers) = self.by_classes.remove(&gone) {
+            for number in &numbers {
+                self.add(kept, constant, *number)?;
+            }
+        }
+        Ok(())
+    }
+
+    fn of_class(&self, class: usize) -> &[usize] {
+        listed(self.by_classes.get(&class))
+    }
+
+    fn of_constant(&self, constant: ValueForm<'a>) -> &[usize] {
+        listed(self.by_constants.get(&constant))
+    }
+}
+
 /// The values that rules of one term look at. A part is a number.
 pub(crate) struct Parts<'a> {
     alloc: Global,
     parts: Vec<Part<'a>>,
+    // By a class, a form and how many parts this is made of: its place among the class's forms.
+    places: BTreeMap<(usize, ValueForm<'a>, usize), usize>,
     // The class of each part. Equal parts have one class, which is the number of its first part.
     classes: Vec<usize>,
     vars: Vec<Var<'a>>,
+    // By a name and the number of the rule, or of the use of a template, that has a variable of it: what that is bound to.
+    bound: BTreeMap<(usize, &'a str), usize>,
     calls: Vec<Call<'a>>,
+    // Where calls stand in the list of calls.
+    call_numbers: CallNumbers<'a>,
     // The parts that the arguments are.
     arguments: Vec<usize>,
     // Whether something was left out.
@@ -101,9 +195,12 @@ impl<'a> Drop for Parts<'a> {
         let Parts {
             alloc: _,
             parts: _,
+            places: _,
             classes: _,
             vars: _,
+            bound: _,
             calls: _,
+            call_numbers: _,
             arguments: _,
             cut: _,
         } = self;
@@ -116,9 +213,12 @@ impl<'a> Parts<'a> {
         Parts {
             alloc,
             parts: Vec::new(alloc),
+            places: BTreeMap::new(alloc),
             classes: Vec::new(alloc),
             vars: Vec::new(alloc),
+            bound: BTreeMap::new(alloc),
             calls: Vec::new(alloc),
+            call_numbers: CallNumbers::new(alloc),
             arguments: Vec::new(alloc),
             cut: false,
         }
@@ -162,6 +262,7 @@ impl<'a> Parts<'a> {
             return Ok(part);
         }
         let part = self.new_part()?;
+        self.number_call(form, parts.first().copied(), part)?;
         self.calls.push(Call {
             form,
             parts,
@@ -171,14 +272,86 @@ impl<'a> Parts<'a> {
         Ok(part)
     }
 
+    // Notes where the next call is found: by its result, and by its first argument, or by its form if it has none.
+    fn number_call(
+        &mut self,
+        form: ValueForm<'a>,
+        first: Option<usize>,
+        part: usize,
+    ) -> Result<(), AllocError> {
+        let number = self.calls.len();
+        self.call_numbers.by_results.insert(part, number)?;
+        let Some(first) = first else {
+            self.call_numbers.plain.insert(form, number)?;
+            return Ok(());
+        };
+        let class = self.class_of(first);
+        let constant = self.constant(first);
+        self.call_numbers.add(class, constant, number)
+    }
+
     // The result of a call that was made before.
     fn called(&self, form: ValueForm<'a>, parts: &[usize]) -> Option<usize> {
-        for call in &self.calls {
-            if is_same(call.form, form) && self.are_same(&call.parts, parts) {
-                return Some(call.part);
+        let number = match parts.first() {
+            Some(first) => self.number_of(form, parts, *first)?,
+            None => self.call_numbers.plain.get(&form).copied()?,
+        };
+        Some(self.calls.get(number)?.part)
+    }
+
+    // The number of the first call that has this form and equal arguments, of which the first one is given. The first argument of
+    // such a call is of its class, or the same constant.
+    fn number_of(&self, form: ValueForm<'a>, parts: &[usize], first: usize) -> Option<usize> {
+        let by_class = self.first_equal(
+            form,
+            parts,
+            self.call_numbers.of_class(self.class_of(first)),
+        );
+        let by_constant = match self.constant(first) {
+            Some(constant) => self.first_equal(
+                form,
+                parts,
+                self.call_numbers.of_constant(constant),
+            ),
+            None => None,
+        };
+        match (by_class, by_constant) {
+            (Some(left), Some(right)) => Some(left.min(right)),
+            (Some(number), None) | (None, Some(number)) => Some(number),
+            (None, None) => None,
+        }
+    }
+
+    // The least of these numbers whose call has this form and equal arguments.
+    fn first_equal(
+        &self,
+        form: ValueForm<'a>,
+        parts: &[usize],
+        numbers: &[usize],
+    ) -> Option<usize> {
+        let mut found = None;
+        for number in numbers {
+            if found.is_none_or(|other| *number < other) && self.is_call(*number, form, parts) {
+                found = Some(*number);
             }
         }
-        None
+        found
+    }
+
+    // Whether the call of a number has this form and equal arguments.
+    fn is_call(&self, number: usize, form: ValueForm<'a>, parts: &[usize]) -> bool {
+        match self.calls.get(number) {
+            Some(call) => is_same(call.form, form) && self.are_same(&call.parts, parts),
+            None => false,
+        }
+    }
+
+    // The constant that a part is, where that is all that is asked of it.
+    fn constant(&self, part: usize) -> Option<ValueForm<'a>> {
+        match self.heads(part) {
+            [head] if is_constant(head.form) => Some(head.form),
+            _ => None,
+        }
     }
 
     // Whether parts are equal one by one.
@@ -199,35 +372,30 @@ impl<'a> Parts<'a> {
         if self.class_of(left) == self.class_of(right) {
             return true;
         }
-        match (self.heads(left), self.heads(right)) {
-            ([left], [right]) => is_constant(left.form) && is_same(left.form, right.form),
+        match (self.constant(left), self.constant(right)) {
+            (Some(left), Some(right)) => is_same(left, right),
             _ => false,
         }
     }
 
     /// Notes that a condition has a call's result as its value.
     pub fn ask(&mut self, part: usize) {
-        for call in &mut self.calls {
-            if call.part == part {
+        if let Some(number) = self.call_numbers.by_results.get(&part).copied() {
+            if let Some(call) = self.calls.get_mut(number) {
                 call.asked = true;
             }
         }
     }
 
     /// The part that a variable of a scope is bound to. A later binding hides an earlier one.
-    pub fn bound(&self, name: &str, scope: usize) -> Option<usize> {
-        let mut part = None;
-        for var in &self.vars {
-            if var.scope == scope && var.name == name {
-                part = Some(var.part);
-            }
-        }
-        part
+    pub fn bound(&self, name: &'a str, scope: usize) -> Option<usize> {
+        self.bound.get(&(scope, name)).copied()
     }
 
     /// Binds a variable of a scope.
     pub fn bind(&mut self, name: &'a str, scope: usize, part: usize) -> Result<(), AllocError> {
-        self.vars.push(Var { scope, name, part })?;
+        self.vars.push(Var { name, part })?;
+        self.bound.insert((scope, name), part)?;
         Ok(())
     }
 
@@ -280,16 +448,19 @@ impl<'a> Parts<'a> {
 
     // The so many parts that a form of a class is made of.
     fn head_of(&self, class: usize, form: ValueForm<'a>, count: usize) -> Option<&[usize]> {
-        for head in &self.parts.get(class)?.heads {
-            if is_same(head.form, form) && head.parts.len() == count {
-                return Some(&head.parts);
-            }
-        }
-        None
+        let place = self.places.get(&(class, form, count)).copied()?;
+        let head = self.parts.get(class)?.heads.get(place)?;
+        Some(&head.parts)
     }
 
     fn push_head(&mut self, class: usize, head: Head<'a>) -> Result<(), AllocError> {
+        if is_constant(head.form) && self.heads(class).is_empty() {
+            self.call_numbers.make_constant(class, head.form)?;
+        }
         if let Some(part) = self.parts.get_mut(class) {
+            let place = part.heads.len();
+            self.places
+                .insert((class, head.form, head.parts.len()), place)?;
             part.heads.push(head)?;
         }
         Ok(())
@@ -323,12 +494,23 @@ impl<'a> Parts<'a> {
         }
         let kept = left.min(right);
         let gone = left.max(right);
+        let constant = self.constant_for(gone, kept);
         for class in &mut self.classes {
             if *class == gone {
                 *class = kept;
             }
         }
-        self.move_part(gone, kept, waiting)
+        self.move_part(gone, kept, waiting)?;
+        self.call_numbers.merge(gone, kept, constant)
+    }
+
+    // The constant that a class becomes since another one is, which it is made part of. Nothing was asked of it.
+    fn constant_for(&self, gone: usize, kept: usize) -> Option<ValueForm<'a>> {
+        if self.heads(gone).is_empty() {
+            self.constant(kept)
+        } else {
+            None
+        }
     }
 
     // Moves what is known of a class to the class that it is now in.

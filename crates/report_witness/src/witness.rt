@@ -1,8 +1,9 @@
 //! What two rules both match, and why no value matches a rule.
 
+use crate::extractors::Extractors;
 use crate::forms::{ValueForm, are_apart, is_same};
 use crate::parts_text::Writing;
-use crate::rule_demands::{extractors_of, parts_of, parts_of_template};
+use crate::rule_demands::{parts_of, parts_of_template, parts_without};
 use crate::value_parts::{Head, Parts};
 use core_syntax::syntax::{Def, Extractor, Pattern, Pos, Rule};
 use std::alloc::{AllocError, Global};
@@ -19,8 +20,8 @@ pub fn witness(
     left: &Rule,
     right: &Rule,
 ) -> Result<Option<String>, AllocError> {
-    let parts = parts_of(alloc, Vec::new(alloc), &[left, right])?;
-    if conflict_of(defs, &parts, 0).is_some() {
+    let parts = parts_of(alloc, &Extractors::none(alloc), &[left, right])?;
+    if has_any_conflict(defs, &parts) {
         return Ok(None);
     }
     let mut writing = Writing::new(alloc, &parts, false)?;
@@ -40,8 +41,8 @@ pub fn exclude_each_other(
     left: &Rule,
     right: &Rule,
 ) -> Result<bool, AllocError> {
-    let parts = parts_of(alloc, Vec::new(alloc), &[left, right])?;
-    let found = conflict_of(defs, &parts, 0).is_some();
+    let parts = parts_of(alloc, &Extractors::none(alloc), &[left, right])?;
+    let found = has_any_conflict(defs, &parts);
     Ok(found)
 }
 
@@ -51,7 +52,7 @@ pub fn exclude_each_other(
 ///
 /// If memory is refused.
 pub fn left_side(alloc: Global, rule: &Rule) -> Result<String, AllocError> {
-    let parts = parts_of(alloc, Vec::new(alloc), &[rule])?;
+    let parts = parts_of(alloc, &Extractors::none(alloc), &[rule])?;
     let mut writing = Writing::new(alloc, &parts, false)?;
     let mut out = String::new(alloc);
     writing.push_left_side(term_of(rule), &mut out)?;
@@ -85,56 +86,43 @@ impl<'a> Conflict<'a> {
     }
 }
 
-/// The forms that a rule asks of one value and that no value has: of several such pairs that of this number. Internal
-/// extractors ask what their templates do, where they are expanded.
-pub fn conflict_in<'a>(
+/// The pairs of forms that a rule asks of one value and that no value has. These internal extractors ask what their templates
+/// do.
+///
+/// # Errors
+///
+/// If memory is refused.
+pub fn conflicts_in<'a>(
     alloc: Global,
-    defs: &'a [Def],
-    expand: bool,
+    defs: &[Def],
+    extractors: &Extractors<'a>,
     rule: &'a Rule,
-    number: usize,
-) -> Result<Option<Conflict<'a>>, AllocError> {
-    let extractors = if expand {
-        extractors_of(alloc, defs)?
-    } else {
-        Vec::new(alloc)
-    };
+) -> Result<Vec<Conflict<'a>>, AllocError> {
     let parts = parts_of(alloc, extractors, &[rule])?;
-    let found = conflict_of(defs, &parts, number);
-    Ok(found)
+    conflicts_of(alloc, defs, &parts)
 }
 
 /// Whether a rule asks the same two forms of one value even if nothing is known of what an internal extractor asks.
-pub(crate) fn stays_without(
+pub(crate) fn stays_without<'a>(
     alloc: Global,
     defs: &[Def],
-    rule: &Rule,
+    extractors: &Extractors<'a>,
+    rule: &'a Rule,
     unknown: &Extractor,
     conflict: &Conflict<'_>,
 ) -> Result<bool, AllocError> {
-    let mut extractors = Vec::new(alloc);
-    for extractor in &extractors_of(alloc, defs)? {
-        if extractor.pos != unknown.pos {
-            extractors.push(*extractor)?;
-        }
-    }
-    let parts = parts_of(alloc, extractors, &[rule])?;
-    let found = has_conflict(defs, &parts, conflict);
-    Ok(found)
+    let parts = parts_without(alloc, extractors, rule, unknown)?;
+    let found = conflicts_of(alloc, defs, &parts)?;
+    Ok(
+        found
+            .iter()
+            .take(MOST_CONFLICTS)
+            .any(|other| is_same_conflict(other, conflict)),
+    )
 }
 
-fn has_conflict(defs: &[Def], parts: &Parts<'_>, wanted: &Conflict<'_>) -> bool {
-    for number in 0..MOST_CONFLICTS {
-        let Some(conflict) = conflict_of(defs, parts, number) else {
-            return false;
-        };
-        if is_same_demand(conflict.first, wanted.first)
-            && is_same_demand(conflict.second, wanted.second)
-        {
-            return true;
-        }
-    }
-    false
+fn is_same_conflict(left: &Conflict<'_>, right: &Conflict<'_>) -> bool {
+    is_same_demand(left.first, right.first) && is_same_demand(left.second, right.second)
 }
 
 // Whether two patterns are one, and ask for one form.
@@ -146,49 +134,63 @@ fn is_same_demand(left: (ValueForm<'_>, Pos), right: (ValueForm<'_>, Pos)) -> bo
 /// for the extractor's arguments. If one pattern asks both, it is a use of another such extractor.
 pub(crate) fn conflict_in_template<'a>(
     alloc: Global,
-    defs: &'a [Def],
+    defs: &[Def],
+    extractors: &Extractors<'a>,
     extractor: &'a Extractor,
 ) -> Result<Option<Conflict<'a>>, AllocError> {
-    let extractors = extractors_of(alloc, defs)?;
     let parts = parts_of_template(alloc, extractors, extractor)?;
-    let found = conflict_of_two(defs, &parts);
-    Ok(found)
+    let conflicts = conflicts_of(alloc, defs, &parts)?;
+    Ok(
+        conflicts
+            .iter()
+            .take(MOST_CONFLICTS)
+            .find(|conflict| !conflict.is_by_one())
+            .copied(),
+    )
 }
 
-// The first conflict that two patterns make.
-fn conflict_of_two<'a>(defs: &[Def], parts: &Parts<'a>) -> Option<Conflict<'a>> {
-    for number in 0..MOST_CONFLICTS {
-        let conflict = conflict_of(defs, parts, number)?;
-        if !conflict.is_by_one() {
-            return Some(conflict);
+// Whether parts must have two forms that no value has.
+fn has_any_conflict(defs: &[Def], parts: &Parts<'_>) -> bool {
+    (0..parts.count()).any(|part| parts.class_of(part) == part
+        && has_conflict(defs, parts.heads(part)))
+}
+
+fn has_conflict(defs: &[Def], heads: &[Head<'_>]) -> bool {
+    for (i, head) in heads.iter().enumerate() {
+        if conflict_with(defs, heads, i, head).is_some() {
+            return true;
         }
     }
-    None
+    false
 }
 
-fn conflict_of<'a>(defs: &[Def], parts: &Parts<'a>, number: usize) -> Option<Conflict<'a>> {
-    let mut left = number;
+// The conflicts of forms that parts must have, part by part.
+fn conflicts_of<'a>(
+    alloc: Global,
+    defs: &[Def],
+    parts: &Parts<'a>,
+) -> Result<Vec<Conflict<'a>>, AllocError> {
+    let mut conflicts = Vec::new(alloc);
     for part in 0..parts.count() {
         if parts.class_of(part) == part {
-            if let Some(conflict) = conflict_at(defs, parts.heads(part), &mut left) {
-                return Some(conflict);
-            }
+            add_conflicts(defs, parts.heads(part), &mut conflicts)?;
         }
     }
-    None
+    Ok(conflicts)
 }
 
-// The conflict among forms of one value behind so many others, which are counted down.
-fn conflict_at<'a>(defs: &[Def], heads: &[Head<'a>], left: &mut usize) -> Option<Conflict<'a>> {
+// Adds the conflict of each form with the first one before it that no value has together with it.
+fn add_conflicts<'a>(
+    defs: &[Def],
+    heads: &[Head<'a>],
+    conflicts: &mut Vec<Conflict<'a>>,
+) -> Result<(), AllocError> {
     for (i, head) in heads.iter().enumerate() {
         if let Some(conflict) = conflict_with(defs, heads, i, head) {
-            if *left == 0 {
-                return Some(conflict);
-            }
-            *left = left.saturating_sub(1);
+            conflicts.push(conflict)?;
         }
     }
-    None
+    Ok(())
 }
 
 // The first of so many forms that no value has together with this one.
