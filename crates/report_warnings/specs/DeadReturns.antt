@@ -1,10 +1,12 @@
 -- The dead returns of a block that stands behind a return, or behind none.
-use Rattle.std.specs.Prelude.{◌≡◌, ℕ, List, [], ◌∷◌, ◌++◌, map, Option, Some, None, codes}
+use Rattle.std.specs.Prelude.{◌≡◌, ℕ, List, [], ◌∷◌, ◌++◌, map, Option, Some, None}
 use Rattle.core_syntax.specs.declared.syntax.Pos.{Pos}
 use Rattle.core_syntax.specs.SyntaxViews.{position}
 use Rattle.model.specs.lists.Syntax.{Position}
 use Rattle.model.specs.trees.Trees.{Tree, step, Check, Arms}
 use Rattle.laws_ways.specs.DeadReturns.{returns_among, behind, dead_returns, dead_among}
+use Rattle.report_warnings.specs.Kinds.{kind_name}
+use Rattle.report_warnings.specs.declared.kinds.Warning.TheVariants as W
 
 abbrev pub place_pair : Pos × Pos → Position × Position
 place_pair d = (position d.0, position d.1)
@@ -29,4 +31,4 @@ PassesStep first after check before now =
 
 -- of a dead return and the one that it stands behind: that its rule never runs, and the places of both rules
 abbrev pub told_of_dead : Position × Position → List ℕ × List Position
-told_of_dead d = (codes "never-run", d.0 ∷ d.1 ∷ [])
+told_of_dead d = (kind_name W.NeverRun, d.0 ∷ d.1 ∷ [])

@@ -1,5 +1,5 @@
 -- Rules of a set that overlap others of it, as they lie in memory.
-use Rattle.std.specs.Prelude.{pos, ℕ, Bool, not, ◌&&◌, List, [], ◌∷◌, codes, map}
+use Rattle.std.specs.Prelude.{pos, ℕ, Bool, not, ◌&&◌, List, [], ◌∷◌, map}
 use Rattle.std.specs.List.{filter, list_any}
 use Rattle.std.specs.Ordering.{int_eq}
 use Rattle.core_syntax.specs.SyntaxViews.{position}
@@ -7,6 +7,8 @@ use Rattle.core_rule_sets.specs.declared.trie_again.Rule.{Rule}
 use Rattle.cranelift_isle.specs.SiteViews.{set_rule_view}
 use Rattle.model.specs.lists.Syntax.{Position}
 use Rattle.laws_ways.specs.IdlePriorities.{may_meet}
+use Rattle.report_warnings.specs.Kinds.{kind_name}
+use Rattle.report_warnings.specs.declared.kinds.Warning.TheVariants as W
 
 -- a rule overlaps another one of these
 abbrev pub meets_some : List Rule → Rule → Bool
@@ -21,4 +23,4 @@ idle_places all some = map (λ r. position r.pos) (filter (is_idle all) some)
 
 -- of the rule at a place: that its priority has no effect
 abbrev pub told_of_idle : Position → List ℕ × List Position
-told_of_idle at = (codes "priority", at ∷ [])
+told_of_idle at = (kind_name W.Priority, at ∷ [])

@@ -3,3 +3,4 @@ pub mod Added
 pub mod DeadReturns
 pub mod IdlePriorities
 pub mod Kinds
+pub mod RuleGroups

@@ -1,10 +1,11 @@
 //! The kinds of warnings.
 
-ghost use Rattle.std.specs.Prelude.{◌≡◌, []};
+ghost use Rattle.std.specs.Prelude.{◌≡◌, [], OnOk};
+ghost use Rattle.report_print.specs.Reports.{HasPlaceMore};
 ghost use Rattle.report_warnings.specs.Kinds.{kind_name};
 
 use cranelift_isle::syntax::Pos;
-use report_print::report::{Label, Level, Report};
+use report_print::report::{Level, Report};
 use std::alloc::{AllocError, Global};
 
 /// A kind of warning. docs/USING.md has an example of each.
@@ -60,30 +61,6 @@ impl Warning {
             Warning::Always => "always",
         }
     }
-
-    /// The kind of a name, if it is that of one.
-    pub fn of(name: &str) -> Option<Warning> {
-        for warning in WARNINGS {
-            if warning.name() == name {
-                return Some(warning);
-            }
-        }
-        None
-    }
-}
-
-/// The names of all kinds, with commas between them.
-///
-/// # Errors
-///
-/// If memory is refused.
-pub fn warning_names(alloc: Global) -> Result<String, AllocError> {
-    let mut names = String::new(alloc);
-    for warning in WARNINGS {
-        names.push_str(if names.is_empty() { "" } else { ", " })?;
-        names.push_str(warning.name())?;
-    }
-    Ok(names)
 }
 
 /// Whether a report is a warning of one of these kinds.
@@ -99,15 +76,14 @@ pub(crate) fn begun(alloc: Global, kind: Warning, message: String) -> Report
     Report::new(alloc, Level::Warning, kind.name(), message)
 }
 
+// Adds a place, with these words.
 pub(crate) fn add_place(
     alloc: Global,
     report: &mut Report,
     pos: Pos,
     text: &str,
-) -> Result<(), AllocError> {
-    report.labels.push(Label {
-        pos,
-        text: String::from_str(alloc, text)?,
-    })?;
-    Ok(())
+) -> Result<(), AllocError>
+    ensures { OnOk result (HasPlaceMore pos report.old report.new) }
+{
+    report.add_label(pos, String::from_str(alloc, text)?)
 }

@@ -1,11 +1,14 @@
 //! Priorities that have no effect.
 
-ghost use Rattle.std.specs.Prelude.{◌≡◌, map, true, IfOk, OnOk};
+ghost use Rattle.std.specs.Prelude.{◌≡◌, ◌||◌, ◌++◌, ◌∷◌, [], if◌then◌else◌, map, IfOk, OnOk};
+ghost use Rattle.std.specs.BTreeMap.{is_at};
+ghost use Rattle.core_rule_sets.specs.contracts.trie_again.ConstraintOrd.TheImpl.{ghosts};
 ghost use Rattle.core_syntax.specs.SyntaxViews.{position};
 ghost use Rattle.cranelift_isle.specs.SiteViews.{set_rule_view, set_rule_views};
 ghost use Rattle.laws_ways.specs.IdlePriorities.{idle_priorities, may_meet};
 ghost use Rattle.report_warnings.specs.Added.{told_of, AddsTold};
 ghost use Rattle.report_warnings.specs.IdlePriorities.{is_idle, meets_some, told_of_idle};
+ghost use Rattle.report_warnings.specs.RuleGroups.{AddsNumber, AreGrouped, meets_listed, meets_number, numbers_asking};
 
 use crate::kinds::{Warning, begun};
 use cranelift_isle::syntax::{Def, Pos};
@@ -27,45 +30,116 @@ pub(crate) fn idle_priorities(alloc: Global, rules: &[Rule]) -> Result<Vec<Pos>,
     let groups = Groups::of(alloc, rules)?;
     let mut idle = Vec::new(alloc);
     for rule in rules {
-        if is_idle(rules, rule, groups.partner_of(rule)) {
+        if groups.is_idle(rules, rule) {
             idle.push(rule.pos)?;
         }
     }
     Ok(idle)
 }
 
-// Whether a rule has a priority and may match together with no other one. A partner that was found fast is asked first: only
-// rules without one are compared with all.
-fn is_idle(rules: &[Rule], rule: &Rule, partner: Option<usize>) -> bool
-    ensures { result ≡ is_idle rules.now rule.now }
-{
-    rule.prio != 0 && !has_met(rules, rule, partner)
+// The numbers of rules by what they ask of one site: rules that ask different things there never match together.
+#[derive(Drop)]
+struct Groups {
+    site: BindingId,
+    // those that ask this there
+    asking: BTreeMap<Constraint, Vec<usize>>,
+    // those that ask nothing there
+    bare: Vec<usize>,
 }
 
-fn has_met(rules: &[Rule], rule: &Rule, partner: Option<usize>) -> bool
-    ensures { result ≡ meets_some rules.now rule.now }
-{
-    meets_partner(rules, rule, partner) || meets_some(rules, rule)
+impl Groups {
+    // The rules by what they ask of a site that tells many apart.
+    fn of(alloc: Global, rules: &[Rule]) -> Result<Groups, AllocError>
+        ensures { IfOk result (AreGrouped rules.now) }
+    {
+        let mut groups = Groups {
+            site: telling_site(alloc, rules)?,
+            asking: BTreeMap::new(alloc),
+            bare: Vec::new(alloc),
+        };
+        for number in 0..rules.len() {
+            groups.add(&rules[number], number)?;
+        }
+        Ok(groups)
+    }
+
+    fn add(&mut self, rule: &Rule, number: usize) -> Result<(), AllocError>
+        ensures { OnOk result (AddsNumber rule.now number self.old self.new) }
+    {
+        match rule.get_constraint(self.site) {
+            Some(asked) => add_asking(&mut self.asking, asked, number)?,
+            None => self.bare.push(number)?,
+        }
+        Ok(())
+    }
+
+    // Whether a rule has a priority and may match together with no other one.
+    fn is_idle(&self, rules: &[Rule], rule: &Rule) -> bool
+        requires { AreGrouped rules.now self.now }
+        ensures { result ≡ is_idle rules.now rule.now }
+    {
+        rule.prio != 0 && !self.meets_some(rules, rule)
+    }
+
+    // Whether a rule may match together with another one of these: one that asks the same of the site, or nothing.
+    fn meets_some(&self, rules: &[Rule], rule: &Rule) -> bool
+        requires { AreGrouped rules.now self.now }
+        ensures { result ≡ meets_some rules.now rule.now }
+    {
+        match rule.get_constraint(self.site) {
+            Some(asked) => self.meets_asking(rules, rule, asked),
+            None => meets_any(rules, rule),
+        }
+    }
+
+    fn meets_asking(&self, rules: &[Rule], rule: &Rule, asked: Constraint) -> bool
+        ensures { result ≡ (meets_listed rules.now rule.now (numbers_asking self.now.asking asked) || meets_listed rules.now rule.now self.now.bare.items) }
+    {
+        meets_listed(rules, rule, self.asking(asked)) || meets_listed(rules, rule, &self.bare)
+    }
+
+    // The rules that ask this of the site.
+    fn asking(&self, asked: Constraint) -> &[usize]
+        ensures { result.now ≡ numbers_asking self.now.asking asked }
+    {
+        match self.asking.get(&asked) {
+            Some(numbers) => numbers,
+            None => &[],
+        }
+    }
 }
 
-// Whether a rule may match together with the one of this number, another one of these.
-fn meets_partner(rules: &[Rule], rule: &Rule, partner: Option<usize>) -> bool
-    ensures { result ≡ true → meets_some rules.now rule.now ≡ true }
+fn add_asking(
+    asking: &mut BTreeMap<Constraint, Vec<usize>>,
+    asked: Constraint,
+    number: usize,
+) -> Result<(), AllocError>
+    ensures { OnOk result ((q : Constraint) → numbers_asking asking.new q ≡ numbers_asking asking.old q ++ (if is_at (ghosts.cmp asked) q then number ∷ [] else [])) }
 {
-    match partner {
-        Some(number) => meets_at(rules, rule, number),
+    asking.entry(asked)?.or_default().push(number)?;
+    Ok(())
+}
+
+// Whether a rule may match together with another one that has one of these numbers.
+fn meets_listed(rules: &[Rule], rule: &Rule, numbers: &[usize]) -> bool
+    ensures { result ≡ meets_listed rules.now rule.now numbers.now }
+{
+    numbers
+        .iter()
+        .any(|number| meets_number(rules, rule, *number))
+}
+
+fn meets_number(rules: &[Rule], rule: &Rule, number: usize) -> bool
+    ensures { result ≡ meets_number rules.now rule.now number }
+{
+    match rules.get(number) {
+        Some(other) => may_meet(rule, other),
         None => false,
     }
 }
 
-fn meets_at(rules: &[Rule], rule: &Rule, number: usize) -> bool
-    ensures { result ≡ true → meets_some rules.now rule.now ≡ true }
-{
-    number < rules.len() && may_meet(rule, &rules[number])
-}
-
 // Whether a rule may match together with another one of these.
-fn meets_some(rules: &[Rule], rule: &Rule) -> bool
+fn meets_any(rules: &[Rule], rule: &Rule) -> bool
     ensures { result ≡ meets_some rules.now rule.now }
 {
     rules.iter().any(|other| may_meet(rule, other))
@@ -82,75 +156,8 @@ fn may_meet(rule: &Rule, other: &Rule) -> bool
         }
 }
 
-// The numbers of rules by what they ask of one site: rules that ask for different things there never match together.
-struct Groups<'a> {
-    rules: &'a [Rule],
-    site: Option<BindingId>,
-    // none for those that ask for nothing there
-    groups: BTreeMap<Option<Constraint>, Vec<usize>>,
-}
-
-impl<'a> Drop for Groups<'a> {
-    fn drop(self) {
-        let Groups {
-            rules: _,
-            site: _,
-            groups: _,
-        } = self;
-    }
-}
-
-impl<'a> Groups<'a> {
-    // The rules by what they ask of a site that tells many apart.
-    fn of(alloc: Global, rules: &'a [Rule]) -> Result<Groups<'a>, AllocError> {
-        let mut groups = Groups {
-            rules,
-            site: telling_site(alloc, rules)?,
-            groups: BTreeMap::new(alloc),
-        };
-        for (number, rule) in rules.iter().enumerate() {
-            groups.add(alloc, number, rule)?;
-        }
-        Ok(groups)
-    }
-
-    fn add(&mut self, alloc: Global, number: usize, rule: &Rule) -> Result<(), AllocError> {
-        let asked = self.asked_by(rule);
-        if let Some(group) = self.groups.get_mut(&asked) {
-            group.push(number)?;
-            return Ok(());
-        }
-        let mut group = Vec::new(alloc);
-        group.push(number)?;
-        self.groups.insert(asked, group)?;
-        Ok(())
-    }
-
-    // What a rule asks of the site.
-    fn asked_by(&self, rule: &Rule) -> Option<Constraint> {
-        rule.get_constraint(self.site?)
-    }
-
-    // A rule that may match together with this one, of those that don't ask for something else of the site than it does.
-    fn partner_of(&self, rule: &Rule) -> Option<usize> {
-        let asked = self.asked_by(rule);
-        match self.partner_in(asked, rule) {
-            Some(number) => Some(number),
-            None => self.partner_in(None, rule),
-        }
-    }
-
-    fn partner_in(&self, asked: Option<Constraint>, rule: &Rule) -> Option<usize> {
-        self.groups
-            .get(&asked)?
-            .iter()
-            .copied()
-            .find(|number| meets_at(self.rules, rule, *number))
-    }
-}
-
-// The site of which some rules, evenly taken, ask the most different things, if they ask any.
-fn telling_site(alloc: Global, rules: &[Rule]) -> Result<Option<BindingId>, AllocError> {
+// The site of which some rules, evenly taken, ask the most different things.
+fn telling_site(alloc: Global, rules: &[Rule]) -> Result<BindingId, AllocError> {
     let mut asked = BTreeMap::new(alloc);
     for rule in rules.iter().step_by(rules.len() / LOOKED_AT + 1) {
         add_asked(&mut asked, rule)?;
@@ -159,7 +166,7 @@ fn telling_site(alloc: Global, rules: &[Rule]) -> Result<Option<BindingId>, Allo
         asked
             .iter()
             .max_by_key(|(_, different)| different.len())
-            .map(|(site, _)| *site),
+            .map_or(BindingId::from(0), |(site, _)| *site),
     )
 }
 
