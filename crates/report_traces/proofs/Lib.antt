@@ -1,4 +1,5 @@
 mod EchoSteps
+mod EchoedTerms
 mod EchoesApart
 mod EchoesFit
 mod OutcomeSteps

@@ -17,6 +17,7 @@ use Rattle.cranelift_isle.specs.TermViews.{term_views}
 use Rattle.cranelift_isle.specs.Values.{Value}
 use Rattle.report_queries.specs.Lookups.{entry_of}
 use Rattle.run_terms.specs.SourceViews.{of_terms}
+use Rattle.report_traces.specs.EchoedTerms.{called_at, echoed_words}
 use Rattle.report_traces.specs.Echoes.{echoes}
 use Rattle.report_traces.specs.OutcomeTexts.{names_in, outcome_words}
 
@@ -45,9 +46,9 @@ abbrev pub answer_by : (multi : Bool) → Lowered → LoweredTerm → List Value
 answer_by multi l t args =
     with_choice multi (outcome_words (names_in l) multi (outcome_under (echoes_in l) multi t args)) (outcome_words (names_in l) false (choice_by_echoes l t.term args))
 
--- what is told of a call of a term, where echoes answer
+-- what is told of a call of a term, where echoes answer: the terms that its rules call, and the outcome
 abbrev pub answer_words : Lowered → LoweredTerm → List Value → List ℕ
-answer_words l t args = answer_by (is_multi_in l t.term) l t args
+answer_words l t args = echoed_words (names_in l) (called_at t.set.sites) ++ answer_by (is_multi_in l t.term) l t args
 
 -- the entry of a term with rules
 abbrev pub IsEntry : Lowered → LoweredTerm → Type 0

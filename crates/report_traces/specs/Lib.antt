@@ -1,5 +1,6 @@
 pub mod CallAnswers
 pub mod EchoLaws
+pub mod EchoedTerms
 pub mod Echoes
 pub mod KnownAnswers
 pub mod OutcomeTexts

@@ -10,6 +10,7 @@ ghost use Rattle.report_traces.specs.CallAnswers.{IsEntry, answer_by, answer_wor
 ghost use Rattle.report_traces.specs.OutcomeTexts.{names_in, outcome_words};
 
 use crate::echo::Echo;
+use crate::echoed::push_echoed;
 use crate::outcomes::outcome_text;
 use crate::values::{Unanswered, term_of, values_of, wrong};
 use cranelift_isle::lower::{Lowered, LoweredTerm};
@@ -64,7 +65,7 @@ pub fn read_call<'a>(
 }
 
 /// The outcome of a term of lowered definitions on arguments in words: its tree is run by echoes. If the term isn't multi and its
-/// source rules have another outcome in words, that follows.
+/// source rules have another outcome in words, that follows. A line before names the terms that its rules call, if they call any.
 ///
 /// # Errors
 ///
@@ -78,10 +79,14 @@ pub fn answer_to(
     ensures { IfOk result (λ text. string_bytes text ≡ answer_words lowered.now (lowered_view entry.now) (arg_views args.now)) }
 {
     let multi = is_multi(&lowered.termenv, entry.id);
-    answer_by(alloc, lowered, multi, entry, args)
+    let mut text = String::new(alloc);
+    push_echoed(&mut text, lowered, &entry.rules.bindings)?;
+    let line = answer_by(alloc, lowered, multi, entry, args)?;
+    text.push_str(&line)?;
+    Ok(text)
 }
 
-// The same of a term that is multi, or isn't.
+// That outcome, of a term that is multi, or isn't.
 fn answer_by(
     alloc: Global,
     lowered: &Lowered,

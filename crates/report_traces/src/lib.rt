@@ -8,6 +8,7 @@ pub mod asked;
 pub mod calls;
 pub mod demands;
 pub mod echo;
+mod echoed;
 pub mod faults;
 pub mod known;
 pub mod laws;
