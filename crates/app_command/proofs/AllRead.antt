@@ -4,7 +4,7 @@ use Rattle.std.specs.declared.alloc.AllocError.{AllocError}
 use Rattle.cranelift_isle.specs.Syntax.{Definition}
 use Rattle.app_command.specs.declared.reading.Reading.{Reading}
 use Rattle.app_command.specs.declared.reading.Reading.TheVariants.{Defs, Unread}
-use Rattle.app_command.specs.declared.words.Request.{Request}
+use Rattle.app_words.specs.declared.request.Request.{Request}
 use Rattle.app_command.specs.Readings.{has_no_definitions, is_comparison, mistake_of_text, mistakes_of_texts, none_without, AreOfText, AreOfTexts, IsReadingOf}
 
 each_has : (request : Request) → is_comparison request.task ≡ false → is_some request.answers ≡ false → (number : ℕ) → has_no_definitions request number ≡ false

@@ -5,8 +5,8 @@ use Rattle.core_syntax.specs.declared.syntax.Files.{Files}
 use Rattle.app_command.specs.declared.answers.Answer.{Answer}
 use Rattle.app_command.specs.declared.calls.Told.{Told}
 use Rattle.app_command.specs.declared.calls.Told.TheVariants.{Text, Wrong}
-use Rattle.app_command.specs.declared.words.Request.{Request}
-use Rattle.app_command.specs.declared.words.Task.TheVariants.{Run}
+use Rattle.app_words.specs.declared.request.Request.{Request}
+use Rattle.app_words.specs.declared.tasks.Task.TheVariants.{Run}
 use Rattle.app_command.specs.CallTexts.{IsToldOfRun}
 use Rattle.app_command.specs.TaskAnswers.{IsAnswerBy, IsAnswerOfTold, IsDoneWithText, IsFailed}
 

@@ -14,9 +14,9 @@ use Rattle.app_command.specs.declared.code.Code.{Code}
 use Rattle.app_command.specs.declared.code.Code.TheVariants.{Names, Text}
 use Rattle.app_command.specs.declared.reading.Reading.{Reading}
 use Rattle.app_command.specs.declared.reading.Reading.TheVariants.{Defs, Unread}
-use Rattle.app_command.specs.declared.words.Request.{Request}
-use Rattle.app_command.specs.declared.words.Task.{Task}
-use Rattle.app_command.specs.declared.words.Task.TheVariants as T
+use Rattle.app_words.specs.declared.request.Request.{Request}
+use Rattle.app_words.specs.declared.tasks.Task.{Task}
+use Rattle.app_words.specs.declared.tasks.Task.TheVariants as T
 use Rattle.app_command.specs.Codes.{IsAnswerOfCode, IsCode, IsCodeOrStubs}
 use Rattle.app_command.specs.Readings.{has_no_definitions, IsReadingOf}
 use Rattle.app_command.specs.RustCode.{IsRustCodeOf, RustCodeIsOfTexts}

@@ -5,6 +5,8 @@ use Rattle.cranelift_isle.specs.Syntax.{Definition}
 use Rattle.cranelift_isle.specs.declared.lower.Lowered.{Lowered}
 use Rattle.cranelift_isle.specs.Lowerings.{IsLowered}
 use Rattle.core_syntax.specs.declared.syntax.Files.{Files}
+use Rattle.report_print.specs.PlaceTexts.{texts_of}
+use Rattle.text_writer.specs.Contents.{contents_of_texts, TextContents}
 use Rattle.app_command.specs.declared.answers.Answer.{Answer}
 use Rattle.app_command.specs.declared.code.Code.{Code}
 use Rattle.app_command.specs.declared.code.Code.TheVariants.{Names, Text}
@@ -12,12 +14,12 @@ use Rattle.app_command.specs.declared.output.Ending.{Ending}
 use Rattle.app_command.specs.declared.progress.Unanswered.{Unanswered}
 use Rattle.app_command.specs.declared.reading.Reading.{Reading}
 use Rattle.app_command.specs.declared.reading.Reading.TheVariants.{Defs, Unread}
-use Rattle.app_command.specs.declared.words.Request.{Request}
-use Rattle.app_command.specs.declared.words.Task.{Task}
-use Rattle.app_command.specs.declared.words.Task.TheVariants as T
+use Rattle.app_words.specs.declared.request.Request.{Request}
+use Rattle.app_words.specs.declared.tasks.Task.{Task}
+use Rattle.app_words.specs.declared.tasks.Task.TheVariants as T
 use Rattle.app_command.specs.Codes.{IsAnswerOfCode}
 use Rattle.app_command.specs.Outputs.{IsNothingWritten, IsWrittenOut}
-use Rattle.app_command.specs.TaskAnswers.{IsAnswerBy, IsAnswerToBoth, IsAnswerToDefinitions, IsAnswerToFiles, IsAnswerToReading, IsPrintOfReading}
+use Rattle.app_command.specs.TaskAnswers.{IsAnswerBy, IsAnswerToBoth, IsAnswerToDefinitions, IsAnswerToFiles, IsAnswerToReading, IsPrintOfContents}
 use Rattle.app_command.specs.Statuses.{may_fail, IsEndingFor, IsStatusOfReading}
 use Rattle.app_command.specs.WantedTerms.{missing_name}
 
@@ -41,8 +43,9 @@ status_of_task T.Check asked files l answer told = elim told.1 [ inl none ↦ in
 status_of_task T.Explain asked files l answer (inl done) = inl done.0.0
 status_of_task T.Explain asked files l answer (inr failed) = inr (failed.0, refl)
 status_of_task T.Stats asked files l answer done = inl done.0.0
-status_of_task T.Compare asked files l answer (inl done) = inl done.0.0
-status_of_task T.Compare asked files l answer (inr failed) = inr (failed.0, refl)
+status_of_task T.Compare asked files l answer (inl (known, inl same)) = inl same.1.0.0
+status_of_task T.Compare asked files l answer (inl (known, inr different)) = inr (different.1.0, refl)
+status_of_task T.Compare asked files l answer (inr failed) = inr (failed.1.0, refl)
 status_of_task T.Diff asked files l answer done = inl done.0.0
 status_of_task T.Print asked files l answer done = inl done.0.0
 status_of_task T.Samples asked files l answer done = inl done.0.0
@@ -96,16 +99,15 @@ status_of_both Old New asked answer (inl (old, new, inr different)) = let e = di
 status_of_both Old New asked answer (inr refused) = let e = refused.1.0 in omega (arith, e)
 
 -- and so has what is printed
-status_of_print : (asked : Request) (reading : Reading) (answer : Answer) → IsPrintOfReading asked reading answer → answer.status ≤ 1
-status_of_print asked (Defs defs) answer (inl done) = let e = done.1.0 in omega (arith, e)
-status_of_print asked (Defs defs) answer (inr refused) = let e = refused.1.0 in omega (arith, e)
-status_of_print asked (Unread mistakes) answer refused = let e = refused.0.0 in omega (arith, e)
+status_of_print : (contents : TextContents) (asked : Request) (answer : Answer) → IsPrintOfContents contents asked answer → answer.status ≤ 1
+status_of_print contents asked answer (inl done) = let e = done.0.0 in omega (arith, e)
+status_of_print contents asked answer (inr refused) = let e = refused.1.0 in omega (arith, e)
 
 -- and so has what files are answered
 status_of_files : (asked : Request) (files : Files) (answer : Answer) → IsAnswerToFiles asked files answer → answer.status ≤ 1
 status_of_files asked files answer (inl one) = (status_of_answer asked files one.2.0 answer one.2.2).known
 status_of_files asked files answer (inr (inl two)) = status_of_both _ _ asked answer two.1.4
-status_of_files asked files answer (inr (inr text)) = status_of_print asked text.1.0 answer text.1.2
+status_of_files asked files answer (inr (inr text)) = status_of_print (contents_of_texts 0 (texts_of files)) asked answer text.1
 
 -- an answer to files that is written, or isn't made
 module _ (asked : Request) (files : Files) (old new : Option (List ℕ)) (ending : Ending) where

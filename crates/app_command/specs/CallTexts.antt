@@ -8,7 +8,7 @@ use Rattle.report_traces.specs.RunTexts.{answers_as_echo, IsRunText}
 use Rattle.report_traces.specs.declared.replies.Replies.{Replies}
 use Rattle.app_command.specs.declared.calls.Told.{Told}
 use Rattle.app_command.specs.declared.calls.Told.TheVariants.{Text, Wrong}
-use Rattle.app_command.specs.declared.words.Request.{Request}
+use Rattle.app_words.specs.declared.request.Request.{Request}
 
 -- what is told of the run of a call of a term with rules. Where no file of answers is given, echoes answer
 abbrev pub IsTextOfRun : Request → Lowered → List ℕ → Type 0

@@ -1,6 +1,7 @@
 pub mod CallTexts
 pub mod Codes
 pub mod Compared
+pub mod Layouts
 pub mod Outputs
 pub mod Readings
 pub mod RustCode

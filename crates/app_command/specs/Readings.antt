@@ -14,9 +14,9 @@ use Rattle.core_syntax.specs.SyntaxViews.{position}
 use Rattle.text_reader.specs.Within.{DefinitionIsWithin}
 use Rattle.app_command.specs.declared.reading.Reading.{Reading}
 use Rattle.app_command.specs.declared.reading.Reading.TheVariants.{Defs, Unread}
-use Rattle.app_command.specs.declared.words.Request.{Request}
-use Rattle.app_command.specs.declared.words.Task.{Task}
-use Rattle.app_command.specs.declared.words.Task.TheVariants as T
+use Rattle.app_words.specs.declared.request.Request.{Request}
+use Rattle.app_words.specs.declared.tasks.Task.{Task}
+use Rattle.app_words.specs.declared.tasks.Task.TheVariants as T
 
 -- what an error says, and where
 abbrev pub error_view : TextError → Wrong

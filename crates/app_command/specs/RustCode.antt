@@ -8,8 +8,8 @@ use Rattle.report_print.specs.PlaceTexts.{texts_of}
 use Rattle.rust_text.specs.CodeOfTerms.{IsTextOfProgram}
 use Rattle.rust_text.specs.WrittenFunctions.{TextSetting}
 use Rattle.app_command.specs.declared.answers.Answer.{Answer}
-use Rattle.app_command.specs.declared.words.Request.{Request}
-use Rattle.app_command.specs.declared.words.Task.TheVariants.{Rust}
+use Rattle.app_words.specs.declared.request.Request.{Request}
+use Rattle.app_words.specs.declared.tasks.Task.TheVariants.{Rust}
 use Rattle.app_command.specs.Readings.{has_no_definitions, AreOfTexts}
 use Rattle.app_command.specs.TaskAnswers.{IsAnswerToFiles}
 

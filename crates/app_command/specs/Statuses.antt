@@ -6,9 +6,9 @@ use Rattle.app_command.specs.declared.inputs.Unread as U
 use Rattle.app_command.specs.declared.inputs.Unread.TheVariants as V
 use Rattle.app_command.specs.declared.output.Ending.{Ending}
 use Rattle.app_command.specs.declared.reading.Reading.{Reading}
-use Rattle.app_command.specs.declared.words.Request.{Request}
-use Rattle.app_command.specs.declared.words.Task.{Task}
-use Rattle.app_command.specs.declared.words.Task.TheVariants as T
+use Rattle.app_words.specs.declared.request.Request.{Request}
+use Rattle.app_words.specs.declared.tasks.Task.{Task}
+use Rattle.app_words.specs.declared.tasks.Task.TheVariants as T
 use Rattle.app_command.specs.Outputs.{IsNothingWritten, IsWrittenOut}
 use Rattle.app_command.specs.Readings.{IsAcceptedReading}
 use Rattle.app_command.specs.TaskAnswers.{denies, IsAnswerToFiles}

@@ -1,7 +1,8 @@
 -- What the command answers to definitions, by what it is asked.
-use Rattle.std.specs.Prelude.{ℕ, ◌≡◌, ◌≢◌, ◌≤◌, ◌⊎◌, ◌||◌, ◌++◌, ⊤, Bool, true, false, List, [], ◌∷◌, drop, length, map, option_map, None, Option, Some, string_bytes, take}
+use Rattle.std.specs.Prelude.{ℕ, ◌≡◌, ◌≢◌, ◌≤◌, ◌⊎◌, ◌||◌, ◌++◌, ⊤, Bool, true, false, List, [], ◌∷◌, drop, length, map, option_map, None, Option, Some, string_bytes, take, Ok, Err}
 use Rattle.cranelift_isle.specs.SyntaxViews.{definition_views}
 use Rattle.cranelift_isle.specs.Syntax.{Definition}
+use Rattle.model.specs.lists.Syntax.{Position}
 use Rattle.cranelift_isle.specs.declared.lower.Lowered.{Lowered}
 use Rattle.cranelift_isle.specs.declared.lower.LoweredTerm.{LoweredTerm}
 use Rattle.cranelift_isle.specs.Lowerings.{AreAccepted, IsLowered}
@@ -11,20 +12,23 @@ use Rattle.report_print.specs.PlaceTexts.{texts_of}
 use Rattle.report_print.specs.declared.report.Report.{Report}
 use Rattle.report_queries.specs.TermTexts.{terms_text}
 use Rattle.text_json.specs.JsonLine.{IsJsonLine}
-use Rattle.text_writer.specs.Spellable.{first_unspelled}
-use Rattle.text_writer.specs.Texts.{printed}
+use Rattle.text_writer.specs.Contents.{contents_of_texts, TextContents}
+use Rattle.text_writer.specs.ReadsBack.{ReadsBackAs}
+use Rattle.text_writer.specs.Saying.{ReadsBackVerification}
+use Rattle.text_writer.specs.Woven.{unspelled, woven}
 use Rattle.app_command.specs.declared.answers.Answer.{Answer}
 use Rattle.app_command.specs.declared.calls.Told.{Told}
 use Rattle.app_command.specs.declared.calls.Told.TheVariants.{Text, Wrong}
 use Rattle.app_command.specs.declared.reading.Reading.{Reading}
 use Rattle.app_command.specs.declared.reading.Reading.TheVariants.{Defs, Unread}
-use Rattle.app_command.specs.declared.words.Format.{Format}
-use Rattle.app_command.specs.declared.words.Format.TheVariants as F
-use Rattle.app_command.specs.declared.words.Request.{Request}
-use Rattle.app_command.specs.declared.words.Task.{Task}
-use Rattle.app_command.specs.declared.words.Task.TheVariants as T
+use Rattle.app_words.specs.declared.values.Format.{Format}
+use Rattle.app_words.specs.declared.values.Format.TheVariants as F
+use Rattle.app_words.specs.declared.request.Request.{Request}
+use Rattle.app_words.specs.declared.tasks.Task.{Task}
+use Rattle.app_words.specs.declared.tasks.Task.TheVariants as T
 use Rattle.app_command.specs.CallTexts.{IsTextOfRun}
 use Rattle.app_command.specs.Codes.{IsAnswerOfRust}
+use Rattle.app_command.specs.Compared.{last_has_trees}
 use Rattle.app_command.specs.Readings.{has_no_definitions, IsAcceptedReading, IsReadingOf}
 use Rattle.app_command.specs.WantedTerms.{missing_name, wanted_terms}
 
@@ -124,7 +128,12 @@ abbrev pub IsAnswerOfRun : Request → Lowered → Answer → Type 0
 IsAnswerOfRun asked l answer =
     (IsDone answer × ((text : List ℕ) × IsTextOfRun asked l text × (string_bytes answer.out ≡ text ++ (10 ∷ [])))) ⊎ IsFailed answer
 
--- what the lowered definitions of files are answered, by the task. `lower` fails where no term has a name that is asked for. Of the
+-- the last of some texts is compared with printed trees: it is silent, and the status is 0, exactly where it has just these
+abbrev pub IsAnswerOfComparing : List (List ℕ) → (trees : List ℕ) → Answer → Type 0
+IsAnswerOfComparing texts trees answer =
+    ((last_has_trees texts trees ≡ true) × IsDoneWithoutText answer) ⊎ ((last_has_trees texts trees ≡ false) × IsFailed answer)
+
+-- what the lowered definitions of files are answered, by the task. `lower` and `compare` fail where no term has a name that is asked for. Of the
 -- other tasks that may fail it isn't said when they do
 abbrev pub IsAnswerBy : Task → Request → Files → Lowered → Answer → Type 0
 IsAnswerBy T.Lower asked files l answer =
@@ -135,7 +144,10 @@ IsAnswerBy T.Rust asked files l answer = IsAnswerOfRust l files asked.code asked
 IsAnswerBy T.Check asked files l answer = AreReports asked.format answer × IsStatusOfWarnings asked answer
 IsAnswerBy T.Explain asked files l answer = IsDoneWithText answer ⊎ IsFailed answer
 IsAnswerBy T.Stats asked files l answer = IsDone answer × AreSizes asked.format (string_bytes answer.out)
-IsAnswerBy T.Compare asked files l answer = IsDoneWithoutText answer ⊎ IsFailed answer
+IsAnswerBy T.Compare asked files l answer =
+    ((missing_name (asked_names asked) l ≡ None) × IsAnswerOfComparing (map string_bytes files.texts.items)
+    (terms_text files l (wanted_terms (asked_names asked) l)) answer)
+    ⊎ ((missing_name (asked_names asked) l ≢ None) × IsFailed answer)
 IsAnswerBy T.Diff asked files l answer = IsDoneWithoutText answer
 IsAnswerBy T.Print asked files l answer = IsDoneWithoutText answer
 IsAnswerBy T.Samples asked files l answer = IsDoneWithoutText answer
@@ -170,28 +182,29 @@ IsAnswerToVersions asked texts answer =
     × IsReadingOf (has_no_definitions asked) (drop asked.old texts) new
     × IsAnswerToBoth (IsAcceptedReading asked.expand old) (IsAcceptedReading asked.expand new) asked answer
 
--- definitions are printed: their text, and nothing else, where all can be spelled; else it is told that one can't
-abbrev pub IsPrintOfDefinitions : List Definition → Request → Answer → Type 0
-IsPrintOfDefinitions defs asked answer =
-    ((first_unspelled defs ≡ None) × IsDone answer × (string_bytes answer.out ≡ printed defs))
-    ⊎ ((first_unspelled defs ≢ None) × IsRefusal asked answer × HasReport asked.format answer)
+-- a text of what texts have: each definition and each tree for a verifier on a line, in order. It is read as these, but for places
+abbrev pub IsTextOf : TextContents → (text : List ℕ) → Type 0
+IsTextOf contents text =
+    (contents.mistakes ≡ []) × (woven 0 contents.definitions contents.trees ≡ Ok text)
+    × ReadsBackAs text contents.definitions × ReadsBackVerification text contents.trees
 
--- what was read is printed: definitions, or mistakes of texts are told
-abbrev pub IsPrintOfReading : Request → Reading → Answer → Type 0
-IsPrintOfReading asked (Defs defs) answer = IsPrintOfDefinitions (definition_views defs.items) asked answer
-IsPrintOfReading asked (Unread mistakes) answer = IsRefusal asked answer × (mistakes.items ≢ [] → HasReport asked.format answer)
+-- there is none: texts have mistakes, or else the definition or the tree that stands there can't be spelled
+abbrev pub HasNoText : TextContents → Type 0
+HasNoText contents =
+    (contents.mistakes ≢ []) ⊎ ((at : Position) × (woven 0 contents.definitions contents.trees ≡ Err (unspelled at)))
 
--- texts are printed as something that they are read as
+-- what texts have is printed, and nothing else, if it has a text; else it is told why it has none
+abbrev pub IsPrintOfContents : TextContents → Request → Answer → Type 0
+IsPrintOfContents contents asked answer =
+    (IsDone answer × IsTextOf contents (string_bytes answer.out))
+    ⊎ (HasNoText contents × IsRefusal asked answer × HasReport asked.format answer)
+
 abbrev pub IsPrintOfTexts : Request → List (List ℕ) → Answer → Type 0
-IsPrintOfTexts asked texts answer = (reading : Reading) × IsReadingOf (has_no_definitions asked) texts reading × IsPrintOfReading asked reading answer
+IsPrintOfTexts asked texts answer = IsPrintOfContents (contents_of_texts 0 texts) asked answer
 
--- the places of a report, and where a definition is told of: nowhere if it has no place
+-- the places of a report
 abbrev pub label_places : Report → List Pos
 label_places report = map (λ label. label.pos) report.labels.items
-
-abbrev pub places_of : Option Pos → List Pos
-places_of None = []
-places_of (Some place) = place ∷ []
 
 -- files are answered together, or as two versions, or as one text of all their definitions, by the task
 abbrev pub IsAnswerToFiles : Request → Files → Answer → Type 0

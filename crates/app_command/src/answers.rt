@@ -1,12 +1,11 @@
 //! What the command answers to texts.
 
-ghost use Rattle.std.specs.Prelude.{◌≡◌, ◌==◌, ◌≢◌, ◌⊎◌, ◌≤◌, true, false, [], length, map, string_bytes, IfOk, OnOk};
+ghost use Rattle.std.specs.Prelude.{◌≡◌, ◌≢◌, ◌⊎◌, true, false, [], map, string_bytes, take, IfOk, OnOk};
 ghost use Rattle.cranelift_isle.specs.SyntaxViews.{definition_views};
-ghost use Rattle.app_command.specs.declared.words.Task.TheVariants.{Lower, Run};
+ghost use Rattle.app_words.specs.declared.tasks.Task.TheVariants.{Compare, Lower, Run};
 ghost use Rattle.app_command.specs.Codes.{IsAnswerOfCode, IsAnswerOfRust};
-ghost use Rattle.app_command.specs.Compared.{last_has_trees};
 ghost use Rattle.app_command.specs.TaskAnswers.{AreReports, AreSizes, HasNoReport, HasReport, IsDone, IsDoneWithText, IsDoneWithoutText, IsFailed, IsRefusal, IsStatusOfWarnings, denies};
-ghost use Rattle.app_command.specs.TaskAnswers.{IsAnswerBy, IsAnswerOfTold, IsAnswerToDefinitions, IsAnswerToFiles, IsAnswerToOneReading, IsAnswerToReading};
+ghost use Rattle.app_command.specs.TaskAnswers.{IsAnswerBy, IsAnswerOfComparing, IsAnswerOfTold, IsAnswerToDefinitions, IsAnswerToFiles, IsAnswerToOneReading, IsAnswerToReading};
 ghost use Rattle.app_command.specs.Statuses.{IsStatusOfReading};
 
 use crate::calls::{Told, ran, told_why};
@@ -17,11 +16,12 @@ use crate::reading::{Reading, reading_of};
 use crate::trees::{missing_term, text_of_trees, told, wanted};
 use crate::unread::{refusal_of_forms, refusal_of_texts};
 use crate::versions::answer_to_versions;
-use crate::words::{Format, Request, Task};
+use app_words::request::{Format, Request};
+use app_words::tasks::Task;
 use cranelift_isle::lower::{Lowered, lower};
 use cranelift_isle::syntax::{Def, Error, Fault, Files};
 use report_compare::departures;
-use report_errors::diagnosis::{amount_wanted, reports_of};
+use report_errors::diagnosis::{MOST_ERRORS, amount_wanted, reports_of};
 use report_errors::explanation::explanation;
 use report_errors::term_sizes::stats;
 use report_json::documents::{
@@ -348,26 +348,24 @@ fn warned(
     if asked.format == Format::Json {
         out = document_of_warnings(alloc, files, warnings)?;
     } else {
-        let shown = shown_of(asked, warnings);
+        let shown = shown_of(asked.wants_all(), warnings);
         push_reports(&mut err, files, shown, asked.layout())?;
         push_rest(&mut err, warnings.len().saturating_sub(shown.len()))?;
     }
     Ok(Answer { status, out, err })
 }
 
-// How many warnings are shown, if not all are wanted.
-const MOST_WARNINGS: usize = 20;
-
-// The warnings that are shown.
-fn shown_of<'a>(asked: &Request<'_>, warnings: &'a [Report]) -> &'a [Report]
-    ensures none { warnings.now ≡ [] → result.now ≡ [] }
-    ensures some { warnings.now ≢ [] → result.now ≢ [] }
-    ensures within { length result.now ≤ length warnings.now }
+/// The errors or warnings that are shown: all, if all are wanted, or the first 20.
+pub(crate) fn shown_of<T>(all: bool, found: &[T]) -> &[T]
+    ensures all { all ≡ true → result.now ≡ found.now }
+    ensures few { all ≡ false → result.now ≡ take 20 found.now }
+    ensures none { found.now ≡ [] → result.now ≡ [] }
+    ensures some { found.now ≢ [] → result.now ≢ [] }
 {
-    if asked.wants_all() || warnings.len() <= MOST_WARNINGS {
-        return warnings;
+    if all || found.len() <= MOST_ERRORS {
+        return found;
     }
-    &warnings[..MOST_WARNINGS]
+    &found[..MOST_ERRORS]
 }
 
 // Whether one of these warnings counts as an error.
@@ -451,7 +449,7 @@ fn compared<E: Write>(
     lowered: &Lowered,
     teller: &mut Teller<'_, E>,
 ) -> Result<Answer, AllocError>
-    ensures { IfOk result (λ a. IsDoneWithoutText a ⊎ IsFailed a) }
+    ensures { IfOk result (IsAnswerBy Compare asked.now files.now lowered.now) }
 {
     if let Some(name) = missing_term(asked.terms, lowered) {
         return missing(alloc, "term with rules", name);
@@ -463,9 +461,7 @@ fn compared<E: Write>(
 
 // Where the trees of the last file depart from these: in all terms, or the first line.
 fn compared_with(alloc: Global, all: bool, files: &Files, trees: &str) -> Result<Answer, AllocError>
-    ensures answer { IfOk result (λ a. IsDoneWithoutText a ⊎ IsFailed a) }
-    // the status is 0 exactly where the file has just these trees
-    ensures same { IfOk result (λ a. (a.status == 0) ≡ last_has_trees (map string_bytes files.now.texts.items) trees.now) }
+    ensures { IfOk result (IsAnswerOfComparing (map string_bytes files.now.texts.items) trees.now) }
 {
     let Some(text) = files.texts.last() else {
         return Ok(accepted(alloc, String::new(alloc)));

@@ -6,7 +6,7 @@ ghost use Rattle.report_traces.specs.CallAnswers.{IsEntry};
 ghost use Rattle.report_traces.specs.RunTexts.{answers_as_echo};
 ghost use Rattle.app_command.specs.CallTexts.{IsTextOfRun, IsToldOfRun};
 
-use crate::words::Request;
+use app_words::request::Request;
 use cranelift_isle::lower::Lowered;
 use cranelift_isle::syntax::Def;
 use report_print::lines::FileLines;

@@ -1,12 +1,13 @@
 //! `isle fmt`: files in the usual layout.
 
 ghost use Rattle.std.specs.Prelude.{◌≡◌, ◌≢◌, ◌⊎◌, ◌≤◌, ◌↔◌, codes, false, true};
+ghost use Rattle.app_command.specs.Layouts.{indentation_asked};
 ghost use Rattle.app_command.specs.Outputs.{IsWrittenOut};
 
 use crate::inputs::{file_text, path_of, standard_text};
 use crate::output::{Ending, write_texts};
 use crate::run::{cannot_read, say};
-use crate::words::{Unasked, given_twice, plain, wrong, wrong_as};
+use app_words::formatting::Formatting;
 use cranelift_isle::syntax::Files;
 use report_errors::syntax_report;
 use report_print::layout::{Layout, push_reports};
@@ -15,102 +16,7 @@ use std::alloc::{AllocError, Global};
 use std::fs::{self, File, OpenFile};
 use std::io::{self, ErrorKind, Read, Write};
 use text_reader::errors::{ReadFault, TextError};
-use text_writer::formatted::formatted;
-
-/// What `fmt` is asked.
-pub struct Formatting<'a> {
-    /// Whether files only are named that would change.
-    pub check: bool,
-    /// Whether then the lines are shown that would change.
-    pub diff: bool,
-    /// Where files are looked for whose names don't begin with `/`; the empty text for where the command runs.
-    pub folder: &'a str,
-    /// The files, where `-` is standard input, whose layout goes to standard output.
-    pub files: Vec<String>,
-}
-
-impl<'a> Drop for Formatting<'a> {
-    fn drop(self) {
-        let Self {
-            check: _,
-            diff: _,
-            folder: _,
-            files: _,
-        } = self;
-    }
-}
-
-// What the next word of `fmt` is.
-#[derive(Clone, Copy, PartialEq, Eq)]
-enum Awaited {
-    Folder,
-    // An option or a file.
-    Any,
-}
-
-/// What the words behind `fmt` ask: `--check`, `--diff`, `-C FOLDER`, and files, of which `-` and `--stdin` are standard input.
-///
-/// # Errors
-///
-/// What is wrong with the words, or that memory was refused.
-pub fn formatting_by<'a>(alloc: Global, words: &'a [String]) -> Result<Formatting<'a>, Unasked> {
-    let mut asked = Formatting {
-        check: false,
-        diff: false,
-        folder: "",
-        files: Vec::new(alloc),
-    };
-    let mut awaited = Awaited::Any;
-    for word in words {
-        awaited = asked.read(alloc, awaited, word.as_str())?;
-    }
-    if awaited == Awaited::Folder {
-        return Err(wrong_as(alloc, "nothing after '-C'"));
-    }
-    asked.check = asked.check || asked.diff;
-    Ok(asked)
-}
-
-// Sets an option that may be given once.
-fn set(alloc: Global, option: &mut bool, word: &str) -> Result<(), Unasked> {
-    if *option {
-        return Err(given_twice(alloc, word));
-    }
-    *option = true;
-    Ok(())
-}
-
-impl<'a> Formatting<'a> {
-    fn read(&mut self, alloc: Global, awaited: Awaited, word: &'a str) -> Result<Awaited, Unasked> {
-        if awaited == Awaited::Folder {
-            self.folder = word;
-            return Ok(Awaited::Any);
-        }
-        match word {
-            "--check" => set(alloc, &mut self.check, word)?,
-            "--diff" => set(alloc, &mut self.diff, word)?,
-            "-C" if self.folder.is_empty() => return Ok(Awaited::Folder),
-            "-C" => return Err(given_twice(alloc, word)),
-            "--stdin" => self.read_file(alloc, "-")?,
-            "" => return Err(wrong_as(alloc, "a file without a name")),
-            _ if word != "-" && word.starts_with('-') => {
-                return Err(wrong(format!(in alloc; "fmt has no option '{word}'")));
-            }
-            _ => self.read_file(alloc, word)?,
-        }
-        Ok(Awaited::Any)
-    }
-
-    // Reads the name of a file, which may be given once.
-    fn read_file(&mut self, alloc: Global, word: &str) -> Result<(), Unasked> {
-        let path = plain(word);
-        if self.files.iter().any(|file| plain(file.as_str()) == path) {
-            return Err(wrong(format!(in alloc; "the file '{word}' is given twice")));
-        }
-        self.files.push(String::from_str(alloc, word)?)?;
-        Ok(())
-    }
-}
+use text_writer::formatted::{Indentation, formatted};
 
 /// Lays files out, and ends with the status: 0 where all are laid out, or with `check` where none would change; 1 where a text is
 /// wrong, or would change; 3 where memory is refused; 4 where a file can't be read or written. The greatest of all files counts.
@@ -184,7 +90,7 @@ fn format_text<R: std::rt::Files + AllocGlobal, O: Write, E: Write>(
     ensures known { result.status ≤ 4 }
     ensures used { result.status ≢ 2 }
 {
-    match formatted(rt.alloc(), 0, text) {
+    match formatted(rt.alloc(), 0, indentation_asked(asked), text) {
         Ok(made) => hand_over(
             rt,
             asked,
@@ -198,6 +104,16 @@ fn format_text<R: std::rt::Files + AllocGlobal, O: Write, E: Write>(
         ),
         Err(ReadFault::Text(error)) => Ending::with(refuse(rt.alloc(), name, text, error, err)),
         Err(ReadFault::Memory(_)) => Ending::with(no_memory(err)),
+    }
+}
+
+// Where lines begin.
+fn indentation_asked(asked: &Formatting<'_>) -> Indentation
+    ensures { result ≡ indentation_asked asked.now.indentation }
+{
+    match asked.indentation {
+        Some(indentation) => indentation,
+        None => Indentation::UnderPart,
     }
 }
 

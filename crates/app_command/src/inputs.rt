@@ -1,6 +1,6 @@
 //! The files that the command reads.
 
-use crate::words::Request;
+use app_words::request::Request;
 use cranelift_isle::syntax::Files;
 use std::alloc::{AllocError, AllocFailed, Global};
 use std::io::{ErrorKind, Read};

@@ -1,4 +1,4 @@
-//! The command `isle`: what it is asked by its words, and what it answers to files of ISLE text.
+//! The command `isle`: what it answers to files of ISLE text.
 #![tactic(auto)]
 
 pub mod answers;
@@ -6,9 +6,7 @@ mod calls;
 pub mod code;
 pub mod formatting;
 mod graphs;
-mod help;
 pub mod inputs;
-mod options;
 pub mod output;
 mod printing;
 pub mod progress;
@@ -18,4 +16,3 @@ pub mod run;
 mod trees;
 pub mod unread;
 mod versions;
-pub mod words;

@@ -1,22 +1,22 @@
-//! What the command answers where the definitions of texts are printed.
+//! What the command answers where what its files have is printed as one text.
 
 ghost use Rattle.std.specs.Prelude.{◌≡◌, ◌≢◌, ◌∷◌, [], map, string_bytes, IfOk};
-ghost use Rattle.cranelift_isle.specs.SyntaxViews.{definition_views};
-ghost use Rattle.app_command.specs.TaskAnswers.{label_places, places_of, HasReport, IsPrintOfDefinitions, IsPrintOfReading, IsPrintOfTexts, IsRefusal};
+ghost use Rattle.text_writer.specs.Contents.{AreOfTexts, contents_of_texts, contents_view};
+ghost use Rattle.app_command.specs.TaskAnswers.{label_places, HasReport, IsPrintOfContents, IsPrintOfTexts, IsRefusal};
 
 use crate::answers::{Answer, accepted, refusal};
 use crate::progress::Teller;
-use crate::reading::{Reading, reading_of};
 use crate::unread::refusal_of_texts;
-use crate::words::Request;
-use cranelift_isle::syntax::{Def, Files, Pos};
-use report_print::report::{Label, Level, Note, Report};
+use app_words::request::Request;
+use cranelift_isle::syntax::{Files, Pos};
+use report_print::lines::file_name;
+use report_print::report::{Label, Level, Report};
 use std::alloc::{AllocError, Global};
 use std::io::Write;
-use text_writer::faults::PrintFault;
-use text_writer::print;
+use text_writer::contents::{Contents, ContentsFault, texts_follow};
 
-/// What is answered to files whose definitions are printed as one text. They are only read, and needn't be accepted.
+/// What is answered to files whose definitions are printed as one text, and with them what they say for a verifier, in their order.
+/// They are only read, and needn't be accepted.
 pub(crate) fn printed_texts<E: Write>(
     alloc: Global,
     asked: &Request<'_>,
@@ -25,53 +25,85 @@ pub(crate) fn printed_texts<E: Write>(
 ) -> Result<Answer, AllocError>
     ensures { IfOk result (IsPrintOfTexts asked.now (map string_bytes files.now.texts.items)) }
 {
-    let reading = reading_of(alloc, asked, files, teller)?;
-    printed_reading(alloc, asked, files, &reading, teller)
+    let contents = contents_of(alloc, files, teller)?;
+    printed_contents(alloc, asked, files, &contents, teller)
 }
 
-// What is answered to what the texts of files were read as.
+// What the texts of files have. It is told of each that it is read.
+fn contents_of<E: Write>(
+    alloc: Global,
+    files: &Files,
+    teller: &mut Teller<'_, E>,
+) -> Result<Contents, AllocError>
+    ensures { IfOk result (λ found. contents_view found ≡ contents_of_texts 0 (map string_bytes files.now.texts.items)) }
+{
+    texts_follow();
+    let mut found = Contents::new(alloc);
+    for (number, text) in files.texts.iter().enumerate() {
+        teller.tell("reading", file_name(files, number));
+        found.add_text(alloc, number, text)?;
+    }
+    Ok(found)
+}
+
+// The text of what texts have, or why there is none.
+fn printed_contents<E: Write>(
+    alloc: Global,
+    asked: &Request<'_>,
+    files: &Files,
+    contents: &Contents,
+    teller: &mut Teller<'_, E>,
+) -> Result<Answer, AllocError>
+    requires { AreOfTexts contents.now }
+    ensures { IfOk result (IsPrintOfContents (contents_view contents.now) asked.now) }
+{
+    if contents.mistakes.is_empty() {
+        printed_reading(alloc, asked, files, contents, teller)
+    } else {
+        unread(alloc, asked, files, contents)
+    }
+}
+
+// The answer where texts have mistakes.
+fn unread(
+    alloc: Global,
+    asked: &Request<'_>,
+    files: &Files,
+    contents: &Contents,
+) -> Result<Answer, AllocError>
+    requires { contents.now.mistakes.items ≢ [] }
+    ensures { IfOk result (IsPrintOfContents (contents_view contents.now) asked.now) }
+{
+    let answer = refusal_of_texts(alloc, asked, files, &contents.mistakes)?;
+    Ok(answer)
+}
+
+// The text of what texts have that have no mistake, or that something can't be spelled.
 fn printed_reading<E: Write>(
     alloc: Global,
     asked: &Request<'_>,
     files: &Files,
-    reading: &Reading,
+    contents: &Contents,
     teller: &mut Teller<'_, E>,
 ) -> Result<Answer, AllocError>
-    ensures { IfOk result (IsPrintOfReading asked.now reading.now) }
-{
-    match reading {
-        Reading::Defs(defs) => printed_definitions(alloc, asked, files, defs, teller),
-        Reading::Unread(mistakes) => refusal_of_texts(alloc, asked, files, mistakes),
-    }
-}
-
-// The text of definitions, or that one of them can't be spelled.
-fn printed_definitions<E: Write>(
-    alloc: Global,
-    asked: &Request<'_>,
-    files: &Files,
-    defs: &[Def],
-    teller: &mut Teller<'_, E>,
-) -> Result<Answer, AllocError>
-    ensures { IfOk result (IsPrintOfDefinitions (definition_views defs.now) asked.now) }
+    requires of_texts { AreOfTexts contents.now }
+    requires read { contents.now.mistakes.items ≡ [] }
+    ensures { IfOk result (IsPrintOfContents (contents_view contents.now) asked.now) }
 {
     teller.tell("printing", "all definitions");
-    match print(alloc, defs) {
+    match contents.printed(alloc) {
         Ok(text) => Ok(accepted(alloc, text)),
-        Err(PrintFault::Unspellable(place)) => {
-            let answer = unspelled(alloc, asked, files, place)?;
-            Ok(answer)
-        }
-        Err(PrintFault::Memory(error)) => Err(error),
+        Err(ContentsFault::Unspellable(place)) => unspelled(alloc, asked, files, place),
+        Err(ContentsFault::Memory(error)) => Err(error),
     }
 }
 
-// The answer where the definition at this place can't be spelled.
+// The answer where what stands at this place can't be spelled.
 fn unspelled(
     alloc: Global,
     asked: &Request<'_>,
     files: &Files,
-    place: Option<Pos>,
+    place: Pos,
 ) -> Result<Answer, AllocError>
     ensures { IfOk result (λ a. IsRefusal asked.now a × HasReport asked.now.format a) }
 {
@@ -80,11 +112,10 @@ fn unspelled(
     Ok(answer)
 }
 
-// The one report of it.
-fn reports_of_unspelled(alloc: Global, place: Option<Pos>) -> Result<Vec<Report>, AllocError>
+// The one report of it, at its place.
+fn reports_of_unspelled(alloc: Global, place: Pos) -> Result<Vec<Report>, AllocError>
     ensures some { IfOk result (λ reports. reports.items ≢ []) }
-    // it is told at the definition's place, where that has one
-    ensures places { IfOk result (λ reports. map label_places reports.items ≡ places_of place ∷ []) }
+    ensures places { IfOk result (λ reports. map label_places reports.items ≡ (place ∷ []) ∷ []) }
 {
     let report = report_of_unspelled(alloc, place)?;
     let mut reports = Vec::new(alloc);
@@ -92,66 +123,27 @@ fn reports_of_unspelled(alloc: Global, place: Option<Pos>) -> Result<Vec<Report>
     Ok(reports)
 }
 
-// The report: a definition without a place is one for other tools.
-fn report_of_unspelled(alloc: Global, place: Option<Pos>) -> Result<Report, AllocError>
-    ensures { IfOk result (λ report. label_places report ≡ places_of place) }
+fn report_of_unspelled(alloc: Global, place: Pos) -> Result<Report, AllocError>
+    ensures { IfOk result (λ report. label_places report ≡ place ∷ []) }
 {
     let labels = labels_of(alloc, place)?;
-    let message = String::from_str(alloc, message_of(place))?;
-    let notes = notes_of(alloc, place)?;
+    let message = String::from_str(alloc, "no text spells this")?;
     Ok(Report {
         level: Level::Error,
         kind: "print",
         code: "print",
         message,
         labels,
-        notes,
+        notes: Vec::new(alloc),
         fixes: Vec::new(alloc),
     })
 }
 
-// The place, where there is one.
-fn labels_of(alloc: Global, place: Option<Pos>) -> Result<Vec<Label>, AllocError>
-    ensures { IfOk result (λ labels. map (λ label. label.pos) labels.items ≡ places_of place) }
+fn labels_of(alloc: Global, place: Pos) -> Result<Vec<Label>, AllocError>
+    ensures { IfOk result (λ labels. map (λ label. label.pos) labels.items ≡ place ∷ []) }
 {
     let mut labels = Vec::new(alloc);
-    match place {
-        Some(pos) => {
-            let text = String::new(alloc);
-            labels.push(Label { pos, text })?;
-            Ok(labels)
-        }
-        None => Ok(labels),
-    }
+    let text = String::new(alloc);
+    labels.push(Label { pos: place, text })?;
+    Ok(labels)
 }
-
-fn message_of(place: Option<Pos>) -> &'static str {
-    match place {
-        Some(_) => "no text spells this definition",
-        None => "a definition for other tools can't be printed",
-    }
-}
-
-// Why there is no place, and by what the definition is found.
-fn notes_of(alloc: Global, place: Option<Pos>) -> Result<Vec<Note>, AllocError> {
-    let mut notes = Vec::new(alloc);
-    if place.is_none() {
-        notes.push(note_of(alloc, "note", NOT_KEPT)?)?;
-        notes.push(note_of(alloc, "help", OTHER_WORDS)?)?;
-    }
-    Ok(notes)
-}
-
-fn note_of(alloc: Global, word: &'static str, text: &str) -> Result<Note, AllocError> {
-    let text = String::from_str(alloc, text)?;
-    Ok(Note {
-        word,
-        text,
-        has_more: false,
-    })
-}
-
-const NOT_KEPT: &str = "the reader keeps neither its list nor its place";
-
-const OTHER_WORDS: &str =
-    "leave it out. It begins with pragma, spec, model, form, instantiate, attr, state, macro or spec_macro";

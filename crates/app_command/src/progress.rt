@@ -1,6 +1,6 @@
 //! What is being done, told while it is done.
 
-use crate::words::Request;
+use app_words::request::Request;
 use cranelift_isle::syntax::{Def, Files};
 use report_print::layout::push_reports;
 use report_stack::deep_rule;

@@ -4,7 +4,7 @@ ghost use Rattle.std.specs.Prelude.{◌≡◌, ◌≢◌, ◌≤◌, [], IfOk, M
 
 use crate::inputs::{Unread, file_text, path_of, unread_folder};
 use crate::run::{cannot_read, wrong_words};
-use crate::words::{Unasked, wrong, wrong_as};
+use app_words::unasked::{Unasked, wrong, wrong_as};
 use report_queries::answers::no_memory;
 use std::alloc::{AllocError, Global};
 use std::fs;
@@ -62,7 +62,7 @@ pub fn find_files<R: std::rt::Files + AllocGlobal, E: Write>(
             *files = names;
             Ok(())
         }
-        Err(Unasked::Words(why)) => Err(wrong_words(rt.alloc(), &why, err)),
+        Err(Unasked::Words(why)) => Err(wrong_words(rt.alloc(), &why, "isle --help", err)),
         Err(Unasked::Memory) => Err(no_memory(err)),
     }
 }

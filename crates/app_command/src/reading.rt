@@ -12,7 +12,8 @@ ghost use Rattle.text_reader.specs.declared.errors.TextError.{TextError};
 ghost use Rattle.app_command.specs.Readings.{has_no_definitions, error_view, mistake_in, mistakes_of_texts, recovered_texts, AreOfTexts, IsReadingOf, StandsIn};
 
 use crate::progress::Teller;
-use crate::words::Request;
+use app_words::request::Request;
+use app_words::tasks::Task;
 use cranelift_isle::syntax::{Def, Files};
 use report_print::lines::file_name;
 use std::alloc::{AllocError, Global};
@@ -51,7 +52,7 @@ pub fn reading_of<E: Write>(
     let mut defs = Vec::new(alloc);
     let mut mistakes = Vec::new(alloc);
     for (number, text) in files.texts.iter().enumerate() {
-        if !asked.has_no_definitions(number) {
+        if !has_no_definitions(asked, number) {
             teller.tell("reading", file_name(files, number));
             read_text(alloc, number, text, &mut defs, &mut mistakes)?;
         }
@@ -61,6 +62,14 @@ pub fn reading_of<E: Write>(
     } else {
         Ok(Reading::Unread(mistakes))
     }
+}
+
+// Whether the file of a number has printed trees or answers, and no definitions.
+fn has_no_definitions(asked: &Request<'_>, number: usize) -> bool
+    ensures { result ≡ has_no_definitions asked.now number }
+{
+    let has_other = matches!(asked.task, Task::Compare) || asked.answers.is_some();
+    has_other && number.checked_add(1) == Some(asked.files.len())
 }
 
 // Reads a text: its definitions are added, or its mistake.
@@ -105,7 +114,7 @@ pub fn recovered_of(
         errors: Vec::new(alloc),
     };
     for (number, text) in files.texts.iter().enumerate() {
-        if !asked.has_no_definitions(number) {
+        if !has_no_definitions(asked, number) {
             add_recovered(alloc, number, text, &mut found)?;
         }
     }

@@ -2,18 +2,22 @@
 
 ghost use Rattle.std.specs.Prelude.{◌≡◌, ◌≢◌, ◌⊎◌, ◌≤◌, [], ◌∷◌, false, map, string_bytes, true, IfErr, IfOk, MatchResult};
 ghost use Rattle.report_queries.specs.Samples.{names_sample};
-ghost use Rattle.app_command.specs.declared.words.Task.TheVariants.{Samples};
+ghost use Rattle.app_words.specs.declared.tasks.Task.TheVariants.{Samples};
 ghost use Rattle.app_command.specs.Outputs.{IsNothingWritten, IsWrittenOut};
 ghost use Rattle.app_command.specs.Statuses.{IsEndingFor, IsEndingOf, IsStatusOfUnread};
 
 use crate::answers::{Answer, answer_within};
-use crate::formatting::{Formatting, run_formatting};
-use crate::help::{VERSION, help_text};
+use crate::formatting::run_formatting;
 use crate::inputs::{Unread, read_files};
 use crate::output::{Ending, write_texts};
 use crate::progress::Unanswered;
 use crate::project::find_files;
-use crate::words::{Command, Request, Task, Unasked, asked_by};
+use app_words::formatting::Formatting;
+use app_words::help::help_text;
+use app_words::request::{Request, add_answers};
+use app_words::tasks::{Job, Task};
+use app_words::unasked::Unasked;
+use app_words::words::first_job;
 use cranelift_isle::syntax::Files;
 use report_queries::answers::{end, no_memory};
 use report_queries::sample_run::run_sample;
@@ -23,37 +27,9 @@ use std::alloc::{AllocError, Global};
 use std::env::{Env, FillError};
 use std::io::{Read, Write};
 
-/// Runs the command: `words` are its arguments without its own name, `input` is standard input, `terminal` says whether `err`
-/// is a terminal, and the answer says by which status it ends, and whether nobody reads `out` any more. A terminal shows what is
-/// being done, and errors in colours if the environment has no `NO_COLOR`.
-///
-/// 0: what is asked is on `out`. 1: what is wrong with the files is on `err`, or on `out` as JSON; or `err` says what there
-/// isn't; or two versions differ, as `out` says. 2: the words ask nothing, and `err` says why. 3: memory was refused, or a rule
-/// takes more stack than there is, as `err` says. 4: a file can't be read, or `out` can't be written. Neither a failure of `err` nor
-/// an `out` that nobody reads changes a status.
-pub fn run<R: std::rt::Files + Env + AllocGlobal, I: Read + Drop, O: Write, E: Write>(
-    rt: &R,
-    words: &[String],
-    input: I,
-    terminal: bool,
-    out: &mut O,
-    err: &mut E,
-) -> Ending
-    // every status has its meaning
-    ensures { result.status ≤ 4 }
-{
-    let colors = terminal && !has_variable(rt, "NO_COLOR");
-    match asked_by(rt.alloc(), words, colors) {
-        Ok(Command::Help(task)) => match help_text(rt.alloc(), task) {
-            Ok(text) => write_texts(&text, "", 0, out, err),
-            Err(AllocError) => Ending::with(no_memory(err)),
-        },
-        Ok(Command::Version) => write_texts(VERSION, "", 0, out, err),
-        Ok(Command::Formatting(asked)) => format_asked(rt, asked, input, out, err),
-        Ok(Command::Request(asked)) => run_asked(rt, asked, input, terminal, out, err),
-        Err(Unasked::Words(why)) => Ending::with(wrong_words(rt.alloc(), &why, err)),
-        Err(Unasked::Memory) => Ending::with(no_memory(err)),
-    }
+/// Whether errors have a terminal's colours where no word says so: on a terminal, if the environment has no `NO_COLOR`.
+pub fn has_colors(env: &impl Env, terminal: bool) -> bool {
+    terminal && !has_variable(env, "NO_COLOR")
 }
 
 // Whether an environment variable has a text that isn't empty.
@@ -66,18 +42,46 @@ fn has_variable(env: &impl Env, name: &str) -> bool {
     }
 }
 
-// Says what is wrong with the words, and answers the status for it, or 3 where memory is refused.
-pub(crate) fn wrong_words<E: Write>(alloc: Global, why: &str, err: &mut E) -> u8
+/// Says why words ask nothing, and answers the status for it: 2 where something is wrong with them, and 3 where memory is refused.
+pub fn refuse_words<E: Write>(alloc: Global, words: &[String], why: Unasked, err: &mut E) -> u8
     ensures { (result ≡ 2) ⊎ (result ≡ 3) }
 {
-    match format!(in alloc; "isle: {why} (see isle --help)\n") {
+    match (why, first_job(words)) {
+        (Unasked::Memory, _) => no_memory(err),
+        (Unasked::Words(why), Some(Job::Conditions)) => {
+            wrong_words(alloc, &why, "isle conditions --help", err)
+        }
+        (Unasked::Words(why), _) => wrong_words(alloc, &why, "isle --help", err),
+    }
+}
+
+/// Says what is wrong with the words, and what to see, and answers the status for it, or 3 where memory is refused.
+pub(crate) fn wrong_words<E: Write>(alloc: Global, why: &str, see: &str, err: &mut E) -> u8
+    ensures { (result ≡ 2) ⊎ (result ≡ 3) }
+{
+    match format!(in alloc; "isle: {why} (see {see})\n") {
         Ok(line) => end(err, &line, 2),
         Err(AllocError) => no_memory(err),
     }
 }
 
-// Lays out the files that words name, or those of a project.
-fn format_asked<R: std::rt::Files + AllocGlobal, I: Read + Drop, O: Write, E: Write>(
+/// Says how the command is used, or what its first word names.
+pub fn tell_help<O: Write, E: Write>(
+    alloc: Global,
+    job: Option<Job>,
+    out: &mut O,
+    err: &mut E,
+) -> Ending
+    ensures { result.status ≤ 4 }
+{
+    match help_text(alloc, job) {
+        Ok(text) => write_texts(&text, "", 0, out, err),
+        Err(AllocError) => Ending::with(no_memory(err)),
+    }
+}
+
+/// Lays out the files that words name, or those of a project.
+pub fn format_asked<R: std::rt::Files + AllocGlobal, I: Read + Drop, O: Write, E: Write>(
     rt: &R,
     mut asked: Formatting<'_>,
     input: I,
@@ -92,8 +96,15 @@ fn format_asked<R: std::rt::Files + AllocGlobal, I: Read + Drop, O: Write, E: Wr
     }
 }
 
-// Does what is asked of the files that words name, or of those of a project.
-fn run_asked<R: std::rt::Files + AllocGlobal, I: Read + Drop, O: Write, E: Write>(
+/// Does what is asked of the files that words name, or of those of a project, and answers by which status it ends, and whether
+/// nobody reads `out` any more. `input` is standard input, and `terminal` says whether `err` is a terminal, which shows what is being
+/// done.
+///
+/// 0: what is asked is on `out`. 1: what is wrong with the files is on `err`, or on `out` as JSON; or `err` says what there
+/// isn't; or two versions differ, as `out` says. 2: no file is named, or no list or sample has this name, and `err` says so. 3:
+/// memory was refused, or a rule takes more stack than there is, as `err` says. 4: a file can't be read, or `out` can't be written.
+/// Neither a failure of `err` nor an `out` that nobody reads changes a status.
+pub fn run_asked<R: std::rt::Files + AllocGlobal, I: Read + Drop, O: Write, E: Write>(
     rt: &R,
     mut asked: Request<'_>,
     input: I,
@@ -123,7 +134,7 @@ fn find_definitions<R: std::rt::Files + AllocGlobal, E: Write>(
         let _ = asked.files.pop();
     }
     find_files(rt, asked.folder, &mut asked.files, err)?;
-    match asked.add_answers(rt.alloc()) {
+    match add_answers(rt.alloc(), &mut asked.files, asked.answers) {
         Ok(()) => Ok(()),
         Err(AllocError) => Err(no_memory(err)),
     }

@@ -7,7 +7,7 @@ ghost use Rattle.app_command.specs.WantedTerms.{has_term, is_asked, missing_name
 
 use crate::graphs::graph_of;
 use crate::progress::Teller;
-use crate::words::Format;
+use app_words::request::Format;
 use cranelift_isle::lower::{Lowered, LoweredTerm};
 use cranelift_isle::syntax::{Def, Files};
 use report_json::documents::document_of_terms;

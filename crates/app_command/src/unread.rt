@@ -1,18 +1,18 @@
 //! What the command answers where texts can't be read.
 
-ghost use Rattle.std.specs.Prelude.{◌≡◌, ◌≢◌, ◌++◌, [], List, map, string_bytes, take, true, false, IfOk, OnOk};
+ghost use Rattle.std.specs.Prelude.{◌≡◌, ◌≢◌, ◌++◌, [], List, map, string_bytes, IfOk, OnOk};
 ghost use Rattle.std.specs.List.{AllZip};
 ghost use Rattle.report_errors.specs.Places.{BeginsAtError, IsAtError};
 ghost use Rattle.report_print.specs.declared.report.Report.{Report};
 ghost use Rattle.app_command.specs.Readings.{has_no_definitions, mistakes_of_texts};
 ghost use Rattle.app_command.specs.TaskAnswers.{HasReport, IsRefusal};
 
-use crate::answers::{Answer, refusal};
+use crate::answers::{Answer, refusal, shown_of};
 use crate::progress::Teller;
 use crate::reading::{recovered_of, recovered_texts_have_no_mistake};
-use crate::words::Request;
+use app_words::request::Request;
 use cranelift_isle::syntax::Files;
-use report_errors::diagnosis::{MOST_ERRORS, amount_wanted, reports_of};
+use report_errors::diagnosis::{amount_wanted, reports_of};
 use report_errors::lost::{errors_beside, lost_parts, lost_report};
 use report_errors::syntax_report;
 use report_print::lines::file_text;
@@ -52,23 +52,12 @@ pub(crate) fn refusal_of_forms<E: Write>(
     teller.tell("explaining", "errors");
     let mut found = recovered_of(alloc, asked, files)?;
     teller.check_stack(alloc, asked, files, &found.defs)?;
-    let told = told_of(asked.wants_all(), &found.errors);
+    let told = shown_of(asked.wants_all(), &found.errors);
     let mut reports = reports_of_forms(alloc, files, told)?;
     let untold = found.errors.len().saturating_sub(reports.len());
     let rest = add_errors(alloc, asked, files, &mut found, &mut reports)?;
     let answer = refusal(alloc, asked, files, &reports, rest.saturating_add(untold))?;
     Ok(answer)
-}
-
-// The mistakes that are told: all, or the first 20.
-fn told_of(all: bool, mistakes: &[TextError]) -> &[TextError]
-    ensures all { all ≡ true → result.now ≡ mistakes.now }
-    ensures few { all ≡ false → result.now ≡ take 20 mistakes.now }
-{
-    if all || mistakes.len() <= MOST_ERRORS {
-        return mistakes;
-    }
-    &mistakes[..MOST_ERRORS]
 }
 
 /// A report for each mistake in forms of the texts of files, at its place.

@@ -10,7 +10,7 @@ use crate::answers::{Answer, refused};
 use crate::progress::Teller;
 use crate::reading::{Reading, reading_of};
 use crate::unread::refusal_of_texts;
-use crate::words::Request;
+use app_words::request::Request;
 use cranelift_isle::lower::lower;
 use cranelift_isle::syntax::{Def, Fault, Files};
 use report_print::lines::FileLines;

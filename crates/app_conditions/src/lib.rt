@@ -5,9 +5,7 @@
 mod calls;
 mod documents;
 mod forms;
-mod help;
 mod judging;
 mod reading;
 pub mod run;
 mod told;
-pub mod words;

@@ -2,13 +2,14 @@
 
 ghost use Rattle.std.specs.Prelude.{◌≡◌, map, string_bytes, IfOk, None};
 ghost use Rattle.app_command.specs.Readings.{none_without, IsReadingOf};
-ghost use Rattle.app_command.specs.declared.words.Task.TheVariants.{Check};
+ghost use Rattle.app_words.specs.declared.tasks.Task.TheVariants.{Check};
 
-use crate::words::ConditionsRequest;
 use app_command::inputs::{Unread, file_text, standard_text};
 use app_command::progress::Teller;
 use app_command::reading::{Reading, reading_of};
-use app_command::words::{Format, Request, Task};
+use app_words::conditions::ConditionsRequest;
+use app_words::request::{Format, Request};
+use app_words::tasks::Task;
 use cranelift_isle::syntax::Files;
 use report_errors::syntax_report;
 use report_print::report::Report;

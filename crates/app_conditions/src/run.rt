@@ -6,17 +6,15 @@ ghost use Rattle.app_command.specs.Readings.{none_without, AreOfTexts};
 ghost use Rattle.cranelift_isle.specs.SyntaxViews.{definition_views};
 
 use crate::documents::{document_of_questions, document_of_verdicts};
-use crate::help::HELP;
 use crate::judging::{Judge, wrong_places};
 use crate::reading::{Said, Texts, definitions_in, said_in, texts_of};
 use crate::told::Teller;
-use crate::words::{ConditionsRequest, WrittenTexts, ask_for_help, conditions_by};
 use app_command::output::{Ending, write_texts};
 use app_command::project::find_files;
 use app_command::reading::Reading;
 use app_command::run::cannot_read;
 use app_command::unread::reports_of_texts;
-use app_command::words::Unasked;
+use app_words::conditions::{ConditionsRequest, WrittenTexts};
 use cranelift_isle::lower::{Lowered, lower};
 use cranelift_isle::syntax::{Def, Error, Fault, Files, Pos};
 use report_errors::diagnosis::{Amount, reports_of};
@@ -34,33 +32,13 @@ use std::io::{Read, Write};
 use text_reader::errors::TextError;
 use text_reader::syntax::VerificationForm;
 
-/// Runs `isle conditions`: `words` are the words behind it, `input` is standard input, and the answer says by which status it ends,
-/// and whether nobody reads `out` any more.
+/// Does what is asked of `isle conditions`: `input` is standard input, and the answer says by which status it ends, and whether nobody
+/// reads `out` any more.
 ///
 /// 0: what is asked is on `out`: questions, or what is told of rules, none of which is wrong. 1: a text, a definition or a spec is
-/// wrong, or no rule is called so, as `err` says; or a rule is wrong, as `out` says. 2: the words ask nothing, and `err` says why. 3:
+/// wrong, or no rule is called so, as `err` says; or a rule is wrong, as `out` says. 2: no file is named, and `err` says so. 3:
 /// memory was refused, or a rule takes more stack than there is, as `err` says. 4: a file can't be read, or `out` can't be written.
 pub fn run<R: std::rt::Files + AllocGlobal, I: Read + Drop, O: Write, E: Write>(
-    rt: &R,
-    words: &[String],
-    input: I,
-    out: &mut O,
-    err: &mut E,
-) -> Ending
-    ensures { result.status ≤ 4 }
-{
-    if ask_for_help(words) {
-        return write_texts(HELP, "", 0, out, err);
-    }
-    match conditions_by(rt.alloc(), words) {
-        Ok(asked) => run_asked(rt, asked, input, out, err),
-        Err(Unasked::Words(why)) => Ending::with(wrong_words(rt.alloc(), &why, err)),
-        Err(Unasked::Memory) => Ending::with(no_memory(err)),
-    }
-}
-
-// Writes what is asked of the files that words name, or of those of a project.
-fn run_asked<R: std::rt::Files + AllocGlobal, I: Read + Drop, O: Write, E: Write>(
     rt: &R,
     mut asked: ConditionsRequest<'_>,
     input: I,
@@ -72,16 +50,6 @@ fn run_asked<R: std::rt::Files + AllocGlobal, I: Read + Drop, O: Write, E: Write
     match find_files(rt, asked.folder, &mut asked.files, err) {
         Ok(()) => run_conditions(rt, &asked, input, out, err),
         Err(status) => Ending::with(status),
-    }
-}
-
-// Says what is wrong with the words, and answers the status for it, or 3 where memory is refused.
-fn wrong_words<E: Write>(alloc: Global, why: &str, err: &mut E) -> u8
-    ensures { (result ≡ 2) ⊎ (result ≡ 3) }
-{
-    match format!(in alloc; "isle: {why} (see isle conditions --help)\n") {
-        Ok(line) => end(err, &line, 2),
-        Err(AllocError) => no_memory(err),
     }
 }
 

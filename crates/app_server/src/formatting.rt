@@ -13,7 +13,7 @@ use std::alloc::{AllocError, Global};
 use text_documents::edits::range_at;
 use text_reader::chunks::{Chunk, chunks};
 use text_reader::errors::ReadFault;
-use text_writer::formatted::formatted;
+use text_writer::formatted::{Indentation, formatted};
 
 /// The edit that lays out a document, or none where that is laid out.
 pub fn layout_of(alloc: Global, analysis: &Analysis, file: usize) -> Result<Value, Refusal> {
@@ -25,7 +25,7 @@ pub fn layout_of(alloc: Global, analysis: &Analysis, file: usize) -> Result<Valu
 fn layout_edit(alloc: Global, text: &str) -> Result<Option<PlacedEdit>, Refusal>
     ensures { IfOk result (λ edit. KeepsTokens text.now edit) }
 {
-    match formatted(alloc, 0, text) {
+    match formatted(alloc, 0, Indentation::UnderPart, text) {
         Ok(made) => edit_between(alloc, text, &made),
         Err(ReadFault::Text(_error)) => Err(Refusal::Unread),
         Err(ReadFault::Memory(_error)) => Err(Refusal::Memory),
@@ -86,7 +86,7 @@ fn form_in<'a>(text: &'a str, chunk: &Chunk) -> &'a str {
 
 // Adds a form in the usual layout, or as it is where it can't be read.
 fn push_layout(alloc: Global, form: &str, out: &mut String) -> Result<(), AllocError> {
-    match formatted(alloc, 0, form) {
+    match formatted(alloc, 0, Indentation::UnderPart, form) {
         Ok(made) => out.push_str(made.trim_end()),
         Err(ReadFault::Text(_error)) => out.push_str(form),
         Err(ReadFault::Memory(error)) => Err(error),

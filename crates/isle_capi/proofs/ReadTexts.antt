@@ -2,7 +2,7 @@
 use Rattle.std.proofs.Common.{◌≡◌, ℕ, Bool, false, List, refl, ap, ◌∙◌, Result, IfOk}
 use Rattle.std.specs.declared.alloc.AllocError.{AllocError}
 use Rattle.app_command.specs.declared.reading.Reading.{Reading}
-use Rattle.app_command.specs.declared.words.Request.{Request}
+use Rattle.app_words.specs.declared.request.Request.{Request}
 use Rattle.app_command.specs.Readings.{has_no_definitions, is_comparison, none_without, IsReadingOf}
 use Rattle.app_command.proofs.AllRead.{all_read}
 use Rattle.isle_capi.specs.declared.options.CallRequest.{CallRequest}

@@ -6,7 +6,7 @@ use Rattle.std.specs.declared.alloc.AllocError.{AllocError}
 use Rattle.core_syntax.specs.declared.syntax.Files.{Files}
 use Rattle.app_command.specs.declared.answers.Answer.{Answer}
 use Rattle.app_command.specs.declared.reading.Reading.{Reading}
-use Rattle.app_command.specs.declared.words.Request.{Request}
+use Rattle.app_words.specs.declared.request.Request.{Request}
 use Rattle.app_command.specs.declared.code.Code.{Code}
 use Rattle.app_command.specs.declared.code.Code.TheVariants.{Names, Text}
 use Rattle.app_command.specs.Codes.{IsCodeOfReading}

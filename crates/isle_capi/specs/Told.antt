@@ -3,11 +3,11 @@ use Rattle.std.specs.Prelude.{ℕ, ◌<◌, ◌≤◌, ◌≡◌, ◌⊎◌, fal
 use Rattle.core_syntax.specs.declared.syntax.Files.{Files}
 use Rattle.app_command.specs.declared.answers.Answer.{Answer}
 use Rattle.app_command.specs.declared.reading.Reading.{Reading}
-use Rattle.app_command.specs.declared.words.Format as CommandFormat
-use Rattle.app_command.specs.declared.words.Format.TheVariants as C
-use Rattle.app_command.specs.declared.words.Request.{Request}
-use Rattle.app_command.specs.declared.words.Task as CommandTask
-use Rattle.app_command.specs.declared.words.Task.TheVariants as T
+use Rattle.app_words.specs.declared.values.Format as CommandFormat
+use Rattle.app_words.specs.declared.values.Format.TheVariants as C
+use Rattle.app_words.specs.declared.request.Request.{Request}
+use Rattle.app_words.specs.declared.tasks.Task as CommandTask
+use Rattle.app_words.specs.declared.tasks.Task.TheVariants as T
 use Rattle.app_command.specs.declared.code.Code.{Code}
 use Rattle.app_command.specs.declared.code.Code.TheVariants.{Names, Text}
 use Rattle.app_command.specs.Codes.{IsCodeOfReading}

@@ -10,10 +10,11 @@ use crate::options::{CallRequest, CallTask, ReportFormat};
 use crate::output::{Sizes, hand_over};
 use crate::statuses::{DONE, ERRORS, NO_CODE, NO_MEMORY};
 use app_command::answers::{Answer, answer_to_reading};
+use app_command::code;
 use app_command::progress::Teller;
 use app_command::reading::{Reading, reading_of};
-use app_command::words::Request;
-use app_command::{code, words};
+use app_words::request::{Format, Request};
+use app_words::tasks::Task;
 use cranelift_isle::syntax::Files;
 use rust_text::code::{CodegenOptions, Prefix};
 use std::alloc::{AllocError, Global};
@@ -175,22 +176,22 @@ fn request_of<'a>(alloc: Global, asked: CallRequest) -> Request<'a>
     }
 }
 
-fn task_of(task: CallTask) -> words::Task
+fn task_of(task: CallTask) -> Task
     ensures { result ≡ command_task task }
 {
     match task {
-        CallTask::Trees => words::Task::Lower,
-        CallTask::Check | CallTask::Code => words::Task::Check,
+        CallTask::Trees => Task::Lower,
+        CallTask::Check | CallTask::Code => Task::Check,
     }
 }
 
-fn format_of(format: ReportFormat) -> words::Format
+fn format_of(format: ReportFormat) -> Format
     ensures { result ≡ command_format format }
 {
     match format {
-        ReportFormat::Text | ReportFormat::Colored => words::Format::Text,
-        ReportFormat::Line => words::Format::Line,
-        ReportFormat::Json => words::Format::Json,
+        ReportFormat::Text | ReportFormat::Colored => Format::Text,
+        ReportFormat::Line => Format::Line,
+        ReportFormat::Json => Format::Json,
     }
 }
 

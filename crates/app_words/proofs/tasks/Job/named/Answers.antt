@@ -1,0 +1,8 @@
+use Rattle.std.proofs.Common.{rules, arith}
+use Rattle.std.proofs.lemmas.Grind.{common_steps}
+use Rattle.app_words.specs.Tasks.{job_named}
+use Rattle.app_words.proofs.tasks.Job.named.Goals as goal
+
+pub returns : goal.returns
+unfolding job_named
+returns c = first_of (search rules, grind (arith, common_steps))
