@@ -1,6 +1,6 @@
 //! Rows that ask for Rust code, which may be written otherwise than the command writes it.
 
-use crate::texts::push_told;
+use crate::texts::{has_word, push_told};
 use cranelift_isle::lower::{Lowered, lower};
 use cranelift_isle::syntax::{Def, Fault, Files};
 use report_print::errors::error_lines;
@@ -47,7 +47,7 @@ fn answer_to_defs(
     files: &Files,
     defs: &[Def],
 ) -> Result<TreesOrErrors, AllocError> {
-    let stays = words.iter().any(|word| word.as_str() == "--no-expand");
+    let stays = has_word(words, "--no-expand");
     match lower(alloc, defs, !stays) {
         Ok(lowered) => code_of(alloc, words, files, &lowered),
         Err(Fault::Errors(errors)) => {

@@ -3,8 +3,9 @@
 use app_command::answers::{Answer, answer_within};
 use app_command::progress::Unanswered;
 use app_command::project::Project;
-use app_command::words::{Command, Request, Unasked, asked_by};
-use app_conditions::words::conditions_by;
+use app_words::request::Request;
+use app_words::unasked::Unasked;
+use app_words::words::{Command, asked_by};
 use cranelift_isle::syntax::Files;
 use std::alloc::{AllocError, Global};
 
@@ -20,30 +21,11 @@ pub fn push_command(
     files: &Files,
     out: &mut String,
 ) -> Result<(), AllocError> {
-    match words {
-        [task, rest @ ..] if task.as_str() == "conditions" => push_conditions(alloc, rest, out),
-        _ => push_asked(alloc, words, files, out),
-    }
-}
-
-// Adds that the words behind `conditions` ask something, or what is wrong with them.
-fn push_conditions(alloc: Global, words: &[String], out: &mut String) -> Result<(), AllocError> {
-    match conditions_by(alloc, words) {
-        Ok(_) => out.push_str("conditions\n"),
-        Err(Unasked::Words(why)) => write!(out, "status 2\n{why}\n"),
-        Err(Unasked::Memory) => Err(AllocError),
-    }
-}
-
-fn push_asked(
-    alloc: Global,
-    words: &[String],
-    files: &Files,
-    out: &mut String,
-) -> Result<(), AllocError> {
     match asked_by(alloc, words, false) {
         Ok(Command::Request(asked)) => push_answer(alloc, &asked, files, out),
         Ok(Command::Formatting(_)) => out.push_str("fmt\n"),
+        Ok(Command::Conditions(_)) => out.push_str("conditions\n"),
+        Ok(Command::Server) => out.push_str("lsp\n"),
         Ok(Command::Help(_)) => out.push_str("help\n"),
         Ok(Command::Version) => out.push_str("version\n"),
         Err(Unasked::Words(why)) => write!(out, "status 2\n{why}\n"),

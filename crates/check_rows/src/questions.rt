@@ -2,6 +2,7 @@
 
 use crate::asking::{Refused, asked_about};
 use crate::replies::push_reply;
+use crate::texts::has_word;
 use cranelift_isle::syntax::Pos;
 use spec_formulas::faults::SpecError;
 use spec_questions::answers::answers_in;
@@ -59,16 +60,6 @@ pub fn push_answer(
     out: &mut String,
 ) -> Result<(), AllocError> {
     push_reply(alloc, text, number_in(words), out)
-}
-
-// Whether a word stands on a row's line.
-fn has_word(words: &[String], wanted: &str) -> bool {
-    for word in words {
-        if word.as_str() == wanted {
-            return true;
-        }
-    }
-    false
 }
 
 // The number that a row's line ends with; 0 where it ends with none.

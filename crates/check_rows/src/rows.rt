@@ -1,7 +1,11 @@
 //! Rows: words that ask, and texts of files.
 
+use crate::calls::push_calls;
 use crate::code::push_code;
 use crate::command::{push_command, push_files};
+use crate::documents::{push_edits, push_offsets, push_places};
+use crate::errors::push_errors;
+use crate::outputs::push_output;
 use crate::questions::{push_answer, push_questions, push_verdicts};
 use crate::texts::push_text;
 use crate::writing::{push_laid, push_printed, push_sample};
@@ -24,10 +28,10 @@ impl<'a> Drop for Row<'a> {
 ///
 /// A row is a line that begins with `# `, behind it the row's name and its words, and the text of the file `a.isle` below it.
 /// A line that begins with `## ` and a name begins another file. What stands before the first row is passed over. The words
-/// are those of the command, or the first one is `code`, `files`, `tree`, `rules`, `laid`, `printed`, `sample`, `shared`, `questions`,
-/// `verdicts` or `reply`. For these but `code` and `verdicts` only the first file is looked at. The text of a row `shared` has no
-/// answer, and stands before the text of each row `questions` or `verdicts` behind it. The last file of a row `verdicts` is a file of
-/// records. The text of a row `reply` is what a solver wrote, and that of a row `files` is a project file.
+/// are those of the command, or the first one is one of those in `push_answered`. For these but `code`, `edits` and `verdicts` only the
+/// first file is looked at. The text of a row `shared` has no answer, and stands before the text of each row `questions` or
+/// `verdicts` behind it. The last file of a row `verdicts` is a file of records. The text of a row `reply` is what a solver wrote, and
+/// that of a row `files` is a project file.
 pub fn answers(alloc: Global, text: &str) -> Result<String, AllocError> {
     let mut out = String::new(alloc);
     let mut shared = String::new(alloc);
@@ -88,19 +92,36 @@ fn push_row(
     }
     push_line(out, row.line)?;
     let words = words_of(alloc, row.line)?;
-    let text = first_of(&row.files.texts);
-    match first_of(&words) {
+    push_answered(alloc, &words, &row.files, shared, out)
+}
+
+// Adds what is answered to a row's words and files.
+fn push_answered(
+    alloc: Global,
+    words: &[String],
+    files: &Files,
+    shared: &mut String,
+    out: &mut String,
+) -> Result<(), AllocError> {
+    let text = first_of(&files.texts);
+    match first_of(words) {
         "shared" => shared.push_str(text),
-        "questions" => push_behind(alloc, &words, shared, text, out),
-        "verdicts" => push_judged(alloc, shared, &row.files.texts, out),
-        "reply" => push_answer(alloc, &words, text, out),
-        "files" => push_files(alloc, &words, text, out),
-        "code" => push_code(alloc, &words, &row.files, out),
-        "laid" => push_laid(alloc, text, out),
+        "questions" => push_behind(alloc, words, shared, text, out),
+        "verdicts" => push_judged(alloc, shared, &files.texts, out),
+        "reply" => push_answer(alloc, words, text, out),
+        "files" => push_files(alloc, words, text, out),
+        "places" => push_places(text, out),
+        "offsets" => push_offsets(words, text, out),
+        "edits" => push_edits(alloc, files, out),
+        "errors" => push_errors(alloc, text, out),
+        "output" => push_output(alloc, words, out),
+        "calls" => push_calls(alloc, out),
+        "code" => push_code(alloc, words, files, out),
+        "laid" => push_laid(alloc, words, text, out),
         "printed" => push_printed(alloc, text, out),
-        "sample" => push_sample(alloc, &words, out),
-        "tree" | "rules" => push_text(alloc, &words, text, out),
-        _ => push_command(alloc, &words, &row.files, out),
+        "sample" => push_sample(alloc, words, out),
+        "tree" | "rules" => push_text(alloc, words, text, out),
+        _ => push_command(alloc, words, files, out),
     }
 }
 

@@ -25,8 +25,14 @@ pub fn push_text(
     }
 }
 
-fn has_word(words: &[String], word: &str) -> bool {
-    words.iter().any(|other| other.as_str() == word)
+/// Whether a word stands on a row's line.
+pub fn has_word(words: &[String], wanted: &str) -> bool {
+    for word in words {
+        if word.as_str() == wanted {
+            return true;
+        }
+    }
+    false
 }
 
 // Adds what is answered to each beginning of a text.

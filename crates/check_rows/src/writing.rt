@@ -7,12 +7,21 @@ use report_queries::sample_run::run_sample;
 use std::alloc::{AllocError, Global};
 use text_reader::errors::ReadFault;
 use text_reader::{read, verification};
-use text_writer::formatted::formatted;
+use text_writer::formatted::{Indentation, formatted};
 use text_writer::verification::print_all;
 
-/// Adds a text in the usual layout, or what is wrong with it.
-pub fn push_laid(alloc: Global, text: &str, out: &mut String) -> Result<(), AllocError> {
-    match formatted(alloc, 0, text) {
+/// Adds a text in the usual layout, by two columns where the words behind the row's first one say so; or what is wrong with it.
+pub fn push_laid(
+    alloc: Global,
+    words: &[String],
+    text: &str,
+    out: &mut String,
+) -> Result<(), AllocError> {
+    let indentation = match words.get(1) {
+        Some(_) => Indentation::TwoColumns,
+        None => Indentation::UnderPart,
+    };
+    match formatted(alloc, 0, indentation, text) {
         Ok(laid) => push_told(TreesOrErrors::Trees(laid), out),
         Err(ReadFault::Text(error)) => {
             let line = syntax_error_line(alloc, text, &error)?;

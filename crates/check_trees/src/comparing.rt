@@ -2,7 +2,6 @@
 
 use crate::documents::{list_at, read_json};
 use crate::faults::ReadFault;
-use crate::lists::list;
 use crate::names::Tables;
 use crate::read_term::ReadTerm;
 use crate::text::read_text;
@@ -17,8 +16,8 @@ use std::alloc::{AllocError, Global};
 use text_reader::errors::ReadFault as TextFault;
 use text_reader::read;
 
-/// What is told of this number of lists: each difference, and below them what was read.
-pub fn told(alloc: Global, count: usize) -> Result<String, AllocError> {
+/// What is told of lists of definitions, each behind those that all share: each difference, and below them what was read.
+pub fn told(alloc: Global, lists: &str) -> Result<String, AllocError> {
     let mut comparison = Comparison {
         alloc,
         out: String::new(alloc),
@@ -31,11 +30,10 @@ pub fn told(alloc: Global, count: usize) -> Result<String, AllocError> {
         objects: 0,
         differences: 0,
     };
-    for number in 0..count {
-        comparison.list = number;
-        comparison.compare_list()?;
+    if let Some((shared, lists)) = lists.split_once("\n\n") {
+        comparison.compare_lists(shared, lists)?;
     }
-    comparison.push_counts(count)?;
+    comparison.push_counts()?;
     let Comparison { out, .. } = comparison;
     Ok(out)
 }
@@ -46,7 +44,7 @@ struct Comparison {
     alloc: Global,
     // what is told
     out: String,
-    // the number of the list that is compared
+    // how many lists were compared before the one that is compared
     list: usize,
     // how many lists are accepted, how many terms with rules they have, and how many sites and steps these have
     accepted: usize,
@@ -60,27 +58,43 @@ struct Comparison {
 }
 
 impl Comparison {
-    fn compare_list(&mut self) -> Result<(), AllocError> {
-        let text = list(self.alloc, self.list)?;
-        match read(self.alloc, 0, &text) {
-            Ok(defs) => self.compare_definitions(text, &defs),
+    // Compares each of the lists that stand behind those that they share.
+    fn compare_lists(&mut self, shared: &str, lists: &str) -> Result<(), AllocError> {
+        for list in lists.split("\n\n") {
+            let text = format!(in self.alloc; "{shared}\n{list}\n")?;
+            let files = one_file(self.alloc, text)?;
+            self.compare_list(&files)?;
+            self.list = self.list.saturating_add(1);
+        }
+        Ok(())
+    }
+
+    fn compare_list(&mut self, files: &Files) -> Result<(), AllocError> {
+        match read(self.alloc, 0, file_text(files, 0)) {
+            Ok(defs) => self.compare_definitions(files, &defs),
             Err(TextFault::Text(_)) => self.push_difference("definitions", "all terms", "not read"),
             Err(TextFault::Memory(error)) => Err(error),
         }
     }
 
     // Compares the terms of definitions, where they are accepted.
-    fn compare_definitions(&mut self, text: String, defs: &[Def]) -> Result<(), AllocError> {
+    fn compare_definitions(&mut self, files: &Files, defs: &[Def]) -> Result<(), AllocError> {
         match lower(self.alloc, defs, true) {
-            Ok(lowered) => {
-                self.accepted = self.accepted.saturating_add(1);
-                let files = one_file(self.alloc, text)?;
-                self.compare_texts(&files, &lowered)?;
-                self.compare_document(&files, defs, &lowered)
-            }
+            Ok(lowered) => self.compare_terms(files, defs, &lowered),
             Err(Fault::Errors(_)) => Ok(()),
             Err(Fault::Memory(error)) => Err(error),
         }
+    }
+
+    fn compare_terms(
+        &mut self,
+        files: &Files,
+        defs: &[Def],
+        lowered: &Lowered,
+    ) -> Result<(), AllocError> {
+        self.accepted = self.accepted.saturating_add(1);
+        self.compare_texts(files, lowered)?;
+        self.compare_document(files, defs, lowered)
     }
 
     // Compares the text of each term with the term.
@@ -123,30 +137,37 @@ impl Comparison {
         let terms: Vec<&LoweredTerm> = lowered.terms.iter().collect(self.alloc)?;
         let document = document_of_terms(self.alloc, files, defs, lowered, &terms)?;
         match Value::from_str(self.alloc, &document) {
-            Ok(value) => self.compare_objects(lowered, &value),
+            Ok(value) => self.compare_objects(files, lowered, &value),
             Err(_) => self.push_difference("JSON", "all terms", "not read"),
         }
     }
 
-    fn compare_objects(&mut self, lowered: &Lowered, value: &Value) -> Result<(), AllocError> {
+    fn compare_objects(
+        &mut self,
+        files: &Files,
+        lowered: &Lowered,
+        value: &Value,
+    ) -> Result<(), AllocError> {
         let objects = list_at(value, "terms").unwrap_or(&[]);
         if objects.len() != lowered.terms.len() {
             return self.push_difference("JSON", "all terms", "other terms");
         }
         for (object, term) in objects.iter().zip(&lowered.terms) {
-            self.compare_object(lowered, term, object)?;
+            self.compare_object(file_text(files, 0), lowered, term, object)?;
         }
         Ok(())
     }
 
     fn compare_object(
         &mut self,
+        source: &str,
         lowered: &Lowered,
         term: &LoweredTerm,
         object: &Value,
     ) -> Result<(), AllocError> {
         let name = name_of(lowered, term);
-        let read = read_json(self.alloc, Tables { lowered, term }, name, object);
+        let tables = Tables { lowered, term };
+        let read = read_json(self.alloc, tables, name, source, object);
         if let Ok(read) = &read {
             self.objects = self.objects.saturating_add(read.parts);
         }
@@ -177,8 +198,8 @@ impl Comparison {
         write!(self.out, "list {number}, {name}, {form}: {what}\n")
     }
 
-    fn push_counts(&mut self, lists: usize) -> Result<(), AllocError> {
-        let (accepted, terms) = (self.accepted, self.terms);
+    fn push_counts(&mut self) -> Result<(), AllocError> {
+        let (lists, accepted, terms) = (self.list, self.accepted, self.terms);
         write!(self.out, "{lists} lists, {accepted} accepted\n")?;
         let (sites, steps) = (self.sites, self.steps);
         write!(self.out, "{terms} terms, {sites} sites, {steps} steps\n")?;

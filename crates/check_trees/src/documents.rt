@@ -1,294 +1,115 @@
-//! Sites and trees read back from JSON, by the keys of `docs/JSON.md`.
+//! Sites and trees read back from JSON, by the keys of `docs/JSON.md`: they are written as the lines of a text, which is then read.
 
 ghost use Rattle.std.specs.Prelude.{◌≡◌, ◌+◌, IfOk};
 
 use crate::faults::ReadFault;
 use crate::names::Tables;
 use crate::read_term::ReadTerm;
-use crate::reader::place;
-use core_rule_sets::trie_again::{Binding, BindingId, Constraint, TupleIndex};
-use core_serialize::serialize::{Block, ControlFlow, EvalStep, MatchArm};
-use core_syntax::syntax::Pos;
-use core_types::{Sym, TermId, TypeId, VariantId};
+use crate::text::read_text;
 use serde_json::Value;
 use std::alloc::Global;
 
 // How deep tests stand in one another, which is more than a reader of JSON takes.
 const DEEPEST: usize = 128;
 
-/// What an object of a term says, where the object has the term's name.
+// What the line of a site says, by its kind. A word that begins with a sign stands for what an object has at a key: `$` for a text,
+// `+` for a number, `#` for the number of a call, `?` for a truth value, `*` for sites, `_` for fields.
+const SITES: [(&str, &str); 15] = [
+    ("argument", "arg +index *of"),
+    ("bool", "$type ?value *of"),
+    ("int", "int $value $type *of"),
+    ("constant", "prim $name *of"),
+    ("extract", "extract $name *of"),
+    ("call", "call $name *of"),
+    ("impure call", "call $name #impure *of"),
+    ("each", "pick *of"),
+    ("variant", "make $name *of"),
+    ("struct", "make $name *of"),
+    ("field", "field +field of *of"),
+    ("field of a variant", "field +field of *of variant +variant"),
+    ("part", "part +field of *of"),
+    ("some", "some *of"),
+    ("unwrap", "unwrap *of"),
+];
+
+// What the line of an arm says before its fields, by the kind of what it asks.
+const ARMS: [(&str, &str); 6] = [
+    ("variant", "variant $name"),
+    ("struct", "struct $name"),
+    ("bool", "$type ?value"),
+    ("int", "int $value $type"),
+    ("constant", "prim $name"),
+    ("some", "some"),
+];
+
+// What the line of a step says, by its test.
+const STEPS: [(&str, &str); 4] = [
+    ("match", "match *sites"),
+    ("equal", "equal *sites"),
+    ("loop", "loop *sites"),
+    ("return", "return *sites"),
+];
+
+/// What an object of a term says, where the object has the term's name. Its parts are objects of sites, of steps and of arms.
 pub fn read_json(
     alloc: Global,
     tables: Tables<'_>,
     name: &str,
+    source: &str,
     object: &Value,
 ) -> Result<ReadTerm, ReadFault> {
-    if text_at(object, "name")? != name {
-        return Err(ReadFault::Unreadable);
+    let mut text = String::new(alloc);
+    let parts = push_term(&mut text, object)?;
+    let mut read = read_text(alloc, tables, name, source, &text)?;
+    read.parts = parts;
+    Ok(read)
+}
+
+// Adds the lines of a term, and tells how many objects these are of.
+fn push_term(out: &mut String, term: &Value) -> Result<usize, ReadFault> {
+    let name = text_at(term, "name")?;
+    write!(out, "term {name}")?;
+    let sites = list_at(term, "sites")?;
+    for site in sites {
+        push_site(out, site)?;
     }
-    let mut reader = JsonReader {
-        alloc,
-        tables,
-        steps: 0,
-        arms: 0,
-    };
-    let sites = reader.sites(object)?;
-    let block = reader.block(object, "tree", DEEPEST)?;
-    Ok(ReadTerm {
-        parts: sites
-            .len()
-            .saturating_add(reader.steps)
-            .saturating_add(reader.arms),
-        steps: reader.steps,
-        sites,
-        block,
-    })
+    let mut parts = sites.len();
+    push_parts(out, &mut parts, term, list_at(term, "tree")?, DEEPEST)?;
+    out.push('\n')?;
+    Ok(parts)
 }
 
-// What an object of a term is read with.
-struct JsonReader<'a> {
-    alloc: Global,
-    tables: Tables<'a>,
-    // how many steps and arms were read
-    steps: usize,
-    arms: usize,
+fn push_site(out: &mut String, site: &Value) -> Result<(), ReadFault> {
+    push_begin(out, DEEPEST)?;
+    push_number(out, " b", value_at(site, "id")?)?;
+    out.push_str(" =")?;
+    let what = value_at(site, "what")?;
+    push_form(out, what, form_of(&SITES, site_kind(what)?)?)
 }
 
-impl<'a> Drop for JsonReader<'a> {
-    fn drop(self) {
-        let Self {
-            alloc: _,
-            tables: _,
-            steps: _,
-            arms: _,
-        } = self;
+// The kind of a site, where a call may be impure, and a field one of a variant.
+fn site_kind(what: &Value) -> Result<&str, ReadFault> {
+    match text_at(what, "kind")? {
+        "call" if what.get("impure").and_then(Value::as_u64) != Some(0) => Ok("impure call"),
+        "field" if what.get("variant").is_some() => Ok("field of a variant"),
+        kind => Ok(kind),
     }
 }
 
-impl<'a> JsonReader<'a> {
-    // The sites of a term's object.
-    fn sites(&self, term: &Value) -> Result<Vec<Binding>, ReadFault> {
-        let mut sites = Vec::new(self.alloc);
-        for site in list_at(term, "sites")? {
-            if number_at(site, "id")? != sites.len() {
-                return Err(ReadFault::Unreadable);
-            }
-            sites.push(self.site(value_at(site, "what")?)?)?;
-        }
-        Ok(sites)
+// Adds the lines of steps or of arms, in which so many levels may stand, and of what is in them.
+fn push_parts(
+    out: &mut String,
+    count: &mut usize,
+    term: &Value,
+    parts: &[Value],
+    depth: usize,
+) -> Result<(), ReadFault> {
+    *count = count.saturating_add(parts.len());
+    for part in parts {
+        push_head(out, term, part, depth)?;
+        push_parts(out, count, term, inner_of(part)?, less_deep(depth)?)?;
     }
-
-    // The tree of a term's object, or what follows a test.
-    #[cycle(json)]
-    fn block(&mut self, holder: &Value, key: &str, depth: usize) -> Result<Block, ReadFault> {
-        let mut steps = Vec::new(self.alloc);
-        for step in list_at(holder, key)? {
-            steps.push(self.step(step, depth)?)?;
-            self.steps = self.steps.saturating_add(1);
-        }
-        Ok(Block { steps })
-    }
-
-    #[cycle(json)]
-    fn step(&mut self, step: &Value, depth: usize) -> Result<EvalStep, ReadFault> {
-        Ok(EvalStep {
-            bind_order: sites_at(self.alloc, step, "bind")?,
-            check: self.check(step, depth)?,
-        })
-    }
-
-    // A test with what follows it, or an end.
-    #[cycle(json)]
-    fn check(&mut self, step: &Value, depth: usize) -> Result<ControlFlow, ReadFault> {
-        let depth = less_deep(depth)?;
-        let sites = sites_at(self.alloc, step, "sites")?;
-        match (text_at(step, "test")?, sites.as_slice()) {
-            ("match", [source]) => Ok(ControlFlow::Match {
-                source: *source,
-                arms: self.arms(step, depth)?,
-            }),
-            ("equal", [a, b]) => Ok(ControlFlow::Equal {
-                a: *a,
-                b: *b,
-                body: self.block(step, "body", depth)?,
-            }),
-            ("loop", [result]) => Ok(ControlFlow::Loop {
-                result: *result,
-                body: self.block(step, "body", depth)?,
-            }),
-            ("return", [result]) => Ok(ControlFlow::Return {
-                pos: self.rule_place(step)?,
-                result: *result,
-            }),
-            _ => Err(ReadFault::Unreadable),
-        }
-    }
-
-    #[cycle(json)]
-    fn arms(&mut self, step: &Value, depth: usize) -> Result<Vec<MatchArm>, ReadFault> {
-        let mut arms = Vec::new(self.alloc);
-        for arm in list_at(step, "arms")? {
-            arms.push(self.arm(arm, depth)?)?;
-            self.arms = self.arms.saturating_add(1);
-        }
-        Ok(arms)
-    }
-
-    #[cycle(json)]
-    fn arm(&mut self, arm: &Value, depth: usize) -> Result<MatchArm, ReadFault> {
-        let bindings = fields_of(self.alloc, arm)?;
-        let constraint = self.constraint(value_at(arm, "is")?, place(bindings.len())?)?;
-        Ok(MatchArm {
-            constraint,
-            bindings,
-            body: self.block(arm, "body", depth)?,
-        })
-    }
-
-    // The place of the rule that a return takes.
-    fn rule_place(&self, step: &Value) -> Result<Pos, ReadFault> {
-        found(self.tables.rule_place(number_at(step, "rule")?))
-    }
-
-    // What an arm asks, which has so many fields.
-    fn constraint(&self, asked: &Value, fields: TupleIndex) -> Result<Constraint, ReadFault> {
-        match text_at(asked, "kind")? {
-            "variant" => {
-                let (ty, variant) = self.variant(asked)?;
-                Ok(Constraint::Variant {
-                    ty,
-                    variant,
-                    fields,
-                })
-            }
-            "struct" => Ok(Constraint::Struct {
-                ty: self.ty(asked, "name")?,
-                fields,
-            }),
-            "bool" => Ok(Constraint::ConstBool {
-                val: flag_at(asked, "value")?,
-                ty: self.ty(asked, "type")?,
-            }),
-            "int" => Ok(Constraint::ConstInt {
-                val: digits_at(asked, "value")?,
-                ty: self.ty(asked, "type")?,
-            }),
-            "constant" => Ok(Constraint::ConstPrim {
-                val: self.constant(asked)?,
-            }),
-            "some" => Ok(Constraint::Some),
-            _ => Err(ReadFault::Unreadable),
-        }
-    }
-
-    // A site, of what it is.
-    fn site(&self, what: &Value) -> Result<Binding, ReadFault> {
-        let of = sites_at(self.alloc, what, "of")?;
-        match of.as_slice() {
-            [source] => match self.site_of_one(what, *source)? {
-                Some(site) => Ok(site),
-                None => self.site_of_all(what, of),
-            },
-            [] => match self.site_of_none(what)? {
-                Some(site) => Ok(site),
-                None => self.site_of_all(what, of),
-            },
-            _ => self.site_of_all(what, of),
-        }
-    }
-
-    // A site that is made of no other, if it is of such a kind.
-    fn site_of_none(&self, what: &Value) -> Result<Option<Binding>, ReadFault> {
-        Ok(Some(match text_at(what, "kind")? {
-            "bool" => Binding::ConstBool {
-                val: flag_at(what, "value")?,
-                ty: self.ty(what, "type")?,
-            },
-            "int" => Binding::ConstInt {
-                val: digits_at(what, "value")?,
-                ty: self.ty(what, "type")?,
-            },
-            "constant" => Binding::ConstPrim {
-                val: self.constant(what)?,
-            },
-            "argument" => Binding::Argument {
-                index: place(number_at(what, "index")?)?,
-            },
-            _ => return Ok(None),
-        }))
-    }
-
-    // A site that is made of one other, if it is of such a kind.
-    fn site_of_one(&self, what: &Value, source: BindingId) -> Result<Option<Binding>, ReadFault> {
-        Ok(Some(match text_at(what, "kind")? {
-            "extract" => Binding::Extractor {
-                term: self.term(what)?,
-                parameter: source,
-            },
-            "each" => Binding::Iterator { source },
-            "some" => Binding::MakeSome { inner: source },
-            "unwrap" => Binding::MatchSome { source },
-            "field" => self.field(what, source)?,
-            "part" => Binding::MatchTuple {
-                source,
-                field: place(number_at(what, "field")?)?,
-            },
-            _ => return Ok(None),
-        }))
-    }
-
-    // A field of a struct, or of a variant where there is one.
-    fn field(&self, what: &Value, source: BindingId) -> Result<Binding, ReadFault> {
-        let field = place(number_at(what, "field")?)?;
-        if what.get("variant").is_none() {
-            return Ok(Binding::ExtractStruct { source, field });
-        }
-        Ok(Binding::MatchVariant {
-            source,
-            variant: VariantId(number_at(what, "variant")?),
-            field,
-        })
-    }
-
-    // A site that is made of any number of others.
-    fn site_of_all(&self, what: &Value, of: Vec<BindingId>) -> Result<Binding, ReadFault> {
-        match text_at(what, "kind")? {
-            "call" => Ok(Binding::Constructor {
-                term: self.term(what)?,
-                parameters: of,
-                instance: impure_at(what)?,
-            }),
-            "variant" => {
-                let (ty, variant) = self.variant(what)?;
-                Ok(Binding::MakeVariant {
-                    ty,
-                    variant,
-                    fields: of,
-                })
-            }
-            "struct" => Ok(Binding::MakeStruct {
-                ty: self.ty(what, "name")?,
-                fields: of,
-            }),
-            _ => Err(ReadFault::Unreadable),
-        }
-    }
-
-    fn term(&self, value: &Value) -> Result<TermId, ReadFault> {
-        found(self.tables.term_named(text_at(value, "name")?))
-    }
-
-    fn ty(&self, value: &Value, key: &str) -> Result<TypeId, ReadFault> {
-        found(self.tables.type_named(text_at(value, key)?))
-    }
-
-    fn variant(&self, value: &Value) -> Result<(TypeId, VariantId), ReadFault> {
-        found(self.tables.variant_named(text_at(value, "name")?))
-    }
-
-    fn constant(&self, value: &Value) -> Result<Sym, ReadFault> {
-        found(self.tables.constant_named(text_at(value, "name")?))
-    }
+    Ok(())
 }
 
 // How deep tests may stand in a test.
@@ -299,6 +120,141 @@ fn less_deep(depth: usize) -> Result<usize, ReadFault>
         Some(depth) => Ok(depth),
         None => Err(ReadFault::Unreadable),
     }
+}
+
+// Adds the lines of a step or of an arm without what is in it.
+fn push_head(out: &mut String, term: &Value, part: &Value, depth: usize) -> Result<(), ReadFault> {
+    match part.get("is") {
+        Some(asked) => push_arm(out, asked, part, depth),
+        None => push_step(out, term, part, depth),
+    }
+}
+
+fn push_arm(out: &mut String, asked: &Value, arm: &Value, depth: usize) -> Result<(), ReadFault> {
+    push_begin(out, depth)?;
+    push_form(out, asked, form_of(&ARMS, text_at(asked, "kind")?)?)?;
+    push_form(out, arm, "_fields")?;
+    out.push(':')?;
+    Ok(())
+}
+
+fn push_step(out: &mut String, term: &Value, step: &Value, depth: usize) -> Result<(), ReadFault> {
+    if !list_at(step, "bind")?.is_empty() {
+        push_begin(out, depth)?;
+        push_form(out, step, "bind *bind")?;
+    }
+    push_begin(out, depth)?;
+    let test = text_at(step, "test")?;
+    push_form(out, step, form_of(&STEPS, test)?)?;
+    if test == "return" {
+        push_place(out, rule_of(term, number_at(step, "rule")?)?)?;
+    }
+    Ok(())
+}
+
+// The steps or the arms that stand in a step or an arm.
+fn inner_of(part: &Value) -> Result<&[Value], ReadFault> {
+    match part.get("test").and_then(Value::as_str) {
+        Some("return") => Ok(&[]),
+        Some("match") => list_at(part, "arms"),
+        _ => list_at(part, "body"),
+    }
+}
+
+// The rule of a number.
+fn rule_of(term: &Value, number: usize) -> Result<&Value, ReadFault> {
+    for rule in list_at(term, "rules")? {
+        if number_at(rule, "id")? == number {
+            return Ok(rule);
+        }
+    }
+    Err(ReadFault::Unreadable)
+}
+
+// Adds which rule is returned from, by its name, where it has one, and its place.
+fn push_place(out: &mut String, rule: &Value) -> Result<(), ReadFault> {
+    out.push_str("  ;")?;
+    if !value_at(rule, "name")?.is_null() {
+        push_form(out, rule, "$name at")?;
+    }
+    push_form(out, rule, "$file")?;
+    push_number(out, ":", value_at(rule, "line")?)?;
+    push_number(out, ":", value_at(rule, "column")?)
+}
+
+// Begins a line, but for the space before its first word.
+fn push_begin(out: &mut String, depth: usize) -> Result<(), ReadFault> {
+    out.push_str("\n ")?;
+    for _ in depth..DEEPEST {
+        out.push_str("  ")?;
+    }
+    Ok(())
+}
+
+// The form of a kind.
+fn form_of(forms: &[(&'static str, &'static str)], kind: &str) -> Result<&'static str, ReadFault> {
+    for (name, form) in forms {
+        if *name == kind {
+            return Ok(*form);
+        }
+    }
+    Err(ReadFault::Unreadable)
+}
+
+// Adds the words of a form, each behind a space.
+fn push_form(out: &mut String, object: &Value, form: &str) -> Result<(), ReadFault> {
+    for word in form.split(' ') {
+        push_word(out, object, word)?;
+    }
+    Ok(())
+}
+
+fn push_word(out: &mut String, object: &Value, word: &str) -> Result<(), ReadFault> {
+    let key = word.get(1..).unwrap_or("");
+    match word.as_bytes().first().copied() {
+        Some(b'$') => push_text(out, text_at(object, key)?),
+        Some(b'+') => push_number(out, " ", value_at(object, key)?),
+        Some(b'#') => push_number(out, " #", value_at(object, key)?),
+        Some(b'?') => push_text(out, truth(flag_at(object, key)?)),
+        Some(b'*') => push_sites(out, list_at(object, key)?),
+        Some(b'_') => push_fields(out, list_at(object, key)?),
+        _ => push_text(out, word),
+    }
+}
+
+fn truth(value: bool) -> &'static str {
+    if value { "true" } else { "false" }
+}
+
+fn push_text(out: &mut String, text: &str) -> Result<(), ReadFault> {
+    write!(out, " {text}")?;
+    Ok(())
+}
+
+// Adds a number behind a sign.
+fn push_number(out: &mut String, sign: &str, value: &Value) -> Result<(), ReadFault> {
+    let number = as_number(value)?;
+    write!(out, "{sign}{number}")?;
+    Ok(())
+}
+
+fn push_sites(out: &mut String, sites: &[Value]) -> Result<(), ReadFault> {
+    for site in sites {
+        push_number(out, " b", site)?;
+    }
+    Ok(())
+}
+
+// Adds the sites of fields, of which nothing may use some.
+fn push_fields(out: &mut String, fields: &[Value]) -> Result<(), ReadFault> {
+    for field in fields {
+        if field.is_null() {
+            out.push_str(" _")?;
+        } else {
+            push_number(out, " b", field)?;
+        }
+    }
+    Ok(())
 }
 
 // What is looked for, which has to be there.
@@ -335,51 +291,4 @@ fn as_number(value: &Value) -> Result<usize, ReadFault> {
         Some(number) => Ok(number as usize),
         None => Err(ReadFault::Unreadable),
     }
-}
-
-// The number of an impure call, or 0.
-fn impure_at(value: &Value) -> Result<u32, ReadFault> {
-    match u32::try_from(number_at(value, "impure")?) {
-        Ok(number) => Ok(number),
-        Err(_) => Err(ReadFault::Unreadable),
-    }
-}
-
-// An integer that is written as a string.
-fn digits_at(value: &Value, key: &str) -> Result<i128, ReadFault> {
-    match text_at(value, key)?.parse::<i128>() {
-        Ok(number) => Ok(number),
-        Err(_) => Err(ReadFault::Unreadable),
-    }
-}
-
-fn as_site(value: &Value) -> Result<BindingId, ReadFault> {
-    match BindingId::try_from(as_number(value)?) {
-        Ok(site) => Ok(site),
-        Err(_) => Err(ReadFault::Unreadable),
-    }
-}
-
-fn sites_at(alloc: Global, value: &Value, key: &str) -> Result<Vec<BindingId>, ReadFault> {
-    let mut sites = Vec::new(alloc);
-    for site in list_at(value, key)? {
-        sites.push(as_site(site)?)?;
-    }
-    Ok(sites)
-}
-
-// The sites of an arm's fields, and None where nothing uses a field.
-fn fields_of(alloc: Global, arm: &Value) -> Result<Vec<Option<BindingId>>, ReadFault> {
-    let mut fields = Vec::new(alloc);
-    for field in list_at(arm, "fields")? {
-        fields.push(as_field(field)?)?;
-    }
-    Ok(fields)
-}
-
-fn as_field(value: &Value) -> Result<Option<BindingId>, ReadFault> {
-    if value.is_null() {
-        return Ok(None);
-    }
-    Ok(Some(as_site(value)?))
 }

@@ -1,9 +1,10 @@
 //! Names looked up in the tables of what was lowered.
 
-use core_types::{Sym, TermId, Type, TypeId, VariantId};
+use core_types::{Sym, TermId, TypeId, VariantId};
 use cranelift_isle::lower::{Lowered, LoweredTerm};
+use cranelift_isle::sema::TermKind;
 use cranelift_isle::syntax::Pos;
-use report_queries::names::{sym_name, term_name, type_name};
+use report_queries::names::sym_name;
 
 /// Where names are looked up: the tables, and the term that is read.
 #[derive(Clone, Copy)]
@@ -13,57 +14,31 @@ pub struct Tables<'a> {
 }
 
 impl<'a> Tables<'a> {
+    /// The name of this text. Constants are told by their names.
+    pub fn sym_named(self, name: &str) -> Option<Sym> {
+        self.lowered.tyenv.sym_map.get(name).copied()
+    }
+
     /// The term of a name.
     pub fn term_named(self, name: &str) -> Option<TermId> {
-        for term in self.lowered.termenv.terms.iter() {
-            if term_name(&self.lowered.tyenv, &self.lowered.termenv, term.id) == Some(name) {
-                return Some(term.id);
-            }
-        }
-        None
+        let name = self.sym_named(name)?;
+        self.lowered.termenv.term_map.get(&name).copied()
     }
 
     /// The type of a name.
     pub fn type_named(self, name: &str) -> Option<TypeId> {
-        for number in 0..self.lowered.tyenv.types.len() {
-            if type_name(&self.lowered.tyenv, TypeId(number)) == Some(name) {
-                return Some(TypeId(number));
-            }
-        }
-        None
+        let name = self.sym_named(name)?;
+        self.lowered.tyenv.type_map.get(&name).copied()
     }
 
     /// The variant of a name that begins with its enum's name and a point.
     pub fn variant_named(self, name: &str) -> Option<(TypeId, VariantId)> {
-        for ty in &self.lowered.tyenv.types {
-            if let Some(variant) = self.variant_in(ty, name) {
-                return Some((ty.id(), variant));
-            }
+        let term = self.term_named(name)?;
+        let term = self.lowered.termenv.terms.get(term.index())?;
+        match term.kind {
+            TermKind::EnumVariant { variant } => Some((term.ret_ty, variant)),
+            _ => None,
         }
-        None
-    }
-
-    // The variant of a type that has this name.
-    fn variant_in(self, ty: &Type, name: &str) -> Option<VariantId> {
-        let Type::Enum { variants, .. } = ty else {
-            return None;
-        };
-        for variant in variants {
-            if sym_name(&self.lowered.tyenv, variant.fullname) == Some(name) {
-                return Some(variant.id);
-            }
-        }
-        None
-    }
-
-    /// The constant of a name.
-    pub fn constant_named(self, name: &str) -> Option<Sym> {
-        for number in 0..self.lowered.tyenv.syms.len() {
-            if sym_name(&self.lowered.tyenv, Sym(number)) == Some(name) {
-                return Some(Sym(number));
-            }
-        }
-        None
     }
 
     /// The name of the term's rule at a position.
@@ -71,16 +46,6 @@ impl<'a> Tables<'a> {
         for rule in &self.term.rules.rules {
             if rule.pos == pos {
                 return sym_name(&self.lowered.tyenv, rule.name?);
-            }
-        }
-        None
-    }
-
-    /// The position of the term's rule of a number.
-    pub fn rule_place(self, id: usize) -> Option<Pos> {
-        for rule in &self.term.rules.rules {
-            if rule.id.index() == id {
-                return Some(rule.pos);
             }
         }
         None

@@ -197,7 +197,7 @@ fn token_of(tables: Tables<'_>, next: Next, word: &str) -> Option<Token> {
         Next::Truth => Some(Token::Truth(word.parse::<bool>().ok()?)),
         Next::Integer => Some(Token::Integer(word.parse::<i128>().ok()?)),
         Next::TypeName => Some(Token::TypeName(tables.type_named(word)?)),
-        Next::ConstantName => Some(Token::ConstantName(tables.constant_named(word)?)),
+        Next::ConstantName => Some(Token::ConstantName(tables.sym_named(word)?)),
         Next::TermName => Some(Token::TermName(tables.term_named(word)?)),
         Next::VariantName => variant_token(tables, word),
         Next::Made => match variant_token(tables, word) {
@@ -237,30 +237,37 @@ fn plain_token(word: &str) -> Option<Token> {
     }
 }
 
-fn word_of(word: &str) -> Option<Word> {
-    Some(match word {
-        "bind" => Word::Bind,
-        "match" => Word::Match,
-        "equal" => Word::Equal,
-        "loop" => Word::Loop,
-        "return" => Word::Return,
-        "bool" => Word::Bool,
-        "int" => Word::Int,
-        "prim" => Word::Prim,
-        "arg" => Word::Arg,
-        "extract" => Word::Extract,
-        "call" => Word::Call,
-        "pick" => Word::Pick,
-        "make" => Word::Make,
-        "some" => Word::Some,
-        "unwrap" => Word::Unwrap,
-        "field" => Word::Field,
-        "part" => Word::Part,
-        "of" => Word::Of,
-        "variant" => Word::Variant,
-        "struct" => Word::Struct,
-        "_" => Word::Nothing,
-        "=" => Word::Equals,
-        _ => return None,
-    })
+// The words that are the same in all trees.
+const WORDS: [(&str, Word); 22] = [
+    ("bind", Word::Bind),
+    ("match", Word::Match),
+    ("equal", Word::Equal),
+    ("loop", Word::Loop),
+    ("return", Word::Return),
+    ("bool", Word::Bool),
+    ("int", Word::Int),
+    ("prim", Word::Prim),
+    ("arg", Word::Arg),
+    ("extract", Word::Extract),
+    ("call", Word::Call),
+    ("pick", Word::Pick),
+    ("make", Word::Make),
+    ("some", Word::Some),
+    ("unwrap", Word::Unwrap),
+    ("field", Word::Field),
+    ("part", Word::Part),
+    ("of", Word::Of),
+    ("variant", Word::Variant),
+    ("struct", Word::Struct),
+    ("_", Word::Nothing),
+    ("=", Word::Equals),
+];
+
+fn word_of(text: &str) -> Option<Word> {
+    for (written, word) in WORDS {
+        if written == text {
+            return Some(word);
+        }
+    }
+    None
 }

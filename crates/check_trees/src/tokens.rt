@@ -5,7 +5,7 @@ use core_syntax::syntax::Pos;
 use core_types::{Sym, TermId, TypeId, VariantId};
 
 /// A word that is the same in all trees. `Nothing` is `_`, `Equals` is `=`.
-#[derive(Clone, Copy, PartialEq, Eq)]
+#[derive(Clone, Copy)]
 pub enum Word {
     Bind,
     Match,
@@ -32,7 +32,7 @@ pub enum Word {
 }
 
 /// A token of a line, where a name is the number that it has in the tables.
-#[derive(Clone, Copy, PartialEq, Eq)]
+#[derive(Clone, Copy)]
 pub enum Token {
     Word(Word),
     Site(BindingId),
@@ -47,7 +47,7 @@ pub enum Token {
 }
 
 /// What stands behind the tokens of a line: nothing; the colon of an arm; the place of the rule that a return takes.
-#[derive(Clone, Copy, PartialEq, Eq)]
+#[derive(Clone, Copy)]
 pub enum Ending {
     Nothing,
     Colon,
