@@ -10,7 +10,7 @@ PROVING = {
     "isle": "rt run -- lower fall.isle",
     "isle_tree": "rt run -- fall",
     "check_refusals": "rt run",
-    "check_trials": "rt run -- --sample fall",
+    "check_rows": "rt run",
 }
 
 

@@ -1,4 +1,4 @@
-//! What the program's words ask for, and what is answered.
+//! What the words of a row ask for, and what is answered.
 
 use crate::outcomes::outcomes;
 use crate::source::source;
@@ -7,21 +7,11 @@ use cranelift_isle::lower::lower;
 use cranelift_isle::syntax::{Def, Error, Fault, Files};
 use report_queries::answers::TreesOrErrors;
 use report_queries::answers_texts::syntax_error_line;
-use report_queries::samples::sample_text;
 use report_queries::texts::{Places, error_lines};
 use rust_text::code::CodeError;
 use std::alloc::{AllocError, Global};
 use text_reader::errors::ReadFault;
 use text_reader::read;
-
-/// What is asked for.
-#[derive(Clone, Copy)]
-pub enum Job<'a> {
-    /// The definitions of the sample of this name.
-    Sample(&'a str),
-    /// Trials of definitions.
-    Trials(Trials),
-}
 
 /// Trials that are wanted.
 #[derive(Clone, Copy)]
@@ -34,45 +24,18 @@ pub struct Trials {
     pub count: usize,
 }
 
-/// What words ask for, or None where they ask for nothing.
-pub fn asked_by(words: &[String]) -> Option<Job<'_>> {
-    match words {
-        [first, second, third] => {
-            if first.as_str() == "--outcomes" {
-                trials_by(true, second, third)
-            } else {
-                None
-            }
-        }
-        [first, second] => match first.as_str() {
-            "--sample" => Some(Job::Sample(second.as_str())),
-            _ => trials_by(false, first, second),
-        },
-        _ => None,
-    }
-}
-
-// Trials by two numbers.
-fn trials_by<'a>(outcomes: bool, seed: &str, count: &str) -> Option<Job<'a>> {
+/// The trials that a row's words ask for, `trials SEED COUNT` or `outcomes SEED COUNT`, or None where they ask for none.
+pub fn asked_by(words: &[String]) -> Option<Trials> {
+    let [first, seed, count] = words else {
+        return None;
+    };
     match (seed.parse::<u64>(), count.parse::<usize>()) {
-        (Ok(seed), Ok(count)) => Some(Job::Trials(Trials {
-            outcomes,
+        (Ok(seed), Ok(count)) => Some(Trials {
+            outcomes: first.as_str() == "outcomes",
             seed,
             count,
-        })),
+        }),
         _ => None,
-    }
-}
-
-/// The definitions of a sample, or that there is no such sample.
-///
-/// # Errors
-///
-/// Where memory is refused.
-pub fn text_of(alloc: Global, name: &str) -> Result<TreesOrErrors, AllocError> {
-    match sample_text(name) {
-        Some(text) => Ok(TreesOrErrors::Trees(String::from_str(alloc, text)?)),
-        None => Ok(TreesOrErrors::Errors(String::from_str(alloc, "no such sample\n")?)),
     }
 }
 
