@@ -1,5 +1,6 @@
 //! Rows: words that ask, and texts of files.
 
+use crate::archive::push_call;
 use crate::calls::push_calls;
 use crate::code::push_code;
 use crate::command::{push_command, push_files};
@@ -29,8 +30,8 @@ impl<'a> Drop for Row<'a> {
 ///
 /// A row is a line that begins with `# `, behind it the row's name and its words, and the text of the file `a.isle` below it.
 /// A line that begins with `## ` and a name begins another file. What stands before the first row is passed over. The words
-/// are those of the command, or the first one is one of those in `push_answered`. For these but `code`, `edits` and `verdicts` only the
-/// first file is looked at. The text of a row `shared` has no answer, and stands before the text of each row `questions` or
+/// are those of the command, or the first one is one of those in `push_answered`. For these but `archive`, `code`, `edits` and
+/// `verdicts` only the first file is looked at. The text of a row `shared` has no answer, and stands before the text of each row `questions` or
 /// `verdicts` behind it. The last file of a row `verdicts` is a file of records. The text of a row `reply` is what a solver wrote, and
 /// that of a row `files` is a project file.
 pub fn answers(alloc: Global, text: &str) -> Result<String, AllocError> {
@@ -117,6 +118,7 @@ fn push_answered(
         "errors" => push_errors(alloc, text, out),
         "output" => push_output(alloc, words, out),
         "calls" => push_calls(alloc, out),
+        "archive" => push_call(alloc, words, files, out),
         "code" => push_code(alloc, words, files, out),
         "laid" => push_laid(alloc, words, text, out),
         "printed" => push_printed(alloc, text, out),

@@ -1,30 +1,20 @@
 //! The compiler as a static library for C and Rust: one call, which takes the texts of files and writes what comes of them into
-//! the caller's buffer. `bindings/c/isle.h` declares it.
+//! the caller's buffer. `bindings/c/isle.h` declares it, and `app_calls` answers it.
 #![tactic(auto)]
 
 ghost use Rattle.std.specs.Prelude.{◌≡◌, true};
-ghost use Rattle.isle_capi.specs.Calls.{are_texts, texts_in, AddUp, AreOther, ArePrefixes, IsStatus, LeavesBehind, TellsOther, TellsPrefixes};
-ghost use Rattle.isle_capi.specs.Known.{AreOptions};
-ghost use Rattle.isle_capi.specs.Told.{IsToldByCall};
+ghost use Rattle.app_calls.specs.Calls.{are_texts, texts_in, AddUp, AreOther, ArePrefixes, IsStatus, LeavesBehind, TellsOther, TellsPrefixes};
+ghost use Rattle.app_calls.specs.Known.{AreOptions};
+ghost use Rattle.app_calls.specs.Told.{IsToldByCall};
+ghost use Rattle.app_calls.specs.declared.statuses.TheConstants.{NOT_UTF8, WRONG_LENGTHS, WRONG_OPTION, WRONG_PREFIX};
 
-mod answers;
-pub mod inputs;
-pub mod options;
-pub mod output;
-pub mod prefixes;
-pub mod statuses;
-#[cfg(test)]
-mod tests;
+use app_calls::inputs::FileLengths;
+use app_calls::lower_texts;
+use app_calls::options::Options;
+use app_calls::output::Sizes;
+use std::alloc::Global;
 
-use crate::answers::{codegen_options, told};
-use crate::inputs::{FileLengths, UnreadInput, add_up, files_of};
-use crate::options::{Options, asked_by};
-use crate::output::Sizes;
-use crate::prefixes::prefixes_of;
-use crate::statuses::{NO_MEMORY, NOT_UTF8, WRONG_LENGTHS, WRONG_OPTION, WRONG_PREFIX};
-use std::alloc::{AllocError, Global};
-
-/// Does what is asked of files of ISLE text, and answers a status, one of `statuses`.
+/// Does what is asked of files of ISLE text, and answers a status, one of `app_calls::statuses`.
 ///
 /// `bytes` has for each file its name and then its text, file after file, and `files` how many bytes each takes, which add up
 /// to all of them. All files together are one list of definitions. `prefix_bytes` and `prefixes` hand in the same way what Rust
@@ -65,23 +55,14 @@ pub extern "C" fn isle_capi_lower(
     ensures told { AreOptions options.now → AddUp files.now bytes.now → are_texts files.now bytes.now ≡ true
         → ArePrefixes prefixes.now prefix_bytes.now → IsToldByCall options.now (texts_in files.now bytes.now) out.old out.new sizes.new result }
 {
-    *sizes = Sizes::none();
-    let Some(asked) = asked_by(options) else {
-        return WRONG_OPTION;
-    };
-    if !add_up(files, bytes.len()) {
-        return WRONG_LENGTHS;
-    }
-    match files_of(alloc, bytes, files) {
-        Ok(files) => match prefixes_of(alloc, prefix_bytes, prefixes) {
-            Ok(Some(prefixes)) => {
-                let code = codegen_options(asked, prefixes);
-                told(alloc, asked, &code, &files, out, sizes)
-            }
-            Ok(None) => WRONG_PREFIX,
-            Err(AllocError) => NO_MEMORY,
-        },
-        Err(UnreadInput::Memory) => NO_MEMORY,
-        Err(UnreadInput::Text) => NOT_UTF8,
-    }
+    lower_texts(
+        alloc,
+        bytes,
+        files,
+        options,
+        prefix_bytes,
+        prefixes,
+        out,
+        sizes,
+    )
 }
