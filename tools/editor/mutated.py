@@ -1,8 +1,8 @@
 #!/usr/bin/env python3
 """Sends messages that were changed at random to the server.
 
-The messages are those of crates/check_json/stdin without the ones that end the server. The server has to go on, to answer a request that
-follows each message, to answer no id twice, and to end with the status 0 after shutdown and exit.
+The messages are those of the recorded exchange (a row of crates/check_rows/stdin) without the ones that end the server. The server has to
+go on, to answer a request that follows each message, to answer no id twice, and to end with the status 0 after shutdown and exit.
 """
 
 import argparse
@@ -29,9 +29,10 @@ PING = (
 def recorded():
     """The recorded messages, as texts."""
     top = os.path.dirname(os.path.dirname(os.path.dirname(os.path.realpath(__file__))))
-    path = os.path.join(top, 'crates', 'check_json', 'stdin')
-    with open(path, encoding='utf-8') as lines:
-        texts = [line[2:].rstrip('\n') for line in lines if line.startswith('> ')]
+    path = os.path.join(top, 'crates', 'check_rows', 'stdin')
+    with open(path, encoding='utf-8', newline='\n') as file:
+        row = file.read().split('\n# recorded exchange\n')[1].split('\n# ')[0]
+    texts = [line[2:] for line in row.split('\n') if line.startswith('> ')]
     return [text for text in texts if '"shutdown"' not in text and '"exit"' not in text]
 
 

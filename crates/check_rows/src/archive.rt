@@ -1,5 +1,6 @@
 //! Rows that ask the library for C and Rust, by the call that it exports.
 
+use crate::words::text_at;
 use app_calls::inputs::FileLengths;
 use app_calls::lower_texts;
 use app_calls::options::Options;
@@ -94,8 +95,5 @@ fn add_files(
 
 // The number that a word is, or 0.
 fn number_at(words: &[String], place: usize) -> usize {
-    match words.get(place) {
-        Some(word) => word.parse::<usize>().unwrap_or(0),
-        None => 0,
-    }
+    text_at(words, place).parse::<usize>().unwrap_or(0)
 }

@@ -1,6 +1,7 @@
 //! Rows that ask for Rust code, which may be written otherwise than the command writes it.
 
-use crate::texts::{has_word, push_told};
+use crate::texts::push_told;
+use crate::words::has_word;
 use cranelift_isle::lower::{Lowered, lower};
 use cranelift_isle::syntax::{Def, Fault, Files};
 use report_print::errors::error_lines;

@@ -1,5 +1,6 @@
 //! Rows that ask the command `isle`.
 
+use crate::words::text_at;
 use app_command::answers::{Answer, answer_within};
 use app_command::progress::Unanswered;
 use app_command::project::Project;
@@ -44,8 +45,7 @@ pub fn push_files(
         above: String::new(alloc),
         text: String::from_str(alloc, text)?,
     };
-    let list = words.get(1).map_or("", |word| word.as_str());
-    match project.files(alloc, list) {
+    match project.files(alloc, text_at(words, 1)) {
         Ok(files) => {
             let names = files.join(alloc, "\n")?;
             write!(out, "status 0\n{names}\n")

@@ -1,14 +1,15 @@
 //! Rows on the text of an open document: places in UTF-16 and bytes, and changes. A document has no line's end at its end where the
 //! row's text has one.
 
+use crate::words::text_at;
 use cranelift_isle::syntax::Files;
 use std::alloc::{AllocError, Global};
 use text_documents::changes::Change;
 use text_documents::documents::Document;
 use text_documents::places::{DocumentPosition, offset_at, place_at};
 
-// The text of a document, of which a row's text has a line's end more.
-fn document_of(text: &str) -> &str {
+/// The text of a document, of which a row's text has a line's end more.
+pub fn document_of(text: &str) -> &str {
     text.strip_suffix("\n").unwrap_or(text)
 }
 
@@ -41,7 +42,7 @@ pub fn push_offsets(words: &[String], text: &str, out: &mut String) -> Result<()
 /// Adds whether the changes of a row are made in its first file, the version that is then reached from 1, and the text. Each further
 /// file is a change: its name has the two places, or is `whole`, and its text is what is put there.
 pub fn push_edits(alloc: Global, files: &Files, out: &mut String) -> Result<(), AllocError> {
-    let text = files.texts.first().map_or("", |text| document_of(text));
+    let text = document_of(text_at(&files.texts, 0));
     let mut document = Document::new(1, String::from_str(alloc, text)?);
     let changes = changes_of(alloc, files)?;
     let made = document.change(alloc, 2, &changes)?;

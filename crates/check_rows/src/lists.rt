@@ -1,6 +1,7 @@
 //! Rows that ask for trials of generated code, or for what is read back of lists.
 
 use crate::texts::push_told;
+use crate::words::text_at;
 use check_trees::comparing::told;
 use check_trials::words::{answer, asked_by};
 use report_queries::samples::sample_text;
@@ -27,11 +28,7 @@ pub fn push_lists(alloc: Global, text: &str, out: &mut String) -> Result<(), All
 
 /// Adds the definitions of the sample that the words behind the row's first one name.
 pub fn push_definitions(words: &[String], out: &mut String) -> Result<(), AllocError> {
-    let name = match words.get(1) {
-        Some(name) => name.as_str(),
-        None => "",
-    };
-    match sample_text(name) {
+    match sample_text(text_at(words, 1)) {
         Some(text) => write!(out, "status 0\n{text}\n"),
         None => out.push_str("status 1\nno such sample\n"),
     }

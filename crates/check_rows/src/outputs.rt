@@ -1,6 +1,6 @@
 //! Rows on programs whose output fails.
 
-use crate::texts::has_word;
+use crate::words::{has_word, text_at};
 use report_queries::answers::write_text;
 use std::alloc::{AllocError, Global};
 use std::io;
@@ -52,9 +52,8 @@ pub fn push_output(alloc: Global, words: &[String], out: &mut String) -> Result<
 }
 
 fn failing_by(words: &[String]) -> Failing {
-    let writes = words.get(1).map_or("", |word| word.as_str());
     Failing {
-        writes: writes.parse::<usize>().unwrap_or(0),
+        writes: text_at(words, 1).parse::<usize>().unwrap_or(0),
         flushes: has_word(words, "flushed"),
         why: if has_word(words, "closed") {
             CLOSED

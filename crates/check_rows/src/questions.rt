@@ -2,7 +2,7 @@
 
 use crate::asking::{Refused, asked_about};
 use crate::replies::push_reply;
-use crate::texts::has_word;
+use crate::words::has_word;
 use cranelift_isle::syntax::Pos;
 use spec_formulas::faults::SpecError;
 use spec_questions::answers::answers_in;

@@ -6,10 +6,15 @@ use crate::code::push_code;
 use crate::command::{push_command, push_files};
 use crate::documents::{push_edits, push_offsets, push_places};
 use crate::errors::push_errors;
+use crate::exchange::push_exchange;
+use crate::files::{add_file, one_file};
+use crate::fixes::push_fix;
 use crate::lists::{push_definitions, push_lists, push_trials};
 use crate::outputs::push_output;
 use crate::questions::{push_answer, push_questions, push_verdicts};
+use crate::read_back::{push_forms, push_values};
 use crate::texts::push_text;
+use crate::words::{text_at, words_from};
 use crate::writing::{push_laid, push_printed, push_sample};
 use cranelift_isle::syntax::Files;
 use std::alloc::{AllocError, Global};
@@ -30,46 +35,36 @@ impl<'a> Drop for Row<'a> {
 ///
 /// A row is a line that begins with `# `, behind it the row's name and its words, and the text of the file `a.isle` below it.
 /// A line that begins with `## ` and a name begins another file. What stands before the first row is passed over. The words
-/// are those of the command, or the first one is one of those in `push_answered`. For these but `archive`, `code`, `edits` and
-/// `verdicts` only the first file is looked at. The text of a row `shared` has no answer, and stands before the text of each row `questions` or
-/// `verdicts` behind it. The last file of a row `verdicts` is a file of records. The text of a row `reply` is what a solver wrote, and
-/// that of a row `files` is a project file.
-pub fn answers(alloc: Global, text: &str) -> Result<String, AllocError> {
+/// are those of the command, or the first one is one of those in `push_answered`. For these but `archive`, `code`, `edits`,
+/// `values` and `verdicts` only the first file is looked at. The text of a row `shared` has no answer, and stands before the text of
+/// each row `questions` or `verdicts` behind it. The last file of a row `verdicts` is a file of records. The text of a row `reply` is
+/// what a solver wrote, and that of a row `files` is a project file.
+pub fn answers<R: std::rt::Files + AllocGlobal>(rt: &R, text: &str) -> Result<String, AllocError> {
+    let alloc = rt.alloc();
     let mut out = String::new(alloc);
     let mut shared = String::new(alloc);
     let mut row = begun(alloc, "")?;
     for line in text.split('\n') {
         if line.starts_with("# ") {
-            push_row(alloc, &row, &mut shared, &mut out)?;
+            push_row(rt, &row, &mut shared, &mut out)?;
             row = begun(alloc, line)?;
         } else {
             add_line(alloc, &mut row.files, line)?;
         }
     }
-    push_row(alloc, &row, &mut shared, &mut out)?;
+    push_row(rt, &row, &mut shared, &mut out)?;
     Ok(out)
 }
 
 // A row without text.
 fn begun(alloc: Global, line: &str) -> Result<Row<'_>, AllocError> {
-    let mut files = Files {
-        names: Vec::new(alloc),
-        texts: Vec::new(alloc),
-    };
-    add_file(alloc, &mut files, "a.isle")?;
+    let files = one_file(alloc, "")?;
     Ok(Row { line, files })
-}
-
-// Adds a file without text.
-fn add_file(alloc: Global, files: &mut Files, name: &str) -> Result<(), AllocError> {
-    files.names.push(String::from_str(alloc, name)?)?;
-    files.texts.push(String::new(alloc))?;
-    Ok(())
 }
 
 fn add_line(alloc: Global, files: &mut Files, line: &str) -> Result<(), AllocError> {
     if let Some(name) = line.strip_prefix("## ") {
-        return add_file(alloc, files, name);
+        return add_file(alloc, files, name, "");
     }
     match files.texts.last_mut() {
         Some(text) => push_line(text, line),
@@ -83,8 +78,8 @@ fn push_line(out: &mut String, line: &str) -> Result<(), AllocError> {
 }
 
 // Adds a row's line and what is answered to it.
-fn push_row(
-    alloc: Global,
+fn push_row<R: std::rt::Files + AllocGlobal>(
+    rt: &R,
     row: &Row<'_>,
     shared: &mut String,
     out: &mut String,
@@ -93,20 +88,21 @@ fn push_row(
         return Ok(());
     }
     push_line(out, row.line)?;
-    let words = words_of(alloc, row.line)?;
-    push_answered(alloc, &words, &row.files, shared, out)
+    let words = words_from(rt.alloc(), row.line, 2)?;
+    push_answered(rt, &words, &row.files, shared, out)
 }
 
 // Adds what is answered to a row's words and files.
-fn push_answered(
-    alloc: Global,
+fn push_answered<R: std::rt::Files + AllocGlobal>(
+    rt: &R,
     words: &[String],
     files: &Files,
     shared: &mut String,
     out: &mut String,
 ) -> Result<(), AllocError> {
-    let text = first_of(&files.texts);
-    match first_of(words) {
+    let alloc = rt.alloc();
+    let text = text_at(&files.texts, 0);
+    match text_at(words, 0) {
         "shared" => shared.push_str(text),
         "questions" => push_behind(alloc, words, shared, text, out),
         "verdicts" => push_judged(alloc, shared, &files.texts, out),
@@ -123,6 +119,10 @@ fn push_answered(
         "laid" => push_laid(alloc, words, text, out),
         "printed" => push_printed(alloc, text, out),
         "sample" => push_sample(alloc, words, out),
+        "exchange" => push_exchange(rt, text, out),
+        "forms" => push_forms(alloc, out),
+        "values" => push_values(alloc, files, out),
+        "fix" => push_fix(alloc, words, text, out),
         "definitions" => push_definitions(words, out),
         "trials" | "outcomes" => push_trials(alloc, words, text, out),
         "lists" => push_lists(alloc, text, out),
@@ -152,26 +152,9 @@ fn push_judged(
     out: &mut String,
 ) -> Result<(), AllocError> {
     let mut whole = String::from_str(alloc, shared)?;
-    whole.push_str(first_of(texts))?;
+    whole.push_str(text_at(texts, 0))?;
     match texts.last() {
         Some(records) => push_verdicts(alloc, &whole, records, out),
         None => Ok(()),
     }
-}
-
-// The first of some texts, or the empty one.
-fn first_of(texts: &[String]) -> &str {
-    match texts.first() {
-        Some(text) => text.as_str(),
-        None => "",
-    }
-}
-
-// The words on a row's line, behind its name.
-fn words_of(alloc: Global, line: &str) -> Result<Vec<String>, AllocError> {
-    let mut words = Vec::new(alloc);
-    for word in line.split(' ').skip(2) {
-        words.push(String::from_str(alloc, word)?)?;
-    }
-    Ok(words)
 }

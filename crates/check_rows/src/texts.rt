@@ -1,6 +1,7 @@
 //! Rows that ask for trees as `isle-tree` prints them, or for rules as they are read.
 
 use crate::rules::rules_of_text;
+use crate::words::has_word;
 use report_queries::answers::TreesOrErrors;
 use report_queries::answers_texts::{TextOptions, answer_to_text};
 use std::alloc::{AllocError, Global};
@@ -23,16 +24,6 @@ pub fn push_text(
     } else {
         push_answer(alloc, words, text, out)
     }
-}
-
-/// Whether a word stands on a row's line.
-pub fn has_word(words: &[String], wanted: &str) -> bool {
-    for word in words {
-        if word.as_str() == wanted {
-            return true;
-        }
-    }
-    false
 }
 
 // Adds what is answered to each beginning of a text.

@@ -9,8 +9,8 @@ use std::alloc::{AllocError, Global};
 const FORMS: &str =
     "trees: schema types*type terms*term constants*constant all_terms*head errors*report
 sizes: schema terms*size errors*report
-checked: schema errors*report
-accepted: schema errors*report warnings*report
+checked refused: schema errors*report
+checked accepted: schema errors*report warnings*report
 report: kind code message places*place help witness fixes*fix
 place: file line column offset end=end text
 end: line column offset
@@ -110,10 +110,25 @@ fn has_keys<'v>(
     Ok(object.len() == count)
 }
 
+// The kind of an object: its `kind` or its `test`; of others, whether it is a document without errors.
 fn kind_of(value: &Value) -> &str {
-    match value.get("kind").and_then(Value::as_str) {
-        Some(kind) => kind,
-        None => value.get("test").and_then(Value::as_str).unwrap_or("none"),
+    for key in ["kind", "test"] {
+        if let Some(kind) = value.get(key).and_then(Value::as_str) {
+            return kind;
+        }
+    }
+    if is_accepted(value) {
+        "accepted"
+    } else {
+        "refused"
+    }
+}
+
+/// Whether a document has no errors.
+pub fn is_accepted(value: &Value) -> bool {
+    match value.get("errors").and_then(Value::as_array) {
+        Some(errors) => errors.is_empty(),
+        None => false,
     }
 }
 
@@ -131,16 +146,10 @@ fn keys_of(form: &str, kind: &str) -> Option<&'static str> {
 
 // Whether a line is for a form of a kind.
 fn is_for(name: &str, form: &str, kind: &str) -> bool {
-    match name.split_once(' ') {
-        Some((name, kinds)) => name == form && has_word(kinds, kind),
-        None => name == form,
-    }
-}
-
-fn has_word(words: &str, wanted: &str) -> bool {
-    for word in words.split(' ') {
-        if word == wanted {
-            return true;
+    let (name, kinds) = name.split_once(' ').unwrap_or((name, kind));
+    for one in kinds.split(' ') {
+        if one == kind {
+            return name == form;
         }
     }
     false
@@ -153,10 +162,10 @@ fn push_part<'v>(
     key: &'static str,
 ) -> Result<bool, AllocError> {
     if let Some((key, form)) = key.split_once('*') {
-        return push_list(waiting, value, key, form);
+        return push_list(waiting, value, key, form, false);
     }
     if let Some((key, form)) = key.split_once('#') {
-        return Ok(push_list(waiting, value, key, form)? && has_ids(value, key));
+        return push_list(waiting, value, key, form, true);
     }
     let (key, form) = key.split_once('=').unwrap_or((key, ""));
     let Some(inner) = value.get(key.strip_prefix("?").unwrap_or(key)) else {
@@ -168,30 +177,22 @@ fn push_part<'v>(
     Ok(true)
 }
 
+// Whether a value has a list at a key, in which each value has its place as `id` where `placed` says so. The values then wait.
 fn push_list<'v>(
     waiting: &mut Vec<(&'static str, &'v Value)>,
     value: &'v Value,
     key: &str,
     form: &'static str,
+    placed: bool,
 ) -> Result<bool, AllocError> {
     let Some(list) = value.get(key).and_then(Value::as_array) else {
         return Ok(false);
     };
-    for inner in list {
+    for (place, inner) in list.iter().enumerate() {
+        if placed && inner.get("id").and_then(Value::as_u64) != Some(place as u64) {
+            return Ok(false);
+        }
         waiting.push((form, inner))?;
     }
     Ok(true)
-}
-
-// Whether each value of a list has its place as `id`.
-fn has_ids(value: &Value, key: &str) -> bool {
-    let Some(list) = value.get(key).and_then(Value::as_array) else {
-        return false;
-    };
-    for (place, inner) in list.iter().enumerate() {
-        if inner.get("id").and_then(Value::as_u64) != Some(place as u64) {
-            return false;
-        }
-    }
-    true
 }
