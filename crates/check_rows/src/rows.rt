@@ -5,7 +5,7 @@ use crate::code::push_code;
 use crate::command::{push_command, push_files};
 use crate::documents::{push_edits, push_offsets, push_places};
 use crate::errors::push_errors;
-use crate::lists::{push_definitions, push_lists, push_trials};
+use crate::lists::push_lists;
 use crate::outputs::push_output;
 use crate::questions::{push_answer, push_questions, push_verdicts};
 use crate::texts::push_text;
@@ -121,8 +121,6 @@ fn push_answered(
         "laid" => push_laid(alloc, words, text, out),
         "printed" => push_printed(alloc, text, out),
         "sample" => push_sample(alloc, words, out),
-        "definitions" => push_definitions(words, out),
-        "trials" | "outcomes" => push_trials(alloc, words, text, out),
         "lists" => push_lists(alloc, text, out),
         "tree" | "rules" => push_text(alloc, words, text, out),
         _ => push_command(alloc, words, files, out),
