@@ -10,7 +10,6 @@ PROVING = {
     "isle": "rt run -- lower fall.isle",
     "isle_tree": "rt run -- fall",
     "check_refusals": "rt run",
-    "check_rows": "rt run",
 }
 
 

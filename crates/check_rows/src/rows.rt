@@ -9,7 +9,7 @@ use crate::errors::push_errors;
 use crate::exchange::push_exchange;
 use crate::files::{add_file, one_file};
 use crate::fixes::push_fix;
-use crate::lists::{push_definitions, push_lists, push_trials};
+use crate::lists::push_lists;
 use crate::outputs::push_output;
 use crate::questions::{push_answer, push_questions, push_verdicts};
 use crate::read_back::{push_forms, push_values};
@@ -123,8 +123,6 @@ fn push_answered<R: std::rt::Files + AllocGlobal>(
         "forms" => push_forms(alloc, out),
         "values" => push_values(alloc, files, out),
         "fix" => push_fix(alloc, words, text, out),
-        "definitions" => push_definitions(words, out),
-        "trials" | "outcomes" => push_trials(alloc, words, text, out),
         "lists" => push_lists(alloc, text, out),
         "tree" | "rules" => push_text(alloc, words, text, out),
         _ => push_command(alloc, words, files, out),
