@@ -1,6 +1,6 @@
 //! Calls that make rule sets of typed rules, under their own clauses.
 
-ghost use Rattle.std.specs.Prelude.{◌≡◌, All, IfErr, IfOk, IsTrue, List};
+ghost use Rattle.std.specs.Prelude.{◌≡◌, All, Bool, IfErr, IfOk, IsTrue, List, true};
 ghost use Rattle.model.specs.claims.Environments.{IsElaborated, TypesRead, program_of};
 ghost use Rattle.model.specs.lists.Elaborated.{TypedRules};
 ghost use Rattle.model.specs.lists.Formed.{is_formed_rule};
