@@ -2,6 +2,10 @@
 //! crate is proved once more for it.
 #![tactic(auto)]
 
+pub mod building;
+pub mod serializing;
+pub mod visiting;
+
 ghost use Rattle.std.specs.Prelude.{◌≡◌, ◌+◌, ◌++◌, ◌∷◌, [], ℕ, All, Bool, false, IfErr, IfOk, length, List, OnErr, OnOk, string_bytes, sum_by, true};
 ghost use Rattle.model.specs.claims.Environments.{AreReadable, AreRulesOf, HasTypedRules, IsElaborated, IsReadAs, TypesRead, program_of};
 ghost use Rattle.model.specs.claims.Refusals.{overlapping};
