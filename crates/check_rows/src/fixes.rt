@@ -51,8 +51,9 @@ fn report_at<'a>(value: &'a Value, key: &str, code: &str) -> Option<&'a Value> {
 
 // The edits of a fix of the first report of a code, where each of them is one.
 fn edits_of<'a>(value: &'a Value, code: &str, number: usize) -> Option<&'a [Value]> {
-    let fixes = report_of(value, code)?.get("fixes")?.as_array()?;
-    let edits = fixes.get(number)?.get("edits")?.as_array()?;
+    let report = report_of(value, code)?;
+    let fixes = report.get("fixes").and_then(Value::as_array)?;
+    let edits = fixes.get(number)?.get("edits").and_then(Value::as_array)?;
     for edit in edits {
         parts_of(edit)?;
     }
@@ -61,9 +62,9 @@ fn edits_of<'a>(value: &'a Value, code: &str, number: usize) -> Option<&'a [Valu
 
 // Where an edit begins and ends, and what it puts there.
 fn parts_of(edit: &Value) -> Option<(usize, usize, &str)> {
-    let offset = edit.get("offset")?.as_u64()?;
-    let end = edit.get("end")?.as_u64()?;
-    let new = edit.get("text")?.as_str()?;
+    let offset = edit.get("offset").and_then(Value::as_u64)?;
+    let end = edit.get("end").and_then(Value::as_u64)?;
+    let new = edit.get("text").and_then(Value::as_str)?;
     Some((offset as usize, end as usize, new))
 }
 
