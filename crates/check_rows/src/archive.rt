@@ -67,8 +67,8 @@ fn answered(
 // What the words ask of the call.
 fn options_by(words: &[String]) -> Options {
     Options {
-        task: number_at(words, 1) as u32,
-        format: number_at(words, 2) as u32,
+        task: option_at(words, 1),
+        format: option_at(words, 2),
         expand: 1,
         exclude_global_allow_pragmas: 1,
         emit_logging: 0,
@@ -91,6 +91,11 @@ fn add_files(
         })?;
     }
     Ok(lengths)
+}
+
+// The number of an option that a word is, or 0.
+fn option_at(words: &[String], place: usize) -> u32 {
+    text_at(words, place).parse::<u32>().unwrap_or(0)
 }
 
 // The number that a word is, or 0.
