@@ -3,11 +3,10 @@
 ghost use Rattle.std.specs.Prelude.{◌≡◌, None};
 
 use crate::asking::Refused;
-use crate::files::one_file;
 use crate::merges::push_merges;
 use cranelift_isle::lower::{Lowered, LoweredTerm, lower};
 use cranelift_isle::sema::{Expr, Rule, RuleId, Sym, TermId, TypeEnv, TypeId, VarId, VariantId};
-use cranelift_isle::syntax::{Def, Error, Pos, Span};
+use cranelift_isle::syntax::{Def, Error, Files, Pos, Span};
 use cranelift_isle::trie_again::BindingId;
 use report_queries::in_place::is_site_in_place;
 use report_queries::names::variant_name;
@@ -65,7 +64,10 @@ fn nameless(alloc: Global) -> Rule
 // Adds what a rule is called: without a name by its place.
 fn push_names(alloc: Global, out: &mut String) -> Result<(), AllocError> {
     let env = TypeEnv::try_default(alloc)?;
-    let files = one_file(alloc, "\n\n")?;
+    let files = Files {
+        names: Vec::from_array(alloc, [String::from_str(alloc, "a.isle")?])?,
+        texts: Vec::from_array(alloc, [String::from_str(alloc, "\n\n")?])?,
+    };
     let mut rule = nameless(alloc);
     let place = rule.identifier(alloc, &env, &files)?;
     rule.name = Some(Sym(1));
