@@ -41,26 +41,35 @@ fn push_answers(
     status: u8,
     out: &mut String,
 ) -> Result<(), AllocError> {
-    let mut rest = answered;
+    let mut at = 0usize;
     let mut count = 0usize;
     for line in text.split('\n') {
         if let Some(wanted) = line.strip_prefix("< ") {
-            let (found, behind) = first_message(rest).unwrap_or(("nothing", rest));
+            let rest = answered.get(at..).unwrap_or("");
+            let found = first_message(rest).unwrap_or("nothing");
             if found != wanted {
                 write!(out, "answer {count} is {found}\nand not {wanted}\n")?;
             }
-            rest = behind;
+            at = at.saturating_add(first_length(rest).unwrap_or(0));
             count = count.saturating_add(1);
         }
     }
+    let rest = answered.get(at..).unwrap_or("");
     write!(out, "{count} answers, status {status}\n{rest}")
 }
 
-// The message that a text begins with, and what follows it.
-fn first_message(text: &str) -> Option<(&str, &str)> {
+// The message that a text begins with, behind its length.
+fn first_message(text: &str) -> Option<&str> {
     let (length, rest) = text
         .strip_prefix("Content-Length: ")?
         .split_once("\r\n\r\n")?;
     let length = length.parse::<usize>().ok()?;
-    Some((rest.get(..length)?, rest.get(length..)?))
+    rest.get(..length)
+}
+
+// How many bytes this message takes, with its length before it.
+fn first_length(text: &str) -> Option<usize> {
+    let (head, _) = text.split_once("\r\n\r\n")?;
+    let message = first_message(text)?;
+    Some(head.len().saturating_add(message.len()).saturating_add(4))
 }
