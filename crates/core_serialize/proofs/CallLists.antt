@@ -1,13 +1,13 @@
 -- The calls that rules go over, listed by rules, and their counts.
-use Rattle.std.proofs.Common.{◌≡◌, ℕ, zero, suc, ◌+◌, ◌<◌, ◌≤◌, ◌==◌, Bool, true, false, ◌||◌, List, [], ◌∷◌, ◌++◌, map, nat_lt, not, set, take, get_or, length, Option, Some, None, Contains, slice_get, refl, sym, ap, ◌∙◌, subst, inl, inr, arith, eqb-true, eq-eqb, ltb-true, ltb-false}
+use Rattle.std.proofs.Common.{◌≡◌, ℕ, zero, suc, ◌+◌, ◌<◌, ◌≤◌, ◌==◌, Bool, true, false, ◌||◌, List, [], ◌∷◌, ◌++◌, map, nat_lt, not, set, take, get_or, length, Option, Some, None, Contains, refl, sym, ap, ◌∙◌, subst, inl, inr, arith, eqb-true, eq-eqb, ltb-true, ltb-false}
 use Rattle.std.specs.Global.{Vec}
 use Rattle.std.specs.List.{filter, list_any}
 use Rattle.std.proofs.lemmas.Bool.{cases_Bool, cond-true, cond-false, false≢true}
-use Rattle.std.proofs.lemmas.List.{append-nil, get_or_past, get_or-set_same, get_or-set_other, length-append, length-take-le, map-append, take_more}
+use Rattle.std.proofs.lemmas.List.{get_or_past, get_or-set_same, get_or-set_other, length-append, length-take-le, map-append, take_more}
 use Rattle.std.proofs.lemmas.List.Elements.{filter-append}
 use Rattle.std.proofs.lemmas.List.Filters.{length-filter_both}
 use Rattle.std.proofs.lemmas.List.Folds.{list_any-append}
-use Rattle.model.specs.sites.Sites.{iterator_site, SetRule, Site, SiteSet}
+use Rattle.model.specs.sites.Sites.{iterator_site, SetRule, Site}
 use Rattle.model.specs.trees.Places.{is_in}
 use Rattle.model.specs.trees.Sound.{as_number}
 use Rattle.model.specs.trees.Tests.{loop_test, needs_at}
@@ -26,7 +26,7 @@ or_none true = refl
 or_none false = refl
 
 -- one number more
-is_in_last : (s x : ℕ) (xs : List ℕ) → is_in s (xs ++ x ∷ []) ≡ (is_in s xs || (x == s))
+pub is_in_last : (s x : ℕ) (xs : List ℕ) → is_in s (xs ++ x ∷ []) ≡ (is_in s xs || (x == s))
 is_in_last s x xs = is_in_append s xs (x ∷ []) ∙ ap (λ b. is_in s xs || b) (or_none (x == s))
 
 -- 1. the calls that are looped over

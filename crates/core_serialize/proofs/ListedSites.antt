@@ -1,5 +1,5 @@
 -- The sites below others, each once, in the order in which they are made.
-use Rattle.std.proofs.Common.{◌≡◌, ◌⊎◌, ℕ, zero, suc, ◌+◌, ◌<◌, ◌≤◌, true, false, ◌||◌, List, [], ◌∷◌, ◌++◌, length, take, drop, get_or, Contains, flat_map, refl, sym, ap, ◌∙◌, subst, inl, inr, arith}
+use Rattle.std.proofs.Common.{◌≡◌, ◌⊎◌, ℕ, zero, suc, ◌+◌, ◌<◌, ◌≤◌, ◌==◌, true, false, ◌||◌, List, [], ◌∷◌, ◌++◌, length, take, drop, get_or, Contains, flat_map, refl, sym, ap, ◌∙◌, subst, inl, inr, arith, eqb-true}
 use Rattle.std.proofs.lemmas.Bool.{cases_Bool, cond-true, cond-false, or_cases, or_left, or_right, false≢true}
 use Rattle.std.proofs.lemmas.List.{append_assoc, append-nil, drop_at, take_at, take_more}
 use Rattle.std.proofs.lemmas.List.Elements.{Contains-append_left, Contains-append_right, Contains-append_cases}
@@ -9,6 +9,7 @@ use Rattle.model.specs.trees.Places.{is_in, each_after, listed_below, below, all
 use Rattle.model.proofs.Members.{nothing_in, in_head, in_tail, in_cases, in_alone, in_flat_map, from_flat_map, member_found, member_is_in}
 use Rattle.core_containers.specs.Places.{Extends}
 use Rattle.core_serialize.specs.Changes.{IsClosed, ListsAll, ListsBelow}
+use Rattle.core_serialize.proofs.CallLists.{is_in_last}
 use Rattle.core_serialize.proofs.Tables.{is_in_append}
 
 each_append : (f : List ℕ → ℕ → List ℕ) (d xs : List ℕ) (x : ℕ) → each_after f d (xs ++ x ∷ []) ≡ f (each_after f d xs) x
@@ -234,3 +235,11 @@ pub bound_back : (sites : List Site) (ss emitted listed : List ℕ) → ListsAll
 bound_back sites ss emitted listed l =
     let more = each_after (λ d s. listed_below (suc s) sites emitted d s) [] ss in
     ap (take (length emitted)) (l emitted [] (sym (append-nil emitted))) ∙ take_at emitted more (length emitted) refl
+
+-- how far some sites go, and one more
+pub end_more : (xs : List ℕ) (i end new : ℕ) → i < length xs → end ≤ new → get_or xs i 0 < new → ((s : ℕ) → is_in s (take i xs) ≡ true → s < end) → (s : ℕ) → is_in s (take (i + 1) xs) ≡ true → s < new
+end_more xs i end new l others this h s k =
+    elim (or_cases (is_in s (take i xs)) (get_or xs i 0 == s) (sym (ap (is_in s) (take_more xs i 0 l) ∙ is_in_last s (get_or xs i 0) (take i xs)) ∙ k)) [
+      | inl t ↦ let m = h s t in omega (arith, m, others)
+      | inr t ↦ let m = eqb-true (get_or xs i 0) s t in omega (arith, m, this)
+    ]

@@ -1,5 +1,5 @@
 -- Tests of a place by their scores: the better one of two, and bounds of scores.
-use Rattle.std.proofs.Common.{◌≡◌, ℕ, ◌≤◌, ◌==◌, ◌||◌, ◌&&◌, not, nat_lt, Bool, true, false, cond, length, ap, arith, eqb-true, eq-eqb, ltb-true, ltb-false, List, [], ◌∷◌, Option, Some, None, option_map, Contains, refl, sym, ◌∙◌, subst, inl, inr}
+use Rattle.std.proofs.Common.{◌≡◌, ℕ, ◌<◌, ◌≤◌, ◌==◌, ◌||◌, ◌&&◌, not, nat_lt, Bool, true, false, cond, length, ap, arith, eqb-true, eq-eqb, ltb-true, ltb-false, List, [], ◌∷◌, Option, Some, None, option_map, Contains, refl, sym, ◌∙◌, subst, inl, inr}
 use Rattle.std.specs.List.{filter, list_all}
 use Rattle.std.proofs.lemmas.Bool.{and_parts, cases_Bool, cond-true, cond-false, or_parts, false≢true}
 use Rattle.std.proofs.lemmas.List.Filters.{length-filter_both}
@@ -156,8 +156,9 @@ pair_below set ar here a b other are_joined y behind none h =
           | inr f ↦ f
         ]
 
--- a test of a form, of this site or a later one, where the best such test that covers all and has emitted sites isn't greater
-module _ (set : SiteSet) (ar : Around) (here : List ℕ) (form site : ℕ) (y : Tests.Score) where
+-- a test of a form, of this site or a later one, where the best such test that covers all isn't greater, with emitted sites where one
+-- from this site on may be emitted
+module _ (set : SiteSet) (ar : Around) (here : List ℕ) (form site end : ℕ) (ends : (s : ℕ) → is_in s ar.emitted ≡ true → s < end) (y : Tests.Score) where
   -- a lesser number counts for more
   later_site : (s : ℕ) (last other : Bool) → site ≤ s → (last ≡ false → other ≡ false) → or_later (nat_lt site y.site) (site == y.site) last ≡ false → or_later (nat_lt s y.site) (s == y.site) other ≡ false
   later_site s last other l up h =
@@ -183,21 +184,26 @@ module _ (set : SiteSet) (ar : Around) (here : List ℕ) (form site : ℕ) (y : 
         | inr f ↦ f
       ]
 
-  as_most : (b : Bool) → as_number b ≤ 1
-  as_most true = omega arith
-  as_most false = omega arith
+  as_most : (s : ℕ) (b : Bool) → site ≤ s → (b ≡ true → is_in s ar.emitted ≡ true) → as_number b ≤ as_number (nat_lt site end)
+  as_most s false l e = omega arith
+  as_most s true l e =
+      elim (cases_Bool (nat_lt site end)) [
+        | inl t ↦ let n = ap as_number t in omega (arith, n)
+        | inr f ↦ let k = ends s (e refl) in let g = ltb-false site end f in absurd (omega (arith, k, g, l))
+      ]
 
-  bounded : (u : Tests.Test) (s other : ℕ) (emitted : Bool) → site ≤ s → is_greater (record { count = length here; emitted = 1; form = form; site = site; other = 0 }) y ≡ false
+  bounded : (u : Tests.Test) (s other : ℕ) (emitted : Bool) → site ≤ s → (emitted ≡ true → is_in s ar.emitted ≡ true)
+      → is_greater (record { count = length here; emitted = as_number (nat_lt site end); form = form; site = site; other = 0 }) y ≡ false
       → is_greater (record { count = length (cover set.rules here u); emitted = as_number emitted; form = form; site = s; other = other }) y ≡ false
-  bounded u s other emitted l h =
+  bounded u s other emitted l e h =
       let both = length-filter_both (is_covered set.rules here u) (λ i. not (is_covered set.rules here u i)) (λ i. refl) here in
       let count = length (cover set.rules here u) in
       let most : count ≤ length here = omega (arith, both) in
       fewer (length here) count y.count _ _ most
-      (fewer 1 (as_number emitted) y.emitted _ _ (as_most emitted)
+      (fewer (as_number (nat_lt site end)) (as_number emitted) y.emitted _ _ (as_most s emitted l e)
       (behind_same (nat_lt form y.form) (form == y.form) _ _ (later_site s (nat_lt 0 y.other) (nat_lt other y.other) l (no_later other)))) h
 
-  pub from_below : (u : Tests.Test) → IsFrom form site u → is_greater (record { count = length here; emitted = 1; form = form; site = site; other = 0 }) y ≡ false → is_greater (score set ar here u) y ≡ false
-  from_below (match_test s) f h = subst (λ n. is_greater (record { count = length (cover set.rules here (match_test s)); emitted = as_number (is_in s ar.emitted); form = n; site = s; other = 0 }) y ≡ false) f.0 (bounded (match_test s) s 0 (is_in s ar.emitted) f.1 h)
-  from_below (equal_test a b) f h = subst (λ n. is_greater (record { count = length (cover set.rules here (equal_test a b)); emitted = as_number (is_in a ar.emitted && is_in b ar.emitted); form = n; site = a; other = b }) y ≡ false) f.0 (bounded (equal_test a b) a b (is_in a ar.emitted && is_in b ar.emitted) f.1 h)
-  from_below (loop_test s) f h = subst (λ n. is_greater (record { count = length (cover set.rules here (loop_test s)); emitted = as_number (is_in s ar.emitted); form = n; site = s; other = 0 }) y ≡ false) f.0 (bounded (loop_test s) s 0 (is_in s ar.emitted) f.1 h)
+  pub from_below : (u : Tests.Test) → IsFrom form site u → is_greater (record { count = length here; emitted = as_number (nat_lt site end); form = form; site = site; other = 0 }) y ≡ false → is_greater (score set ar here u) y ≡ false
+  from_below (match_test s) f h = subst (λ n. is_greater (record { count = length (cover set.rules here (match_test s)); emitted = as_number (is_in s ar.emitted); form = n; site = s; other = 0 }) y ≡ false) f.0 (bounded (match_test s) s 0 (is_in s ar.emitted) f.1 (λ e. e) h)
+  from_below (equal_test a b) f h = subst (λ n. is_greater (record { count = length (cover set.rules here (equal_test a b)); emitted = as_number (is_in a ar.emitted && is_in b ar.emitted); form = n; site = a; other = b }) y ≡ false) f.0 (bounded (equal_test a b) a b (is_in a ar.emitted && is_in b ar.emitted) f.1 (λ e. (and_parts (is_in a ar.emitted) (is_in b ar.emitted) e).0) h)
+  from_below (loop_test s) f h = subst (λ n. is_greater (record { count = length (cover set.rules here (loop_test s)); emitted = as_number (is_in s ar.emitted); form = n; site = s; other = 0 }) y ≡ false) f.0 (bounded (loop_test s) s 0 (is_in s ar.emitted) f.1 (λ e. e) h)

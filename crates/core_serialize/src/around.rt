@@ -1,6 +1,6 @@
 //! What stands around a place of a tree.
 
-ghost use Rattle.std.specs.Prelude.{◌≡◌, ◌<◌, [], ℕ, Some, IfOk, OnOk, get_or, length, set, take};
+ghost use Rattle.std.specs.Prelude.{◌≡◌, ◌<◌, ◌≤◌, [], ℕ, true, Some, IfOk, OnOk, get_or, length, set, take};
 ghost use Rattle.model.specs.trees.Places.{nothing_around, is_in, joins, waits};
 ghost use Rattle.core_rule_sets.specs.SiteViews.{site_view};
 ghost use Rattle.core_serialize.specs.AroundViews.{around_view, named_as, names_before, renamed, NamesClasses};
@@ -140,6 +140,26 @@ pub fn is_emitted(place: &Place<'_>, site: BindingId) -> bool
     ensures { result ≡ is_in site (around_at place.now).emitted }
 {
     place.around.emitted.contains(number_of(site))
+}
+
+// Behind a site, where that is behind the others.
+fn end_with(end: usize, site: u16) -> usize
+    ensures others { end ≤ result }
+    ensures this { site < result }
+{
+    let number = site as usize;
+    if number < end { end } else { number + 1 }
+}
+
+/// The number behind the greatest site that is emitted, and 0 where none is.
+pub fn emitted_end(around: &Around) -> usize
+    ensures { (s : ℕ) → is_in s around.now.emitted ≡ true → s < result }
+{
+    let mut end = 0;
+    for site in around.emitted.behind(0) {
+        end = end_with(end, *site);
+    }
+    end
 }
 
 /// The site of this number.

@@ -1,7 +1,8 @@
 //! A place of a tree, and the set that the tree is made of.
 
-ghost use Rattle.std.specs.Prelude.{IsTrue};
+ghost use Rattle.std.specs.Prelude.{◌≡◌, ◌<◌, ℕ, true, IsTrue};
 ghost use Rattle.model.specs.trees.Best.{descend};
+ghost use Rattle.model.specs.trees.Places.{is_in};
 ghost use Rattle.core_rule_sets.specs.SiteViews.{set_view};
 ghost use Rattle.core_serialize.specs.AroundViews.{NamesClasses};
 ghost use Rattle.core_serialize.specs.FieldTests.{AreFields};
@@ -37,7 +38,10 @@ pub struct Place<'a> {
     pub around: &'a Around,
     /// The rules of the place, in order.
     pub here: &'a [usize],
+    /// No site of this number or a later one is emitted.
+    pub emitted_end: usize,
     pub ghost are_named: { NamesClasses around.now.joined.items around.now.names.items },
     pub ghost are_matched: { AreMatched (set_view indexed.set.now).rules around.now.matched.counts.items around.now.sources },
+    pub ghost ends: { (s : ℕ) → is_in s around.now.emitted ≡ true → s < emitted_end },
     pub ghost in_order: { IsTrue (descend (set_view indexed.set.now).rules here.now) },
 }

@@ -11,7 +11,7 @@ ghost use Rattle.core_serialize.specs.Matches.{AreMatched};
 ghost use Rattle.core_serialize.specs.PlaceViews.{around_at, here_at, set_at, set_in};
 ghost use Rattle.core_serialize.specs.TestViews.{test_view, IsBestOpen, IsChosen};
 
-use crate::around::Around;
+use crate::around::{Around, emitted_end};
 use crate::binds::{bind, sources_of};
 use crate::fields::iterator_of;
 use crate::open_tests::best_open;
@@ -111,6 +111,7 @@ pub fn next_test(
         indexed: *indexed,
         around,
         here,
+        emitted_end: emitted_end(around),
     };
     let Some(test) = chosen_test(alloc, &place, found)? else {
         return Ok(None);

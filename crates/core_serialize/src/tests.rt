@@ -1,7 +1,7 @@
 //! What can be tested at a place of a tree, and which test is the greatest. The rules of a place stand in order: by
 //! descending priority, then by their numbers.
 
-ghost use Rattle.std.specs.Prelude.{◌≡◌, ◌≤◌, ◌&&◌, ℕ, [], true, false, not, Some, IsTrue, option_map, IfOk, MatchOption, length, slice_get};
+ghost use Rattle.std.specs.Prelude.{◌≡◌, ◌≤◌, ◌&&◌, ℕ, [], true, false, nat_lt, not, Some, IsTrue, option_map, IfOk, MatchOption, length, slice_get};
 ghost use Rattle.std.specs.List.{filter, prefix_len};
 ghost use Rattle.model.specs.trees.Best.{descend};
 ghost use Rattle.model.specs.trees.Places.{is_in, joins_in};
@@ -313,13 +313,14 @@ pub fn stays_below(place: &Place<'_>, best: Option<Scored>, test: &Test) -> bool
     stays_below_with(place, best, test, place.here.len())
 }
 
-// A score that no test of a form, of this site or a later one, exceeds: it covers all rules of the place, and its sites are emitted.
+// A score that no test of a form, of this site or a later one, exceeds: it covers all rules of the place, and its sites are emitted
+// where a site from this one on may be.
 fn most_from(place: &Place<'_>, form: u8, site: BindingId) -> Score
-    ensures { score_view result ≡ record { count = length (here_at place.now); emitted = 1; form = form; site = site; other = 0 } }
+    ensures { score_view result ≡ record { count = length (here_at place.now); emitted = as_number (nat_lt site place.now.emitted_end); form = form; site = site; other = 0 } }
 {
     Score {
         count: place.here.len(),
-        is_emitted: true,
+        is_emitted: site.index() < place.emitted_end,
         form,
         site,
         other: BindingId::from(0),

@@ -13,4 +13,4 @@ returns-in-Some c h u from =
     let here = here_at c.args.place.now in
     let y = score_view c.in-Some.best.score in
     let most = ap (λ x. is_greater x y) (sym c.most_from.ensures) ∙ sym c.is_greater.ensures ∙ not-true c.is_greater.result h in
-    subst (λ o. IsNoBetter set ar here o u) (sym c.in-Some.is) (from_below set ar here c.args.form c.args.site y u from most)
+    subst (λ o. IsNoBetter set ar here o u) (sym c.in-Some.is) (from_below set ar here c.args.form c.args.site c.args.place.now.emitted_end c.args.place.now.ends y u from most)
