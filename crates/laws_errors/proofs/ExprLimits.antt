@@ -1,38 +1,27 @@
 -- Which limit stops a step of an expression first.
-use Rattle.std.proofs.Common.{◌≡◌, ℕ, zero, suc, ◌+◌, ◌≤◌, Bool, true, false, not, ◌&&◌, ◌||◌, cond, eqb, nat_le, List, [], ◌∷◌, ◌++◌, length, Option, Some, None, option_map, slice_get, refl, ap, ◌∙◌, arith}
+use Rattle.std.proofs.Common.{◌≡◌, ℕ, zero, suc, ◌+◌, ◌≤◌, Bool, true, false, cond, eqb, nat_le, List, [], ◌∷◌, length, Option, Some, None, option_map, refl, ap, ◌∙◌, arith}
+use Rattle.std.proofs.lemmas.Grind.{common_steps}
 use Rattle.std.proofs.lemmas.Bool.{leb-false}
-use Rattle.std.proofs.lemmas.Bool.Decides.{Decides-eqb}
-use Rattle.model.specs.lists.Syntax.{Position, Name, ExprTree, term_expr, var_expr, bool_expr, int_expr, prim_expr, let_expr, ExprTrees, no_expr, expr_and, LetTrees, no_let, let_and}
+use Rattle.model.specs.lists.Syntax.{Position, Name, ExprTree, term_expr, var_expr, let_expr, ExprTrees, expr_and, LetTrees, no_let, let_and}
 use Rattle.model.specs.rules.Outcome.{then_option}
-use Rattle.model.specs.rules.Typed.{TypedExpr, make_term, make_var, make_bool, make_int, make_prim, TypedLets, TypedVar}
-use Rattle.model.specs.lists.Tables.{Flags, TermKindEntry, variant_term, struct_term, declared_term, TermEntry}
-use Rattle.model.specs.lists.Names.{number}
-use Rattle.model.specs.lists.Ranges.{reduced}
-use Rattle.model.specs.rules.Values.{is_atom_type}
-use Rattle.model.specs.lists.Setting.{Setting, Scope, met, var_of, term_of, type_of_name, type_of_constant, bool_type, is_expected, is_callable, converter, expr_converter}
+use Rattle.model.specs.rules.Typed.{TypedExpr, make_term, make_var, TypedLets, TypedVar}
+use Rattle.model.specs.lists.Tables.{Flags, TermKindEntry, TermEntry}
+use Rattle.model.specs.lists.Setting.{Setting, Scope, met, term_of, type_of_name, is_expected, is_callable, converter, expr_converter}
 use Rattle.model.specs.lists.Typings.{Typing}
 use Rattle.model.specs.lists.Expansions.{wrapped_expr}
 use Rattle.model.specs.lists.Elaborated.{as_expected, expr_with, lets_with, bound_let, deeper_expr, most_expansions}
 use Rattle.model.specs.claims.Refusals.{NamedLimit, of_expansions}
 use Rattle.laws_errors.specs.AllMade.{made_kind, made_entry, all_made}
-use Rattle.laws_errors.specs.Steps.{Why, no_integer, no_truth, constant_type, variable_type, Step, went_on, stopped, unless, here, nothing, noting, made_step, counted_step, last_made}
-use Rattle.laws_errors.specs.ExprSteps.{expr_list, converted_or, expected_step, forbidden, called_step, used_step, made_constant_step, with_arg, with_def, def_step, let_step, ended_step, expr_step, args_step, lets_step, deeper_expr_step}
+use Rattle.laws_errors.specs.Steps.{Why, variable_type, Step, stopped, unless, here, noting, made_step, counted_step, last_made}
+use Rattle.laws_errors.specs.ExprSteps.{expr_list, converted_or, expected_step, forbidden, called_step, used_step, made_constant_step, with_arg, with_def, let_step, ended_step, expr_step, args_step, lets_step, deeper_expr_step}
 use Rattle.laws_errors.specs.ReachedLimits.{or_after, where_counted, expr_limit, args_limit, lets_limit, deeper_expr_limit}
 use Rattle.laws_errors.specs.LimitLaws.{first_limit, ExprLimitsAreFirst}
 use Rattle.laws_errors.proofs.MadeSettings.{term_made, converter_made}
 use Rattle.laws_errors.proofs.ExprSteps.{let_agrees, agrees, lets_agree, deeper_agrees}
-use Rattle.laws_errors.proofs.FirstLimits.{first_noted, first_none, first_made, first_counted, first_in_order, leaf_first}
-
-three_first : {X : Type 0} (a b c : Bool) (v w x : Why) (at : Position) (t : Step X) → first_limit (noting (unless a v at ++ (unless b w at ++ unless c x at)) t) ≡ cond (a && (b && c)) (first_limit t) None
-three_first true true true v w x at t = first_none t
-three_first true true false v w x at t = first_noted _ [] t
-three_first true false c v w x at t = first_noted _ _ t
-three_first false b c v w x at t = first_noted _ _ t
+use Rattle.laws_errors.proofs.FirstLimits.{first_noted, first_none, first_counted, first_in_order, leaf_first}
 
 allowed_first : {X : Type 0} (flags : Flags) (name : List ℕ) (at : Position) (kind : TermKindEntry) (t : Step X) → first_limit (noting (forbidden flags name at kind) t) ≡ cond (is_callable flags (made_kind kind)) (first_limit t) None
-allowed_first flags name at (variant_term variant) t = first_none t
-allowed_first flags name at struct_term t = first_none t
-allowed_first flags name at (declared_term own c x) t = three_first (not flags.pure || own.pure) (flags.multi || not own.multi) (flags.partial || not own.partial) _ _ _ at t
+allowed_first flags name at kind t = grind (arith, common_steps)
 
 expected_first : (e : Setting) (own : ℕ) (ty : Option ℕ) (at : Position) (s : Scope) (why : Why) (t : Step TypedExpr) (l : Option NamedLimit) (convert : TermEntry → Step TypedExpr) (limit : TermEntry → Option NamedLimit)
     → first_limit t ≡ l → ((c : TermEntry) → first_limit (convert c) ≡ limit (made_entry c))
@@ -51,29 +40,17 @@ expected_first e own (Some ty) at s why t l convert limit h i = elim (eqb own ty
     either None None = first_noted _ [] t
 
 constant_first : (ty : Option ℕ) (x : List ℕ) (at : Position) (s : Scope) (o : Option ℕ) → first_limit (made_constant_step ty x at s o) ≡ None
-constant_first ty x at s None = refl
-constant_first ty x at s (Some own) = elim (is_expected ty own) as (λ b. first_limit (cond b (here (make_prim own (number s.names x)) s) (nothing s (constant_type x ty own) at)) ≡ None) [ true ↦ refl | false ↦ refl ]
-
-first_def : (x : List ℕ) (own : ℕ) (t : Step TypedExpr) → first_limit (def_step x own t) ≡ first_limit t
-first_def x own (went_on None s k es) = refl
-first_def x own (went_on (Some v) s k es) = refl
-first_def x own (stopped l s []) = refl
-first_def x own (stopped l s (w ∷ ws)) = refl
+constant_first ty x at s o = grind (arith, common_steps)
 
 first_ended : (defs : TypedLets) (t : Step TypedExpr) → first_limit (ended_step defs t) ≡ first_limit t
-first_ended defs (went_on None s k es) = refl
-first_ended defs (went_on (Some v) s k es) = refl
-first_ended defs (stopped l s []) = refl
-first_ended defs (stopped l s (w ∷ ws)) = refl
+first_ended defs t = grind (arith, common_steps)
 
 let_first : (x ty : List ℕ) (at : Position) (s : Scope) (value : ℕ → Step TypedExpr) (reading : ℕ → Option (Typing TypedExpr)) (o : Option ℕ) (rest : Typing (TypedLets → TypedLets) → Option NamedLimit)
     → or_after (first_limit (let_step x ty at s value o)) (then_option o (λ own. bound_let x own (reading own))) rest ≡ then_option o (λ own. or_after (first_limit (value own)) (bound_let x own (reading own)) rest)
-let_first x ty at s value reading None rest = refl
-let_first x ty at s value reading (Some own) rest = ap (λ l. or_after l (bound_let x own (reading own)) rest) (first_def x own (value own))
+let_first x ty at s value reading o rest = grind (arith, common_steps)
 
 same_then : (o : Option ℕ) (f g : ℕ → Option NamedLimit) → ((own : ℕ) → f own ≡ g own) → then_option o f ≡ then_option o g
-same_then None f g h = refl
-same_then (Some own) f g h = h own
+same_then o f g h = grind (arith, common_steps)
 
 module _ (e : Setting) (flags : Flags) (d : ℕ)
     (deeper : (x : ExprTree) (ty : Option ℕ) (n : ℕ) (s : Scope) → n ≤ most_expansions → first_limit (deeper_expr_step e flags d x ty n s) ≡ deeper_expr_limit (all_made e) flags d x ty n s) where
@@ -84,18 +61,14 @@ module _ (e : Setting) (flags : Flags) (d : ℕ)
   counted_first : (args : ExprTrees) (at : Position) (n : ℕ) (s : Scope) (t : TermEntry) (why : Why) → AreArgsFirst args n s → (b : Bool) → eqb (length (expr_list args)) (length t.arg_tys) ≡ b
       → first_limit (noting (unless b why at) (made_step (make_term t.ret_ty t.id) (args_step e flags (deeper_expr_step e flags d) args t.arg_tys n s)))
       ≡ cond b (args_limit (all_made e) flags (deeper_expr (all_made e) flags d) (deeper_expr_limit (all_made e) flags d) args t.arg_tys n s) None
-  counted_first args at n s t why parts true h = first_none _ ∙ first_made (make_term t.ret_ty t.id) _ ∙ parts t.arg_tys ((Decides-eqb (length (expr_list args)) (length t.arg_tys)).0 h)
-  counted_first args at n s t why parts false h = first_noted _ [] _
+  counted_first args at n s t why parts h i = grind (arith, common_steps)
 
   called_first : (name : Name) (args : ExprTrees) (at : Position) (ty : Option ℕ) (n : ℕ) (s : Scope) → n ≤ most_expansions → AreArgsFirst args n s → (o : Option TermEntry)
       → first_limit (called_step e flags (deeper_expr_step e flags d) name args at ty n s (λ tys. args_step e flags (deeper_expr_step e flags d) args tys n s) o)
       ≡ then_option (option_map made_entry o) (λ t. as_expected (all_made e) t.ret_ty ty
       (cond (is_callable flags t.kind) (where_counted (length (expr_list args)) (length t.arg_tys) (args_limit (all_made e) flags (deeper_expr (all_made e) flags d) (deeper_expr_limit (all_made e) flags d) args t.arg_tys n s)) None)
       (λ c. deeper_expr_limit (all_made e) flags d (wrapped_expr s c at (term_expr name args at)) ty n s))
-  called_first name args at ty n s few parts None = refl
-  called_first name args at ty n s few parts (Some t) = expected_first e t.ret_ty ty at s _ _ _ _ _
-      (allowed_first flags name.text at t.kind _ ∙ ap (λ l. cond (is_callable flags (made_kind t.kind)) l None) (counted_first args at n s t _ parts (eqb (length (expr_list args)) (length t.arg_tys)) refl))
-      (λ c. deeper (wrapped_expr s c at (term_expr name args at)) ty n s few)
+  called_first name args at ty n s few parts h = grind (arith, common_steps, expected_first, allowed_first, counted_first)
 
   used_first : (name : Name) (at : Position) (ty : Option ℕ) (n : ℕ) (s : Scope) → n ≤ most_expansions → (o : Option TypedVar)
       → first_limit (used_step e (deeper_expr_step e flags d) name at ty n s o)
@@ -107,22 +80,17 @@ module _ (e : Setting) (flags : Flags) (d : ℕ)
     pub first : (x : ExprTree) (ty : Option ℕ) (n : ℕ) (s : Scope) → n ≤ most_expansions
         → first_limit (expr_step e flags (deeper_expr_step e flags d) x ty n s) ≡ expr_limit (all_made e) flags (deeper_expr (all_made e) flags d) (deeper_expr_limit (all_made e) flags d) x ty n s
     first (term_expr name args at) ty n s few = rw (term_made e s name.text (term_of e s name.text) refl) (called_first name args at ty n s few (λ tys h. args_first args tys n s few h) (term_of e s name.text))
-    first (var_expr name at) ty n s few = used_first name at ty n s few (var_of s name.text)
-    first (bool_expr b at) ty n s few = leaf_first (is_expected ty bool_type) (no_truth ty b) at (Some (make_bool bool_type b)) s 0 []
-    first (int_expr z at) None n s few = refl
-    first (int_expr z at) (Some own) n s few = leaf_first (is_atom_type (slice_get e.types own)) (no_integer own z) at (Some (make_int own (reduced (slice_get e.types own) z))) s 0 []
-    first (prim_expr name at) ty n s few = constant_first ty name.text at s (type_of_constant e s name.text)
     first (let_expr defs body at) ty n s few =
         first_in_order n last_made _ _ _ _ (lets_agree e flags d (deeper_agrees e flags d) defs at n s few) (λ a i few. first_ended a.made _ ∙ first body ty (n + a.expansions) a.scope few)
         ∙ ap (λ l. or_after l (lets_with (all_made e) flags (deeper_expr (all_made e) flags d) defs s) (λ a. expr_limit (all_made e) flags (deeper_expr (all_made e) flags d) (deeper_expr_limit (all_made e) flags d) body ty (n + a.expansions) a.scope)) (lets_first defs at n s few)
+    first x ty n s few = grind (arith, common_steps, used_first, leaf_first, constant_first)
 
     args_first : (args : ExprTrees) (tys : List ℕ) (n : ℕ) (s : Scope) → n ≤ most_expansions → length (expr_list args) ≡ length tys
         → first_limit (args_step e flags (deeper_expr_step e flags d) args tys n s) ≡ args_limit (all_made e) flags (deeper_expr (all_made e) flags d) (deeper_expr_limit (all_made e) flags d) args tys n s
-    args_first no_expr tys n s few h = refl
-    args_first (expr_and x rest) [] n s few h = refl
     args_first (expr_and x rest) (ty ∷ tys) n s few h =
         first_in_order n with_arg _ _ _ _ (agrees e flags d (deeper_agrees e flags d) x (Some ty) n s few) (λ a i few. args_first rest tys (n + a.expansions) a.scope few (omega (arith, h)))
         ∙ ap (λ l. or_after l (expr_with (all_made e) flags (deeper_expr (all_made e) flags d) x (Some ty) s) (λ a. args_limit (all_made e) flags (deeper_expr (all_made e) flags d) (deeper_expr_limit (all_made e) flags d) rest tys (n + a.expansions) a.scope)) (first x (Some ty) n s few)
+    args_first args tys n s few h = refl
 
     lets_first : (defs : LetTrees) (at : Position) (n : ℕ) (s : Scope) → n ≤ most_expansions
         → first_limit (lets_step e flags (deeper_expr_step e flags d) defs at n s) ≡ lets_limit (all_made e) flags (deeper_expr (all_made e) flags d) (deeper_expr_limit (all_made e) flags d) defs n s

@@ -1,61 +1,36 @@
 -- Where what is wrong with an expression stands.
-use Rattle.std.proofs.Common.{ℕ, zero, suc, ◌+◌, true, false, not, ◌||◌, cond, eqb, nat_le, List, [], ◌∷◌, ◌++◌, length, Option, Some, None, slice_get}
+use Rattle.std.proofs.Common.{ℕ, zero, suc, ◌+◌, true, false, cond, eqb, nat_le, List, [], ◌∷◌, length, Option, Some, None, arith}
+use Rattle.std.proofs.lemmas.Grind.{common_steps}
 use Rattle.std.specs.Prelude.{Contains}
-use Rattle.model.specs.lists.Syntax.{Position, Name, ExprTree, term_expr, var_expr, bool_expr, int_expr, prim_expr, let_expr, ExprTrees, no_expr, expr_and, LetTrees, no_let, let_and}
-use Rattle.model.specs.rules.Typed.{TypedExpr, make_term, make_var, make_bool, make_int, make_prim, TypedLets, TypedVar}
-use Rattle.model.specs.lists.Tables.{Flags, TermKindEntry, variant_term, struct_term, declared_term, TermEntry}
-use Rattle.model.specs.lists.Names.{number}
-use Rattle.model.specs.lists.Ranges.{reduced}
-use Rattle.model.specs.rules.Values.{is_atom_type}
-use Rattle.model.specs.lists.Setting.{Setting, Scope, met, var_of, term_of, type_of_name, type_of_constant, bool_type, is_expected, converter, expr_converter}
+use Rattle.model.specs.lists.Syntax.{Position, Name, ExprTree, term_expr, let_expr, ExprTrees, expr_and, LetTrees, no_let, let_and}
+use Rattle.model.specs.rules.Typed.{TypedExpr, make_term, TypedLets, TypedVar}
+use Rattle.model.specs.lists.Tables.{Flags, TermKindEntry, TermEntry}
+use Rattle.model.specs.lists.Setting.{Setting, Scope, met, term_of, type_of_name, is_expected}
 use Rattle.model.specs.lists.Expansions.{wrapped_expr}
 use Rattle.model.specs.lists.Elaborated.{most_expansions}
 use Rattle.model.specs.claims.Refusals.{of_expansions}
-use Rattle.laws_errors.specs.Steps.{no_integer, no_truth, constant_type, variable_type, constructor_type, argument_count, impure_constructor, multi_constructor, partial_constructor, Step, went_on, stopped, unless, here, nothing, noting, made_step, counted_step, after_made, last_made, then_made}
-use Rattle.laws_errors.specs.ExprSteps.{expr_list, converted_or, expected_step, forbidden, call_step, called_step, used_step, made_constant_step, with_arg, with_def, def_step, let_step, ended_step, expr_step, args_step, lets_step, deeper_expr_step}
+use Rattle.laws_errors.specs.Steps.{constructor_type, argument_count, Step, stopped, here, made_step, counted_step, after_made, last_made, then_made}
+use Rattle.laws_errors.specs.ExprSteps.{expr_list, expected_step, forbidden, call_step, called_step, used_step, made_constant_step, with_arg, with_def, let_step, ended_step, expr_step, args_step, lets_step, deeper_expr_step}
 use Rattle.laws_errors.specs.PlaceLaws.{ExprStandsAt, ExprsStandAt, LetsStandAt, AreAt, wrong_of, ExprErrorsArePlaced}
-use Rattle.laws_errors.proofs.PlacedErrors.{both_at, checked_at, noting_at, checked_step_at, made_at, counted_at, in_order_at}
+use Rattle.laws_errors.proofs.PlacedErrors.{noting_at, checked_step_at, made_at, counted_at, in_order_at}
 
 module _ (P : Position → Type 0) where
   forbidden_at : (flags : Flags) (x : List ℕ) (at : Position) (kind : TermKindEntry) → P at → AreAt P (forbidden flags x at kind)
-  forbidden_at flags x at (variant_term variant) h = tt
-  forbidden_at flags x at struct_term h = tt
-  forbidden_at flags x at (declared_term own c y) h =
-      both_at P (unless (not flags.pure || own.pure) (impure_constructor x) at) (unless (flags.multi || not own.multi) (multi_constructor x) at ++ unless (flags.partial || not own.partial) (partial_constructor x) at)
-      (checked_at P (not flags.pure || own.pure) (impure_constructor x) at h)
-      (both_at P (unless (flags.multi || not own.multi) (multi_constructor x) at) (unless (flags.partial || not own.partial) (partial_constructor x) at)
-      (checked_at P (flags.multi || not own.multi) (multi_constructor x) at h) (checked_at P (flags.partial || not own.partial) (partial_constructor x) at h))
+  forbidden_at flags x at kind h = grind (arith, common_steps)
 
   expected_at : (e : Setting) (own : ℕ) (ty : Option ℕ) (at : Position) (s : Scope) (t : Step TypedExpr) (convert : TermEntry → Step TypedExpr) → P at → AreAt P (wrong_of t)
       → ((c : TermEntry) → AreAt P (wrong_of (convert c))) → AreAt P (wrong_of (expected_step e own ty at s t convert))
   expected_at e own None at s t convert here h i = h
-  expected_at e own (Some ty) at s t convert here h i = elim (eqb own ty) as (λ b. AreAt P (wrong_of (cond b t (converted_or at s t convert (expr_converter e own ty) (converter e own ty))))) [
-    | true ↦ h
-    | false ↦ either (expr_converter e own ty) (converter e own ty)
-  ]
-    where
-      either : (by declared : Option TermEntry) → AreAt P (wrong_of (converted_or at s t convert by declared))
-      either (Some c) declared = i c
-      either None (Some c) = (here, tt)
-      either None None = h
+  expected_at e own (Some ty) at s t convert here h i = grind (arith, common_steps)
 
   constant_at : (ty : Option ℕ) (x : List ℕ) (at : Position) (s : Scope) (o : Option ℕ) → P at → AreAt P (wrong_of (made_constant_step ty x at s o))
-  constant_at ty x at s None h = (h, tt)
-  constant_at ty x at s (Some own) h = elim (is_expected ty own) as (λ b. AreAt P (wrong_of (cond b (here (make_prim own (number s.names x)) s) (nothing s (constant_type x ty own) at)))) [ true ↦ tt | false ↦ (h, tt) ]
-
-  def_at : (x : List ℕ) (own : ℕ) (t : Step TypedExpr) → AreAt P (wrong_of t) → AreAt P (wrong_of (def_step x own t))
-  def_at x own (went_on None s k es) h = h
-  def_at x own (went_on (Some v) s k es) h = h
-  def_at x own (stopped l s es) h = h
+  constant_at ty x at s o h = grind (arith, common_steps)
 
   ended_at : (defs : TypedLets) (t : Step TypedExpr) → AreAt P (wrong_of t) → AreAt P (wrong_of (ended_step defs t))
-  ended_at defs (went_on None s k es) h = h
-  ended_at defs (went_on (Some v) s k es) h = h
-  ended_at defs (stopped l s es) h = h
+  ended_at defs t h = grind (arith, common_steps)
 
   let_at : (x ty : List ℕ) (at : Position) (s : Scope) (value : ℕ → Step TypedExpr) (o : Option ℕ) → P at → ((own : ℕ) → AreAt P (wrong_of (value own))) → AreAt P (wrong_of (let_step x ty at s value o))
-  let_at x ty at s value None h i = (h, tt)
-  let_at x ty at s value (Some own) h i = def_at x own (value own) (i own)
+  let_at x ty at s value o h i = grind (arith, common_steps)
 
   pub then_made_at : {X Y : Type 0} (t : Step X) (next : X → Scope → ℕ → Step Y) → AreAt P (wrong_of t) → ((x : X) (s : Scope) (k : ℕ) → AreAt P (wrong_of (next x s k))) → AreAt P (wrong_of (then_made t next))
   then_made_at {X} {Y} t next h r = in_order_at P last_made t (after_made next) h later
@@ -78,27 +53,19 @@ module _ (P : Position → Type 0) where
         (λ c. deeper (wrapped_expr s c at (term_expr name args at)) ty n s (here, ((here, given), tt)))
 
     used_at : (name : Name) (at : Position) (ty : Option ℕ) (n : ℕ) (s : Scope) → P at → (o : Option TypedVar) → AreAt P (wrong_of (used_step e (deeper_expr_step e flags d) name at ty n s o))
-    used_at name at ty n s h None = (h, tt)
-    used_at name at ty n s h (Some v) = expected_at e v.ty ty at s (noting (unless (is_expected ty v.ty) (variable_type name.text ty v.ty) at) (here (make_var v.ty v.id) s)) (λ c. deeper_expr_step e flags d (wrapped_expr s c at (var_expr name at)) ty n s) h
-        (checked_step_at P (is_expected ty v.ty) (variable_type name.text ty v.ty) at (here (make_var v.ty v.id) s) h tt)
-        (λ c. deeper (wrapped_expr s c at (var_expr name at)) ty n s (h, (h, tt)))
+    used_at name at ty n s h i = grind (arith, common_steps)
 
     mutual
       pub placed : (x : ExprTree) (ty : Option ℕ) (n : ℕ) (s : Scope) → ExprStandsAt P x → AreAt P (wrong_of (expr_step e flags (deeper_expr_step e flags d) x ty n s))
       placed (term_expr name args at) ty n s h = called_at name args at ty n s h.0 h.1 (λ tys. args_placed args tys n s h.1) (term_of e s name.text)
-      placed (var_expr name at) ty n s h = used_at name at ty n s h (var_of s name.text)
-      placed (bool_expr b at) ty n s h = checked_step_at P (is_expected ty bool_type) (no_truth ty b) at (here (make_bool bool_type b) s) h tt
-      placed (int_expr z at) None n s h = (h, tt)
-      placed (int_expr z at) (Some own) n s h = checked_step_at P (is_atom_type (slice_get e.types own)) (no_integer own z) at (here (make_int own (reduced (slice_get e.types own) z)) s) h tt
-      placed (prim_expr name at) ty n s h = constant_at ty name.text at s (type_of_constant e s name.text) h
       placed (let_expr defs body at) ty n s h = then_made_at (lets_step e flags (deeper_expr_step e flags d) defs at n s) (λ ds t k. ended_step ds (expr_step e flags (deeper_expr_step e flags d) body ty (n + k) t))
           (lets_placed defs at n s h.0 h.1.0) (λ ds t k. ended_at ds (expr_step e flags (deeper_expr_step e flags d) body ty (n + k) t) (placed body ty (n + k) t h.1.1))
+      placed x ty n s h = grind (arith, common_steps)
 
       args_placed : (args : ExprTrees) (tys : List ℕ) (n : ℕ) (s : Scope) → ExprsStandAt P args → AreAt P (wrong_of (args_step e flags (deeper_expr_step e flags d) args tys n s))
-      args_placed no_expr tys n s h = tt
-      args_placed (expr_and x rest) [] n s h = tt
       args_placed (expr_and x rest) (ty ∷ tys) n s h = in_order_at P with_arg (expr_step e flags (deeper_expr_step e flags d) x (Some ty) n s) (λ m t k. args_step e flags (deeper_expr_step e flags d) rest tys (n + k) t)
           (placed x (Some ty) n s h.0) (λ m t k. args_placed rest tys (n + k) t h.1)
+      args_placed args tys n s h = tt
 
       lets_placed : (defs : LetTrees) (at : Position) (n : ℕ) (s : Scope) → P at → LetsStandAt P defs → AreAt P (wrong_of (lets_step e flags (deeper_expr_step e flags d) defs at n s))
       lets_placed no_let at n s h i = tt

@@ -1,12 +1,13 @@
 -- Expressions: the function of typing is what reading makes where nothing is wrong.
-use Rattle.std.proofs.Common.{◌≡◌, ℕ, zero, suc, ◌+◌, ◌≤◌, ◌<◌, Bool, true, false, not, ◌&&◌, ◌||◌, cond, eqb, nat_le, List, [], ◌∷◌, ◌++◌, length, Option, Some, None, option_map, slice_get, subst, refl, ap, arith}
+use Rattle.std.proofs.Common.{◌≡◌, ℕ, zero, suc, ◌+◌, ◌≤◌, ◌<◌, Bool, true, false, ◌&&◌, cond, eqb, nat_le, List, [], ◌∷◌, ◌++◌, length, Option, Some, None, option_map, slice_get, subst, refl, ap, arith}
+use Rattle.std.proofs.lemmas.Grind.{common_steps}
 use Rattle.std.proofs.lemmas.Bool.{leb-true, leb-false}
 use Rattle.std.proofs.lemmas.Option.{same_Some}
 use Rattle.std.proofs.lemmas.Bool.Decides.{Decides-eqb}
-use Rattle.model.specs.lists.Syntax.{Position, Name, ExprTree, term_expr, var_expr, bool_expr, int_expr, prim_expr, let_expr, ExprTrees, no_expr, expr_and, LetTrees, no_let, let_and}
+use Rattle.model.specs.lists.Syntax.{Position, Name, ExprTree, term_expr, var_expr, bool_expr, int_expr, prim_expr, let_expr, ExprTrees, expr_and, LetTrees, no_let, let_and}
 use Rattle.model.specs.rules.Outcome.{then_option}
-use Rattle.model.specs.rules.Typed.{TypedExpr, make_term, make_var, make_int, make_prim, typed_expr_and, TypedLets, TypedVar}
-use Rattle.model.specs.lists.Tables.{Flags, TermKindEntry, variant_term, struct_term, declared_term, TermEntry}
+use Rattle.model.specs.rules.Typed.{TypedExpr, make_term, make_var, make_int, make_prim, TypedLets, TypedVar}
+use Rattle.model.specs.lists.Tables.{Flags, TermKindEntry, TermEntry}
 use Rattle.model.specs.lists.Names.{number}
 use Rattle.model.specs.lists.Ranges.{reduced}
 use Rattle.model.specs.rules.Values.{is_atom_type}
@@ -16,8 +17,8 @@ use Rattle.model.specs.lists.Expansions.{wrapped_expr}
 use Rattle.model.specs.lists.Elaborated.{as_expected, expr_with, args_with, lets_with, bound_let, before_rest, typed_let, deeper_expr, most_expansions}
 use Rattle.model.specs.claims.Refusals.{of_nesting, of_expansions}
 use Rattle.laws_errors.specs.AllMade.{made_kind, made_entry, all_made}
-use Rattle.laws_errors.specs.Steps.{Why, no_integer, constant_type, Step, stopped, unless, here, nothing, noting, made_step, counted_step}
-use Rattle.laws_errors.specs.ExprSteps.{expr_list, converted_or, expected_step, forbidden, called_step, used_step, made_constant_step, with_arg, with_def, def_step, let_step, closed, ended_step, expr_step, args_step, lets_step, deeper_expr_step}
+use Rattle.laws_errors.specs.Steps.{Why, no_integer, Step, stopped, unless, here, noting, made_step, counted_step}
+use Rattle.laws_errors.specs.ExprSteps.{expr_list, converted_or, expected_step, forbidden, called_step, used_step, made_constant_step, with_def, def_step, let_step, closed, ended_step, expr_step, args_step, lets_step, deeper_expr_step}
 use Rattle.laws_errors.specs.StepLaws.{Agrees, is_read, is_wrong, is_stopped, is_stopped_later, ExprStepsAgree}
 use Rattle.laws_errors.proofs.MadeSettings.{term_made, converter_made}
 use Rattle.laws_errors.proofs.ClosedLets.{usable, lets_closed}
@@ -26,16 +27,11 @@ use Rattle.laws_errors.proofs.AgreeingSteps.{at_once, noted, none_noted, checked
 -- each flag that forbids a call
 three_checked : {X : Type 0} (n : ℕ) (a b c : Bool) (v w x : Why) (at : Position) (t : Step X) (o : Option (Typing X)) → (a && (b && c) ≡ true → Agrees n t o)
     → Agrees n (noting (unless a v at ++ (unless b w at ++ unless c x at)) t) (cond (a && (b && c)) o None)
-three_checked n true true true v w x at t o h = none_noted n t o (h refl)
-three_checked n true true false v w x at t o h = noted n _ [] t
-three_checked n true false c v w x at t o h = noted n _ _ t
-three_checked n false b c v w x at t o h = noted n _ _ t
+three_checked n a b c v w x at t o h = grind (arith, common_steps, none_noted, noted)
 
 allowed_agrees : {X : Type 0} (n : ℕ) (flags : Flags) (name : List ℕ) (at : Position) (kind : TermKindEntry) (t : Step X) (o : Option (Typing X)) → Agrees n t o
     → Agrees n (noting (forbidden flags name at kind) t) (cond (is_callable flags (made_kind kind)) o None)
-allowed_agrees n flags name at (variant_term variant) t o h = none_noted n t o h
-allowed_agrees n flags name at struct_term t o h = none_noted n t o h
-allowed_agrees n flags name at (declared_term own c x) t o h = three_checked n (not flags.pure || own.pure) (flags.multi || not own.multi) (flags.partial || not own.partial) _ _ _ at t o (λ k. h)
+allowed_agrees n flags name at kind t o h = grind (arith, common_steps, none_noted, three_checked)
 
 -- something of a type where a type, or any type, is expected
 expected_agrees : (e : Setting) (n own : ℕ) (ty : Option ℕ) (at : Position) (s : Scope) (why : Why) (t : Step TypedExpr) (o : Option (Typing TypedExpr)) (convert : TermEntry → Step TypedExpr)
@@ -57,11 +53,7 @@ expected_agrees e n own (Some ty) at s why t o convert conversion h i = elim (eq
 
 constant_agrees : (n : ℕ) (ty : Option ℕ) (x : List ℕ) (at : Position) (s : Scope) → n ≤ most_expansions → (o : Option ℕ)
     → Agrees n (made_constant_step ty x at s o) (then_option o (λ own. cond (is_expected ty own) (Some (plain (make_prim own (number s.names x)) s)) None))
-constant_agrees n ty x at s few None = is_wrong None _ 0 _ []
-constant_agrees n ty x at s few (Some own) = elim (is_expected ty own) as (λ b. Agrees n (cond b (here (make_prim own (number s.names x)) s) (nothing s (constant_type x ty own) at)) (cond b (Some (plain (make_prim own (number s.names x)) s)) None)) [
-  | true ↦ at_once n _ s few
-  | false ↦ is_wrong None s 0 _ []
-]
+constant_agrees n ty x at s few h = grind (arith, common_steps, is_wrong, at_once)
 
 -- a definition of a let
 def_agrees : (n own : ℕ) (x : List ℕ) (t : Step TypedExpr) (o : Option (Typing TypedExpr)) → Agrees n t o → Agrees n (def_step x own t) (bound_let x own o)
@@ -86,10 +78,8 @@ module _ (e : Setting) (flags : Flags) (d : ℕ)
     (deeper : (x : ExprTree) (ty : Option ℕ) (n : ℕ) (s : Scope) → n ≤ most_expansions → Agrees n (deeper_expr_step e flags d x ty n s) (counted (deeper_expr (all_made e) flags d x ty s))) where
   -- as many arguments as types, or nothing
   args_none : (args : ExprTrees) (tys : List ℕ) (s : Scope) → (length (expr_list args) ≡ length tys → ⊥) → args_with (all_made e) flags (deeper_expr (all_made e) flags d) args tys s ≡ None
-  args_none no_expr [] s h = absurd (h refl)
-  args_none no_expr (ty ∷ tys) s h = refl
-  args_none (expr_and x rest) [] s h = refl
   args_none (expr_and x rest) (ty ∷ tys) s h = followed_none _ _ _ (λ a. args_none rest tys a.scope (λ k. h (ap suc k)))
+  args_none args tys s h = grind (arith, common_steps)
 
   abbrev AreArgsAgreed : ExprTrees → ℕ → Scope → Type 0
   AreArgsAgreed args n s = (tys : List ℕ) → length (expr_list args) ≡ length tys → Agrees n (args_step e flags (deeper_expr_step e flags d) args tys n s) (args_with (all_made e) flags (deeper_expr (all_made e) flags d) args tys s)
@@ -105,10 +95,7 @@ module _ (e : Setting) (flags : Flags) (d : ℕ)
       (then_option (option_map made_entry o) (λ t. as_expected (all_made e) t.ret_ty ty
       (cond (is_callable flags t.kind) (made_into (make_term t.ret_ty t.id) (args_with (all_made e) flags (deeper_expr (all_made e) flags d) args t.arg_tys s)) None)
       (λ c. counted (deeper_expr (all_made e) flags d (wrapped_expr s c at (term_expr name args at)) ty s))))
-  called_agrees name args at ty n s few parts None = is_wrong None s 0 _ []
-  called_agrees name args at ty n s few parts (Some t) = expected_agrees e n t.ret_ty ty at s _ _ _ _ _
-      (allowed_agrees n flags name.text at t.kind _ _ (counted_agrees args at n s t _ parts (eqb (length (expr_list args)) (length t.arg_tys)) refl))
-      (λ c. deeper (wrapped_expr s c at (term_expr name args at)) ty n s few)
+  called_agrees name args at ty n s few parts h = grind (arith, common_steps, is_wrong, expected_agrees, allowed_agrees, counted_agrees)
 
   used_agrees : (name : Name) (at : Position) (ty : Option ℕ) (n : ℕ) (s : Scope) → n ≤ most_expansions → (o : Option TypedVar)
       → Agrees n (used_step e (deeper_expr_step e flags d) name at ty n s o)
@@ -118,13 +105,11 @@ module _ (e : Setting) (flags : Flags) (d : ℕ)
 
   pub let_agrees : (x ty : List ℕ) (at : Position) (n : ℕ) (s : Scope) (value : ℕ → Step TypedExpr) (reading : ℕ → Option (Typing TypedExpr)) (o : Option ℕ) → ((own : ℕ) → Agrees n (value own) (reading own))
       → Agrees n (let_step x ty at s value o) (then_option o (λ own. bound_let x own (reading own)))
-  let_agrees x ty at n s value reading None h = is_wrong None _ 0 _ []
-  let_agrees x ty at n s value reading (Some own) h = def_agrees n own x _ _ (h own)
+  let_agrees x ty at n s value reading o h = grind (arith, common_steps, is_wrong, def_agrees)
 
   -- an unknown type, then the rest
   then_followed : {X Y Z : Type 0} (f : X → Y → Z) (o : Option ℕ) (g : ℕ → Option (Typing X)) (rest : Typing X → Option (Typing Y)) → followed f (then_option o g) rest ≡ then_option o (λ own. followed f (g own) rest)
-  then_followed f None g rest = refl
-  then_followed f (Some own) g rest = refl
+  then_followed f o g rest = grind (arith, common_steps)
 
   mutual
     pub agrees : (x : ExprTree) (ty : Option ℕ) (n : ℕ) (s : Scope) → n ≤ most_expansions → Agrees n (expr_step e flags (deeper_expr_step e flags d) x ty n s) (expr_with (all_made e) flags (deeper_expr (all_made e) flags d) x ty s)
@@ -142,11 +127,8 @@ module _ (e : Setting) (flags : Flags) (d : ℕ)
 
     pub args_agree : (args : ExprTrees) (tys : List ℕ) (n : ℕ) (s : Scope) → n ≤ most_expansions → length (expr_list args) ≡ length tys
         → Agrees n (args_step e flags (deeper_expr_step e flags d) args tys n s) (args_with (all_made e) flags (deeper_expr (all_made e) flags d) args tys s)
-    args_agree no_expr [] n s few h = at_once n _ _ few
-    args_agree no_expr (ty ∷ tys) n s few h = absurd (omega (arith, h))
-    args_agree (expr_and x rest) [] n s few h = absurd (omega (arith, h))
-    args_agree (expr_and x rest) (ty ∷ tys) n s few h =
-        in_order n typed_expr_and with_arg (λ x y. refl) _ _ _ _ (agrees x (Some ty) n s few) (λ a i few. args_agree rest tys (n + a.expansions) a.scope few (omega (arith, h)))
+    args_agree (expr_and x rest) (ty ∷ tys) n s few h = grind (arith, common_steps, agrees x (Some ty) n s few, args_agree rest tys, in_order)
+    args_agree args tys n s few h = grind (arith, common_steps, at_once)
 
     pub lets_agree : (defs : LetTrees) (at : Position) (n : ℕ) (s : Scope) → n ≤ most_expansions
         → Agrees n (lets_step e flags (deeper_expr_step e flags d) defs at n s) (lets_with (all_made e) flags (deeper_expr (all_made e) flags d) defs s)

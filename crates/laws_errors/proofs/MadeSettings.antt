@@ -1,25 +1,21 @@
 -- The setting in which each term has a constructor.
-use Rattle.std.proofs.Common.{◌≡◌, ℕ, ◌&&◌, Bool, true, false, cond, eqb, List, [], ◌∷◌, filter, map, Option, Some, None, option_map, is_some, slice_get, refl, sym, ap, ◌∙◌, inl, inr}
+use Rattle.std.proofs.Common.{◌≡◌, ℕ, ◌&&◌, Bool, true, false, cond, List, [], ◌∷◌, filter, map, Option, Some, None, option_map, is_some, slice_get, refl, sym, ap, ◌∙◌, inl, inr, arith}
+use Rattle.std.proofs.lemmas.Grind.{common_steps}
 use Rattle.std.specs.Bool.{◌==◌}
 use Rattle.std.proofs.lemmas.Bool.{cases_Bool, and_parts, eqb-true}
 use Rattle.std.proofs.lemmas.Option.{slice_get-map}
 use Rattle.model.specs.rules.Meaning.{look}
 use Rattle.model.specs.rules.Outcome.{then_option}
-use Rattle.model.specs.lists.Tables.{TermKindEntry, variant_term, struct_term, declared_term, TermEntry}
+use Rattle.model.specs.lists.Tables.{TermKindEntry, TermEntry}
 use Rattle.model.specs.lists.Setting.{Setting, Scope, entry_named, term_of, that, has_constructor, expr_converter}
 use Rattle.laws_errors.specs.AllMade.{made_kind, made_entry, all_made}
 
 constructed : (k : TermKindEntry) → has_constructor (made_kind k) ≡ true
-constructed (variant_term variant) = refl
-constructed struct_term = refl
-constructed (declared_term own constructor_kind extractor_kind) = refl
+constructed k = grind (arith, common_steps)
 
 named_made : (name : ℕ) (ts : List TermEntry) → entry_named name (map made_entry ts) ≡ option_map made_entry (entry_named name ts)
+named_made name (t ∷ ts) = grind (arith, common_steps, named_made name ts)
 named_made name [] = refl
-named_made name (t ∷ ts) = elim (eqb t.name name) as (λ b. cond b (Some (made_entry t)) (entry_named name (map made_entry ts)) ≡ option_map made_entry (cond b (Some t) (entry_named name ts))) [
-  | true ↦ refl
-  | false ↦ named_made name ts
-]
 
 pub term_made : (e : Setting) (s : Scope) (x : List ℕ) (o : Option TermEntry) → term_of e s x ≡ o → term_of (all_made e) s x ≡ option_map made_entry o
 term_made e s x o h = named_made _ e.terms ∙ ap (option_map made_entry) h
@@ -33,21 +29,8 @@ module _ (p : ℕ → ℕ → Bool) (i o : ℕ) where
   same_pair k h = let b = and_parts (k.0 == i) (k.1 == o) h in ap (λ j. p j k.1) (eqb-true k.0 i b.0) ∙ ap (p i) (eqb-true k.1 o b.1)
 
   kept : (cs : List ((ℕ × ℕ) × ℕ)) → look is_pair (filter (λ c. p c.0.0 c.0.1) cs) ≡ cond (p i o) (look is_pair cs) None
+  kept (c ∷ cs) = grind (arith, common_steps, kept cs, same_pair)
   kept [] = elim (p i o) as (λ b. ◌≡◌ {A = Option ℕ} None (cond b None None)) [ true ↦ refl | false ↦ refl ]
-  kept (c ∷ cs) = elim (cases_Bool (is_pair c.0)) [
-    | inl t ↦
-        let s = same_pair c.0 t in
-        elim (cases_Bool (p i o)) [
-          | inl t' ↦ rw (s ∙ t', t', t) refl
-          | inr f' ↦ let r = kept cs in rw (s ∙ f', f') (r ∙ ap (λ b. cond b (look is_pair cs) None) f')
-        ]
-    | inr f ↦
-        let r = kept cs in
-        elim (cases_Bool (p c.0.0 c.0.1)) [
-          | inl t' ↦ rw (t', f) r
-          | inr f' ↦ rw (f', f) r
-        ]
-  ]
 
 pub converter_made : (e : Setting) (i o : ℕ) (own : Option TermEntry) → expr_converter e i o ≡ own → expr_converter (all_made e) i o ≡ option_map made_entry own
 converter_made e i o own h =

@@ -1,24 +1,23 @@
 -- Patterns: the function of typing is what reading makes where nothing is wrong.
-use Rattle.std.proofs.Common.{◌≡◌, ℕ, zero, suc, ◌+◌, ◌≤◌, ◌<◌, Bool, true, false, not, cond, eqb, nat_le, List, [], ◌∷◌, length, Option, Some, None, is_some, slice_get, subst, refl, sym, ap, arith}
+use Rattle.std.proofs.Common.{◌≡◌, ℕ, zero, suc, ◌≤◌, Bool, true, false, not, cond, eqb, nat_le, List, [], ◌∷◌, length, Option, Some, None, is_some, subst, refl, arith}
+use Rattle.std.proofs.lemmas.Grind.{common_steps}
 use Rattle.std.proofs.lemmas.Bool.{leb-true, leb-false}
 use Rattle.std.proofs.lemmas.Option.{same_Some}
 use Rattle.std.proofs.lemmas.Bool.Decides.{Decides-eqb}
-use Rattle.model.specs.lists.Syntax.{Position, Name, PatternTree, var_pattern, bind_pattern, bool_pattern, int_pattern, prim_pattern, term_pattern, wildcard_pattern, and_pattern, macro_arg, PatternTrees, no_pattern, pattern_and, pattern_list}
+use Rattle.model.specs.lists.Syntax.{Position, Name, PatternTree, bind_pattern, term_pattern, and_pattern, PatternTrees, no_pattern, pattern_and, pattern_list}
 use Rattle.model.specs.rules.Outcome.{then_option}
-use Rattle.model.specs.rules.Typed.{TypedPattern, match_bind, match_var, match_bool, match_int, match_prim, match_and, match_term, typed_pattern_and, TypedVar}
+use Rattle.model.specs.rules.Typed.{TypedPattern, match_bind, match_var, match_prim, match_and, match_term, TypedVar}
 use Rattle.model.specs.lists.Tables.{TermEntry}
 use Rattle.model.specs.lists.Names.{number}
-use Rattle.model.specs.lists.Ranges.{reduced}
-use Rattle.model.specs.rules.Values.{is_atom_type}
-use Rattle.model.specs.lists.Setting.{Setting, Scope, bound, var_of, term_of, type_of_constant, bool_type, is_matchable, template_in, pattern_converter}
+use Rattle.model.specs.lists.Setting.{Setting, Scope, bound, var_of, term_of, is_matchable, template_in, pattern_converter}
 use Rattle.model.specs.lists.Typings.{Typing, plain, made_into, counted}
 use Rattle.model.specs.lists.Expansions.{substituted, wrapped_pattern}
 use Rattle.model.specs.lists.Formed.{pattern_type}
 use Rattle.model.specs.lists.Elaborated.{var_pattern_at, bound_after, or_expanded, by_template, pattern_with, parts_with, each_with, deeper_pattern, most_expansions}
 use Rattle.model.specs.claims.Refusals.{of_nesting, of_expansions}
-use Rattle.laws_errors.specs.Steps.{Why, rebound, no_integer, Step, went_on, stopped, unless, here, noting, made_step, counted_step}
-use Rattle.laws_errors.specs.PatternSteps.{var_step, bind_step, constant_step, with_part, template_step, pattern_step, found_step, converted_step, use_step, term_step, parts_step, each_step, deeper_step}
-use Rattle.laws_errors.specs.StepLaws.{TakesTooMany, Agrees, TemplatesAreWhole, is_read, is_wrong, is_stopped, is_stopped_later, MadeAtTypes, PatternStepsAgree}
+use Rattle.laws_errors.specs.Steps.{Why, rebound, Step, went_on, stopped, unless, here, noting, made_step, counted_step}
+use Rattle.laws_errors.specs.PatternSteps.{var_step, bind_step, constant_step, template_step, pattern_step, found_step, converted_step, use_step, term_step, parts_step, each_step, deeper_step}
+use Rattle.laws_errors.specs.StepLaws.{Agrees, TemplatesAreWhole, is_read, is_wrong, is_stopped, is_stopped_later, MadeAtTypes, PatternStepsAgree}
 use Rattle.laws_errors.proofs.TypesMade.{types_made}
 use Rattle.laws_errors.proofs.AgreeingSteps.{at_once, noted, none_noted, checked, made, one_more, too_many, in_order, followed_none, noted_either}
 
@@ -45,39 +44,29 @@ bind_agrees n ty x at _ _ typed (is_wrong None s k w ws) = is_wrong None s k w w
 bind_agrees n ty x at _ _ typed (is_wrong (Some q) s k w ws) = is_wrong _ _ k w _
 bind_agrees n ty x at _ _ typed (is_stopped_later l z w ws) = is_stopped_later l z w ws
 bind_agrees n ty x at _ _ typed (is_stopped l z None past) = is_stopped l z None (λ a h. absurd (cc))
-bind_agrees n ty x at _ _ typed (is_stopped l z (Some a) past) = is_stopped l z _ (at_name (var_of a.scope x))
-  where
-    at_name : (v : Option TypedVar) → TakesTooMany n (cond (is_some v) None (Some (record { made = match_bind ty (length a.scope.vars) a.made; scope = bound a.scope x ty; expansions = a.expansions })))
-    at_name None = λ b h. subst (λ (v : Typing _). most_expansions < n + v.expansions) (same_Some _ _ h) (past a refl)
-    at_name (Some v) = λ b h. absurd (cc)
+bind_agrees n ty x at _ _ typed (is_stopped l z (Some a) past) = grind (arith, common_steps, made, same_Some, is_stopped)
 
 -- a constant
 constant_agrees : (n ty : ℕ) (x : List ℕ) (at : Position) (s : Scope) → n ≤ most_expansions → (o : Option ℕ)
     → Agrees n (constant_step ty x at s o) (then_option o (λ own. cond (eqb own ty) (Some (plain (match_prim ty (number s.names x)) s)) None))
-constant_agrees n ty x at s few None = is_wrong None _ 0 _ []
-constant_agrees n ty x at s few (Some own) =
-    checked n (eqb own ty) _ at _ _ (λ h. subst (λ t. Agrees n (here (match_prim own (number s.names x)) s) (Some (plain (match_prim t (number s.names x)) s))) ((Decides-eqb own ty).0 h) (at_once n _ _ few))
+constant_agrees n ty x at s few h = grind (arith, common_steps, is_wrong, checked, Decides-eqb, at_once)
 
 module _ (e : Setting) (multi : Bool) (templates : TemplatesAreWhole e) (typed : MadeAtTypes e multi) (d : ℕ)
     (deeper : (p : PatternTree) (ty n : ℕ) (s : Scope) → n ≤ most_expansions → Agrees n (deeper_step e multi d p ty n s) (counted (deeper_pattern e multi d p ty s))) where
   substituted_agrees : (ty n : ℕ) (s : Scope) (o : Option PatternTree) → is_some o ≡ true → n ≤ most_expansions
       → Agrees n (template_step (deeper_step e multi d) ty n s o) (then_option o (λ p. counted (deeper_pattern e multi d p ty s)))
-  substituted_agrees ty n s None whole few = absurd (cc)
-  substituted_agrees ty n s (Some p) whole few = deeper p ty n s few
+  substituted_agrees ty n s o whole few = grind (arith, common_steps)
 
   -- a template, where there are as many arguments as the term has
   template_agrees : (args : PatternTrees) (at : Position) (ty n : ℕ) (s : Scope) (why : Why) (template : PatternTree) → n ≤ most_expansions → (b : Bool) → (b ≡ true → is_some (substituted (pattern_list args) template) ≡ true)
       → Agrees n (noting (unless b why at) (template_step (deeper_step e multi d) ty n s (substituted (pattern_list args) template)))
       (then_option (cond b (substituted (pattern_list args) template) None) (λ p. counted (deeper_pattern e multi d p ty s)))
-  template_agrees args at ty n s why template few false whole = noted n _ [] _
-  template_agrees args at ty n s why template few true whole = none_noted n _ _ (substituted_agrees ty n s (substituted (pattern_list args) template) (whole refl) few)
+  template_agrees args at ty n s why template few h whole = grind (arith, common_steps, noted, none_noted, substituted_agrees)
 
   -- as many arguments as types, or nothing
   pub parts_none : (args : PatternTrees) (tys : List ℕ) (s : Scope) → (length (pattern_list args) ≡ length tys → ⊥) → parts_with e multi (deeper_pattern e multi d) args tys s ≡ None
-  parts_none no_pattern [] s h = absurd (h refl)
-  parts_none no_pattern (ty ∷ tys) s h = refl
-  parts_none (pattern_and p rest) [] s h = refl
-  parts_none (pattern_and p rest) (ty ∷ tys) s h = followed_none _ _ _ (λ a. parts_none rest tys a.scope (λ k. h (ap suc k)))
+  parts_none (pattern_and p rest) (ty ∷ tys) s h = grind (arith, common_steps, parts_none rest tys, followed_none)
+  parts_none args tys s h = grind (arith, common_steps)
 
   -- the arguments of a term, as many as its types
   abbrev ArePartsAgreed : PatternTrees → ℕ → Scope → Type 0
@@ -105,8 +94,7 @@ module _ (e : Setting) (multi : Bool) (templates : TemplatesAreWhole e) (typed :
   converted_agrees : (name : Name) (args : PatternTrees) (at : Position) (ty n : ℕ) (s : Scope) → n ≤ most_expansions → ArePartsAgreed args n s → (t : TermEntry) (o : Option TermEntry)
       → Agrees n (converted_step e multi (deeper_step e multi d) name args at ty n s t (λ tys. parts_step e multi (deeper_step e multi d) args tys n s) o)
       (then_option o (λ c. counted (deeper_pattern e multi d (wrapped_pattern s c at (term_pattern name args at)) ty s)))
-  converted_agrees name args at ty n s few parts t None = noted n _ [] _
-  converted_agrees name args at ty n s few parts t (Some c) = deeper _ ty n s few
+  converted_agrees name args at ty n s few parts t h = grind (arith, common_steps, noted)
 
   found_agrees : (name : Name) (args : PatternTrees) (at : Position) (ty n : ℕ) (s : Scope) → n ≤ most_expansions → ArePartsAgreed args n s → (o : Option TermEntry) → term_of e s name.text ≡ o
       → Agrees n (found_step e multi (deeper_step e multi d) name args at ty n s (λ tys. parts_step e multi (deeper_step e multi d) args tys n s) o)
@@ -114,41 +102,24 @@ module _ (e : Setting) (multi : Bool) (templates : TemplatesAreWhole e) (typed :
       cond (eqb t.ret_ty ty)
       (or_expanded (template_in e t.kind) (by_template (deeper_pattern e multi d) t args ty s) (cond (is_matchable multi t.kind) (made_into (match_term ty t.id) (parts_with e multi (deeper_pattern e multi d) args t.arg_tys s)) None))
       (then_option (pattern_converter e t.ret_ty ty) (λ c. counted (deeper_pattern e multi d (wrapped_pattern s c at (term_pattern name args at)) ty s)))))
-  found_agrees name args at ty n s few parts None found = is_wrong None s 0 _ []
-  found_agrees name args at ty n s few parts (Some t) found = elim (eqb t.ret_ty ty) as (λ b. eqb t.ret_ty ty ≡ b → Agrees n
-      (cond b (use_step multi (deeper_step e multi d) name args at ty n s t (λ tys. parts_step e multi (deeper_step e multi d) args tys n s) (template_in e t.kind))
-      (converted_step e multi (deeper_step e multi d) name args at ty n s t (λ tys. parts_step e multi (deeper_step e multi d) args tys n s) (pattern_converter e t.ret_ty ty)))
-      (cond b (or_expanded (template_in e t.kind) (by_template (deeper_pattern e multi d) t args ty s) (cond (is_matchable multi t.kind) (made_into (match_term ty t.id) (parts_with e multi (deeper_pattern e multi d) args t.arg_tys s)) None))
-      (then_option (pattern_converter e t.ret_ty ty) (λ c. counted (deeper_pattern e multi d (wrapped_pattern s c at (term_pattern name args at)) ty s))))) [
-        | true ↦ λ h. used_agrees name args at ty n s few parts t ((Decides-eqb t.ret_ty ty).0 h) (template_in e t.kind) (λ template given k. templates s name.text t template given found k)
-        | false ↦ λ h. converted_agrees name args at ty n s few parts t (pattern_converter e t.ret_ty ty)
-      ] refl
+  found_agrees name args at ty n s few parts h found = grind (arith, common_steps, is_wrong, used_agrees, Decides-eqb, converted_agrees)
 
   mutual
     pub agrees : (p : PatternTree) (ty n : ℕ) (s : Scope) → n ≤ most_expansions → Agrees n (pattern_step e multi (deeper_step e multi d) p ty n s) (pattern_with e multi (deeper_pattern e multi d) p ty s)
-    agrees (var_pattern name at) ty n s few = var_agrees n ty name.text at s few (var_of s name.text)
     agrees (bind_pattern name of at) ty n s few = bind_agrees n ty name.text at _ _ (typed d of ty s) (agrees of ty n s few)
-    agrees (bool_pattern b at) ty n s few = checked n (eqb ty bool_type) _ at _ _ (λ h. subst (λ t. Agrees n (here (match_bool bool_type b) s) (Some (plain (match_bool t b) s))) (sym ((Decides-eqb ty bool_type).0 h)) (at_once n _ _ few))
-    agrees (int_pattern z at) ty n s few = checked n (is_atom_type (slice_get e.types ty)) (no_integer ty z) at (here (match_int ty (reduced (slice_get e.types ty) z)) s) (Some (plain (match_int ty (reduced (slice_get e.types ty) z)) s)) (λ h. at_once n _ s few)
-    agrees (prim_pattern name at) ty n s few = constant_agrees n ty name.text at s few (type_of_constant e s name.text)
     agrees (term_pattern name args at) ty n s few = found_agrees name args at ty n s few (λ tys h. parts_agree args tys n s few h) (term_of e s name.text) refl
-    agrees (wildcard_pattern at) ty n s few = at_once n _ _ few
     agrees (and_pattern parts at) ty n s few = made n (match_and ty) _ _ (each_agrees parts ty n s few)
-    agrees (macro_arg i at) ty n s few = is_wrong None s 0 _ []
+    agrees p ty n s few = grind (arith, common_steps, var_agrees, checked, Decides-eqb, at_once, constant_agrees, is_wrong)
 
     pub parts_agree : (args : PatternTrees) (tys : List ℕ) (n : ℕ) (s : Scope) → n ≤ most_expansions → length (pattern_list args) ≡ length tys
         → Agrees n (parts_step e multi (deeper_step e multi d) args tys n s) (parts_with e multi (deeper_pattern e multi d) args tys s)
-    parts_agree no_pattern [] n s few h = at_once n _ _ few
-    parts_agree no_pattern (ty ∷ tys) n s few h = absurd (omega (arith, h))
-    parts_agree (pattern_and p rest) [] n s few h = absurd (omega (arith, h))
-    parts_agree (pattern_and p rest) (ty ∷ tys) n s few h =
-        in_order n typed_pattern_and with_part (λ x y. refl) _ _ _ _ (agrees p ty n s few) (λ a i few. parts_agree rest tys (n + a.expansions) a.scope few (omega (arith, h)))
+    parts_agree (pattern_and p rest) (ty ∷ tys) n s few h = grind (arith, common_steps, agrees p ty n s few, parts_agree rest tys, in_order)
+    parts_agree args tys n s few h = grind (arith, common_steps, at_once)
 
     each_agrees : (ps : PatternTrees) (ty n : ℕ) (s : Scope) → n ≤ most_expansions
         → Agrees n (each_step e multi (deeper_step e multi d) ps ty n s) (each_with e multi (deeper_pattern e multi d) ps ty s)
+    each_agrees (pattern_and p rest) ty n s few = grind (arith, common_steps, agrees p ty n s few, each_agrees rest ty, in_order)
     each_agrees no_pattern ty n s few = at_once n _ _ few
-    each_agrees (pattern_and p rest) ty n s few =
-        in_order n typed_pattern_and with_part (λ x y. refl) _ _ _ _ (agrees p ty n s few) (λ a i few. each_agrees rest ty (n + a.expansions) a.scope few)
 
 -- what expansions make
 pub deeper_agrees : (e : Setting) (multi : Bool) (templates : TemplatesAreWhole e) (typed : MadeAtTypes e multi) (d : ℕ) (p : PatternTree) (ty n : ℕ) (s : Scope) → n ≤ most_expansions

@@ -1,16 +1,16 @@
 -- Where what is wrong stands, by what a step is made of.
-use Rattle.std.proofs.Common.{◌≡◌, ℕ, zero, suc, ◌+◌, Bool, true, false, not, cond, eqb, nat_le, List, [], ◌∷◌, ◌++◌, length, Option, Some, None, option_map, is_some, slice_get, subst, refl}
+use Rattle.std.proofs.Common.{◌≡◌, ℕ, zero, suc, ◌+◌, Bool, true, false, cond, eqb, nat_le, List, [], ◌∷◌, ◌++◌, length, Option, Some, None, option_map, slice_get, subst, refl, arith}
+use Rattle.std.proofs.lemmas.Grind.{common_steps}
 use Rattle.std.specs.Prelude.{Contains}
 use Rattle.std.proofs.lemmas.Option.{same_Some}
-use Rattle.model.specs.lists.Syntax.{Position, Name, PatternTree, var_pattern, bind_pattern, bool_pattern, int_pattern, prim_pattern, term_pattern, wildcard_pattern, and_pattern, macro_arg, PatternTrees, no_pattern, pattern_and, pattern_list}
+use Rattle.model.specs.lists.Syntax.{Position, Name, PatternTree, bind_pattern, term_pattern, and_pattern, PatternTrees, no_pattern, pattern_and, pattern_list}
 use Rattle.model.specs.rules.Typed.{TypedPattern, match_and, match_term, TypedVar}
 use Rattle.model.specs.lists.Tables.{TermEntry}
-use Rattle.model.specs.lists.Setting.{Setting, Scope, var_of, term_of, type_of_constant, bool_type, is_matchable, template_in, pattern_converter}
+use Rattle.model.specs.lists.Setting.{Setting, Scope, term_of, is_matchable, template_in, pattern_converter}
 use Rattle.model.specs.lists.Expansions.{with_pattern, substituted, all_substituted, wrapped_pattern}
 use Rattle.model.specs.lists.Elaborated.{most_expansions}
 use Rattle.model.specs.claims.Refusals.{of_expansions}
-use Rattle.model.specs.rules.Values.{is_atom_type}
-use Rattle.laws_errors.specs.Steps.{Why, rebound, bound_type, matched_constant_type, extractor_type, argument_count, no_truth, no_integer, Mistake, Step, went_on, stopped, unless, noting, made_step, counted_step, joined_step, then_step}
+use Rattle.laws_errors.specs.Steps.{Why, extractor_type, argument_count, Mistake, Step, stopped, unless, noting, made_step, counted_step, joined_step, then_step}
 use Rattle.laws_errors.specs.PatternSteps.{var_step, bind_step, constant_step, with_part, template_step, why_not_matched, use_step, converted_step, found_step, pattern_step, parts_step, each_step, deeper_step}
 use Rattle.laws_errors.specs.PlaceLaws.{StandsAt, StandAt, AreAt, wrong_of, TemplatesStandAt, PatternErrorsArePlaced}
 
@@ -20,89 +20,66 @@ module _ (P : Position → Type 0) where
   both_at (w ∷ ws) es h k = (h.0, both_at ws es h.1 k)
 
   pub checked_at : (b : Bool) (why : Why) (at : Position) → P at → AreAt P (unless b why at)
-  checked_at true why at h = tt
-  checked_at false why at h = (h, tt)
+  checked_at b why at h = grind (arith, common_steps)
 
   pub noting_at : {X : Type 0} (ws : List Mistake) (t : Step X) → AreAt P ws → AreAt P (wrong_of t) → AreAt P (wrong_of (noting ws t))
-  noting_at ws (went_on m s k es) h i = both_at ws es h i
-  noting_at ws (stopped l z es) h i = both_at ws es h i
+  noting_at ws t h i = grind (arith, common_steps, both_at)
 
   pub checked_step_at : {X : Type 0} (b : Bool) (why : Why) (at : Position) (t : Step X) → P at → AreAt P (wrong_of t) → AreAt P (wrong_of (noting (unless b why at) t))
   checked_step_at b why at t h i = noting_at (unless b why at) t (checked_at b why at h) i
 
   pub made_at : {X Y : Type 0} (f : X → Y) (t : Step X) → AreAt P (wrong_of t) → AreAt P (wrong_of (made_step f t))
-  made_at f (went_on m s k es) h = h
-  made_at f (stopped l z es) h = h
+  made_at f t h = grind (arith, common_steps)
 
   pub counted_at : {X : Type 0} (t : Step X) → AreAt P (wrong_of t) → AreAt P (wrong_of (counted_step t))
-  counted_at (went_on m s k es) h = h
-  counted_at (stopped l z es) h = h
+  counted_at t h = grind (arith, common_steps)
 
   pub joined_at : {X Y Z : Type 0} (g : Option X → Y → Z) (m : Option X) (k : ℕ) (t : Step Y) → AreAt P (wrong_of t) → AreAt P (wrong_of (joined_step g m k t))
-  joined_at g m k (went_on None s j es) h = h
-  joined_at g m k (went_on (Some y) s j es) h = h
-  joined_at g m k (stopped l z es) h = h
+  joined_at g m k t h = grind (arith, common_steps)
 
   pub in_order_at : {X Y Z : Type 0} (g : Option X → Y → Z) (t : Step X) (next : Option X → Scope → ℕ → Step Y) → AreAt P (wrong_of t)
       → ((m : Option X) (s : Scope) (k : ℕ) → AreAt P (wrong_of (next m s k))) → AreAt P (wrong_of (then_step g t next))
-  in_order_at g (went_on m s k es) next h r = noting_at es (joined_step g m k (next m s k)) h (joined_at g m k (next m s k) (r m s k))
-  in_order_at g (stopped l z es) next h r = h
+  in_order_at g t next h r = grind (arith, common_steps, noting_at, joined_at)
 
   bind_at : (x : List ℕ) (at : Position) (t : Step TypedPattern) → P at → AreAt P (wrong_of t) → AreAt P (wrong_of (bind_step x at t))
-  bind_at x at (went_on None s k es) h i = i
-  bind_at x at (went_on (Some q) s k es) h i = both_at es (unless (not (is_some (var_of s x))) (rebound x) at) i (checked_at (not (is_some (var_of s x))) (rebound x) at h)
-  bind_at x at (stopped l z es) h i = i
+  bind_at x at t h i = grind (arith, common_steps, both_at, checked_at)
 
   var_at : (ty : ℕ) (x : List ℕ) (at : Position) (s : Scope) (o : Option TypedVar) → P at → AreAt P (wrong_of (var_step ty x at s o))
-  var_at ty x at s None h = tt
-  var_at ty x at s (Some v) h = both_at (unless (eqb v.ty ty) (bound_type x ty v.ty) at) [] (checked_at (eqb v.ty ty) (bound_type x ty v.ty) at h) tt
+  var_at ty x at s o h = grind (arith, common_steps)
 
   constant_at : (ty : ℕ) (x : List ℕ) (at : Position) (s : Scope) (o : Option ℕ) → P at → AreAt P (wrong_of (constant_step ty x at s o))
-  constant_at ty x at s None h = (h, tt)
-  constant_at ty x at s (Some own) h = both_at (unless (eqb own ty) (matched_constant_type x ty own) at) [] (checked_at (eqb own ty) (matched_constant_type x ty own) at h) tt
+  constant_at ty x at s o h = grind (arith, common_steps)
 
   -- one of these patterns
   nth_at : (ps : PatternTrees) (i : ℕ) (p : PatternTree) → StandAt P ps → slice_get (pattern_list ps) i ≡ Some p → StandsAt P p
-  nth_at no_pattern i p h g = absurd (cc)
-  nth_at (pattern_and q rest) zero p h g = subst (StandsAt P) (same_Some _ _ g) h.0
   nth_at (pattern_and q rest) (suc i) p h g = nth_at rest i p h.1 g
+  nth_at ps i p h g = grind (arith, common_steps)
 
   -- a template with patterns in the place of its arguments
   module _ (args : PatternTrees) (given : StandAt P args) where
     both_stand : (o : Option PatternTree) (os : Option PatternTrees) (ps : PatternTrees)
         → ((p : PatternTree) → o ≡ Some p → StandsAt P p) → ((qs : PatternTrees) → os ≡ Some qs → StandAt P qs) → with_pattern o os ≡ Some ps → StandAt P ps
-    both_stand None os ps h i g = absurd (cc)
-    both_stand (Some p) None ps h i g = absurd (cc)
-    both_stand (Some p) (Some qs) ps h i g = subst (StandAt P) (same_Some _ _ g) (h p refl, i qs refl)
+    both_stand o os ps h i g = grind (arith, common_steps)
 
     bound_under : (name : Name) (at : Position) → P at → (o : Option PatternTree) (p : PatternTree) → ((q : PatternTree) → o ≡ Some q → StandsAt P q) → option_map (λ q. bind_pattern name q at) o ≡ Some p → StandsAt P p
-    bound_under name at h None p f g = absurd (cc)
-    bound_under name at h (Some q) p f g = subst (StandsAt P) (same_Some _ _ g) (h, f q refl)
+    bound_under name at h p q f g = grind (arith, common_steps)
 
     term_under : (name : Name) (at : Position) → P at → (o : Option PatternTrees) (p : PatternTree) → ((qs : PatternTrees) → o ≡ Some qs → StandAt P qs) → option_map (λ qs. term_pattern name qs at) o ≡ Some p → StandsAt P p
-    term_under name at h None p f g = absurd (cc)
-    term_under name at h (Some qs) p f g = subst (StandsAt P) (same_Some _ _ g) (h, f qs refl)
+    term_under name at h p qs f g = grind (arith, common_steps)
 
     and_under : (at : Position) → P at → (o : Option PatternTrees) (p : PatternTree) → ((qs : PatternTrees) → o ≡ Some qs → StandAt P qs) → option_map (λ qs. and_pattern qs at) o ≡ Some p → StandsAt P p
-    and_under at h None p f g = absurd (cc)
-    and_under at h (Some qs) p f g = subst (StandsAt P) (same_Some _ _ g) (h, f qs refl)
+    and_under at h p qs f g = grind (arith, common_steps)
 
     mutual
       put_at : (template p : PatternTree) → StandsAt P template → substituted (pattern_list args) template ≡ Some p → StandsAt P p
-      put_at (macro_arg i at) p h g = nth_at args i p given g
-      put_at (bind_pattern name of at) p h g = bound_under name at h.0 (substituted (pattern_list args) of) p (λ q e. put_at of q h.1 e) g
-      put_at (term_pattern name ps at) p h g = term_under name at h.0 (all_substituted (pattern_list args) ps) p (λ q e. all_put_at ps q h.1 e) g
-      put_at (and_pattern ps at) p h g = and_under at h.0 (all_substituted (pattern_list args) ps) p (λ q e. all_put_at ps q h.1 e) g
-      put_at (var_pattern name at) p h g = subst (StandsAt P) (same_Some _ _ g) h
-      put_at (bool_pattern b at) p h g = subst (StandsAt P) (same_Some _ _ g) h
-      put_at (int_pattern z at) p h g = subst (StandsAt P) (same_Some _ _ g) h
-      put_at (prim_pattern name at) p h g = subst (StandsAt P) (same_Some _ _ g) h
-      put_at (wildcard_pattern at) p h g = subst (StandsAt P) (same_Some _ _ g) h
+      put_at (bind_pattern name of at) p h g = grind (arith, common_steps, put_at of, bound_under)
+      put_at (term_pattern name ps at) p h g = grind (arith, common_steps, all_put_at ps, term_under)
+      put_at (and_pattern ps at) p h g = grind (arith, common_steps, all_put_at ps, and_under)
+      put_at template p h g = grind (arith, common_steps, nth_at, same_Some)
 
       all_put_at : (templates ps : PatternTrees) → StandAt P templates → all_substituted (pattern_list args) templates ≡ Some ps → StandAt P ps
+      all_put_at (pattern_and q rest) ps h g = grind (arith, common_steps, put_at q, all_put_at rest, both_stand)
       all_put_at no_pattern ps h g = subst (StandAt P) (same_Some _ _ g) h
-      all_put_at (pattern_and q rest) ps h g =
-          both_stand (substituted (pattern_list args) q) (all_substituted (pattern_list args) rest) ps (λ p e. put_at q p h.0 e) (λ qs e. all_put_at rest qs h.1 e) g
 
   module _ (e : Setting) (multi : Bool) (templates : TemplatesStandAt e P) (d : ℕ)
       (deeper : (p : PatternTree) (ty n : ℕ) (s : Scope) → StandsAt P p → AreAt P (wrong_of (deeper_step e multi d p ty n s))) where
@@ -112,8 +89,7 @@ module _ (P : Position → Type 0) where
 
     template_at : (x : List ℕ) (args : PatternTrees) (at : Position) (ty n : ℕ) (s : Scope) (template : PatternTree) → P at → StandAt P args → StandsAt P template → (o : Option PatternTree)
         → substituted (pattern_list args) template ≡ o → AreAt P (wrong_of (template_step (deeper_step e multi d) ty n s o))
-    template_at x args at ty n s template here given whole None h = tt
-    template_at x args at ty n s template here given whole (Some p) h = deeper p ty n s (put_at args given template p whole h)
+    template_at x args at ty n s template here given whole h i = grind (arith, common_steps, put_at)
 
     used_at : (name : Name) (args : PatternTrees) (at : Position) (ty n : ℕ) (s : Scope) (t : TermEntry) → P at → StandAt P args → ArePartsAt args n s → (o : Option PatternTree)
         → ((template : PatternTree) → o ≡ Some template → StandsAt P template)
@@ -142,20 +118,14 @@ module _ (P : Position → Type 0) where
 
     mutual
       pub placed : (p : PatternTree) (ty n : ℕ) (s : Scope) → StandsAt P p → AreAt P (wrong_of (pattern_step e multi (deeper_step e multi d) p ty n s))
-      placed (var_pattern name at) ty n s h = var_at ty name.text at s (var_of s name.text) h
       placed (bind_pattern name of at) ty n s h = bind_at name.text at (pattern_step e multi (deeper_step e multi d) of ty n s) h.0 (placed of ty n s h.1)
-      placed (bool_pattern b at) ty n s h = both_at (unless (eqb ty bool_type) (no_truth (Some ty) b) at) [] (checked_at (eqb ty bool_type) (no_truth (Some ty) b) at h) tt
-      placed (int_pattern z at) ty n s h = both_at (unless (is_atom_type (slice_get e.types ty)) (no_integer ty z) at) [] (checked_at (is_atom_type (slice_get e.types ty)) (no_integer ty z) at h) tt
-      placed (prim_pattern name at) ty n s h = constant_at ty name.text at s (type_of_constant e s name.text) h
       placed (term_pattern name args at) ty n s h = found_at name args at ty n s h.0 h.1 (λ tys. parts_placed args tys n s h.1) (term_of e s name.text) refl
-      placed (wildcard_pattern at) ty n s h = tt
       placed (and_pattern parts at) ty n s h = made_at (match_and ty) (each_step e multi (deeper_step e multi d) parts ty n s) (each_placed parts ty n s h.1)
-      placed (macro_arg i at) ty n s h = (h, tt)
+      placed p ty n s h = grind (arith, common_steps)
 
       pub parts_placed : (args : PatternTrees) (tys : List ℕ) (n : ℕ) (s : Scope) → StandAt P args → AreAt P (wrong_of (parts_step e multi (deeper_step e multi d) args tys n s))
-      parts_placed no_pattern tys n s h = tt
-      parts_placed (pattern_and p rest) [] n s h = tt
-      parts_placed (pattern_and p rest) (ty ∷ tys) n s h = in_order_at with_part (pattern_step e multi (deeper_step e multi d) p ty n s) (λ m t k. parts_step e multi (deeper_step e multi d) rest tys (n + k) t) (placed p ty n s h.0) (λ m t k. parts_placed rest tys (n + k) t h.1)
+      parts_placed (pattern_and p rest) (ty ∷ tys) n s h = grind (arith, common_steps, placed p ty n s h.0, parts_placed rest tys, in_order_at)
+      parts_placed args tys n s h = grind (arith, common_steps)
 
       each_placed : (ps : PatternTrees) (ty n : ℕ) (s : Scope) → StandAt P ps → AreAt P (wrong_of (each_step e multi (deeper_step e multi d) ps ty n s))
       each_placed no_pattern ty n s h = tt

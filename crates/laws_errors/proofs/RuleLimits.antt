@@ -1,5 +1,6 @@
 -- Which limit stops the steps of a rule first.
-use Rattle.std.proofs.Common.{◌≡◌, ℕ, ◌+◌, ◌≤◌, Bool, true, false, cond, eqb, List, [], ◌∷◌, length, Option, Some, None, refl, ap, ◌∙◌}
+use Rattle.std.proofs.Common.{◌≡◌, ℕ, ◌+◌, ◌≤◌, Bool, true, false, cond, eqb, List, [], ◌∷◌, length, Option, Some, None, refl, ap, ◌∙◌, arith}
+use Rattle.std.proofs.lemmas.Grind.{common_steps}
 use Rattle.std.proofs.lemmas.Bool.Decides.{Decides-eqb}
 use Rattle.model.specs.lists.Syntax.{Position, Name, PatternTrees, pattern_list, IfLetTree, RuleTree}
 use Rattle.model.specs.lists.Tables.{Flags, TermEntry}
@@ -8,7 +9,7 @@ use Rattle.model.specs.rules.Outcome.{then_option}
 use Rattle.model.specs.lists.Setting.{Setting, Scope, term_of, declared_flags, on_lhs, expr_type}
 use Rattle.model.specs.lists.Elaborated.{deeper_pattern, typed_iflet, root_parts, elaborated_parts, elaborated_expr, Sides, most_expansions}
 use Rattle.laws_errors.specs.AllMade.{all_made, iflet_reading, iflets_reading}
-use Rattle.laws_errors.specs.Steps.{Why, Step, went_on, stopped, unless, noting, last_made}
+use Rattle.laws_errors.specs.Steps.{Why, Step, unless, noting, last_made}
 use Rattle.laws_errors.specs.PatternSteps.{parts_step, deeper_step}
 use Rattle.laws_errors.specs.RuleSteps.{iflet_step, with_iflet, iflets_step, root_step, sides_step, finished_step, declared_step, of_term_step, rooted_step}
 use Rattle.laws_errors.specs.ReachedLimits.{or_after, parts_limit, deeper_pattern_limit, pattern_limits, expr_limits, iflet_limits, iflets_limits, root_limits, ends_limits, sides_limits}
@@ -16,14 +17,11 @@ use Rattle.laws_errors.specs.StepLaws.{TemplatesAreWhole}
 use Rattle.laws_errors.specs.LimitLaws.{first_limit, RuleLimitsAreFirst}
 use Rattle.laws_errors.proofs.ExprSteps.{expr_steps_agree_lem}
 use Rattle.laws_errors.proofs.ExprLimits.{expr_limits_are_first_lem}
-use Rattle.laws_errors.proofs.FirstLimits.{first_noted, first_none, first_made, first_in_order, pattern_limits_are_first_lem, parts_limits_are_first_lem}
+use Rattle.laws_errors.proofs.FirstLimits.{first_made, first_in_order, pattern_limits_are_first_lem, parts_limits_are_first_lem}
 use Rattle.laws_errors.proofs.RuleSteps.{iflet_agrees, iflets_agree, root_agrees}
 
 first_finished : (id : ℕ) (r : RuleTree) (t : TermEntry) (flags : Flags) (x : Step Sides) → first_limit (finished_step id r t flags x) ≡ first_limit x
-first_finished id r t flags (went_on None s k es) = refl
-first_finished id r t flags (went_on (Some q) s k es) = refl
-first_finished id r t flags (stopped l s []) = refl
-first_finished id r t flags (stopped l s (w ∷ ws)) = refl
+first_finished id r t flags x = grind (arith, common_steps)
 
 module _ (e : Setting) (templates : TemplatesAreWhole e) (flags : Flags) (d : ℕ) where
   iflet_first : (i : IfLetTree) (n : ℕ) (s : Scope) → n ≤ most_expansions → first_limit (iflet_step e flags d i n s) ≡ iflet_limits e flags d i n s
@@ -41,8 +39,7 @@ module _ (e : Setting) (templates : TemplatesAreWhole e) (flags : Flags) (d : �
 
   counted_first : (ps : PatternTrees) (tys : List ℕ) (why : Why) (at : Position) (n : ℕ) (s : Scope) → n ≤ most_expansions → (b : Bool) → eqb (length (pattern_list ps)) (length tys) ≡ b
       → first_limit (noting (unless b why at) (parts_step e flags.multi (deeper_step e flags.multi d) ps tys n s)) ≡ cond b (first_limit (parts_step e flags.multi (deeper_step e flags.multi d) ps tys n s)) None
-  counted_first ps tys why at n s few true h = first_none _
-  counted_first ps tys why at n s few false h = first_noted _ [] _
+  counted_first ps tys why at n s few h i = grind (arith, common_steps)
 
   counted_limit : (ps : PatternTrees) (tys : List ℕ) (n : ℕ) (s : Scope) → n ≤ most_expansions → (b : Bool) → eqb (length (pattern_list ps)) (length tys) ≡ b
       → cond b (first_limit (parts_step e flags.multi (deeper_step e flags.multi d) ps tys n s)) None ≡ cond b (parts_limit e flags.multi (deeper_pattern e flags.multi d) (deeper_pattern_limit e flags.multi d) ps tys n s) None
@@ -50,9 +47,7 @@ module _ (e : Setting) (templates : TemplatesAreWhole e) (flags : Flags) (d : �
   counted_limit ps tys n s few false h = refl
 
   root_first : (r : RuleTree) (x : Name) (t : TermEntry) (n : ℕ) (s : Scope) → n ≤ most_expansions → first_limit (root_step e flags d r x t n s) ≡ root_limits e flags.multi d (root_parts r.pattern) t.arg_tys n s
-  root_first r x t n s few =
-      counted_first (root_parts r.pattern) t.arg_tys _ r.at n s few (eqb (length (pattern_list (root_parts r.pattern))) (length t.arg_tys)) refl
-      ∙ counted_limit (root_parts r.pattern) t.arg_tys n s few (eqb (length (pattern_list (root_parts r.pattern))) (length t.arg_tys)) refl
+  root_first r x t n s few = grind (arith, common_steps, counted_first, counted_limit)
 
   sides_first : (r : RuleTree) (x : Name) (t : TermEntry) (n : ℕ) (s : Scope) → n ≤ most_expansions → first_limit (sides_step e flags d r x t n s) ≡ sides_limits e flags d r t n s
   sides_first r x t n s few =
@@ -68,12 +63,10 @@ module _ (e : Setting) (templates : TemplatesAreWhole e) (d id : ℕ) (r : RuleT
   of_flags x t (Some flags) = first_finished id r t flags _ ∙ sides_first e templates flags d r x t n s few
 
   of_terms : (x : Name) (o : Option TermEntry) → first_limit (of_term_step e d id r x n s o) ≡ then_option o (λ t. then_option (declared_flags t.kind) (λ flags. sides_limits e flags d r t n s))
-  of_terms x None = refl
-  of_terms x (Some t) = of_flags x t (declared_flags t.kind)
+  of_terms x o = grind (arith, common_steps, of_flags)
 
   of_roots : (o : Option Name) → first_limit (rooted_step e d id r n s o) ≡ then_option o (λ x. then_option (term_of e s x.text) (λ t. then_option (declared_flags t.kind) (λ flags. sides_limits e flags d r t n s)))
-  of_roots None = refl
-  of_roots (Some x) = of_terms x (term_of e s x.text)
+  of_roots o = grind (arith, common_steps, of_terms)
 
 pub rule_limits_are_first_lem : RuleLimitsAreFirst
 rule_limits_are_first_lem e templates d id r n s few = of_roots e templates d id r n s few (root_name r.pattern)

@@ -1,6 +1,7 @@
 -- The errors of a list of rules.
-use Rattle.std.proofs.Common.{◌≡◌, ℕ, suc, ◌+◌, ◌≤◌, true, false, cond, nat_le, List, [], ◌∷◌, ◌++◌, length, map, Option, Some, None, subst, refl, ap, ◌∙◌, arith}
-use Rattle.std.proofs.lemmas.Bool.{leb-true, le-leb}
+use Rattle.std.proofs.Common.{◌≡◌, ℕ, suc, ◌+◌, ◌≤◌, true, nat_le, List, [], ◌∷◌, ◌++◌, length, map, Option, Some, None, subst, refl, ap, ◌∙◌, arith}
+use Rattle.std.proofs.lemmas.Grind.{common_steps}
+use Rattle.std.proofs.lemmas.Bool.{le-leb}
 use Rattle.model.specs.lists.Syntax.{Position, RuleTree}
 use Rattle.model.specs.rules.Outcome.{then_option}
 use Rattle.model.specs.rules.Typed.{TypedRule}
@@ -8,7 +9,7 @@ use Rattle.model.specs.lists.Setting.{Setting, new_scope}
 use Rattle.model.specs.lists.Typings.{Typing}
 use Rattle.model.specs.lists.Elaborated.{few_enough, most_expansions, most_nested, TypedRules, with_typed}
 use Rattle.laws_errors.specs.AllMade.{rule_reading, rule_within, rules_within}
-use Rattle.laws_errors.specs.Steps.{Step, stopped}
+use Rattle.laws_errors.specs.Steps.{Step}
 use Rattle.laws_errors.specs.RuleSteps as R
 use Rattle.laws_errors.specs.RuleSteps.{RuleError, passes, errors_of, step_of_rule, RulesStep, behind, with_rule, then_rules, rules_step}
 use Rattle.laws_errors.specs.StepLaws.{TakesTooMany, Agrees, is_read, is_wrong, is_stopped, is_stopped_later, ListAgrees, all_read, some_wrong, RulesStepsAgree, FirstErrorIsOf, FirstErrorIsTheBreach}
@@ -16,11 +17,7 @@ use Rattle.laws_errors.proofs.RuleSteps.{rule_steps_agree_lem}
 
 -- what takes too many expansions isn't within the limits
 pub none_within : (o : Option (Typing TypedRule)) → TakesTooMany 0 o → few_enough o ≡ None
-none_within None past = refl
-none_within (Some a) past = elim (nat_le a.expansions most_expansions) as (λ b. nat_le a.expansions most_expansions ≡ b → cond b (Some a) None ≡ None) [
-  | true ↦ λ h. absurd (let p = past a refl in let q = leb-true a.expansions most_expansions h in omega (arith, p, q))
-  | false ↦ λ h. refl
-] refl
+none_within o past = grind (arith, common_steps)
 
 pub few_made : (k : ℕ) → 0 + k ≤ most_expansions → nat_le k most_expansions ≡ true
 few_made k h = le-leb k most_expansions (omega (arith, h))
@@ -32,11 +29,7 @@ next_read q _ _ (some_wrong l h) = some_wrong _ h
 
 then_agrees : (at : Position) (id : ℕ) (t : Step TypedRule) (o : Option (Typing TypedRule)) (next : ℕ → List (List ℕ) → RulesStep) (rest : Typing TypedRule → Option TypedRules) → Agrees 0 t o
     → ((a : Typing TypedRule) → ListAgrees (next (suc id) a.scope.names) (rest a)) → ListAgrees (then_rules at id t next) (then_option (few_enough o) (λ a. with_typed a.made (rest a)))
-then_agrees at id _ _ next rest (is_read x s k h) r = rw (few_made k h) (next_read x (next (suc id) s.names) (rest (record { made = x; scope = s; expansions = k })) (r (record { made = x; scope = s; expansions = k })))
-then_agrees at id _ _ next rest (is_wrong None s k w ws) r = some_wrong _ (λ h. absurd (cc))
-then_agrees at id _ _ next rest (is_wrong (Some q) s k w ws) r = some_wrong _ (λ h. absurd (cc))
-then_agrees at id _ _ next rest (is_stopped l z o past) r = rw (none_within o past) (some_wrong (then_rules at id (stopped l z []) next) (λ h. absurd (cc)))
-then_agrees at id _ _ next rest (is_stopped_later l z w ws) r = some_wrong _ (λ h. absurd (cc))
+then_agrees at id t o next rest a r = grind (arith, common_steps, few_made, next_read, some_wrong, none_within)
 
 pub rules_steps_agree_lem : RulesStepsAgree
 rules_steps_agree_lem e templates [] id names = all_read (record { rules = []; names = names })
@@ -93,6 +86,5 @@ module _ (e : Setting) (r : RuleTree) (rs : List RuleTree) (id : ℕ) (names : L
   of_rule _ _ is reads (is_stopped_later l z w ws) others h = of_first _ is (ap few_enough reads) (R.is_wrong w) (map R.is_wrong ws ++ passes l r.at ∷ []) (rules_step e rs id z.names).errors refl h
 
 pub first_error_is_the_breach_lem : FirstErrorIsTheBreach
+first_error_is_the_breach_lem e templates (r ∷ rs) id names error rest h = grind (arith, common_steps, first_error_is_the_breach_lem e templates rs, of_rule, rule_steps_agree_lem)
 first_error_is_the_breach_lem e templates [] id names error rest h = absurd (cc)
-first_error_is_the_breach_lem e templates (r ∷ rs) id names error rest h = of_rule e r rs id names error rest _ _ refl refl (rule_steps_agree_lem e templates most_nested id r 0 (new_scope names) (omega (arith)))
-    (λ j ns g. first_error_is_the_breach_lem e templates rs j ns error rest g) h

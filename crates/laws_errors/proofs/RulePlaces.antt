@@ -1,12 +1,13 @@
 -- Where what is wrong with a rule stands.
-use Rattle.std.proofs.Common.{ℕ, ◌+◌, eqb, List, [], ◌∷◌, length, Option, Some, None}
+use Rattle.std.proofs.Common.{ℕ, ◌+◌, eqb, List, [], ◌∷◌, length, Option, Some, None, arith}
+use Rattle.std.proofs.lemmas.Grind.{common_steps}
 use Rattle.std.specs.Prelude.{Contains}
-use Rattle.model.specs.lists.Syntax.{Position, Name, PatternTree, var_pattern, bind_pattern, bool_pattern, int_pattern, prim_pattern, term_pattern, wildcard_pattern, and_pattern, macro_arg, pattern_list, IfLetTree, RuleTree}
+use Rattle.model.specs.lists.Syntax.{Position, Name, PatternTree, pattern_list, IfLetTree, RuleTree}
 use Rattle.model.specs.lists.Tables.{Flags, TermEntry}
 use Rattle.model.specs.lists.TermTable.{root_name}
-use Rattle.model.specs.lists.Setting.{Setting, Scope, term_of, declared_flags, on_lhs, expr_type}
-use Rattle.model.specs.lists.Elaborated.{typed_iflet, root_parts, Sides, may_have_priority}
-use Rattle.laws_errors.specs.Steps.{priority, argument_count, Step, went_on, stopped, unless, made_step, then_made}
+use Rattle.model.specs.lists.Setting.{Setting, Scope, on_lhs, expr_type}
+use Rattle.model.specs.lists.Elaborated.{typed_iflet, root_parts, Sides}
+use Rattle.laws_errors.specs.Steps.{argument_count, Step, made_step, then_made}
 use Rattle.laws_errors.specs.PatternSteps.{pattern_step, parts_step, deeper_step}
 use Rattle.laws_errors.specs.ExprSteps.{expr_step, deeper_expr_step}
 use Rattle.laws_errors.specs.RuleSteps.{iflet_step, with_iflet, iflets_step, root_step, sides_step, finished_step, declared_step, of_term_step, rooted_step}
@@ -16,20 +17,10 @@ use Rattle.laws_errors.proofs.ExprPlaces as exprs
 
 module _ (P : Position → Type 0) (e : Setting) (templates : TemplatesStandAt e P) where
   root_stands : (p : PatternTree) → StandsAt P p → StandAt P (root_parts p)
-  root_stands (var_pattern name at) h = tt
-  root_stands (bind_pattern name of at) h = tt
-  root_stands (bool_pattern b at) h = tt
-  root_stands (int_pattern z at) h = tt
-  root_stands (prim_pattern name at) h = tt
-  root_stands (term_pattern name args at) h = h.1
-  root_stands (wildcard_pattern at) h = tt
-  root_stands (and_pattern parts at) h = tt
-  root_stands (macro_arg i at) h = tt
+  root_stands p h = grind (arith, common_steps)
 
   finished_at : (id : ℕ) (r : RuleTree) (t : TermEntry) (flags : Flags) (x : Step Sides) → P r.at → AreAt P (wrong_of x) → AreAt P (wrong_of (finished_step id r t flags x))
-  finished_at id r t flags (went_on None s k es) here h = h
-  finished_at id r t flags (went_on (Some q) s k es) here h = patterns.both_at P es (unless (may_have_priority flags r) priority r.at) h (patterns.checked_at P (may_have_priority flags r) priority r.at here)
-  finished_at id r t flags (stopped l s es) here h = h
+  finished_at id r t flags x here h = grind (arith, common_steps, patterns.both_at, patterns.checked_at)
 
   module _ (flags : Flags) (d : ℕ) where
     expr_at : (flags : Flags) (x : _) (ty : Option ℕ) (n : ℕ) (s : Scope) → ExprStandsAt P x → AreAt P (wrong_of (expr_step e flags (deeper_expr_step e flags d) x ty n s))
@@ -65,12 +56,10 @@ module _ (P : Position → Type 0) (e : Setting) (templates : TemplatesStandAt e
     of_flags x t (Some flags) = finished_at id r t flags (sides_step e flags d r x t n s) h.rule (sides_at flags d r x t n s h)
 
     of_terms : (x : Name) (o : Option TermEntry) → AreAt P (wrong_of (of_term_step e d id r x n s o))
-    of_terms x None = (h.rule, tt)
-    of_terms x (Some t) = of_flags x t (declared_flags t.kind)
+    of_terms x o = grind (arith, common_steps, of_flags)
 
     of_roots : (o : Option Name) → AreAt P (wrong_of (rooted_step e d id r n s o))
-    of_roots None = (h.rule, tt)
-    of_roots (Some x) = of_terms x (term_of e s x.text)
+    of_roots o = grind (arith, common_steps, of_terms)
 
 pub rule_errors_are_placed_lem : RuleErrorsArePlaced
 rule_errors_are_placed_lem ps e templates d id r n s h = of_roots (Contains ps) e templates d id r n s h (root_name r.pattern)

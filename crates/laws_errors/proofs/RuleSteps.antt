@@ -1,5 +1,6 @@
 -- Rules, and lists of them: the function of typing is what reading makes where nothing is wrong.
-use Rattle.std.proofs.Common.{◌≡◌, ℕ, ◌+◌, ◌≤◌, ◌<◌, Bool, true, false, cond, eqb, List, [], ◌∷◌, length, Option, Some, None, subst, refl}
+use Rattle.std.proofs.Common.{◌≡◌, ℕ, ◌+◌, ◌≤◌, Bool, true, false, cond, eqb, List, [], ◌∷◌, length, Option, Some, None, refl, arith}
+use Rattle.std.proofs.lemmas.Grind.{common_steps}
 use Rattle.std.proofs.lemmas.Option.{same_Some}
 use Rattle.std.proofs.lemmas.Bool.Decides.{Decides-eqb}
 use Rattle.model.specs.lists.Syntax.{Position, Name, PatternTrees, pattern_list, IfLetTree, RuleTree}
@@ -13,15 +14,14 @@ use Rattle.laws_errors.specs.AllMade.{all_made, iflet_reading, iflets_reading, e
 use Rattle.laws_errors.specs.Steps.{Why, priority, Step, went_on, unless, noting}
 use Rattle.laws_errors.specs.PatternSteps.{parts_step, deeper_step}
 use Rattle.laws_errors.specs.RuleSteps.{iflet_step, with_iflet, iflets_step, root_step, sides_step, finished_step, declared_step, of_term_step, rooted_step}
-use Rattle.laws_errors.specs.StepLaws.{TakesTooMany, Agrees, is_read, is_wrong, is_stopped, is_stopped_later, TemplatesAreWhole, RuleStepsAgree}
+use Rattle.laws_errors.specs.StepLaws.{Agrees, is_read, is_wrong, is_stopped, is_stopped_later, TemplatesAreWhole, RuleStepsAgree}
 use Rattle.laws_errors.proofs.AgreeingSteps.{at_once, noted, none_noted, made, in_order, within, both_made, later_made}
 use Rattle.laws_errors.proofs.PatternSteps as patterns
 use Rattle.laws_errors.proofs.ExprSteps as exprs
 
 -- there is none either way
 neither : {X : Type 0} (b : Bool) → ◌≡◌ {A = Option X} (cond b None None) None
-neither true = refl
-neither false = refl
+neither b = grind (arith, common_steps)
 
 -- a rule whose sides are made
 finished_agrees : (n id : ℕ) (r : RuleTree) (t : TermEntry) (flags : Flags) (x : Step Sides) (o : Option (Typing Sides)) → Agrees n x o
@@ -34,12 +34,7 @@ finished_agrees n id r t flags _ _ (is_read q s k h) = elim (may_have_priority f
 finished_agrees n id r t flags _ _ (is_wrong None s k w ws) = rw (neither (may_have_priority flags r)) (is_wrong None s k w ws)
 finished_agrees n id r t flags _ _ (is_wrong (Some q) s k w ws) = rw (neither (may_have_priority flags r)) (is_wrong _ _ k w _)
 finished_agrees n id r t flags _ _ (is_stopped_later l z w ws) = rw (neither (may_have_priority flags r)) (is_stopped_later l z w ws)
-finished_agrees n id r t flags _ _ (is_stopped l z o past) = is_stopped l z _ (either (may_have_priority flags r) o past)
-  where
-    either : (b : Bool) (o : Option (Typing Sides)) → TakesTooMany n o → TakesTooMany n (cond b (finished_rule id r t o) None)
-    either true None past = λ a h. absurd (cc)
-    either true (Some q) past = λ a h. subst (λ (v : Typing _). most_expansions < n + v.expansions) (same_Some _ _ h) (past q refl)
-    either false o past = λ a h. absurd (cc)
+finished_agrees n id r t flags _ _ (is_stopped l z o past) = grind (arith, common_steps, same_Some, is_stopped)
 
 module _ (e : Setting) (templates : TemplatesAreWhole e) (flags : Flags) (d : ℕ) where
   pub iflet_agrees : (i : IfLetTree) (n : ℕ) (s : Scope) → n ≤ most_expansions → Agrees n (iflet_step e flags d i n s) (iflet_reading e flags d i s)
@@ -74,13 +69,11 @@ module _ (e : Setting) (templates : TemplatesAreWhole e) (d id : ℕ) (r : RuleT
 
   of_terms : (x : Name) (o : Option TermEntry)
       → Agrees n (of_term_step e d id r x n s o) (then_option o (λ t. then_option (declared_flags t.kind) (λ flags. cond (may_have_priority flags r) (finished_rule id r t (sides_reading e flags d r t s)) None)))
-  of_terms x None = is_wrong None s 0 _ []
-  of_terms x (Some t) = of_flags x t (declared_flags t.kind)
+  of_terms x o = grind (arith, common_steps, is_wrong, of_flags)
 
   of_roots : (o : Option Name)
       → Agrees n (rooted_step e d id r n s o) (then_option o (λ x. then_option (term_of e s x.text) (λ t. then_option (declared_flags t.kind) (λ flags. cond (may_have_priority flags r) (finished_rule id r t (sides_reading e flags d r t s)) None))))
-  of_roots None = is_wrong None s 0 _ []
-  of_roots (Some x) = of_terms x (term_of e s x.text)
+  of_roots o = grind (arith, common_steps, is_wrong, of_terms)
 
 pub rule_steps_agree_lem : RuleStepsAgree
 rule_steps_agree_lem e templates d id r n s few = of_roots e templates d id r n s few (root_name r.pattern)

@@ -1,5 +1,6 @@
 -- What the errors of a list say, rule by rule.
-use Rattle.std.proofs.Common.{◌≡◌, ℕ, suc, List, [], ◌∷◌, map, Option, Some, None, subst, refl, sym, ap, ◌∙◌, inl, inr, arith}
+use Rattle.std.proofs.Common.{◌≡◌, ℕ, List, [], ◌∷◌, map, Option, None, subst, refl, sym, ap, ◌∙◌, inl, inr, arith}
+use Rattle.std.proofs.lemmas.Grind.{common_steps}
 use Rattle.std.proofs.lemmas.List.{append-nil}
 use Rattle.model.specs.lists.Syntax.{RuleTree}
 use Rattle.model.specs.lists.Setting.{Setting, new_scope}
@@ -9,7 +10,7 @@ use Rattle.model.specs.rules.Typed.{TypedRule}
 use Rattle.laws_errors.specs.AllMade.{rule_reading}
 use Rattle.laws_errors.specs.Steps.{Mistake, Step, went_on, stopped}
 use Rattle.laws_errors.specs.RuleSteps as R
-use Rattle.laws_errors.specs.RuleSteps.{RuleError, passes, errors_of, step_of_rule, then_rules, rules_step}
+use Rattle.laws_errors.specs.RuleSteps.{passes, errors_of, step_of_rule, then_rules, rules_step}
 use Rattle.laws_errors.specs.ReachedLimits.{reached_limit}
 use Rattle.laws_errors.specs.LimitLaws.{first_limit}
 use Rattle.laws_errors.specs.StepLaws.{Agrees, is_read, is_wrong, is_stopped, is_stopped_later}
@@ -36,9 +37,7 @@ module _ (e : Setting) (r : RuleTree) (id : ℕ) (names : List (List ℕ)) where
   then_tells : (rs : List RuleTree) (t : Step TypedRule) → SaysOfRule e r names (names_after t) (errors_of r.at t)
       → ((j : ℕ) (ns : List (List ℕ)) → SaysOfRules e rs ns (rules_step e rs j ns).names (rules_step e rs j ns).errors)
       → SaysOfRules e (r ∷ rs) names (then_rules r.at id t (rules_step e rs)).names (then_rules r.at id t (rules_step e rs)).errors
-  then_tells rs (went_on None s k es) h i = rule_first r rs names s.names _ _ _ h (i id s.names)
-  then_tells rs (went_on (Some q) s k es) h i = rule_first r rs names s.names _ _ _ h (i (suc id) s.names)
-  then_tells rs (stopped l s es) h i = rule_first r rs names s.names _ _ _ h (i id s.names)
+  then_tells rs t h i = grind (arith, common_steps, rule_first)
 
 pub errors_tell_rules_lem : ErrorsTellRules
 errors_tell_rules_lem e templates [] id names = no_rule names

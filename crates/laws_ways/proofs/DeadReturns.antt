@@ -1,20 +1,20 @@
 -- Dead returns are never run, and they are what is cut off.
-use Rattle.std.proofs.Common.{◌≡◌, false, List, [], ◌∷◌, ◌++◌, map, refl, sym, ap, subst, subst₂}
+use Rattle.std.proofs.Common.{◌≡◌, false, List, [], ◌∷◌, ◌++◌, map, refl, sym, ap, subst, subst₂, arith}
+use Rattle.std.proofs.lemmas.Grind.{common_steps}
 use Rattle.std.specs.Prelude.{IsPermutation, slice_get}
 use Rattle.std.proofs.lemmas.List.{append_assoc}
 use Rattle.std.proofs.lemmas.List.Sorted.{IsPermutation-refl, IsPermutation-trans, IsPermutation-append, IsPermutation-append_left, IsPermutation-append_right, IsPermutation-append_comm}
 use Rattle.model.specs.lists.Syntax.{Position}
 use Rattle.model.specs.rules.Meaning.{Content}
 use Rattle.model.specs.rules.Outcome.{then_option}
-use Rattle.model.specs.trees.Trees.{Tree, no_step, step, match_at, equal_at, loop_at, return_at, Arms, no_arm, arm}
-use Rattle.model.specs.trees.Run.{World, Env, Trace, used, used_value, content_fields, on_equal, bind_all, iterated, run_tree, run_arms, at_start}
+use Rattle.model.specs.trees.Trees.{Tree, step, match_at, equal_at, loop_at, Arms, no_arm, arm}
+use Rattle.model.specs.trees.Run.{World, Env, Trace, used, used_value, on_equal, bind_all, iterated, run_tree, run_arms, at_start}
 use Rattle.laws_ways.specs.DeadReturns.{returns, returns_among, dead_returns, dead_among, without_dead, arms_without_dead, DeadReturnsNeverRun, DeadReturnsAreCutOff}
 use Rattle.laws_ways.proofs.SameRuns.{bound_same, next_same, content_same, met_same, many_same, return_same}
 
 module _ (w : World) (single : w.multi ≡ false) where
   mutual
     runs_alike : (tree : Tree) (env : Env) (t : Trace) → run_tree (without_dead tree) w env t ≡ run_tree tree w env t
-    runs_alike no_step env t = refl
     runs_alike (step binds (match_at source arms) rest) env t =
         bound_same (bind_all w env t.calls binds) t _ _ (λ env' t'. next_same _ _ _ _
         (content_same (used w env' source) t' _ _ (λ c. arms_alike arms c env' t'))
@@ -27,13 +27,11 @@ module _ (w : World) (single : w.multi ≡ false) where
         bound_same (bind_all w env t.calls binds) t _ _ (λ env' t'. next_same _ _ _ _
         (many_same (then_option (then_option (slice_get w.sites result) iterated) (used w env')) _ _ t' (λ c t''. runs_alike body ((result, c) ∷ env') t''))
         (λ t''. runs_alike rest env' t''))
-    runs_alike (step binds (return_at at result) rest) env t =
-        bound_same (bind_all w env t.calls binds) t _ _ (λ env' t'. return_same w.multi (used w env' result) t' _ _ single)
+    runs_alike tree env t = grind (arith, common_steps, bound_same, return_same)
 
     arms_alike : (arms : Arms) (c : Content) (env : Env) (t : Trace) → run_arms (arms_without_dead arms) w c env t ≡ run_arms arms w c env t
+    arms_alike (arm constraint fields body rest) c env t = grind (arith, common_steps, runs_alike body, arms_alike rest c env t, met_same)
     arms_alike no_arm c env t = refl
-    arms_alike (arm constraint fields body rest) c env t =
-        met_same (content_fields w.meaning constraint c) fields env t _ _ _ _ (λ env'. runs_alike body env' t) (arms_alike rest c env t)
 
 pub dead_returns_never_run_lem : DeadReturnsNeverRun
 dead_returns_never_run_lem tree w single = runs_alike w single tree [] at_start
@@ -68,21 +66,14 @@ both_cut here there kept kept' dead dead' p q =
 
 mutual
   cut_off : (tree : Tree) → IsPermutation (returns tree) (returns (without_dead tree) ++ told (dead_returns tree))
-  cut_off no_step = IsPermutation-refl []
-  cut_off (step binds (match_at source arms) rest) =
-      both_cut (returns_among arms) (returns rest) (returns_among (arms_without_dead arms)) (returns (without_dead rest)) (dead_among arms) (dead_returns rest)
-      (cut_among arms) (cut_off rest)
-  cut_off (step binds (equal_at a b body) rest) =
-      both_cut (returns body) (returns rest) (returns (without_dead body)) (returns (without_dead rest)) (dead_returns body) (dead_returns rest) (cut_off body) (cut_off rest)
-  cut_off (step binds (loop_at result body) rest) =
-      both_cut (returns body) (returns rest) (returns (without_dead body)) (returns (without_dead rest)) (dead_returns body) (dead_returns rest) (cut_off body) (cut_off rest)
-  cut_off (step binds (return_at at result) rest) =
-      subst (λ (l : List Position). IsPermutation (at ∷ returns rest) (at ∷ l)) (sym (told_behind at (returns rest))) (IsPermutation-refl (at ∷ returns rest))
+  cut_off (step binds (match_at source arms) rest) = grind (arith, common_steps, cut_among arms, cut_off rest, both_cut)
+  cut_off (step binds (equal_at a b body) rest) = grind (arith, common_steps, cut_off body, cut_off rest, both_cut)
+  cut_off (step binds (loop_at result body) rest) = grind (arith, common_steps, cut_off body, cut_off rest, both_cut)
+  cut_off tree = grind (arith, common_steps, IsPermutation-refl, told_behind)
 
   cut_among : (arms : Arms) → IsPermutation (returns_among arms) (returns_among (arms_without_dead arms) ++ told (dead_among arms))
+  cut_among (arm constraint fields body rest) = grind (arith, common_steps, cut_off body, cut_among rest, both_cut)
   cut_among no_arm = IsPermutation-refl []
-  cut_among (arm constraint fields body rest) =
-      both_cut (returns body) (returns_among rest) (returns (without_dead body)) (returns_among (arms_without_dead rest)) (dead_returns body) (dead_among rest) (cut_off body) (cut_among rest)
 
 pub dead_returns_are_cut_off_lem : DeadReturnsAreCutOff
 dead_returns_are_cut_off_lem = cut_off

@@ -1,11 +1,12 @@
 -- The lines of a tree are read as the tree: what stands at each depth from a part's lines on, by induction on the tree.
-use Rattle.std.proofs.Common.{◌≡◌, ℕ, ◌+◌, ◌<◌, List, [], ◌∷◌, ◌++◌, map, Option, refl, sym, ap, ◌∙◌, subst, arith}
+use Rattle.std.proofs.Common.{◌≡◌, ℕ, ◌+◌, ◌<◌, List, [], ◌∷◌, ◌++◌, map, refl, sym, ap, ◌∙◌, subst, arith}
+use Rattle.std.proofs.lemmas.Grind.{common_steps}
 use Rattle.std.proofs.lemmas.List.{append-nil, append_assoc}
 use Rattle.model.specs.sites.Sites.{Site}
 use Rattle.model.specs.trees.Trees.{Tree, no_step, step, join, Check, match_at, equal_at, loop_at, return_at, Arms, no_arm, arm}
 use Rattle.model_print.specs.Lines.{Token, word, bind_word, match_word, equal_word, loop_word, return_word, site, equals, Ending, nothing, colon, comment, Line, line}
 use Rattle.model_print.specs.PrintedTrees.{sites_tokens, site_tokens, site_lines, constraint_tokens, field_token, bind_lines, arm_line, tree_lines, check_lines, arms_lines, printed_lines}
-use Rattle.model_print.specs.ReadTrees.{before_sites, read_sites, read_line, Said, begins_arm, binds, Level, no_level, placed, levels, read_tree}
+use Rattle.model_print.specs.ReadTrees.{read_sites, read_line, Said, begins_arm, binds, Level, no_level, placed, levels, read_tree}
 use Rattle.model_print.specs.TreesRead.{shown_site, shown_constraint, shown_tree, shown_check, shown_arms, TreesAreRead, LinesShowTrees}
 use Rattle.model_print.proofs.ReadLines.{sites_back, site_back, arm_back, below_line, at_line, above_line}
 
@@ -129,9 +130,8 @@ tree_has_no_site (step [] (loop_at result body) t) = refl
 tree_has_no_site (step [] (return_at at result) t) = refl
 
 sites_read : (n : ℕ) (ss : List Site) (ls : List Line) → read_sites ls ≡ [] → read_sites (site_lines n ss ++ ls) ≡ map shown_site ss
+sites_read n (s ∷ ss) ls h = grind (arith, common_steps, sites_read (n + 1) ss ls h, site_back s, site_back)
 sites_read n [] ls h = h
-sites_read n (s ∷ ss) ls h =
-    ap (λ (o : Option Site). before_sites o (read_sites (site_lines (n + 1) ss ++ ls))) (site_back s) ∙ ap (λ (xs : List Site). shown_site s ∷ xs) (sites_read (n + 1) ss ls h)
 
 under_sites : (n : ℕ) (ss : List Site) (ls : List Line) → levels (site_lines n ss ++ ls) 2 ≡ levels ls 2
 under_sites n [] ls = refl

@@ -1,6 +1,6 @@
 -- Cases that describe what is said: each that is taken gives it, and one is taken where something is said, or the rest is so.
-use Rattle.std.proofs.Common.{◌≡◌, ◌⊎◌, Bool, true, false, not, List, [], ◌∷◌, Option, Some, None, refl, sym, ap, ◌∙◌, subst, inl, inr}
-use Rattle.std.proofs.lemmas.Bool.{false≢true}
+use Rattle.std.proofs.Common.{◌≡◌, ◌⊎◌, Bool, true, false, not, List, [], ◌∷◌, Option, Some, None, refl, sym, ap, ◌∙◌, subst, inl, inr, arith}
+use Rattle.std.proofs.lemmas.Grind.{common_steps}
 use Rattle.model.specs.rules.Outcome.{then_option}
 use Rattle.model.proofs.Elements.{In, in_left, in_right, in_either, some_is, none_some}
 use Rattle.model_questions.specs.Formulas.{Fact, known, Model, is_so, both_of, one_of, none_of}
@@ -82,9 +82,7 @@ module _ (m : Model) (X Y X' Y' : Type 0) (stands : X → Y) (Fits : X → Type 
   from_each_taken [] a i g t = absurd i
 
   from_each_rest : (cs : List (Case X)) (a : Case X) → In cs a → is_so m a.guard ≡ true → is_so m (k a.gives).rest ≡ true → is_so m (from_each cs k).rest ≡ true
-  from_each_rest (d ∷ cs) a (inl q) g r =
-      one_left m (both_of d.guard (k d.gives).rest) (from_each cs k).rest
-      (both_from m d.guard (k d.gives).rest (ap (λ (w : Case X). is_so m w.guard) q ∙ g) (subst (λ (w : Case X). is_so m (k w.gives).rest ≡ true) (sym q) r))
+  from_each_rest (d ∷ cs) a (inl q) g r = grind (arith, common_steps, one_left m, both_from m d.guard, one_left, both_from)
   from_each_rest (d ∷ cs) a (inr i) g r = one_right m (both_of d.guard (k d.gives).rest) (from_each cs k).rest (from_each_rest cs a i g r)
   from_each_rest [] a i g r = absurd i
 
@@ -117,8 +115,7 @@ module _ (m : Model) (X Y X' Y' : Type 0) (stands : X → Y) (Fits : X → Type 
           then_some (Some x) w f = (x, refl, f)
 
 not_true : (b : Bool) → not b ≡ true → b ≡ false
-not_true false e = refl
-not_true true e = absurd (false≢true e)
+not_true b e = grind (arith, common_steps)
 
 -- a choice between two by a fact
 module _ (m : Model) (X Y : Type 0) (stands : X → Y) (Fits : X → Type 0) (xs ys : Cases X) (q : Bool → Option Y)

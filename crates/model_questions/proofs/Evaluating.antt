@@ -1,5 +1,6 @@
 -- What an expression comes to by formulas is what it says of values.
-use Rattle.std.proofs.Common.{◌≡◌, ◌⊎◌, ◌^◌, ℕ, ℤ, pos, zero, suc, Bool, true, false, ◌&&◌, List, [], ◌∷◌, ◌++◌, Option, Some, None, cond, slice_get, refl, sym, ap, ◌∙◌, subst, inl, inr, lt-ltb}
+use Rattle.std.proofs.Common.{◌≡◌, ℕ, ℤ, pos, suc, Bool, true, false, List, [], ◌∷◌, ◌++◌, Option, Some, None, cond, slice_get, refl, sym, ap, ◌∙◌, subst, inl, inr, lt-ltb, arith}
+use Rattle.std.proofs.lemmas.Grind.{common_steps}
 use Rattle.std.specs.Bool.{◌==◌}
 use Rattle.std.proofs.lemmas.Bool.Decides.{Decides-int_eq}
 use Rattle.std.proofs.lemmas.Bool.{and_parts, and_from, false≢true, eqb-true}
@@ -7,13 +8,13 @@ use Rattle.model.specs.lists.Tables.{TypeEntry}
 use Rattle.model.specs.rules.Meaning.{look}
 use Rattle.model.specs.rules.Outcome.{then_option}
 use Rattle.model.proofs.Elements.{In, or_split, some_is, none_some}
-use Rattle.laws_specs.specs.Words.{Denoted, a_truth, an_integer, a_word, variant_of, struct_of, DenotedList, no_denoted, denoted_and, denoted_list, same_sort, denoted_eq, is_formed, are_formed, Operator, equals, as_word, widened, widened_signed, field, applied_to}
-use Rattle.laws_specs.specs.Specs.{SpecExpr, its_argument, its_result, variable, the_same, operation, unknown, let_in, switch_on, match_on, SpecExprs, no_spec_expr, spec_expr_and, SpecCases, no_case, case_and, SpecArms, no_spec_arm, spec_arm_and, struct_arm, arm_else, Sort, truths, integers, words, words_among, is_of_sort, are_of_sorts, UnknownSort, AreUnknownsSorted, Specs, Unknowns, says, says_each, says_case, says_arm}
-use Rattle.model_questions.specs.Formulas.{Place, Word, written, word_at, word_by, word_answered, either_word, number_of, integer_answered, fact_answered, Integer, written_integer, integer_of, Operands, no_operand, fact_and, integer_and, word_and, Model, number_in, integer_in, truth_in, is_so, operands_in, both_of}
-use Rattle.model_questions.specs.Forms.{Form, a_fact, an_integer_by, a_word_by, variant_by, struct_by, any_of, some_at, Forms, no_form, form_and, form_list, form_of, Case, Cases, nothing_said, one_case, anything, or_nothing, then_cases, truth_of, is_true, surely, possible_truth, may_be_true, perhaps}
+use Rattle.laws_specs.specs.Words.{Denoted, a_truth, an_integer, a_word, variant_of, DenotedList, no_denoted, denoted_and, denoted_list, same_sort, denoted_eq, is_formed, are_formed, Operator, equals, field, applied_to}
+use Rattle.laws_specs.specs.Specs.{SpecExpr, operation, unknown, let_in, switch_on, match_on, SpecExprs, no_spec_expr, spec_expr_and, SpecCases, no_case, case_and, SpecArms, spec_arm_and, struct_arm, arm_else, Sort, truths, integers, words, is_of_sort, are_of_sorts, UnknownSort, AreUnknownsSorted, Specs, Unknowns, says, says_each, says_case, says_arm}
+use Rattle.model_questions.specs.Formulas.{Place, Word, number_of, Integer, written_integer, integer_of, Operands, fact_and, integer_and, word_and, Model, number_in, integer_in, truth_in, is_so, operands_in, both_of}
+use Rattle.model_questions.specs.Forms.{Form, a_fact, an_integer_by, a_word_by, variant_by, struct_by, Forms, no_form, form_and, form_list, form_of, Case, Cases, nothing_said, one_case, anything, or_nothing, then_cases, truth_of, is_true, surely, possible_truth, may_be_true, perhaps}
 use Rattle.model_questions.specs.Evaluated.{Known, Result, no_result, truth_result, integer_result, word_result, unknown_result, result, came_to, widths_of, is_size, each_size, by_size, followed, literals, literal_case, folded, operands, is_operand_of, is_surely_formed, are_operands_of, answer_of_sort, answered_as_sorted, answered_of, by_operands, fitted, by_fact, opened, opened_each, evaluated, evaluated_each, evaluated_case, evaluated_arm}
 use Rattle.model_questions.proofs.FactsSo.{one_so, both_from, both_parts, one_left, one_right}
-use Rattle.model_questions.proofs.Described.{Describes, IsTaken, nothing_described, anything_described, one_described, then_described, choice_described}
+use Rattle.model_questions.proofs.Described.{Describes, nothing_described, anything_described, one_described, then_described, choice_described}
 use Rattle.model_questions.proofs.Merging.{merged_described}
 use Rattle.model_questions.proofs.Opening.{opened_described, opened_each_described}
 use Rattle.model_questions.proofs.Results.{ComesTo, result_comes, fact_from_so, integer_from_is, literals_are}
@@ -25,17 +26,14 @@ on_truth q (a_truth b) = q b
 on_truth q _ = None
 
 chosen : (a b : Bool) (q : Bool → Option Denoted) → then_option (cond a (Some (a_truth b)) None) (on_truth q) ≡ cond a (cond b (q true) (q false)) None
-chosen true true q = refl
-chosen true false q = refl
-chosen false b q = refl
+chosen a b q = grind (arith, common_steps)
 
 abbrev either_said : Option Denoted → Option Denoted → Bool → Option Denoted
 either_said x y true = x
 either_said x y false = y
 
 operand_after : (f : Operands → Operands) (o : Option Operands) (of : Operands) → then_option o (λ ys. Some (f ys)) ≡ Some of → (ys : Operands) × (o ≡ Some ys) × (f ys ≡ of)
-operand_after f None of e = absurd (none_some of e)
-operand_after f (Some ys) of e = (ys, refl, some_is (f ys) of e)
+operand_after f o of e = grind (arith, common_steps, none_some, some_is)
 
 module _ (types : List TypeEntry) (specs : Specs) (vs : Place → Denoted) (u : Unknowns) where
   abbrev m : Model
@@ -61,27 +59,13 @@ module _ (types : List TypeEntry) (specs : Specs) (vs : Place → Denoted) (u : 
 
   -- 1. operators
   operands_stand : (fs : Forms) (of : Operands) → operands fs ≡ Some of → operands_in m of ≡ stand_each vs u fs
-  operands_stand no_form of e = ap (operands_in m) (sym (some_is no_operand of e))
-  operands_stand (form_and (a_fact f) rest) of e =
-      let r = operand_after (fact_and f) (operands rest) of e in ap (operands_in m) (sym r.2) ∙ ap (denoted_and (stands vs u (a_fact f))) (operands_stand rest r.0 r.1)
-  operands_stand (form_and (an_integer_by z) rest) of e =
-      let r = operand_after (integer_and z) (operands rest) of e in ap (operands_in m) (sym r.2) ∙ ap (denoted_and (stands vs u (an_integer_by z))) (operands_stand rest r.0 r.1)
-  operands_stand (form_and (a_word_by w t) rest) of e =
-      let r = operand_after (word_and w t) (operands rest) of e in ap (operands_in m) (sym r.2) ∙ ap (denoted_and (stands vs u (a_word_by w t))) (operands_stand rest r.0 r.1)
-  operands_stand (form_and (variant_by ty i fs) rest) of e = absurd (none_some of e)
-  operands_stand (form_and (struct_by ty fs) rest) of e = absurd (none_some of e)
-  operands_stand (form_and (any_of ty at) rest) of e = absurd (none_some of e)
-  operands_stand (form_and (some_at at) rest) of e = absurd (none_some of e)
+  operands_stand (form_and (a_fact f) rest) of e = grind (arith, common_steps, operands_stand rest, operand_after, stands)
+  operands_stand (form_and (an_integer_by z) rest) of e = grind (arith, common_steps, operands_stand rest, operand_after, stands)
+  operands_stand (form_and (a_word_by w t) rest) of e = grind (arith, common_steps, operands_stand rest, operand_after, stands)
+  operands_stand fs of e = grind (arith, common_steps, some_is, none_some)
 
   came_described : (o : Operator) (of : Operands) (r : Result) → ComesTo r (applied_to o (operands_in m of)) → Describe (came_to o of r) (applied_to o (operands_in m of))
-  came_described o of no_result c = subst (Describe nothing_said) (sym c) nothing_is
-  came_described o of truth_result c =
-      subst (Describe (came_to o of truth_result)) (sym c) (one_is _ (a_truth (truth_in (applied_to o (operands_in m of)))) (ap a_truth (fact_from_so m o of)) tt)
-  came_described o of integer_result c =
-      subst (Describe (came_to o of integer_result)) (sym c) (one_is _ (an_integer (integer_in (applied_to o (operands_in m of)))) (ap an_integer (integer_from_is m o of)) tt)
-  came_described o of (word_result w) c =
-      subst (Describe (came_to o of (word_result w))) (sym c) (one_is _ (a_word w (number_in (applied_to o (operands_in m of)))) refl tt)
-  came_described o of unknown_result c = any_is (applied_to o (operands_in m of))
+  came_described o of r c = grind (arith, common_steps, nothing_is, one_is, fact_from_so, integer_from_is, any_is)
 
   -- a width that isn't known is each of those that are listed
   sized_described : (ws : List ℕ) (o : Operator) (z : Integer) (rest : Operands) → Describe (each_size ws o z rest) (applied_to o (operands_in m (integer_and z rest)))
@@ -95,10 +79,7 @@ module _ (types : List TypeEntry) (specs : Specs) (vs : Place → Denoted) (u : 
       (λ e. sized_described ws o z rest)
 
   by_size_described : (o : Operator) (of : Operands) → Describe (by_size (widths_of specs) o of) (applied_to o (operands_in m of))
-  by_size_described as_word (integer_and z (integer_and y no_operand)) = sized_described (widths_of specs) as_word z (integer_and y no_operand)
-  by_size_described widened (integer_and z (word_and w t no_operand)) = sized_described (widths_of specs) widened z (word_and w t no_operand)
-  by_size_described widened_signed (integer_and z (word_and w t no_operand)) = sized_described (widths_of specs) widened_signed z (word_and w t no_operand)
-  by_size_described o of = any_is (applied_to o (operands_in m of))
+  by_size_described o of = grind (arith, common_steps, sized_described, any_is)
 
   followed_described : (o : Operator) (of : Operands) (r : Result) → result o of ≡ r → Describe (followed (widths_of specs) o of r) (applied_to o (operands_in m of))
   followed_described o of unknown_result e = by_size_described o of
@@ -108,8 +89,7 @@ module _ (types : List TypeEntry) (specs : Specs) (vs : Place → Denoted) (u : 
   followed_described o of (word_result w) e = came_described o of (word_result w) (subst (λ r. ComesTo r (applied_to o (operands_in m of))) e (result_comes m o of))
 
   literal_described : (o : Option Denoted) → Describe (literal_case o) o
-  literal_described None = nothing_is
-  literal_described (Some x) = written_is x
+  literal_described o = grind (arith, common_steps, nothing_is, written_is)
 
   folded_described : (o : Operator) (of : Operands) (l : Option DenotedList) → literals of ≡ l → Describe (folded (widths_of specs) o of l) (applied_to o (operands_in m of))
   folded_described o of None e = followed_described o of (result o of) refl
@@ -120,11 +100,8 @@ module _ (types : List TypeEntry) (specs : Specs) (vs : Place → Denoted) (u : 
   operands_described o fs (Some of) e = subst (λ ys. Describe (folded (widths_of specs) o of (literals of)) (applied_to o ys)) (operands_stand fs of e) (folded_described o of (literals of) refl)
 
   got_described : (fs : List Form) (xs : List Denoted) → AreDescribed types specs vs u fs xs → (i : ℕ) → Describe (or_nothing (slice_get fs i)) (slice_get xs i)
-  got_described [] [] d i = nothing_is
-  got_described (f ∷ fs) (x ∷ xs) d zero = one_is f x d.0 d.1
   got_described (f ∷ fs) (x ∷ xs) d (suc i) = got_described fs xs d.2 i
-  got_described [] (x ∷ xs) d i = absurd d
-  got_described (f ∷ fs) [] d i = absurd d
+  got_described fs xs d i = grind (arith, common_steps, nothing_is, one_is)
 
   fitted_described : (o : Operator) (fs : Forms) → AllFit types specs vs fs → Describe (fitted (widths_of specs) o fs) (applied_to o (stand_each vs u fs))
   fitted_described (field i) (form_and (struct_by ty fields) no_form) fits = got_described (form_list fields) (denoted_list (stand_each vs u fields)) (forms_described types specs vs u fields fits.0) i
@@ -132,93 +109,42 @@ module _ (types : List TypeEntry) (specs : Specs) (vs : Place → Denoted) (u : 
 
   -- 2. unknown functions
   truth_sorted : (s : Sort) → is_operand_of s truths ≡ true → (b : Bool) → is_of_sort s (a_truth b) ≡ true
-  truth_sorted truths e b = refl
-  truth_sorted integers e b = absurd (false≢true e)
-  truth_sorted (words w) e b = absurd (false≢true e)
-  truth_sorted (words_among ws) e b = absurd (false≢true e)
+  truth_sorted s e b = grind (arith, common_steps)
 
   integer_sorted : (s : Sort) → is_operand_of s integers ≡ true → (z : ℤ) → is_of_sort s (an_integer z) ≡ true
-  integer_sorted integers e z = refl
-  integer_sorted truths e z = absurd (false≢true e)
-  integer_sorted (words w) e z = absurd (false≢true e)
-  integer_sorted (words_among ws) e z = absurd (false≢true e)
+  integer_sorted s e z = grind (arith, common_steps)
 
   word_sorted : (s : Sort) (w : ℕ) → is_operand_of s (words w) ≡ true → (n : ℕ) → is_of_sort s (a_word w n) ≡ true
-  word_sorted (words v) w e n = e
-  word_sorted (words_among ws) w e n = e
-  word_sorted truths w e n = absurd (false≢true e)
-  word_sorted integers w e n = absurd (false≢true e)
+  word_sorted s w e n = grind (arith, common_steps)
 
   truth_is : (x : Denoted) → is_of_sort truths x ≡ true → a_truth (truth_in (Some x)) ≡ x
-  truth_is (a_truth b) e = refl
-  truth_is (an_integer z) e = absurd (false≢true e)
-  truth_is (a_word w n) e = absurd (false≢true e)
-  truth_is (variant_of s i xs) e = absurd (false≢true e)
-  truth_is (struct_of s xs) e = absurd (false≢true e)
+  truth_is x e = grind (arith, common_steps)
 
   integer_is : (x : Denoted) → is_of_sort integers x ≡ true → an_integer (integer_in (Some x)) ≡ x
-  integer_is (an_integer z) e = refl
-  integer_is (a_truth b) e = absurd (false≢true e)
-  integer_is (a_word w n) e = absurd (false≢true e)
-  integer_is (variant_of s i xs) e = absurd (false≢true e)
-  integer_is (struct_of s xs) e = absurd (false≢true e)
+  integer_is x e = grind (arith, common_steps)
 
   word_is : (v : ℕ) (x : Denoted) → is_of_sort (words v) x ≡ true → a_word v (number_in (Some x)) ≡ x
-  word_is v (a_word w n) e = ap (λ y. a_word y n) (sym (eqb-true w v e))
-  word_is v (a_truth b) e = absurd (false≢true e)
-  word_is v (an_integer z) e = absurd (false≢true e)
-  word_is v (variant_of s i xs) e = absurd (false≢true e)
-  word_is v (struct_of s xs) e = absurd (false≢true e)
+  word_is v x e = grind (arith, common_steps, eqb-true)
 
   module _ (formed : (at : Place) → is_formed (vs at) ≡ true) (answers : AreUnknownsSorted (record specs { unknowns = u })) where
     word_formed : (w : ℕ) (t : Word) → is_surely_formed w t ≡ true → is_formed (a_word w (number_of m t)) ≡ true
-    word_formed w (word_at at v) e =
-        subst (λ y. is_formed (a_word y (number_of m (word_at at v))) ≡ true) (eqb-true v w e) (lt-ltb (number_of m (word_at at v)) (2 ^ v) (number_formed (vs at) v (formed at)))
-    word_formed w (written n) e = e
-    word_formed w (word_by o of) e = absurd (false≢true e)
-    word_formed w (word_answered f of) e = absurd (false≢true e)
-    word_formed w (either_word f a b) e = absurd (false≢true e)
+    word_formed w t e = grind (arith, common_steps, eqb-true, lt-ltb, number_formed)
 
     operands_sorted : (sorts : List Sort) (of : Operands) → are_operands_of sorts of ≡ true → (are_of_sorts sorts (operands_in m of) ≡ true) × (are_formed (operands_in m of) ≡ true)
-    operands_sorted [] no_operand e = (refl, refl)
-    operands_sorted (s ∷ sorts) (fact_and f rest) e =
-        let p = and_parts (is_operand_of s truths) (are_operands_of sorts rest) e in
-        let r = operands_sorted sorts rest p.1 in
-        (and_from (is_of_sort s (a_truth (is_so m f))) (are_of_sorts sorts (operands_in m rest)) (truth_sorted s p.0 (is_so m f)) r.0, r.1)
-    operands_sorted (s ∷ sorts) (integer_and z rest) e =
-        let p = and_parts (is_operand_of s integers) (are_operands_of sorts rest) e in
-        let r = operands_sorted sorts rest p.1 in
-        (and_from (is_of_sort s (an_integer (integer_of m z))) (are_of_sorts sorts (operands_in m rest)) (integer_sorted s p.0 (integer_of m z)) r.0, r.1)
-    operands_sorted (s ∷ sorts) (word_and w t rest) e =
-        let p = and_parts (is_operand_of s (words w)) (is_surely_formed w t && are_operands_of sorts rest) e in
-        let q = and_parts (is_surely_formed w t) (are_operands_of sorts rest) p.1 in
-        let r = operands_sorted sorts rest q.1 in (
-          and_from (is_of_sort s (a_word w (number_of m t))) (are_of_sorts sorts (operands_in m rest)) (word_sorted s w p.0 (number_of m t)) r.0,
-          and_from (is_formed (a_word w (number_of m t))) (are_formed (operands_in m rest)) (word_formed w t q.0) r.1,
-        )
-    operands_sorted [] (fact_and f rest) e = absurd (false≢true e)
-    operands_sorted [] (integer_and z rest) e = absurd (false≢true e)
-    operands_sorted [] (word_and w t rest) e = absurd (false≢true e)
-    operands_sorted (s ∷ sorts) no_operand e = absurd (false≢true e)
+    operands_sorted (s ∷ sorts) (fact_and f rest) e = grind (arith, common_steps, operands_sorted sorts rest, and_parts, and_from, truth_sorted)
+    operands_sorted (s ∷ sorts) (integer_and z rest) e = grind (arith, common_steps, operands_sorted sorts rest, and_parts, and_from, integer_sorted)
+    operands_sorted (s ∷ sorts) (word_and w t rest) e = grind (arith, common_steps, operands_sorted sorts rest, and_parts, and_from, word_sorted, word_formed)
+    operands_sorted sorts of e = grind (arith, common_steps)
 
     of_sort_described : (f : ℕ) (of : Operands) (s : Sort) → is_of_sort s (u f (operands_in m of)) ≡ true → Describe (answer_of_sort f of s) (Some (u f (operands_in m of)))
-    of_sort_described f of truths e = one_is (a_fact (fact_answered f of)) (u f (operands_in m of)) (truth_is (u f (operands_in m of)) e) tt
-    of_sort_described f of integers e = one_is (an_integer_by (integer_answered f of)) (u f (operands_in m of)) (integer_is (u f (operands_in m of)) e) tt
-    of_sort_described f of (words w) e = one_is (a_word_by w (word_answered f of)) (u f (operands_in m of)) (word_is w (u f (operands_in m of)) e) tt
-    of_sort_described f of (words_among ws) e = any_is (Some (u f (operands_in m of)))
+    of_sort_described f of s e = grind (arith, common_steps, one_is, truth_is, integer_is, word_is, any_is)
 
     sorted_described : (f : ℕ) (of : Operands) (o : Option UnknownSort) → look (λ n. n == f) specs.unknown_sorts ≡ o → Describe (answered_as_sorted f of o) (Some (u f (operands_in m of)))
-    sorted_described f of None e = any_is (Some (u f (operands_in m of)))
-    sorted_described f of (Some s) e = by (are_operands_of s.takes of) refl
-      where
-        by : (b : Bool) → are_operands_of s.takes of ≡ b → Describe (cond b (answer_of_sort f of s.gives) anything) (Some (u f (operands_in m of)))
-        by true q = let r = operands_sorted s.takes of q in of_sort_described f of s.gives (answers f s (operands_in m of) e r.0 r.1).0
-        by false q = any_is (Some (u f (operands_in m of)))
+    sorted_described f of o e = grind (arith, common_steps, any_is, operands_sorted, of_sort_described)
 
     answered_described : (f : ℕ) (gs : Forms) (l : Option Operands) → operands gs ≡ l → Describe (answered_of f (look (λ n. n == f) specs.unknown_sorts) l) (Some (u f (stand_each vs u gs)))
     answered_described f gs None e = any_is (Some (u f (stand_each vs u gs)))
-    answered_described f gs (Some of) e =
-        subst (λ ys. Describe (answered_as_sorted f of (look (λ n. n == f) specs.unknown_sorts)) (Some (u f ys))) (operands_stand gs of e) (sorted_described f of (look (λ n. n == f) specs.unknown_sorts) refl)
+    answered_described f gs (Some of) e = grind (arith, common_steps, operands_stand gs of e, sorted_described f of, operands_stand, sorted_described)
 
   -- 3. a choice
   by_fact_described : (x y : Cases Form) (a b : Option Denoted) → Describe x a → Describe y b → (f : Form) → Describe (by_fact x y f) (on_truth (either_said a b) (stands vs u f))
@@ -250,23 +176,14 @@ module _ (types : List TypeEntry) (specs : Specs) (vs : Place → Denoted) (u : 
     said e bound = says u (stand_each vs u args) (stands_if result) e bound
 
     result_described : (o : Option Form) → FitsIf o → Describe (or_nothing o) (stands_if o)
-    result_described None f = nothing_is
-    result_described (Some f) g = one_is f (stands vs u f) refl g
+    result_described o f = grind (arith, common_steps, nothing_is, one_is, stands)
 
     struct_described : (t ty : ℕ) (cs : Cases Form) (o : Option Denoted) → Describe cs o → Describe (cond (t == ty) cs nothing_said) (cond (t == ty) o None)
-    struct_described t ty cs o d = by (t == ty)
-      where
-        by : (b : Bool) → Describe (cond b cs nothing_said) (cond b o None)
-        by true = d
-        by false = nothing_is
+    struct_described t ty cs o d = grind (arith, common_steps, nothing_is)
 
     variant_described : (t ty i variant : ℕ) (cs ds : Cases Form) (o q : Option Denoted) → Describe cs o → Describe ds q
         → Describe (cond (t == ty) (cond (i == variant) cs ds) nothing_said) (cond (t == ty) (cond (i == variant) o q) None)
-    variant_described t ty i variant cs ds o q d e = struct_described t ty (cond (i == variant) cs ds) (cond (i == variant) o q) (by (i == variant))
-      where
-        by : (b : Bool) → Describe (cond b cs ds) (cond b o q)
-        by true = d
-        by false = e
+    variant_described t ty i variant cs ds o q d e = grind (arith, common_steps)
 
     case_described : (y x : Form) → Fits types specs vs y → Fits types specs vs x → (cs ds : Cases Form) (a b : Option Denoted) → Describe cs a → Describe ds b
         → Describe (then_cases (then_cases (opened_each types specs k (form_and y (form_and x no_form))) (fitted (widths_of specs) equals)) (by_fact cs ds))
@@ -297,10 +214,6 @@ module _ (types : List TypeEntry) (specs : Specs) (vs : Place → Denoted) (u : 
 
     mutual
       pub evaluated_described : (e : SpecExpr) (bf : List Form) (bx : List Denoted) → AreDescribed types specs vs u bf bx → Describe (of_expr e bf) (said e bx)
-      evaluated_described (its_argument i) bf bx d = got_described (form_list args) (denoted_list (stand_each vs u args)) (forms_described types specs vs u args fits) i
-      evaluated_described its_result bf bx d = result_described result result_fits
-      evaluated_described (variable i) bf bx d = got_described bf bx d i
-      evaluated_described (the_same x) bf bx d = written_is x
       evaluated_described (operation o of) bf bx d =
           bind_each (evaluated_each types specs k args result of bf) (says_each u (stand_each vs u args) (stands_if result) of bx) (λ fs. then_cases (opened_each types specs k fs) (fitted (widths_of specs) o)) (applied_to o)
           (each_described of bf bx d)
@@ -321,6 +234,7 @@ module _ (types : List TypeEntry) (specs : Specs) (vs : Place → Denoted) (u : 
           (evaluated_described e bf bx d)
           (λ f ff. bind (opened types specs k f) (Some (stands vs u f)) (λ y. evaluated_arm types specs k args result arms y bf) (λ x. says_arm u (stand_each vs u args) (stands_if result) arms x bx)
           (opened_described types specs vs u coherent k told f ff) (λ g fg. arms_described arms g fg bf bx d))
+      evaluated_described e bf bx d = grind (arith, common_steps, got_described, stand_each, forms_described, result_described, written_is)
 
       each_described : (es : SpecExprs) (bf : List Form) (bx : List Denoted) → AreDescribed types specs vs u bf bx
           → DescribeEach (evaluated_each types specs k args result es bf) (says_each u (stand_each vs u args) (stands_if result) es bx)
@@ -349,7 +263,6 @@ module _ (types : List TypeEntry) (specs : Specs) (vs : Place → Denoted) (u : 
       arms_described : (arms : SpecArms) (x : Form) → Fits types specs vs x → (bf : List Form) (bx : List Denoted) → AreDescribed types specs vs u bf bx
           → Describe (evaluated_arm types specs k args result arms x bf) (says_arm u (stand_each vs u args) (stands_if result) arms (stands vs u x) bx)
       arms_described (arm_else body) x fx bf bx d = evaluated_described body (x ∷ bf) (stands vs u x ∷ bx) (refl, fx, d)
-      arms_described no_spec_arm x fx bf bx d = nothing_is
       arms_described (struct_arm ty body) (struct_by t fields) fx bf bx d =
           struct_described t ty (of_expr body (form_list fields ++ bf)) (said body (denoted_list (stand_each vs u fields) ++ bx))
           (evaluated_described body (form_list fields ++ bf) (denoted_list (stand_each vs u fields) ++ bx)
@@ -360,75 +273,36 @@ module _ (types : List TypeEntry) (specs : Specs) (vs : Place → Denoted) (u : 
           (evaluated_described body (form_list fields ++ bf) (denoted_list (stand_each vs u fields) ++ bx)
           (more_described types specs vs u (form_list fields) bf (denoted_list (stand_each vs u fields)) bx (forms_described types specs vs u fields fx) d))
           (arms_described rest (variant_by t i fields) fx bf bx d)
-      arms_described (struct_arm ty body) (a_fact f) fx bf bx d = nothing_is
-      arms_described (struct_arm ty body) (an_integer_by z) fx bf bx d = nothing_is
-      arms_described (struct_arm ty body) (a_word_by w t) fx bf bx d = nothing_is
-      arms_described (struct_arm ty body) (variant_by t i fields) fx bf bx d = any_is None
-      arms_described (struct_arm ty body) (any_of t at) fx bf bx d = any_is _
-      arms_described (struct_arm ty body) (some_at at) fx bf bx d = any_is _
-      arms_described (spec_arm_and ty variant body rest) (a_fact f) fx bf bx d = nothing_is
-      arms_described (spec_arm_and ty variant body rest) (an_integer_by z) fx bf bx d = nothing_is
-      arms_described (spec_arm_and ty variant body rest) (a_word_by w t) fx bf bx d = nothing_is
-      arms_described (spec_arm_and ty variant body rest) (struct_by t fields) fx bf bx d = any_is None
-      arms_described (spec_arm_and ty variant body rest) (any_of t at) fx bf bx d = any_is _
-      arms_described (spec_arm_and ty variant body rest) (some_at at) fx bf bx d = any_is _
+      arms_described arms x fx bf bx d = grind (arith, common_steps, nothing_is, any_is)
 
     pub come_described : (e : SpecExpr) → Describe (then_cases (evaluated types specs k args result e []) (opened types specs k)) (said_here e)
     come_described e = opened_said (said_here e) (evaluated types specs k args result e []) (evaluated_described e [] [] tt)
 
   -- 5. that something is true
   true_in : (cs : List (Case Form)) (c : Case Form) → In cs c → is_so m c.guard ≡ true → is_so m (truth_of c.gives) ≡ true → is_so m (is_true cs) ≡ true
-  true_in (d ∷ cs) c (inl q) g t =
-      one_left m (both_of d.guard (truth_of d.gives)) (is_true cs)
-      (ap (λ (w : Case Form). is_so m (both_of w.guard (truth_of w.gives))) q ∙ both_from m c.guard (truth_of c.gives) g t)
+  true_in (d ∷ cs) c (inl q) g t = grind (arith, common_steps, one_left, both_from)
   true_in (d ∷ cs) c (inr i) g t = one_right m (both_of d.guard (truth_of d.gives)) (is_true cs) (true_in cs c i g t)
   true_in [] c i g t = absurd i
 
   true_from : (cs : List (Case Form)) → is_so m (is_true cs) ≡ true → (c : Case Form) × In cs c × (is_so m c.guard ≡ true) × (is_so m (truth_of c.gives) ≡ true)
+  true_from (c ∷ cs) e = grind (arith, common_steps, true_from cs, or_split, one_so, both_parts)
   true_from [] e = absurd (false≢true e)
-  true_from (c ∷ cs) e = by (or_split (is_so m (both_of c.guard (truth_of c.gives))) (is_so m (is_true cs)) (sym (one_so m (both_of c.guard (truth_of c.gives)) (is_true cs)) ∙ e)) (true_from cs)
-    where
-      by : (is_so m (both_of c.guard (truth_of c.gives)) ≡ true) ⊎ (is_so m (is_true cs) ≡ true)
-          → (is_so m (is_true cs) ≡ true → (d : Case Form) × In cs d × (is_so m d.guard ≡ true) × (is_so m (truth_of d.gives) ≡ true))
-          → (d : Case Form) × In (c ∷ cs) d × (is_so m d.guard ≡ true) × (is_so m (truth_of d.gives) ≡ true)
-      by (inl h) more = let k = both_parts m c.guard (truth_of c.gives) h in (c, inl refl, k.0, k.1)
-      by (inr h) more = let k = more h in (k.0, inr k.1, k.2, k.3)
 
   truth_back : (f : Form) → is_so m (truth_of f) ≡ true → stands vs u f ≡ a_truth true
-  truth_back (a_fact f) e = ap a_truth e
-  truth_back (an_integer_by z) e = absurd (false≢true e)
-  truth_back (a_word_by w t) e = absurd (false≢true e)
-  truth_back (variant_by ty i fs) e = absurd (false≢true e)
-  truth_back (struct_by ty fs) e = absurd (false≢true e)
-  truth_back (any_of ty at) e = absurd (false≢true e)
-  truth_back (some_at at) e = absurd (false≢true e)
+  truth_back f e = grind (arith, common_steps)
 
   -- what is surely true is said to be
   pub surely_said : (cs : Cases Form) (o : Option Denoted) → Describe cs o → is_so m (surely cs) ≡ true → o ≡ Some (a_truth true)
   surely_said cs o d e = let k = true_from cs.cases e in (d.sound k.0 k.1 k.2).0 ∙ ap Some (truth_back k.0.gives k.3)
 
   possible_in : (cs : List (Case Form)) (c : Case Form) → In cs c → is_so m c.guard ≡ true → is_so m (possible_truth c.gives) ≡ true → is_so m (may_be_true cs) ≡ true
-  possible_in (d ∷ cs) c (inl q) g t =
-      one_left m (both_of d.guard (possible_truth d.gives)) (may_be_true cs)
-      (ap (λ (w : Case Form). is_so m (both_of w.guard (possible_truth w.gives))) q ∙ both_from m c.guard (possible_truth c.gives) g t)
+  possible_in (d ∷ cs) c (inl q) g t = grind (arith, common_steps, one_left, both_from)
   possible_in (d ∷ cs) c (inr i) g t = one_right m (both_of d.guard (possible_truth d.gives)) (may_be_true cs) (possible_in cs c i g t)
   possible_in [] c i g t = absurd i
 
   truth_stands : (f : Form) → stands vs u f ≡ a_truth true → is_so m (possible_truth f) ≡ true
-  truth_stands (a_fact f) e = cc
-  truth_stands (an_integer_by z) e = absurd (cc)
-  truth_stands (a_word_by w t) e = absurd (cc)
-  truth_stands (variant_by ty i fs) e = absurd (cc)
-  truth_stands (struct_by ty fs) e = absurd (cc)
-  truth_stands (any_of ty at) e = refl
-  truth_stands (some_at at) e = refl
+  truth_stands f e = grind (arith, common_steps)
 
   -- what is said to be true perhaps is
   pub perhaps_so : (cs : Cases Form) (o : Option Denoted) → Describe cs o → o ≡ Some (a_truth true) → is_so m (perhaps cs) ≡ true
-  perhaps_so cs o d e = by (d.full (a_truth true) e)
-    where
-      by : IsTaken m cs.cases ⊎ (is_so m cs.rest ≡ true) → is_so m (perhaps cs) ≡ true
-      by (inl k) =
-          one_left m (may_be_true cs.cases) cs.rest
-          (possible_in cs.cases k.0 k.1 k.2 (truth_stands k.0.gives (some_is (stands vs u k.0.gives) (a_truth true) (sym (d.sound k.0 k.1 k.2).0 ∙ e))))
-      by (inr h) = one_right m (may_be_true cs.cases) cs.rest h
+  perhaps_so cs o d e = grind (arith, common_steps, possible_in cs.cases, stands vs u, one_left, possible_in, truth_stands, some_is, stands, one_right)

@@ -1,50 +1,37 @@
 -- Facts without what changes nothing are so exactly where the facts are.
-use Rattle.std.proofs.Common.{◌≡◌, Bool, true, false, not, ◌&&◌, ◌||◌, refl, sym, ap, ◌∙◌}
+use Rattle.std.proofs.Common.{◌≡◌, Bool, true, false, not, ◌&&◌, ◌||◌, sym, ap, ◌∙◌, arith}
+use Rattle.std.proofs.lemmas.Grind.{common_steps}
 use Rattle.std.proofs.lemmas.Bool.{and_parts, and_from}
 use Rattle.model.proofs.Elements.{or_left, or_right}
-use Rattle.model_questions.specs.Formulas.{Fact, known, Model, is_so, and_last, both_of, or_last, one_of, none_of}
+use Rattle.model_questions.specs.Formulas.{Fact, Model, is_so, and_last, both_of, or_last, one_of, none_of}
 
 and_true : (b : Bool) → b ≡ (b && true)
-and_true true = refl
-and_true false = refl
+and_true b = grind (arith, common_steps)
 
 and_false : (b : Bool) → false ≡ (b && false)
-and_false true = refl
-and_false false = refl
+and_false b = grind (arith, common_steps)
 
 or_true : (b : Bool) → true ≡ (b || true)
-or_true true = refl
-or_true false = refl
+or_true b = grind (arith, common_steps)
 
 pub or_false : (b : Bool) → b ≡ (b || false)
-or_false true = refl
-or_false false = refl
+or_false b = grind (arith, common_steps)
 
 module _ (m : Model) where
   last_so : (a b : Fact) → is_so m (and_last a b) ≡ (is_so m a && is_so m b)
-  last_so a (known true) = and_true (is_so m a)
-  last_so a (known false) = and_false (is_so m a)
-  last_so a b = refl
+  last_so a b = grind (arith, common_steps, and_true, and_false)
 
   pub both_so : (a b : Fact) → is_so m (both_of a b) ≡ (is_so m a && is_so m b)
-  both_so (known true) b = refl
-  both_so (known false) b = refl
-  both_so a b = last_so a b
+  both_so a b = grind (arith, common_steps, last_so)
 
   or_last_so : (a b : Fact) → is_so m (or_last a b) ≡ (is_so m a || is_so m b)
-  or_last_so a (known true) = or_true (is_so m a)
-  or_last_so a (known false) = or_false (is_so m a)
-  or_last_so a b = refl
+  or_last_so a b = grind (arith, common_steps, or_true, or_false)
 
   pub one_so : (a b : Fact) → is_so m (one_of a b) ≡ (is_so m a || is_so m b)
-  one_so (known true) b = refl
-  one_so (known false) b = refl
-  one_so a b = or_last_so a b
+  one_so a b = grind (arith, common_steps, or_last_so)
 
   pub none_so : (a : Fact) → is_so m (none_of a) ≡ not (is_so m a)
-  none_so (known true) = refl
-  none_so (known false) = refl
-  none_so a = refl
+  none_so a = grind (arith, common_steps)
 
   pub both_from : (a b : Fact) → is_so m a ≡ true → is_so m b ≡ true → is_so m (both_of a b) ≡ true
   both_from a b p q = both_so a b ∙ and_from (is_so m a) (is_so m b) p q

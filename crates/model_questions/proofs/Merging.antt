@@ -1,12 +1,13 @@
 -- Cases of one sort as one describe the same.
-use Rattle.std.proofs.Common.{◌≡◌, ◌⊎◌, Bool, true, false, not, ◌&&◌, ◌||◌, List, [], ◌∷◌, Option, Some, None, cond, refl, sym, ap, ◌∙◌, subst, inl, inr}
+use Rattle.std.proofs.Common.{◌≡◌, ◌⊎◌, Bool, true, false, List, [], ◌∷◌, Option, Some, None, cond, refl, sym, ap, ◌∙◌, subst, inl, inr, arith}
+use Rattle.std.proofs.lemmas.Grind.{common_steps}
 use Rattle.std.proofs.lemmas.Bool.{false≢true, eqb-true}
 use Rattle.std.specs.Bool.{◌==◌}
 use Rattle.model.specs.lists.Tables.{TypeEntry}
 use Rattle.model.proofs.Elements.{In, or_split, some_is, none_some}
-use Rattle.laws_specs.specs.Words.{Denoted, a_truth, an_integer, a_word}
+use Rattle.laws_specs.specs.Words.{Denoted, a_truth, a_word}
 use Rattle.laws_specs.specs.Specs.{Specs, Unknowns}
-use Rattle.model_questions.specs.Formulas.{Place, either_word, either_integer, Fact, Model, number_of, integer_of, is_so, both_of, one_of, none_of}
+use Rattle.model_questions.specs.Formulas.{Place, either_word, either_integer, Fact, Model, number_of, is_so, both_of, one_of, none_of}
 use Rattle.model_questions.specs.Forms.{Form, a_fact, an_integer_by, a_word_by, Case, Cases, either_of, merged_or, merged_in, merged_all, merged}
 use Rattle.model_questions.proofs.FactsSo.{or_false, none_so, both_so, one_so, one_left, one_right}
 use Rattle.model_questions.proofs.Described.{Describes, IsTaken}
@@ -41,25 +42,13 @@ module _ (types : List TypeEntry) (specs : Specs) (vs : Place → Denoted) (u : 
         by s t k = take (is_so m g) refl s t k
 
     fact_either : (a b : Fact) (c : Bool) → is_so m g ≡ c → is_so m (one_of (both_of g a) (both_of (none_of g) b)) ≡ cond c (is_so m a) (is_so m b)
-    fact_either a b c q =
-        one_so m (both_of g a) (both_of (none_of g) b)
-        ∙ ap (λ w. w || is_so m (both_of (none_of g) b)) (both_so m g a)
-        ∙ ap (λ w. (is_so m g && is_so m a) || w) (both_so m (none_of g) b ∙ ap (λ v. v && is_so m b) (none_so m g))
-        ∙ ap (λ v. (v && is_so m a) || (not v && is_so m b)) q
-        ∙ by c
-      where
-        by : (d : Bool) → ((d && is_so m a) || (not d && is_so m b)) ≡ cond d (is_so m a) (is_so m b)
-        by true = sym (or_false (is_so m a))
-        by false = refl
+    fact_either a b c q = grind (arith, common_steps, one_so, both_so, none_so, or_false)
 
     either_is : (a b : Form) (e : Case Form) → either_of g h a b ≡ Some e → IsEither o (of g a) (of h b) e
     either_is (a_fact a) (a_fact b) e q =
         subst (λ (x : Case Form). IsEither o (of g (a_fact a)) (of h (a_fact b)) x) (some_is (of (one_of g h) (a_fact (one_of (both_of g a) (both_of (none_of g) b)))) e q)
         (either_by (a_fact a) (a_fact b) (a_fact (one_of (both_of g a) (both_of (none_of g) b))) (λ p. ap a_truth (fact_either a b true p)) (λ p. ap a_truth (fact_either a b false p)) tt)
-    either_is (an_integer_by a) (an_integer_by b) e q =
-        subst (λ (x : Case Form). IsEither o (of g (an_integer_by a)) (of h (an_integer_by b)) x) (some_is (of (one_of g h) (an_integer_by (either_integer g a b))) e q)
-        (either_by (an_integer_by a) (an_integer_by b) (an_integer_by (either_integer g a b))
-        (λ p. ap (λ v. an_integer (cond v (integer_of m a) (integer_of m b))) p) (λ p. ap (λ v. an_integer (cond v (integer_of m a) (integer_of m b))) p) tt)
+    either_is (an_integer_by a) (an_integer_by b) e q = grind (arith, common_steps, either_by (an_integer_by a) (an_integer_by b) (an_integer_by (either_integer g a b)), some_is, either_by)
     either_is (a_word_by w a) (a_word_by v b) e q = by (w == v) refl q
       where
         by : (c : Bool) → (w == v) ≡ c → cond c (Some (of (one_of g h) (a_word_by w (either_word g a b)))) None ≡ Some e → IsEither o (of g (a_word_by w a)) (of h (a_word_by v b)) e
@@ -73,8 +62,6 @@ module _ (types : List TypeEntry) (specs : Specs) (vs : Place → Denoted) (u : 
 
   module _ (o : Option Denoted) where
     merged_in_sound : (c : Case Form) (ds : List (Case Form)) → IsSound o c → ((d : Case Form) → In ds d → IsSound o d) → (e : Case Form) → In (merged_in c ds) e → IsSound o e
-    merged_in_sound c [] s t e (inl q) = subst (λ (x : Case Form). IsSound o x) q s
-    merged_in_sound c [] s t e (inr i) = absurd i
     merged_in_sound c (d ∷ ds) s t e i = by (either_of c.guard d.guard c.gives d.gives) refl i (merged_in_sound c ds s (λ x j. t x (inr j)) e)
       where
         by : (v : Option (Case Form)) → either_of c.guard d.guard c.gives d.gives ≡ v → In (merged_or v d ds (merged_in c ds)) e → (In (merged_in c ds) e → IsSound o e) → IsSound o e
@@ -82,6 +69,7 @@ module _ (types : List TypeEntry) (specs : Specs) (vs : Place → Denoted) (u : 
         by (Some k) q (inr j) more = t e (inr j)
         by None q (inl w) more = t e (inl w)
         by None q (inr j) more = more j
+    merged_in_sound c ds s t e i = grind (arith, common_steps)
 
     merged_in_taken : (c : Case Form) (ds : List (Case Form)) → IsTaken m (c ∷ ds) → IsTaken m (merged_in c ds)
     merged_in_taken c [] k = k

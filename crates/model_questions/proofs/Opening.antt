@@ -1,16 +1,17 @@
 -- A place whose type is known, opened by one layer, has the value that stands there.
-use Rattle.std.proofs.Common.{◌≡◌, ◌⊎◌, ◌+◌, ℕ, ℤ, zero, suc, Bool, true, false, not, ◌&&◌, ◌||◌, List, [], ◌∷◌, Option, Some, None, cond, slice_get, refl, sym, ap, ◌∙◌, subst, inl, inr, arith, eq-eqb}
+use Rattle.std.proofs.Common.{◌≡◌, ◌⊎◌, ◌+◌, ℕ, ℤ, zero, suc, Bool, true, false, not, ◌&&◌, ◌||◌, List, [], ◌∷◌, Option, Some, None, slice_get, refl, sym, ap, ◌∙◌, subst, inl, inr, arith, eq-eqb}
+use Rattle.std.proofs.lemmas.Grind.{common_steps}
 use Rattle.std.specs.Bool.{◌==◌}
 use Rattle.std.specs.List.{list_any}
-use Rattle.std.proofs.lemmas.Bool.{and_parts, false≢true, eqb-true, cond-true}
+use Rattle.std.proofs.lemmas.Bool.{and_parts, false≢true, eqb-true}
 use Rattle.model.specs.lists.Tables.{VariantEntry, TypeEntry, builtin_type, primitive_type, enum_type, struct_type}
 use Rattle.model.specs.rules.Values.{is_truth_type, has_atoms, variant_types, struct_types, field_types}
 use Rattle.model.proofs.Elements.{In, or_split, some_is, none_some}
 use Rattle.laws_specs.specs.Words.{Denoted, a_truth, an_integer, a_word, variant_of, struct_of, DenotedList, no_denoted, denoted_and, denoted_list, is_plain}
 use Rattle.laws_specs.specs.Specs.{Sort, truths, integers, words, words_among, is_of_sort, Specs, sort_of, Unknowns}
 use Rattle.laws_specs.specs.Conditions.{is_modelled_as, is_atom_as, is_of_type, are_of_types}
-use Rattle.model_questions.specs.Formulas.{Place, variant_field_at, struct_field_at, word_at, integer_at, written_integer, Fact, known, truth_at, as_wide, is_kind, Model, is_so, both_of, none_of}
-use Rattle.model_questions.specs.Forms.{Form, a_fact, an_integer_by, a_word_by, variant_by, struct_by, any_of, some_at, Forms, no_form, form_and, Case, Cases, one_case, anything, then_cases}
+use Rattle.model_questions.specs.Formulas.{Place, variant_field_at, struct_field_at, word_at, Fact, known, truth_at, as_wide, is_kind, Model, is_so, both_of, none_of}
+use Rattle.model_questions.specs.Forms.{Form, a_fact, a_word_by, struct_by, Forms, no_form, form_and, Case, Cases, one_case, anything, then_cases}
 use Rattle.model_questions.specs.Evaluated.{Known, found, fields_at, wide_case, at_each, at_widths, integer_known, at_sort, variant_at, each_variant, is_no_variant, one_variant, variant_known, at_variants, at_enum, at_type, opened, opened_each}
 use Rattle.model_questions.proofs.FactsSo.{none_so, both_from, both_parts, none_from}
 use Rattle.model_questions.proofs.Described.{Describes, IsTaken, anything_described, one_described, then_described}
@@ -26,17 +27,14 @@ at_first : (i : ℕ) → i ≡ i + 0
 at_first i = omega arith
 
 pub and_last_false : (a b : Bool) → (a && (b && false)) ≡ true → ⊥
-and_last_false true true e = false≢true e
-and_last_false true false e = false≢true e
-and_last_false false b e = false≢true e
+and_last_false a b e = grind (arith, common_steps)
 
 pub listed_width : (w : ℕ) (ws : List ℕ) → list_any (λ v. w == v) ws ≡ true → In ws w
 listed_width w [] e = absurd (false≢true e)
 listed_width w (v ∷ ws) e = elim (or_split (w == v) (list_any (λ u. w == u) ws) e) [ inl q ↦ inl (sym (eqb-true w v q)) | inr r ↦ inr (listed_width w ws r) ]
 
 not_is : (b : Bool) → not b ≡ true → b ≡ true → ⊥
-not_is true e f = false≢true e
-not_is false e f = false≢true f
+not_is b e f = grind (arith, common_steps)
 
 -- what a type says of a value, by its entry
 abbrev pub IsMadeOf : List TypeEntry → Specs → ℕ → Option TypeEntry → Denoted → Type 0
@@ -51,52 +49,23 @@ abbrev pub IsOf : List TypeEntry → Specs → ℕ → Option TypeEntry → Deno
 IsOf types specs ty o x = (is_atom_of specs ty o x ≡ true) ⊎ IsMadeOf types specs ty o x
 
 pub type_says : (types : List TypeEntry) (specs : Specs) (ty : ℕ) (x : Denoted) → is_of_type types specs ty x ≡ true → IsOf types specs ty (slice_get types ty) x
-type_says types specs ty (a_truth b) e = inl e
-type_says types specs ty (an_integer z) e = inl e
-type_says types specs ty (a_word w n) e = inl e
-type_says types specs ty (variant_of s i xs) e =
-    elim (or_split (is_atom_of specs ty (slice_get types ty) (variant_of s i xs)) ((s == ty) && are_of_types types specs (variant_types (slice_get types ty) i) xs) e) [
-      | inl a ↦ inl a
-      | inr b ↦ let p = and_parts (s == ty) (are_of_types types specs (variant_types (slice_get types ty) i) xs) b in inr (eqb-true s ty p.0, p.1)
-    ]
-type_says types specs ty (struct_of s xs) e =
-    elim (or_split (is_atom_of specs ty (slice_get types ty) (struct_of s xs)) ((s == ty) && are_of_types types specs (struct_types (slice_get types ty)) xs) e) [
-      | inl a ↦ inl a
-      | inr b ↦ let p = and_parts (s == ty) (are_of_types types specs (struct_types (slice_get types ty)) xs) b in inr (eqb-true s ty p.0, p.1)
-    ]
+type_says types specs ty x e = grind (arith, common_steps, or_split, and_parts, eqb-true)
 
 pub none_of_types : (types : List TypeEntry) (specs : Specs) (xs : DenotedList) → are_of_types types specs None xs ≡ true → ⊥
-none_of_types types specs no_denoted e = false≢true e
-none_of_types types specs (denoted_and x xs) e = false≢true e
+none_of_types types specs xs e = grind (arith, common_steps)
 
 pub nothing_made : (types : List TypeEntry) (specs : Specs) (ty : ℕ) (o : Option TypeEntry) (x : Denoted) → ((i : ℕ) → variant_types o i ≡ None) → struct_types o ≡ None → IsMadeOf types specs ty o x → ⊥
-nothing_made types specs ty o (variant_of s i xs) v t h = none_of_types types specs xs (subst (λ tys. are_of_types types specs tys xs ≡ true) (v i) h.1)
-nothing_made types specs ty o (struct_of s xs) v t h = none_of_types types specs xs (subst (λ tys. are_of_types types specs tys xs ≡ true) t h.1)
-nothing_made types specs ty o (a_truth b) v t h = h
-nothing_made types specs ty o (an_integer z) v t h = h
-nothing_made types specs ty o (a_word w n) v t h = h
+nothing_made types specs ty o x v t h = grind (arith, common_steps, none_of_types)
 
 plain_has_no_kind : (x : Denoted) → is_plain x ≡ true → kind_in x ≡ 0
-plain_has_no_kind (a_truth b) e = refl
-plain_has_no_kind (an_integer z) e = refl
-plain_has_no_kind (a_word w n) e = refl
-plain_has_no_kind (variant_of s i xs) e = absurd (false≢true e)
-plain_has_no_kind (struct_of s xs) e = absurd (false≢true e)
+plain_has_no_kind x e = grind (arith, common_steps)
 
 variant_there : (types : List TypeEntry) (specs : Specs) (o : Option VariantEntry) (xs : DenotedList) → are_of_types types specs (elim o [ None ↦ None | Some v ↦ Some (field_types v.fields) ]) xs ≡ true
     → (v : VariantEntry) × (o ≡ Some v) × (are_of_types types specs (Some (field_types v.fields)) xs ≡ true)
-variant_there types specs None xs e = absurd (none_of_types types specs xs e)
-variant_there types specs (Some v) xs e = (v, refl, e)
+variant_there types specs o xs e = grind (arith, common_steps, none_of_types)
 
 zero_apart : (j : ℕ) → (0 == suc j) ≡ false
-zero_apart j = by (0 == suc j) refl
-  where
-    apart : 0 ≡ suc j → ⊥
-    apart e = omega arith
-
-    by : (b : Bool) → (0 == suc j) ≡ b → (0 == suc j) ≡ false
-    by true e = absurd (apart (eqb-true 0 (suc j) e))
-    by false e = e
+zero_apart j = grind (arith, common_steps, eqb-true 0 (suc j), eqb-true)
 
 module _ (types : List TypeEntry) (specs : Specs) (vs : Place → Denoted) (u : Unknowns) where
   abbrev m : Model
@@ -119,17 +88,10 @@ module _ (types : List TypeEntry) (specs : Specs) (vs : Place → Denoted) (u : 
 
   -- 1. sorts
   truth_described : (at : Place) (x : Denoted) → vs at ≡ x → is_of_sort truths x ≡ true → Describe (one_case (a_fact (truth_at at))) (Some x)
-  truth_described at (a_truth b) e h = one_is (a_fact (truth_at at)) (a_truth b) (ap (λ y. stands (λ p. y) u (a_fact (truth_at at))) e) tt
-  truth_described at (an_integer z) e h = absurd (false≢true h)
-  truth_described at (a_word w n) e h = absurd (false≢true h)
-  truth_described at (variant_of s i xs) e h = absurd (false≢true h)
-  truth_described at (struct_of s xs) e h = absurd (false≢true h)
+  truth_described at x e h = grind (arith, common_steps, one_is, stands)
 
   wide_stands : (at : Place) (w n v : ℕ) → vs at ≡ a_word w n → w ≡ v → stands vs u (a_word_by v (word_at at v)) ≡ a_word w n
-  wide_stands at w n v e q =
-      ap (λ y. a_word v (number_if y v)) e
-      ∙ ap (λ z. a_word z (number_if (a_word w n) z)) (sym q)
-      ∙ ap (a_word w) (cond-true (w == w) n 0 (same_is w))
+  wide_stands at w n v e q = grind (arith, common_steps, number_if (a_word w n), same_is w, number_if, same_is)
 
   wide_gives : (at : Place) (w n v : ℕ) → vs at ≡ a_word w n → w ≡ v → Gives (Some (a_word w n)) (a_word_by v (word_at at v))
   wide_gives at w n v e q = (ap Some (sym (wide_stands at w n v e q)), tt)
@@ -140,9 +102,7 @@ module _ (types : List TypeEntry) (specs : Specs) (vs : Place → Denoted) (u : 
   each_width_sound : (at : Place) (w n : ℕ) → vs at ≡ a_word w n → (g : Fact) (ws : List ℕ) → (is_so m g ≡ true → In ws w) → (c : Case Form) → In (at_each g ws at) c → is_so m c.guard ≡ true
       → Gives (Some (a_word w n)) c.gives
   each_width_sound at w n e g [] there c i h = absurd i
-  each_width_sound at w n e g (v ∷ []) there c (inl q) h =
-      at_case (Some (a_word w n)) (wide_case g at v) c q
-      (wide_gives at w n v e (elim (there (ap (λ (d : Case Form). is_so m d.guard) q ∙ h)) [ inl s ↦ sym s | inr s ↦ absurd s ]))
+  each_width_sound at w n e g (v ∷ []) there c (inl q) h = grind (arith, common_steps, at_case (Some (a_word w n)) (wide_case g at v) c q, wide_gives at w n v e, at_case, wide_gives)
   each_width_sound at w n e g (v ∷ []) there c (inr i) h = absurd i
   each_width_sound at w n e g (v ∷ (v' ∷ ws)) there c (inl q) h =
       at_case (Some (a_word w n)) (wide_case (both_of g (as_wide at v)) at v) c q
@@ -177,26 +137,13 @@ module _ (types : List TypeEntry) (specs : Specs) (vs : Place → Denoted) (u : 
         let i = listed_width w ws h in
         record { sound = each_width_sound at w n e (known true) ws (λ s. i); full = λ y r. inl (each_width_full at w n e (known true) ws refl i) }
     widths_described at ws (a_word w n) e h (Some v) q = one_is (a_word_by v (word_at at v)) (a_word w n) (wide_stands at w n v e (ap width_in (sym e) ∙ q v refl)) tt
-    widths_described at ws (a_truth b) e h o q = absurd (false≢true h)
-    widths_described at ws (an_integer z) e h o q = absurd (false≢true h)
-    widths_described at ws (variant_of s i xs) e h o q = absurd (false≢true h)
-    widths_described at ws (struct_of s xs) e h o q = absurd (false≢true h)
+    widths_described at ws x e h o q = grind (arith, common_steps)
 
     word_described : (at : Place) (v : ℕ) (x : Denoted) → vs at ≡ x → is_of_sort (words v) x ≡ true → Describe (one_case (a_word_by v (word_at at v))) (Some x)
-    word_described at v (a_word w n) e h = one_is (a_word_by v (word_at at v)) (a_word w n) (wide_stands at w n v e (eqb-true w v h)) tt
-    word_described at v (a_truth b) e h = absurd (false≢true h)
-    word_described at v (an_integer z) e h = absurd (false≢true h)
-    word_described at v (variant_of s i xs) e h = absurd (false≢true h)
-    word_described at v (struct_of s xs) e h = absurd (false≢true h)
+    word_described at v x e h = grind (arith, common_steps, one_is, wide_stands, eqb-true)
 
     integer_described : (at : Place) (x : Denoted) → vs at ≡ x → is_of_sort integers x ≡ true → (o : Option ℤ) → ((z : ℤ) → o ≡ Some z → m.integers at ≡ z) → Describe (integer_known at o) (Some x)
-    integer_described at (an_integer z) e h None q = one_is (an_integer_by (integer_at at)) (an_integer z) (ap (λ y. stands (λ p. y) u (an_integer_by (integer_at at))) e) tt
-    integer_described at (an_integer z) e h (Some y) q =
-        one_is (an_integer_by (written_integer y)) (an_integer z) (ap an_integer (sym (q y refl)) ∙ ap (λ w. stands (λ p. w) u (an_integer_by (integer_at at))) e) tt
-    integer_described at (a_truth b) e h o q = absurd (false≢true h)
-    integer_described at (a_word w n) e h o q = absurd (false≢true h)
-    integer_described at (variant_of s i xs) e h o q = absurd (false≢true h)
-    integer_described at (struct_of s xs) e h o q = absurd (false≢true h)
+    integer_described at x e h o q = grind (arith, common_steps, one_is, stands)
 
     sort_described : (at : Place) (x : Denoted) → vs at ≡ x → (s : Option Sort) → is_modelled_as s x ≡ true → Describe (at_sort k at s) (Some x)
     sort_described at x e None h = any_is (Some x)
@@ -208,14 +155,12 @@ module _ (types : List TypeEntry) (specs : Specs) (vs : Place → Denoted) (u : 
   -- 2. fields
   pub fields_stand : (p : ℕ → Place) (j : ℕ) (tys : List ℕ) (xs : DenotedList) → ((n : ℕ) (y : Denoted) → slice_get (denoted_list xs) n ≡ Some y → vs (p (j + n)) ≡ y)
       → are_of_types types specs (Some tys) xs ≡ true → (stand_each vs u (fields_at p j tys) ≡ xs) × AllFit types specs vs (fields_at p j tys)
-  fields_stand p j [] no_denoted h a = (refl, tt)
   fields_stand p j (ty ∷ tys) (denoted_and x xs) h a =
       let s = and_parts (is_of_type types specs ty x) (are_of_types types specs (Some tys) xs) a in
       let here : vs (p j) ≡ x = ap (λ i. vs (p i)) (at_first j) ∙ h 0 x refl in
       let rest = fields_stand p (suc j) tys xs (λ n y q. ap (λ i. vs (p i)) (at_next j n) ∙ h (suc n) y q) s.1 in
       (ap (λ y. denoted_and y (stand_each vs u (fields_at p (suc j) tys))) here ∙ ap (denoted_and x) rest.0, (subst (λ y. is_of_type types specs ty y ≡ true) (sym here) s.0, rest.1))
-  fields_stand p j [] (denoted_and x xs) h a = absurd (false≢true a)
-  fields_stand p j (ty ∷ tys) no_denoted h a = absurd (false≢true a)
+  fields_stand p j tys xs h a = grind (arith, common_steps)
 
   module _ (coherent : IsCoherent vs) where
     variant_gives : (ty : ℕ) (at : Place) (s i j : ℕ) (v : VariantEntry) (xs : DenotedList) → vs at ≡ variant_of s i xs → s ≡ ty → i ≡ j → are_of_types types specs (Some (field_types v.fields)) xs ≡ true
@@ -267,12 +212,7 @@ module _ (types : List TypeEntry) (specs : Specs) (vs : Place → Denoted) (u : 
 
       one_sound : (j : ℕ) (g : Fact) (ws : List VariantEntry) → AreTyped j ws → (is_so m g ≡ true → IsThere j ws) → (c : Case Form) → In (one_variant g ty at j ws) c → is_so m c.guard ≡ true → Gives (Some x) c.gives
       one_sound j g [] h there c n k = absurd n
-      one_sound j g (w ∷ []) h there c (inl r) k =
-          at_case (Some x) (record { guard = g; gives = variant_at ty at j w }) c r (by (there (ap (λ (d : Case Form). is_so m d.guard) r ∙ k)))
-        where
-          by : IsThere j (w ∷ []) → Gives (Some x) (variant_at ty at j w)
-          by (zero, v, p, t) = let here : i ≡ j = p ∙ sym (at_first j) in variant_gives ty at s i j w xs e q here (h 0 w p refl)
-          by (suc d, v, p, t) = absurd (none_some v t)
+      one_sound j g (w ∷ []) h there c (inl r) k = grind (arith, common_steps, at_first j, variant_gives ty at s i j w xs e q, at_case, at_first, variant_gives, none_some)
       one_sound j g (w ∷ []) h there c (inr n) k = absurd n
       one_sound j g (w ∷ (w' ∷ ws)) h there c (inl r) k =
           let here = is_kind_here j (both_parts m g (is_kind at j) (ap (λ (d : Case Form). is_so m d.guard) r ∙ k)).1 in
@@ -382,13 +322,7 @@ module _ (types : List TypeEntry) (specs : Specs) (vs : Place → Denoted) (u : 
 
       -- a form, and each of several
       pub opened_described : (f : Form) → Fits types specs vs f → Describe (opened types specs k f) (Some (stands vs u f))
-      opened_described (any_of ty at) fits = type_described ty at (vs at) refl (slice_get types ty) (type_says types specs ty (vs at) fits)
-      opened_described (some_at at) fits = any_is (Some (vs at))
-      opened_described (a_fact f) fits = one_is (a_fact f) (stands vs u (a_fact f)) refl tt
-      opened_described (an_integer_by z) fits = one_is (an_integer_by z) (stands vs u (an_integer_by z)) refl tt
-      opened_described (a_word_by w t) fits = one_is (a_word_by w t) (stands vs u (a_word_by w t)) refl tt
-      opened_described (variant_by ty i fs) fits = one_is (variant_by ty i fs) (stands vs u (variant_by ty i fs)) refl fits
-      opened_described (struct_by ty fs) fits = one_is (struct_by ty fs) (stands vs u (struct_by ty fs)) refl fits
+      opened_described f fits = grind (arith, common_steps, type_described, type_says, any_is, one_is, stands)
 
       abbrev pub DescribeEach : Cases Forms → Option DenotedList → Type 0
       DescribeEach cs o = Describes m Forms DenotedList (stand_each vs u) (AllFit types specs vs) cs o

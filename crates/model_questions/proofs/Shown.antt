@@ -1,19 +1,19 @@
 -- Where no question can be satisfied, what the steps show holds: values that break it would satisfy a question.
-use Rattle.std.proofs.Common.{◌≡◌, ℕ, ℤ, suc, Bool, true, false, ◌&&◌, List, [], ◌∷◌, Option, Some, None, cond, slice_get, refl, sym, ap, ◌∙◌, subst, inl, inr}
+use Rattle.std.proofs.Common.{◌≡◌, ℕ, ℤ, suc, Bool, true, false, ◌&&◌, List, [], ◌∷◌, Option, Some, None, slice_get, refl, sym, ap, ◌∙◌, subst, inl, inr, arith}
+use Rattle.std.proofs.lemmas.Grind.{common_steps}
 use Rattle.std.specs.Bool.{◌==◌}
-use Rattle.std.specs.Ordering.{int_eq}
 use Rattle.std.proofs.lemmas.Bool.{and_parts, and_from, false≢true, eqb-true, cond-true}
 use Rattle.std.proofs.lemmas.Bool.Decides.{Decides-int_eq}
-use Rattle.model.specs.lists.Tables.{TypeEntry, builtin_type, primitive_type, enum_type}
-use Rattle.model.specs.sites.Sites.{Constraint, is_variant, is_struct, is_bool, is_int, is_prim, is_present}
+use Rattle.model.specs.lists.Tables.{TypeEntry}
+use Rattle.model.specs.sites.Sites.{Constraint, is_variant, is_bool, is_int, is_prim}
 use Rattle.model.specs.visits.Demands.{site_term_eq}
 use Rattle.model.proofs.Elements.{In, in_left, in_right, some_is, none_some}
 use Rattle.model.proofs.SameSites.{term_means, number_same, beq_same}
-use Rattle.laws_specs.specs.Words.{Denoted, a_truth, an_integer, a_word, variant_of, struct_of, DenotedList, no_denoted, denoted_and, same_sort, denoted_eq, denoted_list_eq, is_formed, Operator, equals, applied_to}
+use Rattle.laws_specs.specs.Words.{Denoted, a_truth, variant_of, struct_of, DenotedList, no_denoted, denoted_and, same_sort, denoted_eq, denoted_list_eq, is_formed, Operator, equals, applied_to}
 use Rattle.laws_specs.specs.Specs.{Sort, truths, integers, words, words_among, is_of_sort, Specs, sort_of, constant_of, literal_of, Unknowns, AreUnknownsSorted, says}
 use Rattle.laws_specs.specs.Conditions.{is_of_type, is_modelled_as}
-use Rattle.model_questions.specs.Formulas.{Place, argument_at, site_at, output_at, variant_field_at, struct_field_at, place_eq, Integer, written_integer, integer_at, Fact, known, truth_at, as_wide, is_kind, fact_by, both_facts, Operands, no_operand, integer_and, Model, integer_of, is_so, are_so, one_of, none_of}
-use Rattle.model_questions.specs.Forms.{Form, a_fact, an_integer_by, a_word_by, variant_by, struct_by, any_of, some_at, no_form, form_and, form_of, then_cases, surely, perhaps}
+use Rattle.model_questions.specs.Formulas.{Place, argument_at, site_at, output_at, variant_field_at, struct_field_at, place_eq, Integer, Fact, as_wide, fact_by, both_facts, Operands, Model, integer_of, is_so, are_so, one_of, none_of}
+use Rattle.model_questions.specs.Forms.{Form, no_form, form_and, then_cases, surely, perhaps}
 use Rattle.model_questions.specs.Evaluated.{Known, found, widths_of, fitted, opened_each}
 use Rattle.model_questions.specs.Steps.{Said, Step, split_at, told_as, told_same, assumed, assumed_under, shown}
 use Rattle.model_questions.specs.Questions.{with_width, with_integer, with_kind, same_learned, equals_learned, learned, each_of, unless_false, split_sort, at_each_width, kind_fact, truth_fact, come_to, same_fact, same_if, told_fact, all_surely, fact_of, paths, IsModel, IsUnsatisfiable}
@@ -26,11 +26,7 @@ use Rattle.model_questions.proofs.Standing.{width_in, kind_in, model_of, IsCoher
 pub place_means : (a b : Place) → place_eq a b ≡ true → a ≡ b
 place_means (argument_at i) (argument_at j) h = ap argument_at (eqb-true i j h)
 place_means (site_at s) (site_at t) h = ap site_at (term_means s t h)
-place_means (output_at s i) (output_at t j) h =
-    let p = and_parts (site_term_eq s t) (i == j) h in
-    let e = term_means s t p.0 in
-    let f = eqb-true i j p.1 in
-    λ k. output_at (e k) (f k)
+place_means (output_at s i) (output_at t j) h = grind (arith, common_steps, and_parts (site_term_eq s t) (i == j) h, term_means s t, eqb-true i j, and_parts, term_means, eqb-true)
 place_means (variant_field_at a s v i) (variant_field_at b t w j) h =
     let p = and_parts ((place_eq a b && (s == t)) && (v == w)) (i == j) h in
     let q = and_parts (place_eq a b && (s == t)) (v == w) p.0 in
@@ -51,11 +47,7 @@ place_means _ _ h = absurd (false≢true h)
 
 found_more : {X : Type 0} (P : Place → X → Type 0) (k : List (Place × X)) (at : Place) (v : X) → P at v → ((a : Place) (y : X) → found k a ≡ Some y → P a y)
     → (a : Place) (y : X) → found ((at, v) ∷ k) a ≡ Some y → P a y
-found_more {X} P k at v here more a y e = by (place_eq at a) refl e
-  where
-    by : (b : Bool) → place_eq at a ≡ b → cond b (Some v) (found k a) ≡ Some y → P a y
-    by true q h = subst (P a) (some_is v y h) (subst (λ p. P p v) (place_means at a q) here)
-    by false q h = more a y h
+found_more {X} P k at v here more a y e = grind (arith, common_steps, some_is v y, place_means at a, some_is, place_means)
 
 module _ (m : Model) where
   width_more : (k : Known) (at : Place) (w : ℕ) → m.widths at ≡ w → AreKnown m k → AreKnown m (with_width at w k)
@@ -68,25 +60,18 @@ module _ (m : Model) where
   kind_more k at i e told = record { widths = told.widths; integers = told.integers; kinds = found_more (λ p v. m.kinds p ≡ suc v) k.kinds at i e told.kinds }
 
   same_told : (a b : Integer) (k : Known) → integer_of m a ≡ integer_of m b → AreKnown m k → AreKnown m (same_learned a b k)
-  same_told (integer_at at) (written_integer z) k e told = integer_more k at z e told
-  same_told (written_integer z) (integer_at at) k e told = integer_more k at z (sym e) told
-  same_told _ _ k e told = told
+  same_told a b k e told = grind (arith, common_steps, integer_more)
 
   equals_told : (o : Operator) (of : Operands) (k : Known) → is_so m (fact_by o of) ≡ true → AreKnown m k → AreKnown m (equals_learned o of k)
-  equals_told equals (integer_and a (integer_and b no_operand)) k e told = same_told a b k ((Decides-int_eq (integer_of m a) (integer_of m b)).0 e) told
-  equals_told _ _ k e told = told
+  equals_told o of k e told = grind (arith, common_steps, same_told, Decides-int_eq)
 
   -- what is learned from a fact that is so
   learned_told : (f : Fact) (k : Known) → is_so m f ≡ true → AreKnown m k → AreKnown m (learned f k)
-  learned_told (as_wide at w) k e told = width_more k at w (eqb-true (m.widths at) w e) told
-  learned_told (is_kind at i) k e told = kind_more k at i (eqb-true (m.kinds at) (suc i) e) told
-  learned_told (fact_by o of) k e told = equals_told o of k e told
   learned_told (both_facts a b) k e told = let s = and_parts (is_so m a) (is_so m b) e in learned_told a (learned b k) s.0 (learned_told b k s.1 told)
-  learned_told _ k e told = told
+  learned_told f k e told = grind (arith, common_steps, width_more, eqb-true, kind_more, equals_told)
 
   not_false : (f : Fact) (qs : List (List Fact)) (q : List Fact) → is_so m f ≡ true → In qs q → In (unless_false f qs) q
-  not_false (known false) qs q e i = absurd (false≢true e)
-  not_false _ qs q e i = i
+  not_false f qs q e i = grind (arith, common_steps)
 
 in_each : {X Y : Type 0} (f : X → List Y) (xs : List X) (x : X) (y : Y) → In xs x → In (f x) y → In (each_of f xs) y
 in_each {X} {Y} f (z ∷ xs) x y (inl e) j = in_left (f z) (each_of f xs) y (subst (λ w. In (f w) y) (sym e) j)
@@ -96,51 +81,30 @@ in_each {X} {Y} f [] x y i j = absurd i
 -- 2. a value equals itself
 mutual
   denoted_same : (x : Denoted) → denoted_eq x x ≡ true
-  denoted_same (a_truth b) = beq_same b
-  denoted_same (an_integer z) = (Decides-int_eq z z).1 refl
-  denoted_same (a_word w n) = and_from (w == w) (n == n) (number_same w) (number_same n)
-  denoted_same (variant_of s i xs) = and_from ((s == s) && (i == i)) (denoted_list_eq xs xs) (and_from (s == s) (i == i) (number_same s) (number_same i)) (denoted_list_same xs)
-  denoted_same (struct_of s xs) = and_from (s == s) (denoted_list_eq xs xs) (number_same s) (denoted_list_same xs)
+  denoted_same (variant_of s i xs) = grind (arith, common_steps, denoted_list_same xs, and_from, number_same)
+  denoted_same (struct_of s xs) = grind (arith, common_steps, denoted_list_same xs, and_from, number_same)
+  denoted_same x = grind (arith, common_steps, beq_same, Decides-int_eq, and_from, number_same)
 
   denoted_list_same : (xs : DenotedList) → denoted_list_eq xs xs ≡ true
   denoted_list_same no_denoted = refl
   denoted_list_same (denoted_and x xs) = and_from (denoted_eq x x) (denoted_list_eq xs xs) (denoted_same x) (denoted_list_same xs)
 
 sort_same : (x : Denoted) → same_sort x x ≡ true
-sort_same (a_truth b) = refl
-sort_same (an_integer z) = refl
-sort_same (a_word w n) = number_same w
-sort_same (variant_of s i xs) = number_same s
-sort_same (struct_of s xs) = number_same s
+sort_same x = grind (arith, common_steps, number_same)
 
 equals_itself : (x : Denoted) → applied_to equals (denoted_and x (denoted_and x no_denoted)) ≡ Some (a_truth true)
 equals_itself x = cond-true (same_sort x x) (Some (a_truth (denoted_eq x x))) None (sort_same x) ∙ ap (λ b. Some (a_truth b)) (denoted_same x)
 
 -- 3. a word's width is among those that are listed
 width_listed : (ws : List ℕ) (x : Denoted) → is_of_sort (words_among ws) x ≡ true → In ws (width_in x)
-width_listed ws (a_word w n) h = listed_width w ws h
-width_listed ws (a_truth b) h = absurd (false≢true h)
-width_listed ws (an_integer z) h = absurd (false≢true h)
-width_listed ws (variant_of s i xs) h = absurd (false≢true h)
-width_listed ws (struct_of s xs) h = absurd (false≢true h)
+width_listed ws x h = grind (arith, common_steps, listed_width)
 
 module _ (types : List TypeEntry) (specs : Specs) (vs : Place → Denoted) (u : Unknowns) where
   abbrev m : Model
   m = model_of vs u
 
   atoms_alone : (ty : ℕ) (o : Option TypeEntry) (s : Sort) (x : Denoted) → IsOf types specs ty o x → split_sort o (sort_of specs ty) ≡ Some s → is_of_sort s x ≡ true
-  atoms_alone ty o s x h e = subst (λ q. is_modelled_as q x ≡ true) (after o h e).0 (after o h e).1
-    where
-      after : (q : Option TypeEntry) → IsOf types specs ty q x → split_sort q (sort_of specs ty) ≡ Some s → (sort_of specs ty ≡ Some s) × (is_modelled_as (sort_of specs ty) x ≡ true)
-      after (Some (builtin_type (suc n))) (inl g) r = (r, (and_parts (is_modelled_as (sort_of specs ty) x) true g).0)
-      after (Some (builtin_type (suc n))) (inr g) r = absurd (nothing_made types specs ty (Some (builtin_type (suc n))) x (λ i. refl) refl g)
-      after (Some (primitive_type id name place)) (inl g) r = (r, (and_parts (is_modelled_as (sort_of specs ty) x) true g).0)
-      after (Some (primitive_type id name place)) (inr g) r = absurd (nothing_made types specs ty (Some (primitive_type id name place)) x (λ i. refl) refl g)
-      after (Some (enum_type name id is_extern is_nodebug [] place)) (inl g) r =
-          (r, (and_parts (is_modelled_as (sort_of specs ty) x) true (and_parts is_extern (is_modelled_as (sort_of specs ty) x && true) g).1).0)
-      after (Some (enum_type name id is_extern is_nodebug [] place)) (inr g) r =
-          absurd (nothing_made types specs ty (Some (enum_type name id is_extern is_nodebug [] place)) x (λ i. refl) refl g)
-      after _ g r = absurd (none_some s r)
+  atoms_alone ty o s x h e = grind (arith, common_steps, and_parts (is_modelled_as (sort_of specs ty) x) true, nothing_made types specs ty, none_some s, and_parts, nothing_made, none_some)
 
   -- 4. what steps assume and show
   abbrev pub FitsSaid : Said → Type 0
@@ -212,37 +176,16 @@ module _ (types : List TypeEntry) (specs : Specs) (vs : Place → Denoted) (u : 
         (ap (λ y. applied_to equals (denoted_and (stands vs u f) (denoted_and y no_denoted))) (sym e) ∙ equals_itself (stands vs u f))
 
     same_if_so : (k : Known) (f : Form) (o : Option Denoted) → AreKnown m k → ((x : Denoted) → o ≡ Some x → (stands vs u f ≡ x) × Fits types specs vs f) → is_so m (same_if types specs k f o) ≡ true
-    same_if_so k f None told h = refl
-    same_if_so k f (Some x) told h = let r = h x refl in same_so k f (form_of x) told r.1 (written_fits types specs vs x) (r.0 ∙ sym (written_stands vs u x))
+    same_if_so k f o told h = grind (arith, common_steps, same_so, written_fits, written_stands)
 
     kind_so : (ty variant : ℕ) (xs : DenotedList) (f : Form) → stands vs u f ≡ variant_of ty variant xs → is_so m (kind_fact variant f) ≡ true
-    kind_so ty variant xs (any_of t at) e = ap (λ y. kind_in y == suc variant) e ∙ number_same (suc variant)
-    kind_so ty variant xs (some_at at) e = ap (λ y. kind_in y == suc variant) e ∙ number_same (suc variant)
-    kind_so ty variant xs _ e = refl
+    kind_so ty variant xs f e = grind (arith, common_steps, kind_in, number_same)
 
     truth_so : (b : Bool) (f : Form) → stands vs u f ≡ a_truth b → is_so m (truth_fact b f) ≡ true
-    truth_so true (a_fact f) e = let r : is_so m f ≡ true = cc in r
-    truth_so false (a_fact f) e = let r : is_so m f ≡ false = cc in none_from m f r
-    truth_so true (any_of t at) e = ap (λ y. is_so (model_of (λ p. y) u) (truth_at at)) e
-    truth_so false (any_of t at) e = none_from m (truth_at at) (ap (λ y. is_so (model_of (λ p. y) u) (truth_at at)) e)
-    truth_so true (an_integer_by z) e = refl
-    truth_so true (a_word_by w t) e = refl
-    truth_so true (variant_by ty i fs) e = refl
-    truth_so true (struct_by ty fs) e = refl
-    truth_so true (some_at at) e = refl
-    truth_so false (an_integer_by z) e = refl
-    truth_so false (a_word_by w t) e = refl
-    truth_so false (variant_by ty i fs) e = refl
-    truth_so false (struct_by ty fs) e = refl
-    truth_so false (some_at at) e = refl
+    truth_so b f e = grind (arith, common_steps, none_from, model_of)
 
     told_so : (k : Known) (f : Form) (c : Constraint) → AreKnown m k → IsToldAs f c → is_so m (told_fact types specs k f c) ≡ true
-    told_so k f (is_variant ty variant fields) told h = kind_so ty variant h.0 f h.1
-    told_so k f (is_struct ty fields) told h = refl
-    told_so k f (is_bool b ty) told h = truth_so b f h
-    told_so k f (is_int z ty) told h = same_if_so k f (literal_of specs z ty) told h
-    told_so k f (is_prim name) told h = same_if_so k f (constant_of specs name) told h
-    told_so k f is_present told h = refl
+    told_so k f c told h = grind (arith, common_steps, kind_so, truth_so, same_if_so)
 
     -- 5. one step after another
     abbrev AreRefuted : List (List Fact) → Type 0

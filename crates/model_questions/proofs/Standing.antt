@@ -1,5 +1,6 @@
 -- What forms stand for where each place has a value, the model that such values give, and what is told of them.
-use Rattle.std.proofs.Common.{◌≡◌, ◌<◌, ◌^◌, ℕ, ℤ, zero, suc, Bool, true, false, if◌then◌else◌, List, [], ◌∷◌, ◌++◌, Some, cond, slice_get, refl, ap, ◌∙◌, subst, arith, ltb-true}
+use Rattle.std.proofs.Common.{◌≡◌, ◌<◌, ◌^◌, ℕ, ℤ, zero, suc, true, if◌then◌else◌, List, [], ◌∷◌, ◌++◌, Some, slice_get, refl, ap, ◌∙◌, arith, ltb-true}
+use Rattle.std.proofs.lemmas.Grind.{common_steps}
 use Rattle.std.specs.Bool.{◌==◌}
 use Rattle.std.proofs.lemmas.Bool.{eqb-true}
 use Rattle.model.specs.lists.Tables.{TypeEntry}
@@ -60,11 +61,9 @@ module _ (vs : Place → Denoted) (g : Unknowns) where
 
   mutual
     pub written_stands : (x : Denoted) → stands (form_of x) ≡ x
-    written_stands (a_truth b) = refl
-    written_stands (an_integer z) = refl
-    written_stands (a_word w n) = refl
     written_stands (variant_of ty i xs) = ap (variant_of ty i) (written_stand xs)
     written_stands (struct_of ty xs) = ap (struct_of ty) (written_stand xs)
+    written_stands x = refl
 
     pub written_stand : (xs : DenotedList) → stand_each (forms_of xs) ≡ xs
     written_stand no_denoted = refl
@@ -85,11 +84,9 @@ module _ (types : List TypeEntry) (specs : Specs) (vs : Place → Denoted) where
 
   mutual
     pub written_fits : (x : Denoted) → Fits (form_of x)
-    written_fits (a_truth b) = tt
-    written_fits (an_integer z) = tt
-    written_fits (a_word w n) = tt
     written_fits (variant_of ty i xs) = written_fit xs
     written_fits (struct_of ty xs) = written_fit xs
+    written_fits x = tt
 
     pub written_fit : (xs : DenotedList) → AllFit (forms_of xs)
     written_fit no_denoted = tt
@@ -107,10 +104,8 @@ module _ (types : List TypeEntry) (specs : Specs) (vs : Place → Denoted) (g : 
   forms_described (form_and f rest) a = (refl, a.0, forms_described rest a.1)
 
   pub more_described : (fs hs : List Form) (xs ys : List Denoted) → AreDescribed fs xs → AreDescribed hs ys → AreDescribed (fs ++ hs) (xs ++ ys)
-  more_described [] hs [] ys a b = b
   more_described (f ∷ fs) hs (x ∷ xs) ys a b = (a.0, a.1, more_described fs hs xs ys a.2 b)
-  more_described [] hs (x ∷ xs) ys a b = absurd a
-  more_described (f ∷ fs) hs [] ys a b = absurd a
+  more_described fs hs xs ys a b = grind (arith, common_steps)
 
 -- values are formed, so words of the model lie below two to their widths
 pub power_positive : (n : ℕ) → 0 < 2 ^ n
@@ -118,12 +113,4 @@ power_positive zero = omega arith
 power_positive (suc n) = let h : 0 < 2 ^ n = power_positive n in omega arith
 
 pub number_formed : (x : Denoted) (width : ℕ) → is_formed x ≡ true → number_if x width < 2 ^ width
-number_formed (a_word w n) width h = by (w == width) refl
-  where
-    by : (b : Bool) → (w == width) ≡ b → cond b n 0 < 2 ^ width
-    by true e = subst (λ v. n < 2 ^ v) (eqb-true w width e) (ltb-true n (2 ^ w) h)
-    by false e = power_positive width
-number_formed (a_truth b) width h = power_positive width
-number_formed (an_integer z) width h = power_positive width
-number_formed (variant_of s i xs) width h = power_positive width
-number_formed (struct_of s xs) width h = power_positive width
+number_formed x width h = grind (arith, common_steps, eqb-true, ltb-true, power_positive)
