@@ -1,16 +1,16 @@
 -- The search for the best open test: one test more, those of one more thing, and when all that may cover a rule are tried.
-use Rattle.std.proofs.Common.{◌≡◌, ℕ, ◌+◌, ◌<◌, Bool, true, false, not, ◌&&◌, ◌==◌, nat_lt, List, [], ◌∷◌, ◌++◌, map, option_map, take, drop, get_or, length, is_some, Option, Some, None, Contains, slice_get, refl, sym, ap, ◌∙◌, subst, inl, inr, ◌⊎◌, eqb-true, eq-eqb, arith, zero, suc, ◌≤◌}
+use Rattle.std.proofs.Common.{◌≡◌, ℕ, ◌+◌, ◌<◌, Bool, true, false, not, ◌&&◌, ◌==◌, nat_lt, List, [], ◌∷◌, ◌++◌, option_map, take, drop, get_or, length, is_some, Some, None, Contains, slice_get, refl, sym, ap, ◌∙◌, subst, inl, inr, ◌⊎◌, eqb-true, eq-eqb, ltb-true, arith, cond, zero, suc, ◌≤◌}
 use Rattle.std.specs.Global.{Vec}
-use Rattle.std.specs.List.{filter, find, flat_map, list_all, list_any}
+use Rattle.std.specs.List.{filter, find, flat_map, list_all, list_any, prefix_len}
 use Rattle.std.proofs.lemmas.Bool.{cases_Bool, cond-true, cond-false, and_from, and_parts, not-false, or_cases, false≢true}
 use Rattle.std.proofs.lemmas.List.{take_more, take-append-drop}
-use Rattle.std.proofs.lemmas.Option.{none-some}
-use Rattle.std.proofs.lemmas.List.Elements.{Contains-append_left, Contains-append_cases}
-use Rattle.model.specs.sites.Sites.{iterator_site, SetRule, Site, SiteSet}
+use Rattle.std.proofs.lemmas.Option.{none-some, same_Some}
+use Rattle.std.proofs.lemmas.List.Elements.{Contains-append_left, Contains-append_right, Contains-append_cases}
+use Rattle.model.specs.sites.Sites.{SetRule, SiteSet}
 use Rattle.model.specs.trees.Places.{Around, is_in, class, joins, joins_in, constraint_at}
 use Rattle.model.specs.trees.Tests as Tests
 use Rattle.model.specs.trees.Tests.{match_test, equal_test, loop_test, needs, is_needed, needs_at, cover, IsOpen, is_at_hand}
-use Rattle.model.proofs.Members.{nothing_in, each_passes, in_cases, in_head, in_map, in_tail, in_alone, from_map, one_passes, member_found, member_from_get, passes_any}
+use Rattle.model.proofs.Members.{nothing_in, each_passes, in_cases, in_head, in_map, in_tail, in_alone, one_passes, member_found, passes_any}
 use Rattle.core_rule_sets.specs.Listings.{are_listed, ascends, class_lists, is_listed_class, sites_of}
 use Rattle.core_rule_sets.specs.SiteViews.{constraint_views}
 use Rattle.core_rule_sets.specs.declared.trie_again.Constraint.{Constraint as WrittenConstraint}
@@ -30,6 +30,48 @@ use Rattle.core_serialize.proofs.TestSteps.{cover_needed, greater_open, no_bette
 -- one of the first of a list is one of it
 pub in_first : {X : Type 0} (i : ℕ) (xs : List X) (x : X) → Contains (take i xs) x → Contains xs x
 in_first i xs x c = subst (λ l. Contains l x) (take-append-drop i xs) (Contains-append_left (take i xs) (drop i xs) x c)
+
+-- one of the first of a list, by its place
+in_take : (xs : List ℕ) (i n x : ℕ) → i < n → i < length xs → x ≡ get_or xs i x → Contains (take n xs) x
+in_take [] i n x l m e = absurd (omega (arith, m))
+in_take (y ∷ xs) i zero x l m e = absurd (omega (arith, l))
+in_take (y ∷ xs) zero (suc n) x l m e = subst (Contains (y ∷ take n xs)) (sym e) (in_head y (take n xs))
+in_take (y ∷ xs) (suc i) (suc n) x l m e = in_tail y x (take n xs) (in_take xs i n x (omega (arith, l)) (omega (arith, m)) e)
+
+-- the sites of a class that may not be joined with the one at a place, where so many at its head are joined
+abbrev others_at : List ℕ → ℕ → ℕ → List ℕ
+others_at sites at n = cond (nat_lt at n) (drop n sites) sites
+
+in_others : (sites : List ℕ) (at n s : ℕ) → Contains (others_at sites at n) s → Contains sites s
+in_others sites at n s c =
+    elim (cases_Bool (nat_lt at n)) [
+      | inl t ↦
+          subst (λ l. Contains l s) (take-append-drop n sites) (Contains-append_right (take n sites) (drop n sites) s (subst (λ l. Contains l s) (cond-true (nat_lt at n) (drop n sites) sites t) c))
+      | inr f ↦ subst (λ l. Contains l s) (cond-false (nat_lt at n) (drop n sites) sites f) c
+    ]
+
+drop_ascends : (n : ℕ) (sites : List ℕ) → ascends sites ≡ true → ascends (drop n sites) ≡ true
+drop_ascends zero sites h = h
+drop_ascends (suc n) [] h = h
+drop_ascends (suc n) (x ∷ sites) h = drop_ascends n sites (ascends_tail x sites h)
+
+pub others_ascend : (sites : List ℕ) (at n : ℕ) → ascends sites ≡ true → ascends (others_at sites at n) ≡ true
+others_ascend sites at n h =
+    elim (cases_Bool (nat_lt at n)) [
+      | inl t ↦ ap ascends (cond-true (nat_lt at n) (drop n sites) sites t) ∙ drop_ascends n sites h
+      | inr f ↦ ap ascends (cond-false (nat_lt at n) (drop n sites) sites f) ∙ h
+    ]
+
+-- what holds of the sites of a class holds of one of them and such others
+pub others_joined : (ar : Around) (sites : List ℕ) (at n a : ℕ) → at < length sites → a ≡ get_or sites at a → EmittedAreJoined ar sites → EmittedAreJoined ar (a ∷ others_at sites at n)
+others_joined ar sites at n a l e h x y c d = h x y (there x c) (there y d)
+  where
+    there : (s : ℕ) → Contains (a ∷ others_at sites at n) s → Contains sites s
+    there s c =
+        elim (in_cases a s (others_at sites at n) c) [
+          | inl f ↦ subst (Contains sites) f (at, l, sym e)
+          | inr i ↦ in_others sites at n s i
+        ]
 
 module _ (set : SiteSet) (ar : Around) (here : List ℕ) where
   -- 1. searches
@@ -141,10 +183,10 @@ module _ (set : SiteSet) (ar : Around) (here : List ℕ) where
   }
 
   -- where no equality of a site and another one, or one behind that, is better, those with the sites before it are all
-  pub pairs_below : (sites : List ℕ) (a k x : ℕ) (are_joined : Bool) (old new : BestSearch) → ascends sites ≡ true → (are_joined ≡ true → EmittedAreJoined ar sites) → Contains sites a → k < length sites → x ≡ get_or sites k x
+  pub pairs_below : (sites : List ℕ) (a k x : ℕ) (are_joined : Bool) (old new : BestSearch) → ascends sites ≡ true → (are_joined ≡ true → EmittedAreJoined ar (a ∷ sites)) → k < length sites → x ≡ get_or sites k x
       → SearchesMore set ar here (OfSome (IsPair a) (take k sites)) old new
       → ((b : ℕ) → x ≤ b → (are_joined ≡ true → (is_in a ar.emitted && is_in b ar.emitted) ≡ false) → IsNoBetter set ar here new.best (equal_test a b)) → SearchesMore set ar here (IsPairWith sites a) old new
-  pairs_below sites a k x are_joined old new s j c l i h n = record {
+  pairs_below sites a k x are_joined old new s j l i h n = record {
     now = h.now;
     kept = h.kept;
     tried = λ u o w.
@@ -152,9 +194,29 @@ module _ (set : SiteSet) (ar : Around) (here : List ℕ) where
           | inl b ↦ h.tried u o (w.0, b, w.2)
           | inr b ↦
               subst (IsNoBetter set ar here new.best) w.2
-              (n w.0 (ascends_behind sites k x w.0 s l i b) (λ t. none_both sites a w.0 (j t) c w.1 (subst (IsOpen set ar) (sym w.2) o)))
+              (n w.0 (ascends_behind sites k x w.0 s l i b) (λ t. none_both (a ∷ sites) a w.0 (j t) (in_head a sites) (in_tail a w.0 sites w.1) (subst (IsOpen set ar) (sym w.2) o)))
         ];
   }
+
+  -- the equalities of a site of a class, where it is at the head, whose sites are joined, are those with the sites behind that
+  pub pairs_at : (sites : List ℕ) (at n a : ℕ) (old new : BestSearch) → at < length sites → a ≡ get_or sites at a → AllJoined ar (take n sites) → SearchesMore set ar here (IsPairWith (others_at sites at n) a) old new
+      → SearchesMore set ar here (IsPairWith sites a) old new
+  pairs_at sites at n a old new m e j h =
+      elim (cases_Bool (nat_lt at n)) [
+        | inr f ↦ subst (λ l. SearchesMore set ar here (IsPairWith l a) old new) (cond-false (nat_lt at n) (drop n sites) sites f) h
+        | inl t ↦
+            let g = subst (λ l. SearchesMore set ar here (IsPairWith l a) old new) (cond-true (nat_lt at n) (drop n sites) sites t) h in
+            record {
+              now = g.now;
+              kept = g.kept;
+              tried = λ u o w.
+                  elim (Contains-append_cases (take n sites) (drop n sites) w.0 (subst (λ y. Contains y w.0) (sym (take-append-drop n sites)) w.1)) [
+                    | inl b ↦
+                        absurd (false≢true (ap not (sym (j a w.0 (in_take sites at n a (ltb-true at n t) m e) b)) ∙ (and_parts (nat_lt a w.0 && is_at_hand set ar a && is_at_hand set ar w.0) (not (joins ar.joined a w.0)) (subst (IsOpen set ar) (sym w.2) o)).1))
+                    | inr b ↦ g.tried u o (w.0, b, w.2)
+                  ];
+            }
+      ]
 
   -- where no equality of a site or a later one is better, those of the sites before it are all
   pub pairs_behind : (sites : List ℕ) (k x : ℕ) (old new : BestSearch) → ascends sites ≡ true → k < length sites → x ≡ get_or sites k x → SearchesMore set ar here (OfSome (IsPairWith sites) (take k sites)) old new
@@ -184,17 +246,17 @@ class_ascends cs k x h l e =
     (and_parts (ascends x.items) (nat_lt 1 (length x.items)) one).0
 
 -- sites of which all that are emitted are joined with one of them
+joined_to : (ar : Around) (sites : List ℕ) (one s : ℕ) → list_any (λ s. is_in s ar.emitted && not (joins ar.joined one s)) sites ≡ false → Contains sites s → is_in s ar.emitted ≡ true → class ar.joined one ≡ class ar.joined s
+joined_to ar sites one s h k g =
+    eqb-true (class ar.joined one) (class ar.joined s)
+    (not-false (joins ar.joined one s)
+    (elim (cases_Bool (not (joins ar.joined one s))) [
+      | inl t ↦ absurd (false≢true (sym h ∙ passes_any (λ x. is_in x ar.emitted && not (joins ar.joined one x)) sites s k (and_from (is_in s ar.emitted) (not (joins ar.joined one s)) g t)))
+      | inr n ↦ n
+    ]))
+
 pub all_joined : (ar : Around) (sites : List ℕ) (one : ℕ) → list_any (λ s. is_in s ar.emitted && not (joins ar.joined one s)) sites ≡ false → EmittedAreJoined ar sites
-all_joined ar sites one h a b c d e f = eq-eqb (class ar.joined a) (class ar.joined b) (sym (alike a c e) ∙ alike b d f)
-  where
-    alike : (s : ℕ) → Contains sites s → is_in s ar.emitted ≡ true → class ar.joined one ≡ class ar.joined s
-    alike s k g =
-        eqb-true (class ar.joined one) (class ar.joined s)
-        (not-false (joins ar.joined one s)
-        (elim (cases_Bool (not (joins ar.joined one s))) [
-          | inl t ↦ absurd (false≢true (sym h ∙ passes_any (λ x. is_in x ar.emitted && not (joins ar.joined one x)) sites s k (and_from (is_in s ar.emitted) (not (joins ar.joined one s)) g t)))
-          | inr n ↦ n
-        ]))
+all_joined ar sites one h a b c d e f = eq-eqb (class ar.joined a) (class ar.joined b) (sym (joined_to ar sites one a h c e) ∙ joined_to ar sites one b h d f)
 
 not_found : (p : ℕ → Bool) (xs : List ℕ) → find p xs ≡ None → (x : ℕ) → Contains xs x → p x ≡ false
 not_found p [] h x c = absurd (nothing_in x c)
@@ -209,6 +271,55 @@ not_found p (y ∷ xs) h x c =
 
 pub none_emitted : (ar : Around) (sites : List ℕ) → find (λ s. is_in s ar.emitted) sites ≡ None → EmittedAreJoined ar sites
 none_emitted ar sites h a b c d e f = absurd (false≢true (sym (not_found (λ s. is_in s ar.emitted) sites h a c) ∙ e))
+
+-- sites at the head of others that are joined with one of them
+pub head_joined : (ar : Around) (sites : List ℕ) (one : ℕ) → AllJoined ar (take (prefix_len (joins ar.joined one) sites) sites)
+head_joined ar sites one = joined_with ar (take (prefix_len (joins ar.joined one) sites) sites) one (all_pass (joins ar.joined one) sites)
+  where
+    one_more : (n : ℕ) → 1 + n ≡ suc n
+    one_more n = omega arith
+
+    all_pass : (p : ℕ → Bool) (xs : List ℕ) → list_all p (take (prefix_len p xs) xs) ≡ true
+    all_pass p [] = refl
+    all_pass p (x ∷ xs) =
+        elim (cases_Bool (p x)) [
+          | inl t ↦ ap (λ n. list_all p (take n (x ∷ xs))) (cond-true (p x) (1 + prefix_len p xs) 0 t ∙ one_more (prefix_len p xs)) ∙ and_from (p x) (list_all p (take (prefix_len p xs) xs)) t (all_pass p xs)
+          | inr f ↦ ap (λ n. list_all p (take n (x ∷ xs))) (cond-false (p x) (1 + prefix_len p xs) 0 f)
+        ]
+
+found_in : (p : ℕ → Bool) (xs : List ℕ) (x : ℕ) → find p xs ≡ Some x → Contains xs x
+found_in p [] x h = absurd (none-some x h)
+found_in p (y ∷ xs) x h =
+    elim (cases_Bool (p y)) [
+      | inl t ↦ subst (Contains (y ∷ xs)) (same_Some y x (sym (cond-true (p y) (Some y) (find p xs) t) ∙ h)) (in_head y xs)
+      | inr f ↦ in_tail y x xs (found_in p xs x (sym (cond-false (p y) (Some y) (find p xs) f) ∙ h))
+    ]
+
+module _ (ar : Around) (sites : List ℕ) (n : ℕ) (head : AllJoined ar (take n sites)) where
+  part : (s : ℕ) → Contains sites s → Contains (take n sites) s ⊎ Contains (drop n sites) s
+  part s c = Contains-append_cases (take n sites) (drop n sites) s (subst (λ y. Contains y s) (sym (take-append-drop n sites)) c)
+
+  -- where one at the head is emitted, and of those behind the head each emitted one is joined with it
+  pub joined_behind : (one : ℕ) → find (λ s. is_in s ar.emitted) (take n sites) ≡ Some one → list_any (λ s. is_in s ar.emitted && not (joins ar.joined one s)) (drop n sites) ≡ false → EmittedAreJoined ar sites
+  joined_behind one e h a b c d x y = eq-eqb (class ar.joined a) (class ar.joined b) (sym (alike a c x) ∙ alike b d y)
+    where
+      alike : (s : ℕ) → Contains sites s → is_in s ar.emitted ≡ true → class ar.joined one ≡ class ar.joined s
+      alike s k g =
+          elim (part s k) [
+            | inl i ↦ eqb-true (class ar.joined one) (class ar.joined s) (head one s (found_in (λ s. is_in s ar.emitted) (take n sites) one e) i)
+            | inr i ↦ joined_to ar (drop n sites) one s h i g
+          ]
+
+  -- where none at the head is, and those behind it are joined
+  pub joined_rest : find (λ s. is_in s ar.emitted) (take n sites) ≡ None → EmittedAreJoined ar (drop n sites) → EmittedAreJoined ar sites
+  joined_rest e h a b c d x y = h a b (behind a c x) (behind b d y) x y
+    where
+      behind : (s : ℕ) → Contains sites s → is_in s ar.emitted ≡ true → Contains (drop n sites) s
+      behind s k g =
+          elim (part s k) [
+            | inl i ↦ absurd (false≢true (sym (not_found (λ s. is_in s ar.emitted) (take n sites) e s i) ∙ g))
+            | inr i ↦ i
+          ]
 
 -- 2. what a rule needs
 asked_one : (cs : List (ℕ × WrittenConstraint)) (s : ℕ) → is_some (constraint_at (constraint_views cs) s) ≡ true → (c : ℕ × WrittenConstraint) × Contains cs c × (c.0 ≡ s)

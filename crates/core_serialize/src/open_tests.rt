@@ -1,7 +1,7 @@
 //! The open tests of a place that its highest rules need: all other open tests cover no rule.
 
-ghost use Rattle.std.specs.Prelude.{◌≡◌, ◌<◌, ◌&&◌, ◌||◌, [], false, true, not, nat_lt, None, Some, ℕ, Contains, IfOk, IsTrue, OnOk, slice_get};
-ghost use Rattle.std.specs.List.{find, list_all, list_any};
+ghost use Rattle.std.specs.Prelude.{◌≡◌, ◌<◌, ◌≤◌, ◌&&◌, ◌||◌, [], ◌∷◌, false, true, not, nat_lt, None, Some, ℕ, Contains, IfOk, IsTrue, OnOk, drop, get_or, if◌then◌else◌, length, slice_get, take};
+ghost use Rattle.std.specs.List.{find, list_any, prefix_len};
 ghost use Rattle.model.specs.trees.Places.{available, is_in, joins, waits};
 ghost use Rattle.model.specs.trees.Tests as Tests;
 ghost use Rattle.core_rule_sets.specs.Listings.{ascends, sites_of};
@@ -284,23 +284,22 @@ fn try_pair(
     try_test(place, search, earlier, Test::Equal { a, b })
 }
 
-// Tries the equalities of a site and those of its class, by ascending sites: those with a site or a later one are left out where
+// Tries the equalities of a site and others of its class, by ascending sites: those with a site or a later one are left out where
 // the best test so far is better than any of them.
 fn try_pairs_of(
     place: &Place<'_>,
     search: &mut BestSearch,
     a: BindingId,
-    class: &[BindingId],
+    others: &[BindingId],
     are_joined: bool,
     earlier: usize,
 ) -> Result<(), AllocError>
     requires search { IsSearchAt place.now search.old }
-    requires ascending { IsTrue (ascends class.now) }
-    requires member { Contains class.now a }
-    requires joined { are_joined ≡ true → EmittedAreJoined (around_at place.now) class.now }
-    ensures { OnOk result (SearchesAt place.now (IsPairWith class.now a) search.old search.new) }
+    requires ascending { IsTrue (ascends others.now) }
+    requires joined { are_joined ≡ true → EmittedAreJoined (around_at place.now) (a ∷ others.now) }
+    ensures { OnOk result (SearchesAt place.now (IsPairWith others.now a) search.old search.new) }
 {
-    for b in class {
+    for b in others {
         if pairs_stay_below(place, search.best, a, *b, are_joined) {
             return Ok(());
         }
@@ -340,20 +339,73 @@ fn emitted_are_joined(place: &Place<'_>, sites: &[BindingId]) -> bool
     }
 }
 
-fn joins_all(place: &Place<'_>, one: BindingId, sites: &[BindingId]) -> bool
-    ensures { result ≡ list_all (joins (around_at place.now).joined one) sites.now }
+// Whether all sites of a class that are emitted are joined, where so many at its head are.
+fn class_is_joined(place: &Place<'_>, class: &[BindingId], joined: usize) -> bool
+    requires within { joined ≤ length class.now }
+    requires head { AllJoined (around_at place.now) (take joined class.now) }
+    ensures { result ≡ true → EmittedAreJoined (around_at place.now) class.now }
 {
-    sites.iter().all(|site| are_joined(place, one, *site))
+    let rest = behind(class, joined);
+    match first_emitted(place, &class[..joined]) {
+        Some(first) => !some_apart(place, first, rest),
+        None => emitted_are_joined(place, rest),
+    }
 }
 
-// Whether all of these sites are joined: no equality of two of them is open then.
-fn are_all_joined(place: &Place<'_>, sites: &[BindingId]) -> bool
-    ensures { result ≡ true → AllJoined (around_at place.now) sites.now }
+// How many of these sites at their head are joined with one site.
+fn joined_from(place: &Place<'_>, one: BindingId, sites: &[BindingId]) -> usize
+    ensures value { result ≡ prefix_len (joins (around_at place.now).joined one) sites.now }
+    ensures within { result ≤ length sites.now }
 {
-    match sites.first() {
-        Some(first) => joins_all(place, *first, sites),
-        None => true,
+    sites
+        .iter()
+        .take_while(|site| are_joined(place, one, **site))
+        .count()
+}
+
+// How many sites at the head of a class are joined with its first one.
+fn joined_count(place: &Place<'_>, class: &[BindingId]) -> usize
+    ensures joined { AllJoined (around_at place.now) (take result class.now) }
+    ensures within { result ≤ length class.now }
+{
+    match class.first() {
+        Some(first) => joined_from(place, *first, class),
+        None => 0,
     }
+}
+
+// The sites of a class that may not be joined with the one at a place of it, where so many at its head are joined.
+fn others_at(class: &[BindingId], at: usize, joined: usize) -> &[BindingId]
+    ensures { result.now ≡ (if nat_lt at joined then drop joined class.now else class.now) }
+{
+    if at < joined {
+        behind(class, joined)
+    } else {
+        class
+    }
+}
+
+// Tries the equalities of the site at a place of a class with the others: of sites that are joined with it none is open.
+fn try_pairs_at(
+    place: &Place<'_>,
+    search: &mut BestSearch,
+    class: &[BindingId],
+    at: usize,
+    a: BindingId,
+    joined: usize,
+    are_joined: bool,
+    earlier: usize,
+) -> Result<(), AllocError>
+    requires search { IsSearchAt place.now search.old }
+    requires within { at < length class.now }
+    requires site { a ≡ get_or class.now at a }
+    requires ascending { IsTrue (ascends class.now) }
+    requires head { AllJoined (around_at place.now) (take joined class.now) }
+    requires joined { are_joined ≡ true → EmittedAreJoined (around_at place.now) class.now }
+    ensures { OnOk result (SearchesAt place.now (IsPairWith class.now a) search.old search.new) }
+{
+    let others = others_at(class, at, joined);
+    try_pairs_of(place, search, a, others, are_joined, earlier)
 }
 
 // Tries the equalities of two sites of a class, by ascending sites: those behind a site are left out where the best test so far is
@@ -362,24 +414,28 @@ fn try_pairs_from(
     place: &Place<'_>,
     search: &mut BestSearch,
     class: &[BindingId],
+    joined: usize,
     are_joined: bool,
     earlier: usize,
 ) -> Result<(), AllocError>
     requires search { IsSearchAt place.now search.old }
     requires ascending { IsTrue (ascends class.now) }
+    requires head { AllJoined (around_at place.now) (take joined class.now) }
     requires joined { are_joined ≡ true → EmittedAreJoined (around_at place.now) class.now }
     ensures { OnOk result (SearchesAt place.now (IsPairOf class.now) search.old search.new) }
 {
-    for a in class {
-        if all_stay_below(place, search.best, 1, *a) {
+    for at in 0..class.len() {
+        let a = class[at];
+        if all_stay_below(place, search.best, 1, a) {
             return Ok(());
         }
-        try_pairs_of(place, search, *a, class, are_joined, earlier)?;
+        try_pairs_at(place, search, class, at, a, joined, are_joined, earlier)?;
     }
     Ok(())
 }
 
-// Tries the equalities of two sites of a class, where not all of its sites are joined.
+// Tries the equalities of two sites of a class, where not all of its sites are joined. Joined sites stand at its head, since the
+// lesser sites of a class are joined first.
 fn try_pairs(
     place: &Place<'_>,
     search: &mut BestSearch,
@@ -390,11 +446,12 @@ fn try_pairs(
     requires ascending { IsTrue (ascends class.now) }
     ensures { OnOk result (SearchesAt place.now (IsPairOf class.now) search.old search.new) }
 {
-    if are_all_joined(place, class) {
+    let joined = joined_count(place, class);
+    if joined == class.len() {
         return Ok(());
     }
-    let are_joined = emitted_are_joined(place, class);
-    try_pairs_from(place, search, class, are_joined, earlier)
+    let are_joined = class_is_joined(place, class, joined);
+    try_pairs_from(place, search, class, joined, are_joined, earlier)
 }
 
 fn try_equalities(

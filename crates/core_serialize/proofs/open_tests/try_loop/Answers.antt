@@ -1,4 +1,3 @@
-use Rattle.core_rule_sets.specs.SiteViews.{set_view}
 use Rattle.core_serialize.specs.PlaceViews.{around_at, here_at, set_at}
 use Rattle.core_serialize.proofs.BestSearches.{loop_below}
 use Rattle.core_serialize.proofs.open_tests.try_loop.Goals as goal

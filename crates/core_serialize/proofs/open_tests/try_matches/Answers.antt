@@ -1,4 +1,4 @@
-use Rattle.std.proofs.Common.{◌≡◌, ◌∙◌, true, ap, drop, subst, sym}
+use Rattle.std.proofs.Common.{◌≡◌, true, ap, subst, sym}
 use Rattle.core_rule_sets.specs.Listings.{ascends, sites_of}
 use Rattle.core_rule_sets.specs.SiteViews.{constraint_views, set_rule_view}
 use Rattle.core_serialize.specs.NeededTests.{SearchesMore, IsMatchAsked, OfSome}

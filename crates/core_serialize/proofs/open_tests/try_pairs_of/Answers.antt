@@ -14,17 +14,17 @@ loop-b-preserved c =
     let ar = around_at c.args.place.now in
     let here = here_at c.args.place.now in
     let x = c.b-item.result in
-    searches_more set ar here (IsPair c.args.a) c.args.class.now c.loop-b.b-index x x c.args.search.now c.loop-b.search c.try_pair.new.search
+    searches_more set ar here (IsPair c.args.a) c.args.others.now c.loop-b.b-index x x c.args.search.now c.loop-b.search c.try_pair.new.search
     c.loop-b-test.true c.b-item.is c.loop-b.invariant c.in_ok-try_pair.ensures
 
 pub returns-then-pairs_stay_below : goal.returns-then-pairs_stay_below
 returns-then-pairs_stay_below c =
-    pairs_below (set_at c.args.place.now) (around_at c.args.place.now) (here_at c.args.place.now) c.args.class.now c.args.a c.loop-b.b-index c.b-item.result c.args.are_joined c.args.search.now c.loop-b.search
-    c.requires.ascending c.requires.joined c.requires.member c.loop-b-test.true c.b-item.is c.loop-b.invariant (c.pairs_stay_below.ensures c.if-pairs_stay_below.true)
+    pairs_below (set_at c.args.place.now) (around_at c.args.place.now) (here_at c.args.place.now) c.args.others.now c.args.a c.loop-b.b-index c.b-item.result c.args.are_joined c.args.search.now c.loop-b.search
+    c.requires.ascending c.requires.joined c.loop-b-test.true c.b-item.is c.loop-b.invariant (c.pairs_stay_below.ensures c.if-pairs_stay_below.true)
 
 pub returns : goal.returns
 returns c =
     let set = set_at c.args.place.now in
     let ar = around_at c.args.place.now in
     let here = here_at c.args.place.now in
-    subst (λ l. SearchesMore set ar here (OfSome (IsPair c.args.a) l) c.args.search.now c.loop-b.search) (take_all c.loop-b.b-index c.args.class.now c.loop-b-test.false) c.loop-b.invariant
+    subst (λ l. SearchesMore set ar here (OfSome (IsPair c.args.a) l) c.args.search.now c.loop-b.search) (take_all c.loop-b.b-index c.args.others.now c.loop-b-test.false) c.loop-b.invariant

@@ -3,4 +3,4 @@ use Rattle.core_serialize.specs.NeededTests.{SearchesAt, IsPair, OfSome}
 use Rattle.core_serialize.proofs.open_tests.try_pairs_of.Given as goal
 
 abbrev pub invariant-loop-b : goal.invariant-loop-b
-invariant-loop-b l = SearchesAt l.place (OfSome (IsPair l.a) (take l.b-index l.class)) l.fn.search l.search
+invariant-loop-b l = SearchesAt l.place (OfSome (IsPair l.a) (take l.b-index l.others)) l.fn.search l.search
