@@ -48,10 +48,11 @@ const CODES: [(&str, &str); 44] = [
     ("Duplicate rule name", "rule-twice"),
 ];
 
-// What stands in type errors that don't begin with words of their own, and what they are about.
+// What stands in type errors that don't begin with words of their own, and what they are about. The path of a cycle may be long, so
+// what stands before it is looked for first.
 const INNER: [(&str, &str); 12] = [
-    ("can't be both multi and partial", "multi-partial"),
     ("extractor definition is recursive", "recursive-template"),
+    ("can't be both multi and partial", "multi-partial"),
     ("references unknown term", "unknown-term"),
     ("does not have a constructor", "no-constructor"),
     (

@@ -65,7 +65,7 @@ impl Order {
                 None => number,
             };
             if leader == number {
-                leader = match causes.of(error, number) {
+                leader = match causes.of(error) {
                     Some(leader) => leader,
                     None => leader_beside(alloc, defs, errors, &causes, &leaders)?,
                 };
@@ -126,8 +126,9 @@ struct Causes<'a> {
     terms: BTreeMap<&'a str, usize>,
     // The places of terms without a constructor, each with the last error that says so.
     unmade: BTreeMap<Pos, usize>,
-    // The cycles of internal extractors that errors tell: of each error the number of its cycle.
-    cycles: Vec<Option<usize>>,
+    // The internal extractors of cycles that errors tell, each with the number of its cycle. A search goes on from an extractor in
+    // one way, so cycles have none in common.
+    cycles: BTreeMap<&'a str, usize>,
     // The errors that tell the cycles.
     leaders: Vec<Leader>,
 }
@@ -150,96 +151,79 @@ struct Leader {
     closed: bool,
 }
 
-// A cycle that an error tells.
-#[derive(Drop)]
-struct Cycle<'a> {
-    // Whether the error begins with one of the cycle's extractors.
-    closed: bool,
-    // The extractors, sorted.
-    members: Vec<&'a str>,
-}
-
 impl<'a> Causes<'a> {
     fn new(alloc: Global, errors: &'a [Error]) -> Result<Causes<'a>, AllocError> {
         let mut causes = Causes {
             terms: BTreeMap::new(alloc),
             unmade: BTreeMap::new(alloc),
-            cycles: Vec::new(alloc),
+            cycles: BTreeMap::new(alloc),
             leaders: Vec::new(alloc),
         };
-        // the numbers of cycles, by their extractors
-        let mut numbers = BTreeMap::new(alloc);
         for (number, error) in errors.iter().enumerate() {
-            let words = words_of(error);
-            if let Some(term) = undefined_in(words) {
-                if !causes.terms.contains_key(&term) {
-                    causes.terms.insert(term, number)?;
-                }
+            match path_in(words_of(error)) {
+                Some(path) => causes.add_cycle(path, number)?,
+                None => causes.add_term(error, number)?,
             }
-            if let (Some(pos), "no-constructor") = (place_of(error), code_of(words)) {
-                causes.unmade.insert(pos, number)?;
-            }
-            let cycle = match cycle_in(alloc, words)? {
-                Some(cycle) => Some(causes.number_of(&mut numbers, cycle, number)?),
-                None => None,
-            };
-            causes.cycles.push(cycle)?;
         }
         Ok(causes)
     }
 
-    // The number of a cycle that the error of a number tells.
-    fn number_of(
-        &mut self,
-        numbers: &mut BTreeMap<Vec<&'a str>, usize>,
-        cycle: Cycle<'a>,
-        number: usize,
-    ) -> Result<usize, AllocError> {
-        let Cycle { closed, members } = cycle;
-        let leader = Leader { number, closed };
-        if let Some(known) = numbers.get(&members).copied() {
-            if let Some(first) = self.leaders.get_mut(known) {
-                if closed && !first.closed {
-                    *first = leader;
-                }
+    // Adds what the error of a number says of a term.
+    fn add_term(&mut self, error: &'a Error, number: usize) -> Result<(), AllocError> {
+        let words = words_of(error);
+        if let Some(term) = undefined_in(words) {
+            if !self.terms.contains_key(&term) {
+                self.terms.insert(term, number)?;
             }
-            return Ok(known);
         }
-        let known = self.leaders.len();
-        self.leaders.push(leader)?;
-        numbers.insert(members, known)?;
-        Ok(known)
+        if let (Some(pos), "no-constructor") = (place_of(error), code_of(words)) {
+            self.unmade.insert(pos, number)?;
+        }
+        Ok(())
+    }
+
+    // Adds the cycle that a path ends in, which the error of a number tells.
+    fn add_cycle(&mut self, path: &'a str, number: usize) -> Result<(), AllocError> {
+        let Some((way, last)) = path.rsplit_once(" -> ") else {
+            return Ok(());
+        };
+        let closed = way.split(" -> ").next() == Some(last);
+        let leader = Leader { number, closed };
+        let Some(known) = self.cycles.get(&last).copied() else {
+            self.add_extractors(way, last)?;
+            self.leaders.push(leader)?;
+            return Ok(());
+        };
+        if let Some(first) = self.leaders.get_mut(known) {
+            if closed && !first.closed {
+                *first = leader;
+            }
+        }
+        Ok(())
+    }
+
+    // Adds the extractors of the next cycle: those of a way, from one on.
+    fn add_extractors(&mut self, way: &'a str, first: &str) -> Result<(), AllocError> {
+        let cycle = self.leaders.len();
+        for name in way.rsplit(" -> ") {
+            self.cycles.insert(name, cycle)?;
+            if name == first {
+                break;
+            }
+        }
+        Ok(())
     }
 
     // The error that one is told with, where it is told with a cause.
-    fn of(&self, error: &'a Error, number: usize) -> Option<usize> {
-        if let Some(term) = unusable_in(words_of(error)) {
+    fn of(&self, error: &'a Error) -> Option<usize> {
+        let words = words_of(error);
+        if let Some(term) = unusable_in(words) {
             return self.terms.get(&term).copied();
         }
-        let cycle = (*self.cycles.get(number)?)?;
+        let (_, last) = path_in(words)?.rsplit_once(" -> ")?;
+        let cycle = self.cycles.get(&last).copied()?;
         Some(self.leaders.get(cycle)?.number)
     }
-}
-
-// The cycle that an error tells.
-fn cycle_in<'a>(alloc: Global, words: &'a str) -> Result<Option<Cycle<'a>>, AllocError> {
-    let Some(path) = path_in(words) else {
-        return Ok(None);
-    };
-    let Some((way, last)) = path.rsplit_once(" -> ") else {
-        return Ok(None);
-    };
-    let mut members = Vec::new(alloc);
-    let mut begun = false;
-    for name in way.split(" -> ") {
-        begun = begun || name == last;
-        if begun {
-            members.push(name)?;
-        }
-    }
-    members.sort()?;
-    let closed = way.split(" -> ").next() == Some(last);
-    Ok(Some(Cycle { closed, members }))
 }
 
 // The error that the next one behind those with leaders is told with by what stands in its rule, or beside it. Else itself.
@@ -270,7 +254,7 @@ fn leader_beside<'a>(
     match cause {
         // what comes later leads itself, or is told with a term that isn't defined
         Some(cause) if cause >= number => Ok(match errors.get(cause) {
-            Some(error) => causes.of(error, cause).unwrap_or(cause),
+            Some(error) => causes.of(error).unwrap_or(cause),
             None => cause,
         }),
         Some(cause) => Ok(leaders.get(cause).copied().unwrap_or(cause)),
