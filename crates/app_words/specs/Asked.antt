@@ -157,8 +157,7 @@ IsRefusedBehind None word rest reason = reason ≡ unnamed word
 IsRefusedBehind (Some (J.Task task)) word rest reason = IsRefusedOfTask (has_rule task) task rest reason
 IsRefusedBehind (Some J.Formatting) word rest reason = IsFirstWrong J.Formatting rest reason
 IsRefusedBehind (Some J.Conditions) word rest reason = IsFirstWrong J.Conditions rest reason
-IsRefusedBehind (Some J.Server) word [] reason = ⊥
-IsRefusedBehind (Some J.Server) word (other ∷ rest) reason = reason ≡ unnamed word
+IsRefusedBehind (Some J.Server) word rest reason = IsFirstWrong J.Server rest reason
 
 -- words ask nothing, for this reason
 abbrev pub IsRefusedFirst : List (List ℕ) → Refusal → Type 0

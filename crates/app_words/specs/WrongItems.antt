@@ -85,7 +85,8 @@ abbrev pub wrong_name : Job → List Item → List ℕ → Option Refusal
 wrong_name (J.Task T.Samples) before word = wrong_sample word
 wrong_name (J.Task task) before word = option_or (wrong_line word) (wrong_file_again before word)
 wrong_name J.Formatting before word = wrong_file_again before word
-wrong_name _ before word = None
+wrong_name J.Conditions before word = None
+wrong_name J.Server before word = Some R.takes_no_file
 
 -- what is wrong with a word that is no option
 abbrev pub wrong_word : Job → List Item → List ℕ → Option Refusal
