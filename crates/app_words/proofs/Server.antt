@@ -1,5 +1,5 @@
 -- The server takes no words.
-use Rattle.std.proofs.Common.{◌≡◌, ◌≢◌, ◌∙◌, ◌++◌, ◌&&◌, ◌||◌, ◌==◌, ℕ, List, [], ◌∷◌, Option, Some, None, Bool, true, false, codes, is_some, length, refl, sym, ap}
+use Rattle.std.proofs.Common.{◌≡◌, ◌∙◌, ◌&&◌, ◌||◌, ◌==◌, ℕ, List, [], ◌∷◌, Option, Some, None, Bool, true, false, codes, is_some, length, refl, sym, ap}
 use Rattle.std.specs.Prelude.{if◌then◌else◌}
 use Rattle.std.specs.List.{list_any}
 use Rattle.std.specs.Str.{bytes_eq}
@@ -13,7 +13,7 @@ use Rattle.app_words.specs.Items.{IsItem}
 use Rattle.app_words.specs.Options.{is_of, option_among, option_of, table}
 use Rattle.app_words.specs.Refusals as R
 use Rattle.app_words.specs.Refusals.{Refusal}
-use Rattle.app_words.specs.WrongItems.{foreign, is_dashed, wrong_item, wrong_word}
+use Rattle.app_words.specs.WrongItems.{foreign, is_dashed, wrong_item}
 
 some_is_not_none : {X : Type 0} (o : Option X) (x : X) → o ≡ Some x → o ≡ None → ⊥
 some_is_not_none o x some none = true≢false (ap is_some (sym some ∙ none))

@@ -11,7 +11,6 @@ use Rattle.app_words.specs.declared.request.Request.{Request}
 use Rattle.app_words.specs.declared.tasks.Job.{Job}
 use Rattle.app_words.specs.declared.tasks.Job.TheVariants as J
 use Rattle.app_words.specs.declared.tasks.Task.{Task}
-use Rattle.app_words.specs.declared.tasks.Task.TheVariants as T
 use Rattle.app_words.specs.declared.unasked.Unasked.{Unasked}
 use Rattle.app_words.specs.declared.unasked.Unasked.TheVariants as U
 use Rattle.app_words.specs.declared.words.Command.{Command}
