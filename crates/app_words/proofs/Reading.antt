@@ -13,7 +13,7 @@ use Rattle.app_words.specs.declared.unasked.Unasked.{Unasked}
 use Rattle.app_words.specs.declared.unasked.Unasked.TheVariants as U
 use Rattle.app_words.specs.declared.words.Command.{Command}
 use Rattle.app_words.specs.Asked.{AreGiven, AreRead, IsAskedBehind, IsAskedFirst, IsAskedOfRule, IsFirstWrong, IsRefusedBehind, IsRefusedBy, IsRefusedFirst, IsRefusedOfRule, IsRequestBy, TellsWhy, next_read}
-use Rattle.app_words.specs.Items.{BeginsWith, begins_call, spelled}
+use Rattle.app_words.specs.Items.{BeginsWith, begins_call}
 use Rattle.app_words.specs.Refusals.{Refusal, Tells, TellsOf, no_rule, text_of}
 use Rattle.app_words.specs.Tasks.{has_call, job_named}
 use Rattle.app_words.specs.WrongItems.{missing, wrong_item}

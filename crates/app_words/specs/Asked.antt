@@ -11,7 +11,6 @@ use Rattle.app_words.specs.declared.request.Request.{Request}
 use Rattle.app_words.specs.declared.tasks.Job.{Job}
 use Rattle.app_words.specs.declared.tasks.Job.TheVariants as J
 use Rattle.app_words.specs.declared.tasks.Task.{Task}
-use Rattle.app_words.specs.declared.tasks.Task.TheVariants as T
 use Rattle.app_words.specs.declared.unasked.Unasked.{Unasked}
 use Rattle.app_words.specs.declared.unasked.Unasked.TheVariants as U
 use Rattle.app_words.specs.declared.words.Command.{Command}
@@ -157,8 +156,7 @@ IsRefusedBehind None word rest reason = reason ≡ unnamed word
 IsRefusedBehind (Some (J.Task task)) word rest reason = IsRefusedOfTask (has_rule task) task rest reason
 IsRefusedBehind (Some J.Formatting) word rest reason = IsFirstWrong J.Formatting rest reason
 IsRefusedBehind (Some J.Conditions) word rest reason = IsFirstWrong J.Conditions rest reason
-IsRefusedBehind (Some J.Server) word [] reason = ⊥
-IsRefusedBehind (Some J.Server) word (other ∷ rest) reason = reason ≡ unnamed word
+IsRefusedBehind (Some J.Server) word rest reason = IsFirstWrong J.Server rest reason
 
 -- words ask nothing, for this reason
 abbrev pub IsRefusedFirst : List (List ℕ) → Refusal → Type 0

@@ -42,9 +42,13 @@ abbrev pub is_about_conditions : Job → Bool
 is_about_conditions J.Conditions = true
 is_about_conditions _ = false
 
+abbrev pub is_server : Job → Bool
+is_server J.Server = true
+is_server _ = false
+
 -- whether an option with these owners is one of this task's
 abbrev pub is_of : Job → Owners → Bool
-is_of job O.All = true
+is_of job O.AllButServer = not (is_server job)
 is_of job O.Tasks = is_task job
 is_of job O.Expanding = is_task job && not (is_rust job)
 is_of job O.Trees = is_about_trees job
@@ -97,7 +101,7 @@ table =
     once (codes "--format") K.Format O.Conditions ∷
     once (codes "--open") K.Nothing O.Conditions ∷
     once (codes "--asked") K.Nothing O.Conditions ∷
-    once (codes "-C") K.Text O.All ∷ []
+    once (codes "-C") K.Text O.AllButServer ∷ []
 
 -- the option of a word
 abbrev pub option_among : Job → List ℕ → List (List ℕ × TaskOption) → Option TaskOption

@@ -32,6 +32,7 @@ pub data Refusal : Type 0 where
   no_sample : (word : List ℕ) → Refusal
   line_break : Refusal
   file_twice : (word : List ℕ) → Refusal
+  takes_no_file : Refusal
   -- `--` where it isn't wanted
   no_call_of : (task : Task) → Refusal
   no_old_version : Refusal
@@ -72,6 +73,7 @@ text_of no_name = codes "a file without a name"
 text_of (no_sample word) = quoting (codes "no sample is called '") word (codes "'")
 text_of line_break = codes "the name of a file has a line break"
 text_of (file_twice word) = quoting (codes "the file '") word (codes "' is given twice")
+text_of takes_no_file = codes "lsp takes no file"
 text_of (no_call_of task) = task_word task ++ codes " runs no call"
 text_of no_old_version = codes "no old version before '--'"
 text_of more_versions = codes "more than two versions"

@@ -1,5 +1,5 @@
 -- What is wrong with an item behind others, and with all of them.
-use Rattle.std.specs.Prelude.{ℕ, ◌==◌, ◌-◌, ◌&&◌, ◌||◌, ◌++◌, Bool, true, false, List, [], ◌∷◌, Option, Some, None, codes, length, not, slice_index, if◌then◌else◌}
+use Rattle.std.specs.Prelude.{ℕ, ◌==◌, ◌-◌, ◌&&◌, ◌||◌, ◌++◌, Bool, true, false, List, [], ◌∷◌, Option, Some, None, codes, length, not, if◌then◌else◌}
 use Rattle.std.specs.List.{list_any}
 use Rattle.std.specs.Option.{option_or}
 use Rattle.std.specs.Str.{bytes_eq}
@@ -17,7 +17,6 @@ use Rattle.app_words.specs.Items.{files_of, has_file, is_option, is_separator, n
 use Rattle.app_words.specs.Options.{is_option_of_tasks, takes_next}
 use Rattle.app_words.specs.Refusals as R
 use Rattle.app_words.specs.Refusals.{Refusal}
-use Rattle.app_words.specs.Tasks.{is_task}
 use Rattle.app_words.specs.Values.{wrong_value}
 
 -- there is no such option
@@ -85,7 +84,8 @@ abbrev pub wrong_name : Job → List Item → List ℕ → Option Refusal
 wrong_name (J.Task T.Samples) before word = wrong_sample word
 wrong_name (J.Task task) before word = option_or (wrong_line word) (wrong_file_again before word)
 wrong_name J.Formatting before word = wrong_file_again before word
-wrong_name _ before word = None
+wrong_name J.Conditions before word = None
+wrong_name J.Server before word = Some R.takes_no_file
 
 -- what is wrong with a word that is no option
 abbrev pub wrong_word : Job → List Item → List ℕ → Option Refusal

@@ -187,7 +187,8 @@ fn check_name(alloc: Global, job: Job, before: &[Item<'_>], word: &str) -> Resul
             check_file_again(alloc, before, word)
         }
         Job::Formatting => check_file_again(alloc, before, word),
-        Job::Conditions | Job::Server => Ok(()),
+        Job::Conditions => Ok(()),
+        Job::Server => Err(wrong_as(alloc, "lsp takes no file")),
     }
 }
 

@@ -61,6 +61,7 @@ impl Task {
             }
             Task::Print => {
                 "  print FILE..           prints the definitions of all files as one text, each on a line. They need not be accepted.
+                         Verification forms, such as spec and model, are printed too.
 "
             }
             Task::Rust => {

@@ -38,8 +38,8 @@ impl Takes {
 /// Which tasks have an option.
 #[derive(Clone, Copy)]
 pub enum Owners {
-    /// All tasks, `fmt` and `conditions`.
-    All,
+    /// All but `lsp`.
+    AllButServer,
     /// All tasks.
     Tasks,
     /// All tasks but `rust`, which always expands.
@@ -66,7 +66,7 @@ impl Owners {
         ensures { result ≡ is_of job self }
     {
         match self {
-            Owners::All => true,
+            Owners::AllButServer => !matches!(job, Job::Server),
             Owners::Tasks => job.is_task(),
             Owners::Expanding => job.is_task() && !matches!(job, Job::Task(Task::Rust)),
             Owners::Trees => matches!(job, Job::Task(Task::Lower | Task::Compare)),
@@ -412,7 +412,7 @@ pub(crate) const OPTIONS: [(&str, TaskOption, &str); 27] = [
         TaskOption {
             takes: Takes::Text,
             repeats: false,
-            owners: Owners::All,
+            owners: Owners::AllButServer,
         },
         "  -C FOLDER              looks for files in this folder
 ",

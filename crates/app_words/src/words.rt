@@ -1,13 +1,13 @@
 //! What the command is asked by its words.
 
 ghost use Rattle.std.specs.Prelude.{◌≡◌, MatchResult, Some, false, map, string_bytes};
-ghost use Rattle.app_words.specs.Asked.{IsAskedBehind, IsAskedBy, IsAskedFirst, IsRefusedBehind, IsRefusedFirst, IsRefusedFor, TellsWhy, asked_of_program, first_job, own_word, unnamed};
+ghost use Rattle.app_words.specs.Asked.{IsAskedBehind, IsAskedBy, IsAskedFirst, IsFirstWrong, IsRefusedBehind, IsRefusedFirst, IsRefusedFor, TellsWhy, asked_of_program, first_job, own_word, unnamed};
 ghost use Rattle.app_words.specs.Refusals.{Tells, text_of};
 ghost use Rattle.app_words.specs.declared.tasks.Job.TheVariants as J;
 
 use crate::conditions::{ConditionsRequest, conditions_by};
 use crate::formatting::{Formatting, formatting_by};
-use crate::given::first_of;
+use crate::given::{first_of, given_by};
 use crate::request::{Request, request_by};
 use crate::tasks::Job;
 use crate::unasked::{Unasked, wrong, wrong_as};
@@ -119,18 +119,16 @@ fn asked_behind<'a>(
         Some(Job::Task(task)) => Ok(Command::Request(request_by(alloc, colors, task, rest)?)),
         Some(Job::Formatting) => Ok(Command::Formatting(formatting_by(alloc, rest)?)),
         Some(Job::Conditions) => Ok(Command::Conditions(conditions_by(alloc, rest)?)),
-        Some(Job::Server) => server_by(alloc, word, rest),
+        Some(Job::Server) => server_by(alloc, rest),
     }
 }
 
-// The server takes no words.
-fn server_by<'a>(alloc: Global, word: &str, rest: &'a [String]) -> Result<Command<'a>, Unasked>
-    ensures { MatchResult result (IsAskedBehind false (Some J.Server) (map string_bytes rest.now)) (TellsWhy (IsRefusedBehind (Some J.Server) word.now (map string_bytes rest.now))) }
+// The server takes no words: each item of it is wrong.
+fn server_by<'a>(alloc: Global, rest: &'a [String]) -> Result<Command<'a>, Unasked>
+    ensures { MatchResult result (IsAskedBehind false (Some J.Server) (map string_bytes rest.now)) (TellsWhy (IsFirstWrong J.Server (map string_bytes rest.now))) }
 {
-    match first_of(rest) {
-        None => Ok(Command::Server),
-        Some(_) => Err(unnamed(alloc, word)),
-    }
+    given_by(alloc, Job::Server, rest)?;
+    Ok(Command::Server)
 }
 
 // That a word names nothing.

@@ -1,4 +1,4 @@
-use Rattle.std.proofs.Common.{◌≡◌, ◌∙◌, sym}
+use Rattle.std.proofs.Common.{◌∙◌, sym}
 use Rattle.app_words.specs.Asked.{none_read}
 use Rattle.app_words.proofs.Reading.{call_given, read_on, told}
 use Rattle.app_words.proofs.given.given_by.Goals as goal
