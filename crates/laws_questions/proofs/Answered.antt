@@ -1,23 +1,18 @@
 -- Where a site has a value, the calls whose answers it is made of have answers.
-use Rattle.std.proofs.Common.{◌≡◌, Bool, true, false, List, [], ◌∷◌, ◌++◌, Option, Some, None, cond, refl, sym, ap, ◌∙◌, subst, inl, inr}
+use Rattle.std.proofs.Common.{◌≡◌, List, [], ◌∷◌, ◌++◌, Option, Some, refl, sym, ap, ◌∙◌, subst, inl, inr, arith}
+use Rattle.std.proofs.lemmas.Grind.{common_steps}
 use Rattle.model.specs.rules.Program.{Program}
-use Rattle.model.specs.sites.Sites.{Constraint, is_variant, is_struct, is_bool, is_int, is_prim, is_present, SiteTerm, bool_term, int_term, prim_term, argument, extractor_call, constructor_call, pick_of, variant_made, variant_field, struct_made, struct_field, some_made, some_part, tuple_part, no_site, SiteTerms, no_site_term, site_term_and}
-use Rattle.model.specs.visits.Demands.{has_site}
+use Rattle.model.specs.sites.Sites.{Constraint, SiteTerm, bool_term, int_term, prim_term, argument, extractor_call, constructor_call, pick_of, variant_made, variant_field, struct_made, struct_field, some_made, some_part, tuple_part, no_site, SiteTerms, no_site_term, site_term_and}
 use Rattle.model.proofs.Elements.{In, in_either, some_is, none_some}
-use Rattle.laws_specs.specs.Words.{Denoted, a_truth, variant_of, struct_of, DenotedList, no_denoted, denoted_and}
-use Rattle.laws_specs.specs.Specs.{Specs, constant_of, literal_of}
+use Rattle.laws_specs.specs.Words.{Denoted, variant_of, struct_of, DenotedList, no_denoted, denoted_and}
+use Rattle.laws_specs.specs.Specs.{Specs}
 use Rattle.laws_specs.specs.Conditions.{ToldContent, told, told_parts, told_nothing, told_just, told_many, answered_as, result_as, Valuation, denoted_at, denoted_at_each, IsMetAs, Condition, IsAssumed}
 use Rattle.model_questions.specs.Steps.{told_in, told_in_each, sources_in, part_in, outputs_in, picked_in, part_outputs_in, result_in, fresh, where_known, tested_in}
 use Rattle.laws_questions.proofs.SiteForms.{just_same, result_alone, both_there, as_told}
 
 pub in_fresh : (seen ws : List SiteTerm) (w : SiteTerm) → In (fresh seen ws) w → In ws w
+in_fresh seen (v ∷ ws) w i = grind (arith, common_steps, in_fresh seen ws w, in_fresh (v ∷ seen) ws w)
 in_fresh seen [] w i = absurd i
-in_fresh seen (v ∷ ws) w i = by (has_site seen v) i (λ j. in_fresh seen ws w j) (λ j. in_fresh (v ∷ seen) ws w j)
-  where
-    by : (b : Bool) → In (cond b (fresh seen ws) (v ∷ fresh (v ∷ seen) ws)) w → (In (fresh seen ws) w → In ws w) → (In (fresh (v ∷ seen) ws) w → In ws w) → In (v ∷ ws) w
-    by true j old new = inr (old j)
-    by false (inl e) old new = inl e
-    by false (inr j) old new = inr (new j)
 
 module _ (p : Program) (specs : Specs) (c : Condition) (args : DenotedList) (f : Valuation) (a : IsAssumed p specs c args f) where
   -- a constructor's answer is a value, or just one; an extractor's are its outputs
@@ -48,9 +43,7 @@ module _ (p : Program) (specs : Specs) (c : Condition) (args : DenotedList) (f :
   and_all ws us h k w i = elim (in_either ws us w i) [ inl j ↦ h w j | inr j ↦ k w j ]
 
   picked_value : (s : SiteTerm) (h : ToldContent) (x : Denoted) → f (pick_of s) ≡ Some h → result_as h ≡ Some x → IsAnswer (pick_of s)
-  picked_value (constructor_call t ss n) h x e q = (h, x, e, q)
-  picked_value (extractor_call t s) h x e q = (h, denoted_and x no_denoted, e, result_alone h x q)
-  picked_value _ h x e q = tt
+  picked_value s h x e q = grind (arith, common_steps, result_alone)
 
   none_answers : AreAnswers []
   none_answers w i = absurd i
@@ -68,12 +61,7 @@ module _ (p : Program) (specs : Specs) (c : Condition) (args : DenotedList) (f :
     told_answers (struct_field s i) x e = let k = a.held (struct_field s i) (told x) e in told_answers s (struct_of k.0 k.1) k.2
     told_answers (some_part s) x e = part_answers s x (a.held (some_part s) (told x) e)
     told_answers (tuple_part s i) x e = let k = a.held (tuple_part s i) (told x) e in outputs_answers s k.0 k.1
-    told_answers (bool_term b ty) x e = none_answers
-    told_answers (int_term z ty) x e = none_answers
-    told_answers (prim_term name) x e = none_answers
-    told_answers (argument i) x e = none_answers
-    told_answers (some_made s) x e = none_answers
-    told_answers no_site x e = none_answers
+    told_answers s x e = grind (arith, common_steps, none_answers)
 
     pub each_answers : (ss : SiteTerms) (xs : DenotedList) → denoted_at_each f ss ≡ Some xs → AreAnswers (told_in_each ss)
     each_answers no_site_term xs e = none_answers
@@ -84,19 +72,7 @@ module _ (p : Program) (specs : Specs) (c : Condition) (args : DenotedList) (f :
     pub sources_answers : (s : SiteTerm) (h : ToldContent) → f s ≡ Some h → AreAnswers (sources_in s)
     sources_answers (extractor_call t s) h e = let k = a.held (extractor_call t s) h e in told_answers s k.0 k.1
     sources_answers (constructor_call t ss n) h e = let k = a.held (constructor_call t ss n) h e in each_answers ss k.0 k.1
-    sources_answers (bool_term b ty) h e = none_answers
-    sources_answers (int_term z ty) h e = none_answers
-    sources_answers (prim_term name) h e = none_answers
-    sources_answers (argument i) h e = none_answers
-    sources_answers (pick_of s) h e = none_answers
-    sources_answers (variant_made ty variant ss) h e = none_answers
-    sources_answers (variant_field s variant i) h e = none_answers
-    sources_answers (struct_made ty ss) h e = none_answers
-    sources_answers (struct_field s i) h e = none_answers
-    sources_answers (some_made s) h e = none_answers
-    sources_answers (some_part s) h e = none_answers
-    sources_answers (tuple_part s i) h e = none_answers
-    sources_answers no_site h e = none_answers
+    sources_answers s h e = grind (arith, common_steps, none_answers)
 
     part_answers : (s : SiteTerm) (x : Denoted) → f s ≡ Some (told_just (told x)) → AreAnswers (part_in s)
     part_answers (extractor_call t s) x e =
@@ -106,71 +82,25 @@ module _ (p : Program) (specs : Specs) (c : Condition) (args : DenotedList) (f :
     part_answers (pick_of s) x e =
         and_one (sources_in s) (pick_of s) (sources_answers s told_many (a.held (pick_of s) (told_just (told x)) e)) (picked_value s (told_just (told x)) x e refl)
     part_answers (some_made s) x e = let k = a.held (some_made s) (told_just (told x)) e in told_answers s x (k.1 ∙ ap Some (sym (just_same (told x) k.0 k.2)))
-    part_answers (bool_term b ty) x e = none_answers
-    part_answers (int_term z ty) x e = none_answers
-    part_answers (prim_term name) x e = none_answers
-    part_answers (argument i) x e = none_answers
-    part_answers (variant_made ty variant ss) x e = none_answers
-    part_answers (variant_field s variant i) x e = none_answers
-    part_answers (struct_made ty ss) x e = none_answers
-    part_answers (struct_field s i) x e = none_answers
-    part_answers (some_part s) x e = none_answers
-    part_answers (tuple_part s i) x e = none_answers
-    part_answers no_site x e = none_answers
+    part_answers s x e = grind (arith, common_steps, none_answers)
 
     outputs_answers : (s : SiteTerm) (xs : DenotedList) → f s ≡ Some (told_parts xs) → AreAnswers (outputs_in s)
     outputs_answers (extractor_call t s) xs e =
         and_one (told_in s) (extractor_call t s) (let k = a.held (extractor_call t s) (told_parts xs) e in told_answers s k.0 k.1) (told_parts xs, xs, e, refl)
     outputs_answers (pick_of s) xs e = picked_answers s (told_parts xs) xs e refl
     outputs_answers (some_part s) xs e = part_outputs_answers s xs (a.held (some_part s) (told_parts xs) e)
-    outputs_answers (constructor_call t ss n) xs e = none_answers
-    outputs_answers (bool_term b ty) xs e = none_answers
-    outputs_answers (int_term z ty) xs e = none_answers
-    outputs_answers (prim_term name) xs e = none_answers
-    outputs_answers (argument i) xs e = none_answers
-    outputs_answers (variant_made ty variant ss) xs e = none_answers
-    outputs_answers (variant_field s variant i) xs e = none_answers
-    outputs_answers (struct_made ty ss) xs e = none_answers
-    outputs_answers (struct_field s i) xs e = none_answers
-    outputs_answers (some_made s) xs e = none_answers
-    outputs_answers (tuple_part s i) xs e = none_answers
-    outputs_answers no_site xs e = none_answers
+    outputs_answers s xs e = grind (arith, common_steps, none_answers)
 
     picked_answers : (s : SiteTerm) (h : ToldContent) (xs : DenotedList) → f (pick_of s) ≡ Some h → answered_as h ≡ Some xs → AreAnswers (picked_in s)
     picked_answers (extractor_call t s) h xs e q =
         and_one (told_in s) (pick_of (extractor_call t s)) (let k = a.held (extractor_call t s) told_many (a.held (pick_of (extractor_call t s)) h e) in told_answers s k.0 k.1) (h, xs, e, q)
-    picked_answers (constructor_call t ss n) h xs e q = none_answers
-    picked_answers (bool_term b ty) h xs e q = none_answers
-    picked_answers (int_term z ty) h xs e q = none_answers
-    picked_answers (prim_term name) h xs e q = none_answers
-    picked_answers (argument i) h xs e q = none_answers
-    picked_answers (pick_of s) h xs e q = none_answers
-    picked_answers (variant_made ty variant ss) h xs e q = none_answers
-    picked_answers (variant_field s variant i) h xs e q = none_answers
-    picked_answers (struct_made ty ss) h xs e q = none_answers
-    picked_answers (struct_field s i) h xs e q = none_answers
-    picked_answers (some_made s) h xs e q = none_answers
-    picked_answers (some_part s) h xs e q = none_answers
-    picked_answers (tuple_part s i) h xs e q = none_answers
-    picked_answers no_site h xs e q = none_answers
+    picked_answers s h xs e q = grind (arith, common_steps, none_answers)
 
     part_outputs_answers : (s : SiteTerm) (xs : DenotedList) → f s ≡ Some (told_just (told_parts xs)) → AreAnswers (part_outputs_in s)
     part_outputs_answers (extractor_call t s) xs e =
         and_one (told_in s) (extractor_call t s) (let k = a.held (extractor_call t s) (told_just (told_parts xs)) e in told_answers s k.0 k.1) (told_just (told_parts xs), xs, e, refl)
     part_outputs_answers (pick_of s) xs e = picked_answers s (told_just (told_parts xs)) xs e refl
-    part_outputs_answers (constructor_call t ss n) xs e = none_answers
-    part_outputs_answers (bool_term b ty) xs e = none_answers
-    part_outputs_answers (int_term z ty) xs e = none_answers
-    part_outputs_answers (prim_term name) xs e = none_answers
-    part_outputs_answers (argument i) xs e = none_answers
-    part_outputs_answers (variant_made ty variant ss) xs e = none_answers
-    part_outputs_answers (variant_field s variant i) xs e = none_answers
-    part_outputs_answers (struct_made ty ss) xs e = none_answers
-    part_outputs_answers (struct_field s i) xs e = none_answers
-    part_outputs_answers (some_made s) xs e = none_answers
-    part_outputs_answers (some_part s) xs e = none_answers
-    part_outputs_answers (tuple_part s i) xs e = none_answers
-    part_outputs_answers no_site xs e = none_answers
+    part_outputs_answers s xs e = grind (arith, common_steps, none_answers)
 
   -- a result has a value, unwrapped or not
   pub result_answers : (s : SiteTerm) (h : ToldContent) (x : Denoted) → f s ≡ Some h → result_as h ≡ Some x → AreAnswers (result_in s)
@@ -201,13 +131,7 @@ module _ (p : Program) (specs : Specs) (c : Condition) (args : DenotedList) (f :
 
   -- a site that is tested
   known_answers : (s : SiteTerm) (o : Option Denoted) → ((x : Denoted) → o ≡ Some x → f s ≡ Some (told x)) → AreAnswers (where_known o (told_in s))
-  known_answers s None h = none_answers
-  known_answers s (Some x) h = told_answers s x (h x refl)
+  known_answers s o h = grind (arith, common_steps, none_answers, told_answers)
 
   pub tested_answers : (s : SiteTerm) (k : Constraint) → IsMetAs specs f s k → AreAnswers (tested_in specs s k)
-  tested_answers s (is_variant ty variant fields) h = told_answers s (variant_of ty variant h.0) h.1
-  tested_answers s (is_struct ty fields) h = told_answers s (struct_of ty h.0) h.1
-  tested_answers s (is_bool b ty) h = told_answers s (a_truth b) h
-  tested_answers s (is_int z ty) h = known_answers s (literal_of specs z ty) h
-  tested_answers s (is_prim name) h = known_answers s (constant_of specs name) h
-  tested_answers s is_present h = sources_answers s (told_just h.0) h.1
+  tested_answers s k h = grind (arith, common_steps, told_answers, known_answers, sources_answers)

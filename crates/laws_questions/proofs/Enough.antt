@@ -1,18 +1,18 @@
 -- Where no question about a condition can be satisfied, the condition is valid.
-use Rattle.std.proofs.Common.{◌≡◌, ◌⊎◌, ◌+◌, ℕ, Bool, true, false, List, [], ◌∷◌, ◌++◌, map, Option, Some, None, cond, slice_get, is_some, All, Contains, IsTrue, flat_map, append_assoc, refl, sym, ap, ◌∙◌, subst, inl, inr, arith}
+use Rattle.std.proofs.Common.{◌≡◌, ◌⊎◌, ◌+◌, ℕ, Bool, true, false, List, [], ◌∷◌, ◌++◌, map, Option, Some, None, slice_get, is_some, All, Contains, IsTrue, flat_map, append_assoc, refl, sym, ap, ◌∙◌, subst, inl, inr, arith}
+use Rattle.std.proofs.lemmas.Grind.{common_steps}
 use Rattle.std.proofs.lemmas.List.Elements.{All-nil, All-cons}
-use Rattle.std.proofs.lemmas.Bool.{false≢true}
 use Rattle.model.specs.rules.Program.{Program, arg_types}
-use Rattle.model.specs.sites.Sites.{Constraint, is_variant, is_struct, is_bool, is_int, is_prim, is_present, SiteTerm, bool_term, int_term, prim_term, argument, extractor_call, constructor_call, pick_of, variant_made, variant_field, struct_made, struct_field, some_made, some_part, tuple_part, no_site, SiteTerms}
+use Rattle.model.specs.sites.Sites.{Constraint, is_variant, is_bool, is_int, is_prim, SiteTerm, bool_term, int_term, prim_term, argument, extractor_call, constructor_call, pick_of, variant_made, variant_field, struct_made, struct_field, some_made, some_part, tuple_part, no_site, SiteTerms}
 use Rattle.model.specs.sites.Serves.{term_args}
 use Rattle.model.proofs.Elements.{In, in_map, map_in, contains_from_in, none_some}
 use Rattle.laws_sites.proofs.built.WellBuiltSets.{in_from_all}
 use Rattle.laws_specs.specs.Words.{Denoted, a_truth, variant_of, DenotedList, denoted_list}
 use Rattle.laws_specs.specs.Specs.{SpecExpr, Specs, spec_of, IsSaid, IsRequired, IsProvided}
-use Rattle.laws_specs.specs.Conditions.{ToldContent, told, told_just, told_many, answered_as, result_as, Valuation, denoted_at_each, IsMetAs, IsConstructedAsSaid, IsExtractedAsSaid, IsAnsweredAsSaid, call_of, IsTypedAs, Condition, IsAssumed, IsCallMade, IsShown}
+use Rattle.laws_specs.specs.Conditions.{ToldContent, told, told_just, told_many, answered_as, result_as, Valuation, denoted_at_each, IsMetAs, IsConstructedAsSaid, IsExtractedAsSaid, call_of, IsTypedAs, Condition, IsAssumed, IsCallMade, IsShown}
 use Rattle.model_questions.specs.Formulas.{Place, argument_at, output_at, Fact}
-use Rattle.model_questions.specs.Forms.{Form, a_fact, an_integer_by, a_word_by, variant_by, struct_by, any_of, some_at, Forms, no_form, form_and}
-use Rattle.model_questions.specs.Steps.{Said, Step, split_at, told_as, told_same, assumed, assumed_under, shown, Event, tests, equals_at, calls, gives_at, events_of, told_in, told_in_each, result_in, fresh, tested_in, args_in, requires_of, provides_of, split_form, split_each, is_pure_made, is_answered, form_at, forms_at, result_form, constructed, outputs_at, extracted, picked, answer_steps, required_steps, steps_from, args_of, steps_of}
+use Rattle.model_questions.specs.Forms.{Form, Forms, no_form, form_and}
+use Rattle.model_questions.specs.Steps.{Said, Step, told_as, told_same, assumed, assumed_under, shown, Event, tests, equals_at, calls, gives_at, events_of, told_in, told_in_each, result_in, fresh, tested_in, args_in, requires_of, provides_of, split_form, split_each, is_pure_made, is_answered, form_at, forms_at, result_form, constructed, outputs_at, extracted, picked, answer_steps, required_steps, steps_from, args_of, steps_of}
 use Rattle.model_questions.specs.Questions.{nothing_known, questions, IsUnsatisfiable}
 use Rattle.model_questions.proofs.Opening.{fields_stand}
 use Rattle.model_questions.proofs.Shown.{FitsSaid, IsHeld, AllHeld, AllSaidFit, IsToldAs, AreShown, steps_shown}
@@ -33,8 +33,7 @@ nil_apart : (u : SiteTerm) (later : List SiteTerm) → [] ≡ u ∷ later → �
 nil_apart u later e = cc
 
 some_there : (o : Option ToldContent) → IsTrue (is_some o) → (h : ToldContent) × (o ≡ Some h)
-some_there None e = absurd (false≢true e)
-some_there (Some h) e = (h, refl)
+some_there o e = grind (arith, common_steps)
 
 module _ (p : Program) (specs : Specs) (c : Condition) (args : DenotedList) (f : Valuation) (a : IsAssumed p specs c args f) where
   abbrev v : Place → Denoted
@@ -60,24 +59,11 @@ module _ (p : Program) (specs : Specs) (c : Condition) (args : DenotedList) (f :
   assume_under under (s ∷ ss) rest g h k = let r = h s (inl refl) in assume_under under ss rest g (λ x i. h x (inr i)) (k (g, r.0, r.1)).1
 
   show_all : (ss : List Said) (rest : List Step) → ((s : Said) → In ss s → FitsS s) → Shown (map shown ss ++ rest) → ((s : Said) → In ss s → Held s) × Shown rest
+  show_all (s ∷ ss) rest h k = grind (arith, common_steps, show_all ss rest)
   show_all [] rest h k = (λ s i. absurd i, k)
-  show_all (s ∷ ss) rest h k =
-      let r = k (h s (inl refl)) in
-      let t = show_all ss rest (λ x i. h x (inr i)) r.1 in
-      (λ x i. elim i [ inl e ↦ subst Held e r.0 | inr j ↦ t.0 x j ], t.1)
 
   split_one : (plan : Place → Bool) (g : Form) (rest : List Step) → Fits p.types specs v g → Shown (split_form plan g ++ rest) → Shown rest
-  split_one plan (any_of ty at) rest h k = by (plan at) k
-    where
-      by : (b : Bool) → Shown (cond b (split_at ty at ∷ []) [] ++ rest) → Shown rest
-      by true r = (r h).1
-      by false r = r
-  split_one plan (a_fact g) rest h k = k
-  split_one plan (an_integer_by z) rest h k = k
-  split_one plan (a_word_by w t) rest h k = k
-  split_one plan (variant_by ty i gs) rest h k = k
-  split_one plan (struct_by ty gs) rest h k = k
-  split_one plan (some_at at) rest h k = k
+  split_one plan g rest h k = grind (arith, common_steps)
 
   split_all : (plan : Place → Bool) (gs : Forms) (rest : List Step) → AllFit p.types specs v gs → Shown (split_each plan gs ++ rest) → Shown rest
   split_all plan no_form rest h k = k
@@ -197,10 +183,8 @@ module _ (p : Program) (specs : Specs) (c : Condition) (args : DenotedList) (f :
     answer_next no_site rest n k = k
 
     answers_next : (ws : List SiteTerm) (rest : List Step) → AreAnswers p specs c args f a ws → Shown (flat_map (answer_steps p specs c done plan) ws ++ rest) → Shown rest
+    answers_next (w ∷ ws) rest h k = grind (arith, common_steps, answers_next ws rest, answer_next, append_assoc)
     answers_next [] rest h k = k
-    answers_next (w ∷ ws) rest h k =
-        answers_next ws rest (λ y i. h y (inr i))
-        (answer_next w (flat_map (answer_steps p specs c done plan) ws ++ rest) (h w (inl refl)) (subst Shown (append_assoc (answer_steps p specs c done plan w) (flat_map (answer_steps p specs c done plan) ws) rest) k))
 
     fresh_next : (seen ws : List SiteTerm) (rest : List Step) → AreAnswers p specs c args f a ws → Shown (flat_map (answer_steps p specs c done plan) (fresh seen ws) ++ rest) → Shown rest
     fresh_next seen ws rest h k = answers_next (fresh seen ws) rest (λ y i. h y (in_fresh seen ws y i)) k
@@ -212,11 +196,10 @@ module _ (p : Program) (specs : Specs) (c : Condition) (args : DenotedList) (f :
 
     told_as_is : (done : List SiteTerm) (are_done : AreDone p specs c args f a done) (s : SiteTerm) (k : Constraint) → IsMetAs specs f s k → IsToldAs p.types specs v specs.unknowns (form_at p specs c done s) k
     told_as_is done are_done s (is_variant ty variant fields) h = (h.0, (told_is p specs c args f a done are_done s (variant_of ty variant h.0) h.1).0)
-    told_as_is done are_done s (is_struct ty fields) h = tt
     told_as_is done are_done s (is_bool b ty) h = (told_is p specs c args f a done are_done s (a_truth b) h).0
     told_as_is done are_done s (is_int z ty) h = λ x e. told_is p specs c args f a done are_done s x (h x e)
     told_as_is done are_done s (is_prim name) h = λ x e. told_is p specs c args f a done are_done s x (h x e)
-    told_as_is done are_done s is_present h = tt
+    told_as_is done are_done s k h = tt
 
     tests_next : (done : List SiteTerm) (are_done : AreDone p specs c args f a done) (seen : List SiteTerm) (s : SiteTerm) (k : Constraint) (es : List Event) → IsMetAs specs f s k
         → Shown (Steps seen done (tests s k ∷ es)) → Shown (Steps (tested_in specs s k ++ seen) done es)
@@ -301,16 +284,12 @@ module _ (p : Program) (specs : Specs) (c : Condition) (args : DenotedList) (f :
         by no_site same = plain no_site same refl refl
 
     done_more : (done : List SiteTerm) → AreDone p specs c args f a done → (u : SiteTerm) → IsCallMade p specs f u → AreDone p specs c args f a (call_of u ∷ done)
-    done_more done are_done u made w (inl e) =
-        subst (λ z. IsAnsweredAsSaid specs f z z × ((h : ToldContent) → f z ≡ Some h → IsTypedAs p specs z h)) e (made.answered, λ h q. made.typed h q)
-    done_more done are_done u made w (inr i) = are_done w i
+    done_more done are_done u made w h = grind (arith, common_steps)
 
     all_tests_next : (ks : List (SiteTerm × Constraint)) (seen : List SiteTerm) (es : List Event) → ((s : SiteTerm) (k : Constraint) → In ks (s, k) → IsMetAs specs f s k) → Shown (Steps seen [] (map (λ e. tests e.0 e.1) ks ++ es))
         → (after : List SiteTerm) × Shown (Steps after [] es)
+    all_tests_next (k ∷ ks) seen es met h = grind (arith, common_steps, all_tests_next ks (tested_in specs k.0 k.1 ++ seen) es, tests_next [], tests_next)
     all_tests_next [] seen es met h = (seen, h)
-    all_tests_next (k ∷ ks) seen es met h =
-        all_tests_next ks (tested_in specs k.0 k.1 ++ seen) es (λ s q i. met s q (inr i))
-        (tests_next [] (λ w i. absurd i) seen k.0 k.1 (map (λ e. tests e.0 e.1) ks ++ es) (met k.0 k.1 (inl refl)) h)
 
     all_equals_next : (ks : List (SiteTerm × SiteTerm)) (seen : List SiteTerm) (es : List Event) → ((s t : SiteTerm) → In ks (s, t) → (x : Denoted) × (f s ≡ Some (told x)) × (f t ≡ Some (told x)))
         → Shown (Steps seen [] (map (λ e. equals_at e.0 e.1) ks ++ es)) → (after : List SiteTerm) × Shown (Steps after [] es)

@@ -1,5 +1,6 @@
 -- Where solvers are right and refute each question, runs are as specs say.
-use Rattle.std.proofs.Common.{◌≡◌, true, false, List, [], ◌∷◌, sym, ap, ◌∙◌, inl, inr}
+use Rattle.std.proofs.Common.{◌≡◌, true, false, List, [], ◌∷◌, sym, ap, ◌∙◌, inl, inr, arith}
+use Rattle.std.proofs.lemmas.Grind.{common_steps}
 use Rattle.std.proofs.lemmas.Bool.{and_parts, false≢true}
 use Rattle.model.proofs.Elements.{In, in_from_contains}
 use Rattle.laws_specs.specs.Specs.{Specs}
@@ -16,8 +17,7 @@ false_unsatisfiable m (g ∷ fs) (inr i) h = false_unsatisfiable m fs i (and_par
 false_unsatisfiable m [] i h = absurd i
 
 pub refuted_unsatisfiable : (specs : Specs) (answers : Answers) → SolversAreRight specs answers → (q : List Fact) → IsRefutedBy answers q → IsUnsatisfiable specs q
-refuted_unsatisfiable specs answers right q (inl h) = right q h
-refuted_unsatisfiable specs answers right q (inr i) = λ m is_model h. false_unsatisfiable m q (in_from_contains q (known false) i) h
+refuted_unsatisfiable specs answers right q h = grind (arith, common_steps, false_unsatisfiable, in_from_contains)
 
 pub refuted_programs_compute_as_said_lem : QuestionsAskEnough → ProgramsOfSetsComputeAsSaid → RefutedProgramsComputeAsSaid
 refuted_programs_compute_as_said_lem enough programs defs expand rules terms f specs d plans answers accepted lowered runs denotes right refuted =

@@ -1,7 +1,8 @@
 -- What sites stand for by forms is what they hold.
-use Rattle.std.proofs.Common.{◌≡◌, ℕ, zero, suc, Bool, true, false, not, List, [], ◌∷◌, Option, Some, None, slice_get, Contains, refl, sym, ap, ◌∙◌, subst, inl, inr}
+use Rattle.std.proofs.Common.{◌≡◌, ℕ, suc, Bool, true, false, not, List, [], ◌∷◌, Option, Some, None, slice_get, Contains, refl, sym, ap, ◌∙◌, subst, inl, inr, arith}
+use Rattle.std.proofs.lemmas.Grind.{common_steps}
 use Rattle.std.proofs.lemmas.Bool.{and_parts, false≢true}
-use Rattle.model.specs.lists.Tables.{TypeEntry, builtin_type, primitive_type, enum_type, struct_type, TermEntry}
+use Rattle.model.specs.lists.Tables.{TypeEntry, TermEntry}
 use Rattle.model.specs.rules.Outcome.{then_option}
 use Rattle.model.specs.rules.Program.{Program, arg_types}
 use Rattle.model.specs.rules.Values.{variant_types, struct_types}
@@ -11,8 +12,8 @@ use Rattle.model.specs.visits.Demands.{site_term_eq, has_site}
 use Rattle.model.proofs.Elements.{In, or_split, contains_from_in, some_is, none_some}
 use Rattle.model.proofs.SameSites.{term_means}
 use Rattle.laws_specs.specs.Words.{Denoted, a_truth, variant_of, struct_of, DenotedList, no_denoted, denoted_and, denoted_list}
-use Rattle.laws_specs.specs.Specs.{Specs, sort_of, constant_of, literal_of}
-use Rattle.laws_specs.specs.Conditions.{ToldContent, told, told_parts, told_nothing, told_just, told_many, answered_as, as_denoted, result_as, Valuation, denoted_at, denoted_at_each, IsAnsweredAsSaid, is_impure_call, is_of_type, are_of_types, is_modelled_as, IsTypedAs, Condition, IsAssumed}
+use Rattle.laws_specs.specs.Specs.{Specs, constant_of, literal_of}
+use Rattle.laws_specs.specs.Conditions.{ToldContent, told, told_parts, told_nothing, told_just, told_many, answered_as, as_denoted, result_as, Valuation, denoted_at_each, IsAnsweredAsSaid, is_impure_call, is_of_type, are_of_types, IsTypedAs, Condition, IsAssumed}
 use Rattle.model_questions.specs.Formulas.{Place, argument_at, site_at, output_at, variant_field_at, struct_field_at}
 use Rattle.model_questions.specs.Forms.{Form, variant_by, struct_by, any_of, some_at, Forms, form_list}
 use Rattle.model_questions.specs.Steps.{or_form, typed_at, written_or, any_if, type_at, first_of, variant_field_form, struct_field_form, is_pure_made, is_answered, answer_form, output_form, form_at, forms_at, part_form, outputs_form, part_outputs_form, result_form}
@@ -25,8 +26,7 @@ has_in [] s e = absurd (false≢true e)
 has_in (t ∷ ts) s e = elim (or_split (site_term_eq t s) (has_site ts s) e) [ inl q ↦ inl (term_means t s q) | inr r ↦ inr (has_in ts s r) ]
 
 not_false_is : (b : Bool) → not b ≡ true → b ≡ false
-not_false_is false e = refl
-not_false_is true e = absurd (false≢true e)
+not_false_is b e = grind (arith, common_steps)
 
 told_same : (x y : Denoted) → told x ≡ told y → x ≡ y
 told_same x y e = cc
@@ -38,62 +38,32 @@ told_apart : (x : Denoted) (g : ToldContent) → told x ≡ told_just g → ⊥
 told_apart x g e = cc
 
 pub result_alone : (h : ToldContent) (x : Denoted) → result_as h ≡ Some x → answered_as h ≡ Some (denoted_and x no_denoted)
-result_alone (told y) x e = ap (λ z. Some (denoted_and z no_denoted)) (some_is y x e)
-result_alone (told_parts xs) x e = absurd (none_some x e)
-result_alone told_nothing x e = absurd (none_some x e)
-result_alone (told_just (told y)) x e = ap (λ z. Some (denoted_and z no_denoted)) (some_is y x e)
-result_alone (told_just (told_parts xs)) x e = absurd (none_some x e)
-result_alone (told_just told_nothing) x e = absurd (none_some x e)
-result_alone (told_just (told_just h)) x e = absurd (none_some x e)
-result_alone (told_just told_many) x e = absurd (none_some x e)
-result_alone told_many x e = absurd (none_some x e)
+result_alone h x e = grind (arith, common_steps, some_is, none_some)
 
 told_of_result : (h : ToldContent) (x y : Denoted) → h ≡ told y → result_as h ≡ Some x → y ≡ x
 told_of_result h x y e q = some_is y x (ap result_as (sym e) ∙ q)
 
 typed_get : (types : List TypeEntry) (specs : Specs) (tys : List ℕ) (xs : DenotedList) → are_of_types types specs (Some tys) xs ≡ true → (i ty : ℕ) (x : Denoted) → slice_get tys i ≡ Some ty
     → slice_get (denoted_list xs) i ≡ Some x → is_of_type types specs ty x ≡ true
-typed_get types specs [] xs a i ty x e q = absurd (none_some ty e)
-typed_get types specs (t ∷ tys) no_denoted a i ty x e q = absurd (none_some x q)
-typed_get types specs (t ∷ tys) (denoted_and y ys) a zero ty x e q =
-    subst (λ z. is_of_type types specs ty z ≡ true) (some_is y x q)
-    (subst (λ z. is_of_type types specs z y ≡ true) (some_is t ty e) (and_parts (is_of_type types specs t y) (are_of_types types specs (Some tys) ys) a).0)
 typed_get types specs (t ∷ tys) (denoted_and y ys) a (suc i) ty x e q =
     typed_get types specs tys ys (and_parts (is_of_type types specs t y) (are_of_types types specs (Some tys) ys) a).1 i ty x e q
+typed_get types specs tys xs a i ty x e q = grind (arith, common_steps, none_some, some_is, and_parts)
 
 -- the fields of a variant whose type has it are of its types; so of a struct
 variant_typed : (types : List TypeEntry) (specs : Specs) (ty : ℕ) (o : Option TypeEntry) (s i : ℕ) (xs : DenotedList) (tys : List ℕ) → IsOf types specs ty o (variant_of s i xs) → variant_types o i ≡ Some tys
     → are_of_types types specs (Some tys) xs ≡ true
-variant_typed types specs ty o s i xs tys (inr h) e = subst (λ q. are_of_types types specs q xs ≡ true) e h.1
-variant_typed types specs ty (Some (enum_type name id is_extern is_nodebug [] place)) s i xs tys (inl h) e = absurd (none_some tys e)
-variant_typed types specs ty (Some (enum_type name id is_extern is_nodebug (w ∷ ws) place)) s i xs tys (inl h) e = absurd (and_last_false is_extern (is_modelled_as (sort_of specs ty) (variant_of s i xs)) h)
-variant_typed types specs ty None s i xs tys (inl h) e = absurd (none_some tys e)
-variant_typed types specs ty (Some (builtin_type place)) s i xs tys (inl h) e = absurd (none_some tys e)
-variant_typed types specs ty (Some (primitive_type id name place)) s i xs tys (inl h) e = absurd (none_some tys e)
-variant_typed types specs ty (Some (struct_type name id is_extern is_nodebug fields place)) s i xs tys (inl h) e = absurd (none_some tys e)
+variant_typed types specs ty o s i xs tys h e = grind (arith, common_steps, none_some, and_last_false)
 
 struct_typed : (types : List TypeEntry) (specs : Specs) (ty : ℕ) (o : Option TypeEntry) (s : ℕ) (xs : DenotedList) (tys : List ℕ) → IsOf types specs ty o (struct_of s xs) → struct_types o ≡ Some tys
     → are_of_types types specs (Some tys) xs ≡ true
-struct_typed types specs ty o s xs tys (inr h) e = subst (λ q. are_of_types types specs q xs ≡ true) e h.1
-struct_typed types specs ty (Some (struct_type name id is_extern is_nodebug fields place)) s xs tys (inl h) e = absurd (false≢true h)
-struct_typed types specs ty None s xs tys (inl h) e = absurd (none_some tys e)
-struct_typed types specs ty (Some (builtin_type place)) s xs tys (inl h) e = absurd (none_some tys e)
-struct_typed types specs ty (Some (primitive_type id name place)) s xs tys (inl h) e = absurd (none_some tys e)
-struct_typed types specs ty (Some (enum_type name id is_extern is_nodebug ws place)) s xs tys (inl h) e = absurd (none_some tys e)
+struct_typed types specs ty o s xs tys h e = grind (arith, common_steps, none_some)
 
 pub both_there : (o : Option Denoted) (q : Option DenotedList) (xs : DenotedList) → then_option o (λ x. then_option q (λ ys. Some (denoted_and x ys))) ≡ Some xs
     → (x : Denoted) × (ys : DenotedList) × (o ≡ Some x) × (q ≡ Some ys) × (denoted_and x ys ≡ xs)
-both_there None q xs e = absurd (none_some xs e)
-both_there (Some x) None xs e = absurd (none_some xs e)
-both_there (Some x) (Some ys) xs e = (x, ys, refl, refl, some_is (denoted_and x ys) xs e)
+both_there o q xs e = grind (arith, common_steps, none_some, some_is)
 
 pub as_told : (o : Option ToldContent) (x : Denoted) → then_option o as_denoted ≡ Some x → o ≡ Some (told x)
-as_told None x e = absurd (none_some x e)
-as_told (Some (told y)) x e = ap (λ z. Some (told z)) (some_is y x e)
-as_told (Some (told_parts xs)) x e = absurd (none_some x e)
-as_told (Some told_nothing) x e = absurd (none_some x e)
-as_told (Some (told_just h)) x e = absurd (none_some x e)
-as_told (Some told_many) x e = absurd (none_some x e)
+as_told o x e = grind (arith, common_steps, none_some, some_is)
 
 -- what holds a value and has a result holds that
 pub back : (h : ToldContent) (x y : Denoted) → h ≡ told y → result_as h ≡ Some x → h ≡ told x
@@ -125,18 +95,10 @@ module _ (p : Program) (specs : Specs) (c : Condition) (args : DenotedList) (f :
 
   module _ (done : List SiteTerm) (are_done : AreDone done) where
     pub typed_answer : (w : SiteTerm) → is_answered p specs c done w ≡ true → (h : ToldContent) → f w ≡ Some h → IsTypedAs p specs w h
-    typed_answer w e h q =
-        elim (or_split (is_pure_made p specs c w) (has_site done w) e) [
-          | inl r ↦ let k = pure_made w r in a.typed w h k.0 k.1 q
-          | inr r ↦ (are_done w (has_in done w r)).1 h q
-        ]
+    typed_answer w e h q = grind (arith, common_steps, or_split (is_pure_made p specs c w) (has_site done w) e, pure_made w, has_in done w, or_split, pure_made, has_in)
 
     pub said_answer : (w : SiteTerm) → is_answered p specs c done w ≡ true → IsAnsweredAsSaid specs f w w
-    said_answer w e =
-        elim (or_split (is_pure_made p specs c w) (has_site done w) e) [
-          | inl r ↦ let k = pure_made w r in a.calls w k.0 k.1
-          | inr r ↦ (are_done w (has_in done w r)).0
-        ]
+    said_answer w e = grind (arith, common_steps, or_split (is_pure_made p specs c w) (has_site done w) e, pure_made w, has_in done w, or_split, pure_made, has_in)
 
   -- 1. places of sites
   some_is_at : (s : SiteTerm) (h : ToldContent) (x : Denoted) → f s ≡ Some h → result_as h ≡ Some x → vs (site_at s) ≡ x
@@ -149,8 +111,7 @@ module _ (p : Program) (specs : Specs) (c : Condition) (args : DenotedList) (f :
   any_is ty at x e h = (e, subst (λ y. is_of_type p.types specs ty y ≡ true) (sym e) h)
 
   written_or_is : (at : Place) (o : Option Denoted) (x : Denoted) → vs at ≡ x → ((y : Denoted) → o ≡ Some y → y ≡ x) → Is (written_or at o) x
-  written_or_is at None x e h = (e, tt)
-  written_or_is at (Some y) x e h = (written_stands vs specs.unknowns y ∙ h y refl, written_fits p.types specs vs y)
+  written_or_is at o x e h = grind (arith, common_steps, written_stands, written_fits)
 
   -- 2. answers
   constructed_is : (typed : Bool) (t : ℕ) (ss : SiteTerms) (n : ℕ) (u : SiteTerm) (h : ToldContent) (x : Denoted) → f u ≡ Some h → result_as h ≡ Some x
@@ -164,11 +125,7 @@ module _ (p : Program) (specs : Specs) (c : Condition) (args : DenotedList) (f :
 
   typed_output_is : (tys : List ℕ) (i : ℕ) (at place : Place) (xs : DenotedList) (x : Denoted) → are_of_types p.types specs (Some tys) xs ≡ true → slice_get (denoted_list xs) i ≡ Some x
       → vs at ≡ x → Is (typed_at (slice_get tys i) at) x
-  typed_output_is tys i at place xs x g r e = by (slice_get tys i) refl
-    where
-      by : (o : Option ℕ) → slice_get tys i ≡ o → Is (typed_at o at) x
-      by None q = (e, tt)
-      by (Some ty) q = any_is ty at x e (typed_get p.types specs tys xs g i ty x q r)
+  typed_output_is tys i at place xs x g r e = grind (arith, common_steps, typed_get p.types specs tys xs g i, any_is, typed_get)
 
   extracted_is : (typed : Bool) (t : ℕ) (s u : SiteTerm) (h : ToldContent) (x : Denoted) → f u ≡ Some h → result_as h ≡ Some x → (typed ≡ true → IsTypedAs p specs (extractor_call t s) h)
       → Is (answer_form p specs c typed (extractor_call t s) u) x
@@ -198,10 +155,8 @@ module _ (p : Program) (specs : Specs) (c : Condition) (args : DenotedList) (f :
 
   -- 3. fields
   get_is : (gs : List Form) (xs : List Denoted) → AreDescribed p.types specs vs specs.unknowns gs xs → (i : ℕ) (g : Form) (x : Denoted) → slice_get gs i ≡ Some g → slice_get xs i ≡ Some x → Is g x
-  get_is [] xs d i g x e q = absurd (none_some g e)
-  get_is (b ∷ gs) (y ∷ xs) d zero g x e q = subst (λ z. Is g z) (some_is y x q) (subst (λ z. Is z y) (some_is b g e) (d.0, d.1))
   get_is (b ∷ gs) (y ∷ xs) d (suc i) g x e q = get_is gs xs d.2 i g x e q
-  get_is (b ∷ gs) [] d i g x e q = absurd d
+  get_is gs xs d i g x e q = grind (arith, common_steps, none_some, some_is)
 
   fields_same : (s t i j : ℕ) (xs ys : DenotedList) → variant_of s i xs ≡ variant_of t j ys → xs ≡ ys
   fields_same s t i j xs ys e = cc
@@ -210,12 +165,7 @@ module _ (p : Program) (specs : Specs) (c : Condition) (args : DenotedList) (f :
   struct_fields_same s t xs ys e = cc
 
   any_if_is : (tys : Option (List ℕ)) (i : ℕ) (at : Place) (g : Form) → any_if (type_at tys i) at ≡ Some g → (l : List ℕ) × (ty : ℕ) × (tys ≡ Some l) × (slice_get l i ≡ Some ty) × (any_of ty at ≡ g)
-  any_if_is None i at g e = absurd (none_some g e)
-  any_if_is (Some l) i at g e = by (slice_get l i) refl e
-    where
-      by : (o : Option ℕ) → slice_get l i ≡ o → any_if o at ≡ Some g → (l' : List ℕ) × (ty : ℕ) × (Some l ≡ Some l') × (slice_get l' i ≡ Some ty) × (any_of ty at ≡ g)
-      by None q r = absurd (none_some g r)
-      by (Some ty) q r = (l, ty, refl, q, some_is (any_of ty at) g r)
+  any_if_is tys i at g e = grind (arith, common_steps, none_some, some_is)
 
   variant_field_is : (b : Form) (ty variant : ℕ) (xs : DenotedList) (i : ℕ) (x : Denoted) → Is b (variant_of ty variant xs) → slice_get (denoted_list xs) i ≡ Some x
       → (g : Form) → variant_field_form p variant i b ≡ Some g → Is g x
@@ -241,8 +191,7 @@ module _ (p : Program) (specs : Specs) (c : Condition) (args : DenotedList) (f :
   struct_field_is _ ty xs i x h q g e = absurd (none_some g e)
 
   or_form_is : (s : SiteTerm) (o : Option Form) (x : Denoted) → f s ≡ Some (told x) → ((g : Form) → o ≡ Some g → Is g x) → Is (or_form (some_at (site_at s)) o) x
-  or_form_is s None x e h = (some_is_at s (told x) x e refl, tt)
-  or_form_is s (Some g) x e h = h g refl
+  or_form_is s o x e h = grind (arith, common_steps, some_is_at)
 
   -- 4. sites
   module _ (done : List SiteTerm) (are_done : AreDone done) where
@@ -313,12 +262,8 @@ module _ (p : Program) (specs : Specs) (c : Condition) (args : DenotedList) (f :
       told_is no_site x e = absurd (a.held no_site (told x) e)
 
       pub each_is : (ss : SiteTerms) (xs : DenotedList) → denoted_at_each f ss ≡ Some xs → AreAll (forms_at p specs c done ss) xs
+      each_is (site_term_and s rest) xs e = grind (arith, common_steps, told_is s, each_is rest, both_there, as_told, stand_each)
       each_is no_site_term xs e = (some_is no_denoted xs e, tt)
-      each_is (site_term_and s rest) xs e =
-          let k = both_there (denoted_at f s) (denoted_at_each f rest) xs e in
-          let h = told_is s k.0 (as_told (f s) k.0 k.2) in
-          let t = each_is rest k.1 k.3 in
-          (ap (λ y. denoted_and y (stand_each vs specs.unknowns (forms_at p specs c done rest))) h.0 ∙ ap (denoted_and k.0) t.0 ∙ k.4, (h.1, t.1))
 
       -- a site that holds just a value
       part_is : (s : SiteTerm) (place : Place) (x : Denoted) → f s ≡ Some (told_just (told x)) → vs place ≡ x → Is (part_form p specs c done s place) x

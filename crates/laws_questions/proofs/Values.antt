@@ -1,11 +1,12 @@
 -- The values of places that arguments and a valuation give.
-use Rattle.std.proofs.Common.{◌≡◌, ℕ, zero, suc, true, false, ◌&&◌, Option, Some, None, slice_get, refl, ap, ◌∙◌, subst}
+use Rattle.std.proofs.Common.{◌≡◌, ℕ, suc, true, false, ◌&&◌, Option, Some, None, slice_get, refl, ap, arith}
+use Rattle.std.proofs.lemmas.Grind.{common_steps}
 use Rattle.std.proofs.lemmas.Bool.{and_parts}
 use Rattle.model.specs.rules.Outcome.{then_option}
 use Rattle.model.proofs.Elements.{some_is, none_some}
 use Rattle.model.specs.sites.Sites.{SiteTerm}
-use Rattle.laws_specs.specs.Words.{Denoted, a_truth, an_integer, a_word, variant_of, struct_of, DenotedList, no_denoted, denoted_and, denoted_list, is_formed, are_formed}
-use Rattle.laws_specs.specs.Conditions.{ToldContent, told, told_parts, told_nothing, told_just, told_many, is_told_formed, answered_as, result_as, Valuation}
+use Rattle.laws_specs.specs.Words.{Denoted, a_truth, variant_of, struct_of, DenotedList, no_denoted, denoted_and, denoted_list, is_formed, are_formed}
+use Rattle.laws_specs.specs.Conditions.{ToldContent, is_told_formed, answered_as, result_as, Valuation}
 use Rattle.model_questions.specs.Formulas.{Place, argument_at, site_at, output_at, variant_field_at, struct_field_at}
 use Rattle.model_questions.proofs.Standing.{IsCoherent}
 
@@ -33,66 +34,37 @@ module _ (args : DenotedList) (f : Valuation) where
   value_at (struct_field_at at ty i) = part_of i (struct_fields (value_at at))
 
   pub coherent : IsCoherent value_at
-  coherent = record {
-    variants = λ at ty i xs k y e q. ap (λ x. part_of k (variant_fields x)) e ∙ ap or_false q;
-    structs = λ at ty xs k y e q. ap (λ x. part_of k (struct_fields x)) e ∙ ap or_false q;
-  }
+  coherent = grind (arith, common_steps)
 
 got_formed : (xs : DenotedList) → are_formed xs ≡ true → (i : ℕ) (y : Denoted) → slice_get (denoted_list xs) i ≡ Some y → is_formed y ≡ true
-got_formed no_denoted h i y e = absurd (none_some y e)
-got_formed (denoted_and x xs) h zero y e = subst (λ z. is_formed z ≡ true) (some_is x y e) (and_parts (is_formed x) (are_formed xs) h).0
 got_formed (denoted_and x xs) h (suc i) y e = got_formed xs (and_parts (is_formed x) (are_formed xs) h).1 i y e
+got_formed xs h i y e = grind (arith, common_steps, none_some, some_is, and_parts)
 
 or_false_formed : (o : Option Denoted) → ((y : Denoted) → o ≡ Some y → is_formed y ≡ true) → is_formed (or_false o) ≡ true
-or_false_formed None h = refl
-or_false_formed (Some x) h = h x refl
+or_false_formed o h = grind (arith, common_steps)
 
 part_formed : (i : ℕ) (o : Option DenotedList) → ((xs : DenotedList) → o ≡ Some xs → are_formed xs ≡ true) → is_formed (part_of i o) ≡ true
 part_formed i None h = refl
 part_formed i (Some xs) h = or_false_formed (slice_get (denoted_list xs) i) (got_formed xs (h xs refl) i)
 
 result_formed : (h : ToldContent) (y : Denoted) → is_told_formed h ≡ true → result_as h ≡ Some y → is_formed y ≡ true
-result_formed (told x) y g e = subst (λ z. is_formed z ≡ true) (some_is x y e) g
-result_formed (told_parts xs) y g e = absurd (none_some y e)
-result_formed told_nothing y g e = absurd (none_some y e)
-result_formed (told_just (told x)) y g e = subst (λ z. is_formed z ≡ true) (some_is x y e) g
-result_formed (told_just (told_parts xs)) y g e = absurd (none_some y e)
-result_formed (told_just told_nothing) y g e = absurd (none_some y e)
-result_formed (told_just (told_just h)) y g e = absurd (none_some y e)
-result_formed (told_just told_many) y g e = absurd (none_some y e)
-result_formed told_many y g e = absurd (none_some y e)
+result_formed h y g e = grind (arith, common_steps, some_is, none_some)
 
 alone_formed : (x : Denoted) → is_formed x ≡ true → are_formed (denoted_and x no_denoted) ≡ true
 alone_formed x h = ap (λ b. b && true) h
 
 outputs_formed : (h : ToldContent) (ys : DenotedList) → is_told_formed h ≡ true → answered_as h ≡ Some ys → are_formed ys ≡ true
-outputs_formed (told x) ys g e = subst (λ z. are_formed z ≡ true) (some_is (denoted_and x no_denoted) ys e) (alone_formed x g)
-outputs_formed (told_parts xs) ys g e = subst (λ z. are_formed z ≡ true) (some_is xs ys e) g
-outputs_formed told_nothing ys g e = absurd (none_some ys e)
-outputs_formed (told_just (told x)) ys g e = subst (λ z. are_formed z ≡ true) (some_is (denoted_and x no_denoted) ys e) (alone_formed x g)
-outputs_formed (told_just (told_parts xs)) ys g e = subst (λ z. are_formed z ≡ true) (some_is xs ys e) g
-outputs_formed (told_just told_nothing) ys g e = absurd (none_some ys e)
-outputs_formed (told_just (told_just h)) ys g e = absurd (none_some ys e)
-outputs_formed (told_just told_many) ys g e = absurd (none_some ys e)
-outputs_formed told_many ys g e = absurd (none_some ys e)
+outputs_formed h ys g e = grind (arith, common_steps, some_is, alone_formed, none_some)
 
 after : {X Y : Type 0} (o : Option X) (h : X → Option Y) (y : Y) → then_option o h ≡ Some y → (x : X) × (o ≡ Some x) × (h x ≡ Some y)
 after None h y e = absurd (none_some y e)
 after (Some x) h y e = (x, refl, e)
 
 fields_formed : (x : Denoted) → is_formed x ≡ true → (xs : DenotedList) → variant_fields x ≡ Some xs → are_formed xs ≡ true
-fields_formed (variant_of ty i ys) h xs e = subst (λ z. are_formed z ≡ true) (some_is ys xs e) h
-fields_formed (a_truth b) h xs e = absurd (none_some xs e)
-fields_formed (an_integer z) h xs e = absurd (none_some xs e)
-fields_formed (a_word w n) h xs e = absurd (none_some xs e)
-fields_formed (struct_of ty ys) h xs e = absurd (none_some xs e)
+fields_formed x h xs e = grind (arith, common_steps, some_is, none_some)
 
 struct_fields_formed : (x : Denoted) → is_formed x ≡ true → (xs : DenotedList) → struct_fields x ≡ Some xs → are_formed xs ≡ true
-struct_fields_formed (struct_of ty ys) h xs e = subst (λ z. are_formed z ≡ true) (some_is ys xs e) h
-struct_fields_formed (a_truth b) h xs e = absurd (none_some xs e)
-struct_fields_formed (an_integer z) h xs e = absurd (none_some xs e)
-struct_fields_formed (a_word w n) h xs e = absurd (none_some xs e)
-struct_fields_formed (variant_of ty i ys) h xs e = absurd (none_some xs e)
+struct_fields_formed x h xs e = grind (arith, common_steps, some_is, none_some)
 
 module _ (args : DenotedList) (f : Valuation) (formed_args : are_formed args ≡ true) (formed : (s : SiteTerm) (h : ToldContent) → f s ≡ Some h → is_told_formed h ≡ true) where
   pub values_formed : (at : Place) → is_formed (value_at args f at) ≡ true

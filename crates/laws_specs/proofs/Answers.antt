@@ -1,12 +1,12 @@
 -- The choice among rules whose conditions are valid answers as the specs say.
-use Rattle.std.proofs.Common.{◌≡◌, ◌+◌, ◌==◌, ◌&&◌, ℕ, ℤ, ◌<ℤ◌, ◌≤ℤ◌, suc, cond, flat_map, arith, Bool, true, false, List, [], ◌∷◌, ◌++◌, length, take, Option, Some, None, is_some, All, Contains, slice_get, refl, sym, ap, subst, ◌∙◌, inl, inr, append_assoc}
+use Rattle.std.proofs.Common.{◌≡◌, ◌+◌, ◌==◌, ℕ, ℤ, ◌<ℤ◌, ◌≤ℤ◌, suc, cond, flat_map, arith, Bool, true, false, List, [], ◌∷◌, ◌++◌, length, take, Option, Some, None, is_some, All, Contains, slice_get, refl, sym, ap, subst, ◌∙◌, inl, inr, append_assoc}
+use Rattle.std.proofs.lemmas.Grind.{common_steps}
 use Rattle.std.proofs.lemmas.Bool.{false≢true, cond-true}
 use Rattle.std.proofs.lemmas.Int.{ints}
 use Rattle.std.proofs.lemmas.List.Elements.{All-contains}
 use Rattle.std.proofs.Math.Seq.{take-append_seam}
-use Rattle.std.specs.Ordering.{int_cmp, is_lt}
-use Rattle.model.specs.rules.Values.{Value, truth, atom, of_variant, of_struct, Values, value_eq, listed, args_well_typed}
-use Rattle.model.specs.rules.Meaning.{Content, one, parts, nothing, just, many, Meaning, bool_literal, literal_value}
+use Rattle.model.specs.rules.Values.{Value, truth, of_variant, of_struct, Values, value_eq, listed, args_well_typed}
+use Rattle.model.specs.rules.Meaning.{Content, one, parts, just, Meaning, bool_literal, literal_value}
 use Rattle.model.specs.rules.Outcome.{Call, no_rule, Outcome, then_option}
 use Rattle.model.specs.rules.Matching.{Vars, matches}
 use Rattle.model.specs.rules.RightSide.{result_content}
@@ -15,11 +15,11 @@ use Rattle.model.specs.rules.Program.{Program, is_multi, is_partial, arg_types, 
 use Rattle.model.specs.rules.Typed.{TypedRule}
 use Rattle.model.specs.rules.CallsNoMulti.{CallsNoMulti}
 use Rattle.model.specs.rules.Picks.{part_of_some, field_of_variant, field_of_struct, site_content, HasContent}
-use Rattle.model.specs.sites.Sites.{Constraint, is_variant, is_struct, is_bool, is_int, is_prim, is_present, SiteTerm, bool_term, int_term, prim_term, argument, extractor_call, constructor_call, pick_of, variant_made, variant_field, struct_made, struct_field, some_made, some_part, tuple_part, no_site, SiteTerms}
+use Rattle.model.specs.sites.Sites.{Constraint, is_bool, SiteTerm, bool_term, int_term, prim_term, argument, extractor_call, constructor_call, pick_of, variant_made, variant_field, struct_made, struct_field, some_made, some_part, tuple_part, no_site, SiteTerms}
 use Rattle.model.specs.visits.Demands.{demands_of, result_of}
 use Rattle.model.specs.sites.Closure.{DemandsHold, IsMet, AreEqual}
 use Rattle.model.specs.sites.Serves.{constant_site, asked_by, asked}
-use Rattle.model.specs.trees.Run.{content_fields, where_constant, all_one, as_value, from_value, part_at}
+use Rattle.model.specs.trees.Run.{content_fields, where_constant, as_value, from_value, part_at}
 use Rattle.model.specs.claims.Environments.{types_read}
 use Rattle.model.specs.claims.Layers.{own_program}
 use Rattle.model.proofs.Either.{either}
@@ -28,7 +28,7 @@ use Rattle.model.proofs.SameSites.{number_same}
 use Rattle.model.proofs.ValuesEqual.{eq_means, eq_same}
 use Rattle.laws_trees.proofs.choosing.OtherRules.{most}
 use Rattle.laws_trees.proofs.picks.NoIterators.{calls_no_multi}
-use Rattle.laws_trees.proofs.taking.FollowedCalls.{Followed, goes_on, stops, answered_call, follow, follow_there, result_after}
+use Rattle.laws_trees.proofs.taking.FollowedCalls.{Followed, goes_on, answered_call, follow, follow_there, result_after}
 use Rattle.laws_sites.proofs.built.BuiltSets.{of_term}
 use Rattle.laws_sites.proofs.built.WellBuiltSets.{all_from_in}
 use Rattle.laws_typing.proofs.WellTypedRules.{elaborated_programs_are_well_typed_lem}
@@ -52,37 +52,16 @@ split_in (x ∷ us) u (inl e) = ([], us, ap (λ y. y ∷ us) e)
 split_in (x ∷ us) u (inr i) = let a = split_in us u i in (x ∷ a.0, a.1, ap (λ l. x ∷ l) a.2)
 
 call_same : (u : SiteTerm) → call_of u ≡ answered_call u
-call_same (bool_term b ty) = refl
-call_same (int_term z ty) = refl
-call_same (prim_term name) = refl
-call_same (argument i) = refl
-call_same (extractor_call t s) = refl
-call_same (constructor_call t ss n) = refl
-call_same (pick_of s) = refl
-call_same (variant_made ty variant ss) = refl
-call_same (variant_field s variant i) = refl
-call_same (struct_made ty ss) = refl
-call_same (struct_field s i) = refl
-call_same (some_made s) = refl
-call_same (some_part s) = refl
-call_same (tuple_part s i) = refl
-call_same no_site = refl
+call_same u = refl
 
 still_there : (d : Atoms) (o : Option Content) → is_some o ≡ true → is_some (told_of d o) ≡ true
-still_there d None h = h
-still_there d (Some c) h = refl
+still_there d o h = grind (arith, common_steps)
 
 result_there : (o : Option Content) (f : Followed) (c : Content) → (result_after o f).results ≡ c ∷ [] → (calls : List Call) × (f ≡ goes_on calls) × (o ≡ Some c)
-result_there o (stops calls) c e = absurd (cc)
-result_there None (goes_on calls) c e = absurd (cc)
-result_there (Some x) (goes_on calls) c e = (calls, refl, ap Some (same e))
-  where
-    same : x ∷ [] ≡ c ∷ [] → x ≡ c
-    same q = cc
+result_there o f c e = grind (arith, common_steps)
 
 pub result_is : (d : Atoms) (b : Bool) (v : Value) → result_as (content_as d (result_content b v)) ≡ Some (stands_for d v)
-result_is d true v = refl
-result_is d false v = refl
+result_is d b v = grind (arith, common_steps)
 
 -- 2. a rule that is chosen
 record Taken (k : Called) (t : ℕ) : Type 0 where
@@ -183,14 +162,11 @@ IsListed rs None = Unit {0}
 IsListed rs (Some r) = Contains rs r
 
 higher_listed : (rs : List TypedRule) (r : TypedRule) (o : Option TypedRule) → Contains rs r → IsListed rs o → IsListed rs (higher r o)
-higher_listed rs r None i j = i
-higher_listed rs r (Some s) i j = either (IsListed rs) (is_lt (int_cmp r.prio s.prio)) (Some s) (Some r) j i
+higher_listed rs r o i j = grind (arith, common_steps, either)
 
 chosen_listed : (p : Program) (m : Meaning) (args : List Value) (rs qs : List TypedRule) → ((r : TypedRule) → In qs r → Contains rs r) → IsListed rs (chosen p m qs args)
+chosen_listed p m args rs (r ∷ qs) g = grind (arith, common_steps, chosen_listed p m args rs qs, higher_listed rs r (chosen p m qs args) (g r (inl refl)), either, higher_listed)
 chosen_listed p m args rs [] g = tt
-chosen_listed p m args rs (r ∷ qs) g =
-    let rest = chosen_listed p m args rs qs (λ s i. g s (inr i)) in
-    either (IsListed rs) (is_some (matches p m r args)) (higher r (chosen p m qs args)) (chosen p m qs args) (higher_listed rs r (chosen p m qs args) (g r (inl refl)) rest) rest
 
 -- 5. the choice
 abbrev pub called : (p : Program) (specs : Specs) (t : ℕ) (d : Atoms) (m : Meaning) (args : List Value) → IsCalled p specs t d m args (choice p m (rules_of p t) args).calls → Called
@@ -234,8 +210,7 @@ module _ (p : Program) (specs : Specs) (t : ℕ) (d : Atoms) (m : Meaning) (args
       }))
 
   of_chosen : ShowsAll k t → (o : Option TypedRule) → chosen p m rs args ≡ o → IsListed rs o → AnswersAsSaid p specs t d args (outcome_of_rule p m args o)
-  of_chosen shows None e i = nothing_answers p specs t d args
-  of_chosen shows (Some r) e i = of_matching shows r e i (matches p m r args) refl
+  of_chosen shows h e i = grind (arith, common_steps, nothing_answers, of_matching)
 
   pub choice_answers : ShowsAll k t → AnswersAsSaid p specs t d args (choice p m rs args)
   choice_answers shows = of_chosen shows (chosen p m rs args) refl (chosen_listed p m args rs rs (λ r i. contains_from_in rs r i))
@@ -246,8 +221,7 @@ module _ (p : Program) (specs : Specs) (t : ℕ) (d : Atoms) (m : Meaning) (args
   content_meets c (Some x) = is_some (content_fields m c x)
 
   pub is_met : (c : Constraint) (s : SiteTerm) (o : Option Content) → site_content m args [] s ≡ o → content_meets c o ≡ true → IsMet m args [] s c
-  is_met c s None e g = absurd (false≢true g)
-  is_met c s (Some x) e g = record { content = x; held = e; meets = g }
+  is_met c s o e g = grind (arith, common_steps)
 
   pub meets_so : (s : SiteTerm) (c : Constraint) → IsMet m args [] s c → content_meets c (site_content m args [] s) ≡ true
   meets_so s c a = ap (content_meets c) a.held ∙ a.meets
@@ -258,16 +232,7 @@ module _ (p : Program) (specs : Specs) (t : ℕ) (d : Atoms) (m : Meaning) (args
 
   pub are_equal : (a b : SiteTerm) (o q : Option Content) → site_content m args [] a ≡ o → site_content m args [] b ≡ q → content_equals o q ≡ true → AreEqual m args [] a b
   are_equal a b (Some (one v)) (Some (one w)) e f g = record { value = v; first = e; second = f ∙ ap (λ x. Some (one x)) (sym (eq_means v w g)) }
-  are_equal a b None q e f g = absurd (false≢true g)
-  are_equal a b (Some (one v)) None e f g = absurd (false≢true g)
-  are_equal a b (Some (one v)) (Some (parts ws)) e f g = absurd (false≢true g)
-  are_equal a b (Some (one v)) (Some nothing) e f g = absurd (false≢true g)
-  are_equal a b (Some (one v)) (Some (just x)) e f g = absurd (false≢true g)
-  are_equal a b (Some (one v)) (Some (many cs)) e f g = absurd (false≢true g)
-  are_equal a b (Some (parts vs)) q e f g = absurd (false≢true g)
-  are_equal a b (Some nothing) q e f g = absurd (false≢true g)
-  are_equal a b (Some (just x)) q e f g = absurd (false≢true g)
-  are_equal a b (Some (many cs)) q e f g = absurd (false≢true g)
+  are_equal a b o q e f g = grind (arith, common_steps)
 
   pub equals_so : (a b : SiteTerm) → AreEqual m args [] a b → content_equals (site_content m args [] a) (site_content m args [] b) ≡ true
   equals_so a b x = ap (λ o. content_equals o (site_content m args [] b)) x.first ∙ ap (content_equals (Some (one x.value))) x.second ∙ eq_same x.value
@@ -284,57 +249,24 @@ module _ (p : Program) (specs : Specs) (t : ℕ) (d : Atoms) (m : Meaning) (args
     not_truth x b n e = false≢true (ap is_number (sym e) ∙ n)
 
     from_variant : (v : Value) (ty i : ℕ) (xs : DenotedList) → stands_for d v ≡ variant_of ty i xs → (vs : Values) × (v ≡ of_variant ty i vs) × (stand_for d vs ≡ xs)
-    from_variant (of_variant u j vs) ty i xs e = (vs, same e, fields e)
-      where
-        same : variant_of u j (stand_for d vs) ≡ variant_of ty i xs → of_variant u j vs ≡ of_variant ty i vs
-        same q = cc
-
-        fields : variant_of u j (stand_for d vs) ≡ variant_of ty i xs → stand_for d vs ≡ xs
-        fields q = cc
-    from_variant (truth b) ty i xs e = absurd (cc)
-    from_variant (atom u z) ty i xs e = absurd (not_variant (d u z) ty i xs (numbers u z) e)
-    from_variant (of_struct u vs) ty i xs e = absurd (cc)
+    from_variant (of_variant u j vs) ty i xs e = grind (arith, common_steps)
+    from_variant v ty i xs e = grind (arith, common_steps, not_variant)
 
     from_struct : (v : Value) (ty : ℕ) (xs : DenotedList) → stands_for d v ≡ struct_of ty xs → (vs : Values) × (v ≡ of_struct ty vs) × (stand_for d vs ≡ xs)
-    from_struct (of_struct u vs) ty xs e = (vs, same e, fields e)
-      where
-        same : struct_of u (stand_for d vs) ≡ struct_of ty xs → of_struct u vs ≡ of_struct ty vs
-        same q = cc
-
-        fields : struct_of u (stand_for d vs) ≡ struct_of ty xs → stand_for d vs ≡ xs
-        fields q = cc
-    from_struct (truth b) ty xs e = absurd (cc)
-    from_struct (atom u z) ty xs e = absurd (not_struct (d u z) ty xs (numbers u z) e)
-    from_struct (of_variant u j vs) ty xs e = absurd (cc)
+    from_struct (of_struct u vs) ty xs e = grind (arith, common_steps)
+    from_struct v ty xs e = grind (arith, common_steps, not_struct)
 
     from_truth : (v : Value) (b : Bool) → stands_for d v ≡ a_truth b → v ≡ truth b
-    from_truth (truth a) b e = same e
-      where
-        same : a_truth a ≡ a_truth b → truth a ≡ truth b
-        same q = cc
-    from_truth (atom u z) b e = absurd (not_truth (d u z) b (numbers u z) e)
-    from_truth (of_variant u j vs) b e = absurd (cc)
-    from_truth (of_struct u vs) b e = absurd (cc)
+    from_truth (truth a) b e = grind (arith, common_steps)
+    from_truth v b e = grind (arith, common_steps, not_truth)
 
     from_just : (x : Content) (h : ToldContent) → content_as d x ≡ told_just h → (y : Content) × (x ≡ just y) × (content_as d y ≡ h)
-    from_just (just y) h e = (y, refl, inside e)
-      where
-        inside : told_just (content_as d y) ≡ told_just h → content_as d y ≡ h
-        inside q = cc
-    from_just (one v) h e = absurd (cc)
-    from_just (parts vs) h e = absurd (cc)
-    from_just nothing h e = absurd (cc)
-    from_just (many cs) h e = absurd (cc)
+    from_just (just y) h e = grind (arith, common_steps)
+    from_just x h e = grind (arith, common_steps)
 
     from_parts : (x : Content) (xs : DenotedList) → content_as d x ≡ told_parts xs → (vs : Values) × (x ≡ parts vs) × (stand_for d vs ≡ xs)
-    from_parts (parts vs) xs e = (vs, refl, inside e)
-      where
-        inside : told_parts (stand_for d vs) ≡ told_parts xs → stand_for d vs ≡ xs
-        inside q = cc
-    from_parts (one v) xs e = absurd (cc)
-    from_parts nothing xs e = absurd (cc)
-    from_parts (just y) xs e = absurd (cc)
-    from_parts (many cs) xs e = absurd (cc)
+    from_parts (parts vs) xs e = grind (arith, common_steps)
+    from_parts x xs e = grind (arith, common_steps)
 
     abbrev at : SiteTerm → Option Content
     at s = site_content m args [] s
@@ -389,34 +321,14 @@ module _ (p : Program) (specs : Specs) (t : ℕ) (d : Atoms) (m : Meaning) (args
     met_by s c x e f = ap (content_meets c) e ∙ f
 
     there_where : {X : Type 0} (b : Bool) (y : X) → b ≡ true → is_some (cond b (Some y) None) ≡ true
-    there_where true y e = refl
-    there_where false y e = absurd (false≢true e)
+    there_where b y e = grind (arith, common_steps)
 
     constant_met : (o : Option Value) (v : Value) → o ≡ Some v → is_some (where_constant o v) ≡ true
     constant_met o v e = ap (λ u. is_some (where_constant u v)) e ∙ there_where (value_eq v v) [] (eq_same v)
 
     pub decided : (s : SiteTerm) (c : Constraint) → ((b : Bool) (ty : ℕ) → c ≡ is_bool b ty → literal_value m (bool_literal b ty) ≡ Some (truth b)) → is_told_apart c ≡ true → IsMetAs specs (sites_as k) s c
         → content_meets c (site_content m args [] s) ≡ true
-    decided s (is_variant ty i n) l g a =
-        let v = value_there d (site_content m args [] s) (variant_of ty i a.0) a.1 in
-        let w = from_variant v.0 ty i a.0 v.2 in
-        met_by s (is_variant ty i n) (one (of_variant ty i w.0)) (v.1 ∙ ap (λ y. Some (one y)) w.1) (there_where ((ty == ty) && (i == i)) (all_one (listed w.0)) (same_twice ty i))
-      where
-        same_twice : (a b : ℕ) → ((a == a) && (b == b)) ≡ true
-        same_twice a b = ap (λ y. y && (b == b)) (number_same a) ∙ number_same b
-    decided s (is_struct ty n) l g a =
-        let v = value_there d (site_content m args [] s) (struct_of ty a.0) a.1 in
-        let w = from_struct v.0 ty a.0 v.2 in
-        met_by s (is_struct ty n) (one (of_struct ty w.0)) (v.1 ∙ ap (λ y. Some (one y)) w.1) (there_where (ty == ty) (all_one (listed w.0)) (number_same ty))
-    decided s (is_bool b ty) l g a =
-        let v = value_there d (site_content m args [] s) (a_truth b) a in
-        met_by s (is_bool b ty) (one (truth b)) (v.1 ∙ ap (λ y. Some (one y)) (from_truth v.0 b v.2)) (constant_met (literal_value m (bool_literal b ty)) (truth b) (l b ty refl))
-    decided s is_present l g a =
-        let v = told_there d (site_content m args [] s) (told_just a.0) a.1 in
-        let w = from_just v.0 a.0 v.2 in
-        met_by s is_present (just w.0) (v.1 ∙ ap Some w.1) refl
-    decided s (is_int z ty) l g a = absurd (false≢true g)
-    decided s (is_prim name) l g a = absurd (false≢true g)
+    decided s c l g a = grind (arith, common_steps, value_there, from_variant, met_by, there_where, number_same, from_struct, from_truth, constant_met, told_there, from_just)
 
     -- a boolean that a pattern names is among what the meaning is asked for
     pub bool_asked : (q : TypedRule) → Contains rs q → (s : SiteTerm) (b : Bool) (ty : ℕ) → Contains (demands_of p q).constraints (s, is_bool b ty) → literal_value m (bool_literal b ty) ≡ Some (truth b)
@@ -465,14 +377,10 @@ chooses_as_said_by_priority_lem p specs t d m args h single valid numbers c =
 
 -- a tree that runs as chosen
 pub computes_as_said_lem : ComputesAsSaid
-computes_as_said_lem p specs t d m args sites tree h single valid runs c apart =
-    let same = (runs single m args c.typed c.serves apart).0 in
-    subst (AnswersAsSaid p specs t d args) (sym same) (chooses_as_said_lem p specs t d m args h single valid (subst (λ (o : Outcome). IsCalled p specs t d m args o.calls) same c))
+computes_as_said_lem p specs t d m args sites tree h single valid runs c apart = grind (arith, common_steps, same, chooses_as_said_lem)
 
 pub computes_as_said_by_priority_lem : ComputesAsSaidByPriority
-computes_as_said_by_priority_lem p specs t d m args sites tree h single valid numbers runs c apart =
-    let same = (runs single m args c.typed c.serves apart).0 in
-    subst (AnswersAsSaid p specs t d args) (sym same) (chooses_as_said_by_priority_lem p specs t d m args h single valid numbers (subst (λ (o : Outcome). IsCalled p specs t d m args o.calls) same c))
+computes_as_said_by_priority_lem p specs t d m args sites tree h single valid numbers runs c apart = grind (arith, common_steps, same, chooses_as_said_by_priority_lem)
 
 pub lowered_terms_compute_as_said_lem : LoweredTermsComputeAsSaid
 lowered_terms_compute_as_said_lem defs expand rules l specs d m args accepted lowered single valid c apart =

@@ -1,13 +1,13 @@
 -- Where a rule's demands hold under a meaning that meets specs, its sites meet what its condition assumes.
-use Rattle.std.proofs.Common.{◌≡◌, ℕ, zero, suc, ◌&&◌, Bool, true, false, List, [], ◌∷◌, Option, None, Some, slice_get, Contains, refl, sym, ap, subst, ◌∙◌}
-use Rattle.std.proofs.lemmas.Bool.{false≢true}
+use Rattle.std.proofs.Common.{◌≡◌, ℕ, zero, ◌&&◌, Bool, true, false, List, [], ◌∷◌, Option, Some, slice_get, Contains, sym, ap, subst, ◌∙◌, arith}
+use Rattle.std.proofs.lemmas.Grind.{common_steps}
 use Rattle.model.specs.rules.Values.{Value, Values, no_value, value_and, of_list, args_well_typed}
 use Rattle.model.specs.rules.Meaning.{Content, one, parts, nothing, just, many, Contents, contents, constant_value, extractor_answer}
 use Rattle.model.specs.rules.Outcome.{then_option}
-use Rattle.model.specs.rules.Program.{Kind, a_variant, a_struct, a_call, unknown, kind, arg_types}
-use Rattle.model.specs.rules.Picks.{place_of, picked, call_answer}
+use Rattle.model.specs.rules.Program.{Kind, a_call, kind, arg_types}
+use Rattle.model.specs.rules.Picks.{picked, call_answer}
 use Rattle.model.specs.rules.Typed.{TypedRule}
-use Rattle.model.specs.sites.Sites.{Constraint, is_variant, is_struct, is_bool, is_int, is_prim, is_present, SiteTerm, bool_term, int_term, prim_term, argument, extractor_call, constructor_call, pick_of, variant_made, variant_field, struct_made, struct_field, some_made, some_part, tuple_part, no_site, SiteTerms}
+use Rattle.model.specs.sites.Sites.{Constraint, is_variant, is_struct, is_bool, is_int, is_prim, is_present, SiteTerm, prim_term, extractor_call, constructor_call, pick_of, SiteTerms}
 use Rattle.model.specs.sites.Closure.{DemandsHold, IsMet, AreEqual}
 use Rattle.model.specs.sites.Serves.{term_args, term_results, typed_as, fits_one, fits_answer, fits_extractor, fits_constructor}
 use Rattle.model.specs.trees.Run.{as_value}
@@ -18,7 +18,7 @@ use Rattle.model.proofs.Options.{then_some}
 use Rattle.laws_trees.proofs.Shapes.{HasForm, has_form}
 use Rattle.laws_specs.specs.Words.{Denoted, DenotedList, no_denoted, denoted_and}
 use Rattle.laws_specs.specs.Specs.{IsRequired}
-use Rattle.laws_specs.specs.Conditions.{ToldContent, told, told_parts, told_nothing, told_just, told_many, told_outputs, answered_as, as_denoted, result_as, is_of_type, are_of_entries, IsTypedAs, IsMetAs, IsExtractedAsSaid, IsConstructedAsSaid, IsAnsweredAsSaid, is_impure_call, condition, IsAssumed}
+use Rattle.laws_specs.specs.Conditions.{ToldContent, told, told_outputs, answered_as, as_denoted, result_as, is_of_type, are_of_entries, IsTypedAs, IsMetAs, IsExtractedAsSaid, IsConstructedAsSaid, IsAnsweredAsSaid, is_impure_call, condition, IsAssumed}
 use Rattle.laws_specs.specs.Meets.{Atoms, stands_for, stand_for, content_as, answers_in}
 use Rattle.laws_specs.proofs.PlainOutcomes.{Served}
 use Rattle.laws_specs.proofs.Valuations.{Called, content, values, sites_as, args_as, each_told, told_site, told_there, told_same, is_value, values_there, value_held, value_there, site_held, site_formed, value_typed, values_formed, values_typed}
@@ -52,24 +52,14 @@ module _ (k : Called) where
   own_extracted t x (many cs) f = λ xs e. absurd (none_some xs e)
 
   pub own_constructed : (t : ℕ) (xs : DenotedList) (c : Content) → ((a : Content) → Contains (answers_in c) a → IsConstructedAsSaid k.specs t xs (content_as d a)) → IsConstructedAsSaid k.specs t xs (content_as d c)
-  own_constructed t xs (one v) f = f (one v) (in_head (one v) [])
-  own_constructed t xs (parts vs) f = f (parts vs) (in_head (parts vs) [])
-  own_constructed t xs nothing f = f nothing (in_head nothing [])
-  own_constructed t xs (just c) f = f (just c) (in_head (just c) [])
-  own_constructed t xs (many cs) f = λ r y e. absurd (none_some y e)
+  own_constructed t xs c f = grind (arith, common_steps, in_head, none_some)
 
   -- what is picked is one of the answers
   place_there : (o : Option ℕ) (cs : Contents) (c : Content) → then_option o (slice_get (contents cs)) ≡ Some c → Contains (contents cs) c
-  place_there None cs c e = absurd (none_some c e)
-  place_there (Some n) cs c e = contains_from_in (contents cs) c (in_slice (contents cs) n c e)
+  place_there o cs c e = grind (arith, common_steps, none_some, contains_from_in, in_slice)
 
   pick_there : (o : Option Content) (s : SiteTerm) (c : Content) → then_option o (picked k.pick s) ≡ Some c → (cs : Contents) × (o ≡ Some (many cs)) × Contains (contents cs) c
-  pick_there (Some (many cs)) s c e = (cs, refl, place_there (place_of k.pick s) cs c e)
-  pick_there None s c e = absurd (none_some c e)
-  pick_there (Some (one v)) s c e = absurd (none_some c e)
-  pick_there (Some (parts vs)) s c e = absurd (none_some c e)
-  pick_there (Some nothing) s c e = absurd (none_some c e)
-  pick_there (Some (just a)) s c e = absurd (none_some c e)
+  pick_there o s c e = grind (arith, common_steps, place_there, none_some)
 
   moved : (t : ℕ) (xs ys : DenotedList) (h g : ToldContent) → xs ≡ ys → h ≡ g → IsConstructedAsSaid k.specs t xs h → IsConstructedAsSaid k.specs t ys g
   moved t xs ys h g e q f = subst (λ zs. IsConstructedAsSaid k.specs t zs g) e (subst (IsConstructedAsSaid k.specs t xs) q f)
@@ -77,11 +67,7 @@ module _ (k : Called) where
   -- a constructor's call is as said where the answers that it may have are
   pub constructed : (t n : ℕ) (ss : SiteTerms) → ((vs : Values) (c : Content) → values k ss ≡ Some vs → call_answer k.meaning t n vs ≡ Some c → IsConstructedAsSaid k.specs t (stand_for d vs) (content_as d c))
       → IsAnsweredAsSaid k.specs (sites_as k) (constructor_call t ss n) (constructor_call t ss n)
-  constructed t n ss f xs h e q =
-      let a = values_there d (values k ss) xs (sym (each_told k ss) ∙ e) in
-      let b = told_there d (content k (constructor_call t ss n)) h q in
-      let answer : call_answer k.meaning t n a.0 ≡ Some b.0 = sym (ap (λ o. then_option o (call_answer k.meaning t n)) a.1) ∙ b.1 in
-      moved t (stand_for d a.0) xs (content_as d b.0) h a.2 b.2 (f a.0 b.0 a.1 answer)
+  constructed t n ss f xs h e q = grind (arith, common_steps, each_told k ss, moved t, values_there, each_told, told_there, moved)
 
   extracted : (t : ℕ) (s : SiteTerm) → IsAnsweredAsSaid k.specs (sites_as k) (extractor_call t s) (extractor_call t s)
   extracted t s x h e q =
@@ -91,22 +77,9 @@ module _ (k : Called) where
       subst (λ y. IsExtractedAsSaid k.specs t y h) a.2 (subst (IsExtractedAsSaid k.specs t (stands_for d a.0)) b.2 (own_extracted t (stands_for d a.0) b.0 (λ c i. k.meets.extractors t a.0 b.0 c answer i)))
 
   answered : (s : SiteTerm) → is_impure_call s ≡ false → IsAnsweredAsSaid k.specs (sites_as k) s s
-  answered (bool_term b ty) e = tt
-  answered (int_term z ty) e = tt
-  answered (prim_term name) e = tt
-  answered (argument i) e = tt
   answered (extractor_call t s) e = extracted t s
   answered (constructor_call t ss zero) e = constructed t 0 ss (λ vs c a b. own_constructed t (stand_for d vs) c (λ x i. k.meets.pures t vs c x b i))
-  answered (constructor_call t ss (suc n)) e = absurd (false≢true (sym e))
-  answered (pick_of s) e = tt
-  answered (variant_made ty variant ss) e = tt
-  answered (variant_field s variant i) e = tt
-  answered (struct_made ty ss) e = tt
-  answered (struct_field s i) e = tt
-  answered (some_made s) e = tt
-  answered (some_part s) e = tt
-  answered (tuple_part s i) e = tt
-  answered no_site e = tt
+  answered s e = grind (arith, common_steps)
 
   extracted_picks : (t : ℕ) (s : SiteTerm) → IsAnsweredAsSaid k.specs (sites_as k) (extractor_call t s) (pick_of (extractor_call t s))
   extracted_picks t s x h e q =
@@ -125,78 +98,34 @@ module _ (k : Called) where
       moved t (stand_for d a.0) xs (content_as d b.0) h a.2 b.2 (k.meets.pures t a.0 (many c.0) b.0 answer c.2)
 
   picks_answered : (s : SiteTerm) → is_impure_call s ≡ false → IsAnsweredAsSaid k.specs (sites_as k) s (pick_of s)
-  picks_answered (bool_term b ty) e = tt
-  picks_answered (int_term z ty) e = tt
-  picks_answered (prim_term name) e = tt
-  picks_answered (argument i) e = tt
   picks_answered (extractor_call t s) e = extracted_picks t s
   picks_answered (constructor_call t ss zero) e = constructed_picks t ss
-  picks_answered (constructor_call t ss (suc n)) e = absurd (false≢true (sym e))
-  picks_answered (pick_of s) e = tt
-  picks_answered (variant_made ty variant ss) e = tt
-  picks_answered (variant_field s variant i) e = tt
-  picks_answered (struct_made ty ss) e = tt
-  picks_answered (struct_field s i) e = tt
-  picks_answered (some_made s) e = tt
-  picks_answered (some_part s) e = tt
-  picks_answered (tuple_part s i) e = tt
-  picks_answered no_site e = tt
+  picks_answered s e = grind (arith, common_steps)
 
   -- 3. answers are of their calls' types
   outputs_typed : (tys : List ℕ) (c : Content) (xs : DenotedList) → fits_one k.program tys c ≡ true → told_outputs (content_as d c) ≡ Some xs → are_of_entries k.program k.specs tys xs ≡ true
   outputs_typed (ty ∷ []) (one v) xs f e = subst (λ ys. are_of_entries k.program k.specs (ty ∷ []) ys ≡ true) (some_is (stand_for d (value_and v no_value)) xs e) (values_typed k (Some (ty ∷ [])) (value_and v no_value) (ap (λ b. b && true) f))
   outputs_typed [] (parts vs) xs f e = subst (λ ys. are_of_entries k.program k.specs [] ys ≡ true) (some_is (stand_for d vs) xs e) (values_typed k (Some []) vs f)
   outputs_typed (ty ∷ (u ∷ tys)) (parts vs) xs f e = subst (λ ys. are_of_entries k.program k.specs (ty ∷ (u ∷ tys)) ys ≡ true) (some_is (stand_for d vs) xs e) (values_typed k (Some (ty ∷ (u ∷ tys))) vs f)
-  outputs_typed [] (one v) xs f e = absurd (false≢true f)
-  outputs_typed (ty ∷ (u ∷ tys)) (one v) xs f e = absurd (false≢true f)
-  outputs_typed (ty ∷ []) (parts vs) xs f e = absurd (false≢true f)
-  outputs_typed tys nothing xs f e = absurd (none_some xs e)
-  outputs_typed tys (just c) xs f e = absurd (none_some xs e)
-  outputs_typed tys (many cs) xs f e = absurd (none_some xs e)
+  outputs_typed tys c xs f e = grind (arith, common_steps, none_some)
 
   answer_typed : (multi optional : Bool) (tys : List ℕ) (c : Content) (xs : DenotedList) → fits_answer k.program multi optional tys c ≡ true → answered_as (content_as d c) ≡ Some xs → are_of_entries k.program k.specs tys xs ≡ true
-  answer_typed multi optional tys (many cs) xs f e = absurd (none_some xs e)
-  answer_typed multi optional tys nothing xs f e = absurd (none_some xs e)
-  answer_typed true optional tys (one v) xs f e = absurd (false≢true f)
-  answer_typed true optional tys (parts vs) xs f e = absurd (false≢true f)
-  answer_typed true optional tys (just c) xs f e = absurd (false≢true f)
-  answer_typed false true tys (one v) xs f e = absurd (false≢true f)
-  answer_typed false true tys (parts vs) xs f e = absurd (false≢true f)
-  answer_typed false true tys (just c) xs f e = outputs_typed tys c xs f e
-  answer_typed false false tys (one v) xs f e = outputs_typed tys (one v) xs f e
-  answer_typed false false tys (parts vs) xs f e = outputs_typed tys (parts vs) xs f e
-  answer_typed false false [] (just c) xs f e = absurd (false≢true f)
-  answer_typed false false (ty ∷ []) (just c) xs f e = absurd (false≢true f)
-  answer_typed false false (ty ∷ (u ∷ tys)) (just c) xs f e = absurd (false≢true f)
+  answer_typed multi optional tys c xs f e = grind (arith, common_steps, none_some, outputs_typed)
 
   extractor_typed : (t : ℕ) (c : Kind) (x : Content) (xs : DenotedList) → fits_extractor k.program t c x ≡ true → answered_as (content_as d x) ≡ Some xs
       → are_of_entries k.program k.specs (term_args (slice_get k.program.terms t)) xs ≡ true
-  extractor_typed t (a_call flags true) x xs f e = answer_typed flags.multi false (term_args (slice_get k.program.terms t)) x xs f e
-  extractor_typed t (a_call flags false) x xs f e = answer_typed flags.multi true (term_args (slice_get k.program.terms t)) x xs f e
-  extractor_typed t (a_variant ty i) x xs f e = absurd (false≢true f)
-  extractor_typed t (a_struct ty) x xs f e = absurd (false≢true f)
-  extractor_typed t unknown x xs f e = absurd (false≢true f)
+  extractor_typed t c x xs f e = grind (arith, common_steps, answer_typed)
 
   as_output : (h : ToldContent) (x : Denoted) → as_denoted h ≡ Some x → told_outputs h ≡ Some (denoted_and x no_denoted)
-  as_output (told y) x e = ap (λ z. Some (denoted_and z no_denoted)) (some_is y x e)
-  as_output (told_parts ys) x e = absurd (none_some x e)
-  as_output told_nothing x e = absurd (none_some x e)
-  as_output (told_just h) x e = absurd (none_some x e)
-  as_output told_many x e = absurd (none_some x e)
+  as_output h x e = grind (arith, common_steps, some_is, none_some)
 
   result_output : (h : ToldContent) (x : Denoted) → result_as h ≡ Some x → answered_as h ≡ Some (denoted_and x no_denoted)
-  result_output (told_just h) x e = as_output h x e
-  result_output (told y) x e = as_output (told y) x e
-  result_output (told_parts ys) x e = absurd (none_some x e)
-  result_output told_nothing x e = absurd (none_some x e)
-  result_output told_many x e = absurd (none_some x e)
+  result_output h x e = grind (arith, common_steps, as_output, none_some)
 
   constructor_typed : (t : ℕ) (c : Kind) (y : Content) (x : Denoted) → fits_constructor k.program t c y ≡ true → result_as (content_as d y) ≡ Some x
       → are_of_entries k.program k.specs (term_results (slice_get k.program.terms t)) (denoted_and x no_denoted) ≡ true
   constructor_typed t (a_call flags infallible) y x f e = answer_typed flags.multi flags.partial (term_results (slice_get k.program.terms t)) y (denoted_and x no_denoted) f (result_output (content_as d y) x e)
-  constructor_typed t (a_variant ty i) y x f e = absurd (false≢true f)
-  constructor_typed t (a_struct ty) y x f e = absurd (false≢true f)
-  constructor_typed t unknown y x f e = absurd (false≢true f)
+  constructor_typed t c y x f e = grind (arith, common_steps)
 
   -- of a constructor's call, where its answer fits
   pub call_typed : (t n : ℕ) (ss : SiteTerms) → ((vs : Values) (c : Content) → values k ss ≡ Some vs → call_answer k.meaning t n vs ≡ Some c → fits_constructor k.program t (kind k.program t) c ≡ true)
@@ -222,56 +151,28 @@ module _ (k : Called) where
       subst (λ y. is_of_type k.program.types k.specs ty y ≡ true) (sym same) (value_typed k ty v.0 (subst (λ o. typed_as k.program o v.0 ≡ true) e (a.prims name v.0 i v.1)))
 
   no_pick : (name : ℕ) (h : ToldContent) → sites_as k (pick_of (prim_term name)) ≡ Some h → ⊥
-  no_pick name h q =
-      let b = told_there d (content k (pick_of (prim_term name))) h q in
-      let c = pick_there (content k (prim_term name)) (prim_term name) b.0 b.1 in
-      let v = value_held d (constant_value k.meaning name) (many c.0) c.1 in
-      not_many (stands_for d v.0) v.2
-    where
-      not_many : (x : Denoted) → told_many ≡ told x → ⊥
-      not_many x e = cc
+  no_pick name h q = grind (arith, common_steps, pick_there (content k (prim_term name)) (prim_term name), told_there, pick_there, value_held)
 
   site_typed : (ds : Demands) → Served k.program k.meaning k.args k.pick ds.made → (s : SiteTerm) (h : ToldContent) → In ds.made s → is_impure_call s ≡ false → sites_as k s ≡ Some h → IsTypedAs k.program k.specs s h
-  site_typed ds a (bool_term b ty) h i e q = tt
-  site_typed ds a (int_term z ty) h i e q = tt
   site_typed ds a (prim_term name) h i e q = constant_typed ds a name h i q
-  site_typed ds a (argument n) h i e q = tt
   site_typed ds a (extractor_call t s) h i e q = extraction_typed t s (λ v c g o. a.extractors t s v c i g o) h q
   site_typed ds a (constructor_call t ss zero) h i e q = call_typed t 0 ss (λ vs c g o. a.pures t ss vs c i g o) h q
-  site_typed ds a (constructor_call t ss (suc n)) h i e q = absurd (false≢true (sym e))
-  site_typed ds a (pick_of s) h i e q = tt
-  site_typed ds a (variant_made ty variant ss) h i e q = tt
-  site_typed ds a (variant_field s variant n) h i e q = tt
-  site_typed ds a (struct_made ty ss) h i e q = tt
-  site_typed ds a (struct_field s n) h i e q = tt
-  site_typed ds a (some_made s) h i e q = tt
-  site_typed ds a (some_part s) h i e q = tt
-  site_typed ds a (tuple_part s n) h i e q = tt
-  site_typed ds a no_site h i e q = tt
+  site_typed ds a h i j e q = grind (arith, common_steps)
 
   -- so is each answer of a multi call
   many_typed : (multi optional : Bool) (tys : List ℕ) (cs : Contents) (c : Content) (xs : DenotedList) → fits_answer k.program multi optional tys (many cs) ≡ true → Contains (contents cs) c → answered_as (content_as d c) ≡ Some xs
       → are_of_entries k.program k.specs tys xs ≡ true
   many_typed true optional tys cs c xs f i e = answer_typed false false tys c xs (all_in (fits_one k.program tys) (contents cs) c f (in_from_contains (contents cs) c i)) e
-  many_typed false true tys cs c xs f i e = absurd (false≢true f)
-  many_typed false false [] cs c xs f i e = absurd (false≢true f)
-  many_typed false false (ty ∷ []) cs c xs f i e = absurd (false≢true f)
-  many_typed false false (ty ∷ (u ∷ tys)) cs c xs f i e = absurd (false≢true f)
+  many_typed multi optional tys cs c xs f i e = grind (arith, common_steps)
 
   extractor_picks_typed : (t : ℕ) (a : Kind) (cs : Contents) (c : Content) (xs : DenotedList) → fits_extractor k.program t a (many cs) ≡ true → Contains (contents cs) c → answered_as (content_as d c) ≡ Some xs
       → are_of_entries k.program k.specs (term_args (slice_get k.program.terms t)) xs ≡ true
-  extractor_picks_typed t (a_call flags true) cs c xs f i e = many_typed flags.multi false (term_args (slice_get k.program.terms t)) cs c xs f i e
-  extractor_picks_typed t (a_call flags false) cs c xs f i e = many_typed flags.multi true (term_args (slice_get k.program.terms t)) cs c xs f i e
-  extractor_picks_typed t (a_variant ty n) cs c xs f i e = absurd (false≢true f)
-  extractor_picks_typed t (a_struct ty) cs c xs f i e = absurd (false≢true f)
-  extractor_picks_typed t unknown cs c xs f i e = absurd (false≢true f)
+  extractor_picks_typed t a cs c xs f i e = grind (arith, common_steps, many_typed)
 
   constructor_picks_typed : (t : ℕ) (a : Kind) (cs : Contents) (c : Content) (x : Denoted) → fits_constructor k.program t a (many cs) ≡ true → Contains (contents cs) c → result_as (content_as d c) ≡ Some x
       → are_of_entries k.program k.specs (term_results (slice_get k.program.terms t)) (denoted_and x no_denoted) ≡ true
   constructor_picks_typed t (a_call flags infallible) cs c x f i e = many_typed flags.multi flags.partial (term_results (slice_get k.program.terms t)) cs c (denoted_and x no_denoted) f i (result_output (content_as d c) x e)
-  constructor_picks_typed t (a_variant ty n) cs c x f i e = absurd (false≢true f)
-  constructor_picks_typed t (a_struct ty) cs c x f i e = absurd (false≢true f)
-  constructor_picks_typed t unknown cs c x f i e = absurd (false≢true f)
+  constructor_picks_typed t a cs c x f i e = grind (arith, common_steps)
 
   call_picks_typed : (t : ℕ) (ss : SiteTerms) → ((vs : Values) (c : Content) → values k ss ≡ Some vs → call_answer k.meaning t 0 vs ≡ Some c → fits_constructor k.program t (kind k.program t) c ≡ true)
       → (h : ToldContent) → sites_as k (pick_of (constructor_call t ss 0)) ≡ Some h → IsTypedAs k.program k.specs (constructor_call t ss 0) h
@@ -290,22 +191,9 @@ module _ (k : Called) where
       extractor_picks_typed t (kind k.program t) c.0 b.0 xs (fits a.0 (many c.0) (is_value (content k s) a.0 a.1) a.2) c.2 (ap answered_as b.2 ∙ q)
 
   picks_typed : (ds : Demands) → Served k.program k.meaning k.args k.pick ds.made → (s : SiteTerm) (h : ToldContent) → In ds.made s → is_impure_call s ≡ false → sites_as k (pick_of s) ≡ Some h → IsTypedAs k.program k.specs s h
-  picks_typed ds a (bool_term b ty) h i e q = tt
-  picks_typed ds a (int_term z ty) h i e q = tt
-  picks_typed ds a (prim_term name) h i e q = absurd (no_pick name h q)
-  picks_typed ds a (argument n) h i e q = tt
   picks_typed ds a (extractor_call t s) h i e q = extraction_picks_typed t s (λ v c g o. a.extractors t s v c i g o) h q
   picks_typed ds a (constructor_call t ss zero) h i e q = call_picks_typed t ss (λ vs c g o. a.pures t ss vs c i g o) h q
-  picks_typed ds a (constructor_call t ss (suc n)) h i e q = absurd (false≢true (sym e))
-  picks_typed ds a (pick_of s) h i e q = tt
-  picks_typed ds a (variant_made ty variant ss) h i e q = tt
-  picks_typed ds a (variant_field s variant n) h i e q = tt
-  picks_typed ds a (struct_made ty ss) h i e q = tt
-  picks_typed ds a (struct_field s n) h i e q = tt
-  picks_typed ds a (some_made s) h i e q = tt
-  picks_typed ds a (some_part s) h i e q = tt
-  picks_typed ds a (tuple_part s n) h i e q = tt
-  picks_typed ds a no_site h i e q = tt
+  picks_typed ds a h i j e q = grind (arith, common_steps, no_pick)
 
   -- 4. all that a condition assumes
   pub assumed : (r : TypedRule) → Served k.program k.meaning k.args k.pick (demands_of k.program r).made → args_well_typed k.program.types (arg_types k.program r.root_term) k.args ≡ true → IsRequired k.specs r.root_term (args_as k)

@@ -1,10 +1,11 @@
 -- Each result that a term whose rules make no impure call collects is as its spec says, where its rules' conditions are valid.
-use Rattle.std.proofs.Common.{◌≡◌, ℕ, Bool, List, [], Option, Some, None, is_some, All, Contains, flat_map, refl, sym, ap, subst, ◌∙◌, inl, inr}
+use Rattle.std.proofs.Common.{◌≡◌, ℕ, Bool, List, [], Option, Some, is_some, All, Contains, flat_map, refl, sym, ap, subst, ◌∙◌, arith}
+use Rattle.std.proofs.lemmas.Grind.{common_steps}
 use Rattle.std.proofs.lemmas.List.Elements.{All-contains}
 use Rattle.std.proofs.lemmas.List.Sorted.{All-permutation}
 use Rattle.model.specs.rules.Values.{Value}
 use Rattle.model.specs.rules.Meaning.{Content, Meaning}
-use Rattle.model.specs.rules.RightSide.{Eval, gives, ends, result_content, outcome_of}
+use Rattle.model.specs.rules.RightSide.{Eval, result_content, outcome_of}
 use Rattle.model.specs.rules.Program.{Program, is_partial, rules_of}
 use Rattle.model.specs.rules.Picks.{Pick, SitedVars, matches_under, eval_under, right_side_under, results_with, results_under, picks, site_content, bag}
 use Rattle.model.specs.rules.Typed.{TypedRule}
@@ -33,15 +34,10 @@ use Rattle.laws_specs.proofs.Answers.{result_is}
 
 -- a result is one value, of a partial term Some of it
 given_value : (partial : Bool) (ev : Eval) (c : Content) → In (outcome_of partial ev).results c → (v : Value) × (c ≡ result_content partial v)
-given_value partial (ends calls) c i = absurd i
-given_value partial (gives None calls) c i = absurd i
-given_value partial (gives (Some v) calls) c (inl e) = (v, sym e)
-given_value partial (gives (Some v) calls) c (inr n) = absurd n
+given_value partial ev c i = grind (arith, common_steps)
 
 in_as_list : (o : Option Content) (c : Content) → In (as_list o) c → o ≡ Some c
-in_as_list None c i = absurd i
-in_as_list (Some x) c (inl e) = ap Some e
-in_as_list (Some x) c (inr n) = absurd n
+in_as_list o c i = grind (arith, common_steps)
 
 module _ (p : Program) (specs : Specs) (t : ℕ) (d : Atoms) (m : Meaning) (args : List Value) (h : IsWellTypedProgram p) (quiet : MakesNoImpureCall p t) (valid : AreValid p specs t) (c : IsCalled p specs t d m args []) where
   -- the sites of a rule under a pick
@@ -68,8 +64,7 @@ module _ (p : Program) (specs : Specs) (t : ℕ) (d : Atoms) (m : Meaning) (args
       )
 
   of_pick : (r : TypedRule) (k : Pick) (x : Content) → Contains (rules_of p t) r → Contains (picks p m args r) k → (o : Option SitedVars) → matches_under p m k r args ≡ o → In (results_with p m k r o) x → IsResultAsSaid p specs t d args x
-  of_pick r k x listed pick None e i = absurd i
-  of_pick r k x listed pick (Some v) e i = of_match r k v x listed pick e i
+  of_pick r k x listed pick h e i = grind (arith, common_steps, of_match)
 
   bag_as_said : All (IsResultAsSaid p specs t d args) (bag p m (rules_of p t) args)
   bag_as_said =

@@ -1,10 +1,11 @@
 -- The impure calls that a right side makes, by their sites: each has values for its arguments, and those before it gave something.
 use Rattle.std.proofs.Common.{◌≡◌, ◌⊎◌, ℕ, suc, ◌+◌, true, arith, slice_get, List, [], ◌∷◌, ◌++◌, length, Option, Some, None, is_some, refl, sym, ap, subst, ◌∙◌, inl, inr, append_assoc, append-nil}
+use Rattle.std.proofs.lemmas.Grind.{common_steps}
 use Rattle.std.proofs.lemmas.List.{length_push}
 use Rattle.model.specs.rules.Values.{Value, Values}
 use Rattle.model.specs.rules.Meaning.{Content, Meaning}
 use Rattle.model.specs.rules.Outcome.{Call}
-use Rattle.model.specs.rules.Picks.{Pick, part_of_some, call_answer, site_content, site_values, HasContent}
+use Rattle.model.specs.rules.Picks.{Pick, call_answer, site_content, site_values, HasContent}
 use Rattle.model.specs.sites.Sites.{SiteTerm, constructor_call, some_part, SiteTerms}
 use Rattle.model.proofs.Elements.{In, in_either}
 use Rattle.model.proofs.Options.{is_there, then_some}
@@ -16,9 +17,7 @@ calls_of (goes_on calls) = calls
 calls_of (stops calls) = calls
 
 pub result_calls : (o : Option Content) (f : Followed) → (result_after o f).calls ≡ calls_of f
-result_calls o (stops calls) = refl
-result_calls None (goes_on calls) = refl
-result_calls (Some c) (goes_on calls) = refl
+result_calls o f = grind (arith, common_steps)
 
 -- the place of an answer among those that come in order
 pub next_at : (made before us rest : List SiteTerm) (u : SiteTerm) → InOrder made before (us ++ u ∷ rest) → IsNext made (before ++ us) u
@@ -62,11 +61,7 @@ module _ (m : Meaning) (args : List Value) (k : Pick) where
 
   pushed : (u : SiteTerm) (us : List SiteTerm) (t n : ℕ) (ss : SiteTerms) (vs : Values) (calls : List Call) (call : Call) → answered_call u ≡ constructor_call t ss n → site_values m args k ss ≡ Some vs
       → In (calls ++ record { term = t; args = vs } ∷ []) call → WasMade calls (u ∷ us) call
-  pushed u us t n ss vs calls call e q i =
-      elim (in_either calls (record { term = t; args = vs } ∷ []) call i) [
-        | inl j ↦ inl j
-        | inr j ↦ elim j [ inl same ↦ inr (first_call u us t n ss vs call e q same) | inr none ↦ absurd none ]
-      ]
+  pushed u us t n ss vs calls call e q i = grind (arith, common_steps, in_either calls, first_call u us t n ss vs call e q, in_either, first_call)
 
   with_call : (u : SiteTerm) (us : List SiteTerm) (calls : List Call) (call : Call) (t n : ℕ) (ss : SiteTerms) (o : Option Values) (c : Option Content)
       → answered_call u ≡ constructor_call t ss n → site_values m args k ss ≡ o → site_content m args k u ≡ c
@@ -117,11 +112,7 @@ module _ (m : Meaning) (args : List Value) (k : Pick) where
   call_values t n ss h = let a = is_there (site_content m args k (constructor_call t ss n)) h in let b = then_some (site_values m args k ss) (call_answer m t n) a.0 a.1 in (b.0, b.1)
 
   answer_values : (u : SiteTerm) (t n : ℕ) (ss : SiteTerms) → answered_call u ≡ constructor_call t ss n → (u ≡ answered_call u) ⊎ (u ≡ some_part (answered_call u)) → HasContent m args k u → (vs : Values) × (site_values m args k ss ≡ Some vs)
-  answer_values u t n ss e (inl same) h = call_values t n ss (subst (HasContent m args k) (same ∙ e) h)
-  answer_values u t n ss e (inr same) h =
-      let there = is_there (site_content m args k (some_part (constructor_call t ss n))) (subst (HasContent m args k) (same ∙ ap some_part e) h) in
-      let a = then_some (site_content m args k (constructor_call t ss n)) part_of_some there.0 there.1 in
-      call_values t n ss (ap is_some a.1)
+  answer_values u t n ss e h i = grind (arith, common_steps, call_values, is_there, then_some)
 
   -- the call of an answer stands at its place, where those before it gave something
   here_made : (u : SiteTerm) (us : List SiteTerm) (t n : ℕ) (ss : SiteTerms) (vs : Values) (c : Option Content) (calls : List Call) → site_content m args k u ≡ c
@@ -138,12 +129,7 @@ module _ (m : Meaning) (args : List Value) (k : Pick) where
 
   pub made_at : (made before us rest : List SiteTerm) (u : SiteTerm) (t n : ℕ) (ss : SiteTerms) (vs : Values) (calls : List Call) → InOrder made before (us ++ u ∷ rest) → ((y : SiteTerm) → In us y → HasContent m args k y)
       → answered_call u ≡ constructor_call t ss n → site_values m args k ss ≡ Some vs → slice_get (calls_of (follow m args k (us ++ u ∷ rest) calls)) (length calls + length us) ≡ Some (record { term = t; args = vs })
-  made_at made before [] rest u t n ss vs calls h gave e q =
-      let none : length calls + 0 ≡ length calls = omega arith in
-      ap (slice_get (calls_of (follow m args k (u ∷ rest) calls))) none
-      ∙ ap (λ s. slice_get (calls_of (then_follow (follow_call m args k u s calls) (follow m args k rest))) (length calls)) e
-      ∙ ap (λ o. slice_get (calls_of (then_follow (follow_with t o (site_content m args k u) calls) (follow m args k rest))) (length calls)) q
-      ∙ here_made u rest t n ss vs (site_content m args k u) calls refl
+  made_at made before [] rest u t n ss vs calls h gave e q = grind (arith, common_steps, here_made u rest t n ss vs (site_content m args k u) calls refl, here_made)
   made_at made before (y ∷ us) rest u t n ss vs calls h gave e q =
       let w = answer_values y h.0.term (suc (length before)) h.0.args h.0.call h.0.answer (gave y (inl refl)) in
       let c = is_there (site_content m args k y) (gave y (inl refl)) in

@@ -1,5 +1,6 @@
 -- Functions that do the same have the same whole runs: by the depth to which calls nest.
-use Rattle.std.proofs.Common.{◌≡◌, ℕ, zero, suc, Bool, true, false, List, [], ◌∷◌, sym, subst, ◌∙◌, inl, inr}
+use Rattle.std.proofs.Common.{◌≡◌, ℕ, zero, suc, Bool, false, List, [], ◌∷◌, sym, subst, ◌∙◌, inl, inr, arith}
+use Rattle.std.proofs.lemmas.Grind.{common_steps}
 use Rattle.std.proofs.lemmas.List.Elements.{All-contains}
 use Rattle.model.specs.rules.Values.{listed}
 use Rattle.model.specs.rules.Meaning.{Content, Meaning}
@@ -12,8 +13,7 @@ use Rattle.laws_specs.specs.WholeRuns.{Outside, Functions, by_rules, has_rules, 
 use Rattle.laws_specs.specs.ProgramLaws.{DoTheSame, RunTrees, RunCode, LikeFunctionsHaveLikeRuns, LoweredProgramsRunAsTheirSource}
 
 either : (b : Bool) (A B C : Type 0) → (A → B) → Either b A C → Either b B C
-either true A B C f x = f x
-either false A B C f x = x
+either b A B C f x = grind (arith, common_steps)
 
 -- what calls come to within, in place of others
 module _ (N M : Call → List Call → Content → List Call → Type 0) (p : Program) (o : Outside) (so : (call : Call) (before : List Call) (c : Content) (after : List Call) → N call before c after → M call before c after) where
@@ -56,8 +56,7 @@ pub turned : (p : Program) (f g : Functions) → DoTheSame p f g → DoTheSame p
 turned p f g same t known single m args typed serves apart = sym (same t known single m args typed serves apart)
 
 pub like_functions_have_like_runs_lem : LikeFunctionsHaveLikeRuns
-like_functions_have_like_runs_lem p f g same o n call before c after =
-    (same_runs p f g o same n call before c after, same_runs p g f o (turned p f g same) n call before c after)
+like_functions_have_like_runs_lem p f g same o n call before c after = grind (arith, common_steps, same_runs)
 
 -- the headline of each, by its tree or its code
 pub trees_do : (p : Program) (terms : List LoweredTerm) (f : Functions) → AreLowered p terms → RunTrees p terms f → DoTheSame p f (by_rules p)
@@ -67,10 +66,7 @@ trees_do p terms f low runs t known single m args typed serves apart =
     (λ one m' args' w s a. runs l.0 l.1 m' args' ∙ ((All-contains (IsLoweredTerm p) terms l.0 low.lowered l.1).headline.runs one m' args' w s a).0) single m args typed serves apart
 
 pub code_does : (p : Program) (terms : List LoweredTerm) (f : Functions) → AreLowered p terms → RunCode p terms f → DoTheSame p f (by_rules p)
-code_does p terms f low runs t known single m args typed serves apart =
-    let l = lowered_there p terms t low known in
-    subst (λ u. is_multi p u ≡ false → OnServed p u (λ m' args'. f u m' args' ≡ by_rules p u m' args')) l.2
-    (λ one m' args' w s a. runs.runs l.0 l.1 m' args' ∙ ((runs.means l.0 l.1).chooses one m' args' w s a).0) single m args typed serves apart
+code_does p terms f low runs t known single m args typed serves apart = grind (arith, common_steps, lowered_there p terms t low known, lowered_there)
 
 pub lowered_programs_run_as_their_source_lem : LoweredProgramsRunAsTheirSource
 lowered_programs_run_as_their_source_lem p terms f low (inl runs) = like_functions_have_like_runs_lem p f (by_rules p) (trees_do p terms f low runs)

@@ -1,5 +1,6 @@
 -- Functions that do and collect the same have the same runs, also of multi terms: by the depth to which calls nest.
-use Rattle.std.proofs.Common.{◌≡◌, ℕ, zero, suc, true, false, List, All, Contains, refl, sym, ap, subst, ◌∙◌, inl, inr}
+use Rattle.std.proofs.Common.{◌≡◌, ℕ, zero, suc, true, false, List, All, Contains, refl, sym, ap, ◌∙◌, inl, inr, arith}
+use Rattle.std.proofs.lemmas.Grind.{common_steps}
 use Rattle.std.proofs.lemmas.List.Elements.{All-contains}
 use Rattle.std.proofs.lemmas.List.Sorted.{IsPermutation-refl, IsPermutation-sym, IsPermutation-trans}
 use Rattle.model.specs.rules.Values.{Value, listed}
@@ -58,16 +59,11 @@ pub single_is : (p : Program) (t : ℕ) (m : Meaning) (args : List Value) → is
 single_is p t m args e = ap (λ b. bag_or_choice b p t m args) (sym e)
 
 bag_is_collected : (p : Program) (t : ℕ) (m : Meaning) (args : List Value) → is_multi p t ≡ true → Collects (by_bags p t m args) (bag p m (rules_of p t) args)
-bag_is_collected p t m args e =
-    subst (λ b. Collects (bag_or_choice b p t m args) (bag p m (rules_of p t) args)) (sym e) (record { calls = refl; ending = refl; same = IsPermutation-refl (bag p m (rules_of p t) args) })
+bag_is_collected p t m args e = grind (arith, common_steps, IsPermutation-refl (bag p m (rules_of p t) args), IsPermutation-refl)
 
 -- what collects one bag collects the same
 as_other : (x y : Outcome) (all expected : List Content) → Collects x all → Collects y all → Collects x expected → Collects y expected
-as_other x y all expected a b c = record {
-  calls = b.calls;
-  ending = b.ending;
-  same = IsPermutation-trans expected all y.results (IsPermutation-trans expected x.results all c.same (IsPermutation-sym all x.results a.same)) b.same;
-}
+as_other x y all expected a b c = grind (arith, common_steps, IsPermutation-trans, IsPermutation-sym)
 
 does_as_bags : (p : Program) (f : Functions) → DoTheSame p f (by_rules p) → DoTheSame p f (by_bags p)
 does_as_bags p f same t known single m args typed serves apart = same t known single m args typed serves apart ∙ single_is p t m args single
@@ -77,25 +73,13 @@ abbrev CollectBags : Program → Functions → ℕ → Type 0
 CollectBags p f t = is_multi p t ≡ true → All (HasCollectedResults p) (rules_of p t) → OnServed p t (λ m args. Collects (f t m args) (bag p m (rules_of p t) args))
 
 collects_as_bags : (p : Program) (f : Functions) → ((t : ℕ) → Contains (terms_with_rules p) t → CollectBags p f t) → CollectTheSame p f (by_bags p)
-collects_as_bags p f each t known multi collected m args typed serves apart expected =
-    let here = each t known multi collected m args typed serves apart in
-    let there = bag_is_collected p t m args multi in
-    let all : List Content = bag p m (rules_of p t) args in
-    (as_other (f t m args) (by_bags p t m args) all expected here there, as_other (by_bags p t m args) (f t m args) all expected there here)
+collects_as_bags p f each t known multi collected m args typed serves apart expected = grind (arith, common_steps, bag_is_collected, as_other)
 
 trees_collect : (p : Program) (terms : List LoweredTerm) (f : Functions) → AreLowered p terms → RunTrees p terms f → (t : ℕ) → Contains (terms_with_rules p) t → CollectBags p f t
-trees_collect p terms f low runs t known =
-    let l = lowered_there p terms t low known in
-    subst (λ u. CollectBags p f u) l.2
-    (λ multi collected m args typed serves apart.
-    subst (λ x. Collects x (bag p m (rules_of p (l.0).term) args)) (sym (runs l.0 l.1 m args)) ((All-contains (IsLoweredTerm p) terms l.0 low.lowered l.1).collects multi collected m args typed serves apart))
+trees_collect p terms f low runs t known = grind (arith, common_steps, lowered_there p terms t low known, All-contains (IsLoweredTerm p) terms, lowered_there, All-contains)
 
 code_collects : (p : Program) (terms : List LoweredTerm) (f : Functions) → AreLowered p terms → RunCode p terms f → (t : ℕ) → Contains (terms_with_rules p) t → CollectBags p f t
-code_collects p terms f low runs t known =
-    let l = lowered_there p terms t low known in
-    subst (λ u. CollectBags p f u) l.2
-    (λ multi collected m args typed serves apart.
-    subst (λ x. Collects x (bag p m (rules_of p (l.0).term) args)) (sym (runs.runs l.0 l.1 m args)) ((runs.means l.0 l.1).collects multi collected m args typed serves apart).0)
+code_collects p terms f low runs t known = grind (arith, common_steps, lowered_there p terms t low known, lowered_there)
 
 pub lowered_programs_collect_as_their_source_lem : LoweredProgramsCollectAsTheirSource
 lowered_programs_collect_as_their_source_lem p terms f low (inl runs) =

@@ -1,9 +1,10 @@
 -- Whole runs answer as specs say: by the depth to which calls nest, each call is answered as its term's spec says, so that the law of
 -- one term speaks of the next call around it.
-use Rattle.std.proofs.Common.{◌≡◌, ℕ, zero, suc, ◌+◌, Bool, true, false, Some, None, List, [], ◌∷◌, ◌++◌, slice_get, Contains, refl, sym, ap, subst, ◌∙◌, inl, inr, arith}
+use Rattle.std.proofs.Common.{◌≡◌, ℕ, zero, suc, ◌+◌, Bool, true, false, Some, List, [], ◌∷◌, ◌++◌, slice_get, Contains, refl, sym, ap, subst, ◌∙◌, inl, inr, arith}
+use Rattle.std.proofs.lemmas.Grind.{common_steps}
 use Rattle.std.proofs.lemmas.List.{append_assoc, append-nil}
 use Rattle.model.specs.rules.Values.{Value, Values, no_value, value_and, listed, of_list}
-use Rattle.model.specs.rules.Meaning.{Content, one, nothing, just, Meaning, bool_literal, int_literal, impure_answer}
+use Rattle.model.specs.rules.Meaning.{Content, nothing, Meaning, bool_literal, int_literal, impure_answer}
 use Rattle.model.specs.rules.Outcome.{Call, Outcome}
 use Rattle.model.specs.rules.Program.{Program, is_partial, rules_of}
 use Rattle.model.specs.rules.Choice.{choice}
@@ -18,7 +19,7 @@ use Rattle.laws_specs.specs.Specs.{Specs, IsRequired, IsProvided}
 use Rattle.laws_specs.specs.Conditions.{result_as, IsConstructedAsSaid}
 use Rattle.laws_specs.specs.Meets.{Atoms, stands_for, stand_for, content_as, IsDenotation, answers_in, MeetsSpecs, AnswersAsSaid}
 use Rattle.laws_specs.specs.ConditionLaws.{IsCalled, ChoosesAsSaid, ChoosesAsSaidByPriority}
-use Rattle.laws_specs.specs.WholeRuns.{Outside, by_rules, has_rules, IsAnswer, a_result, no_result, Either, IsMadeCall, AreMadeCalls, IsAround, IsRun, WholeRun}
+use Rattle.laws_specs.specs.WholeRuns.{Outside, by_rules, has_rules, IsAnswer, Either, IsMadeCall, AreMadeCalls, IsAround, IsRun, WholeRun}
 use Rattle.laws_specs.specs.ProgramLaws.{MeetsSpecsOutside, IsRunAsSaid, AllAreValid, AllRunsAreAsSaid, AllChooseAsSaid, ProgramsComputeAsSaid, LoweredProgramsComputeAsSaid}
 use Rattle.laws_specs.proofs.LikeRuns.{lowered_programs_run_as_their_source_lem}
 
@@ -31,20 +32,10 @@ the_only : (c a : Content) → Contains (c ∷ []) a → a ≡ c
 the_only c a i = elim (in_from_contains (c ∷ []) a i) [ inl e ↦ sym e | inr n ↦ absurd n ]
 
 result_stands : (d : Atoms) (partial : Bool) (v : Value) (c a : Content) → c ≡ result_content partial v → Contains (answers_in c) a → result_as (content_as d a) ≡ Some (stands_for d v)
-result_stands d false v c a e i =
-    let same : a ≡ one v = the_only (one v) a (subst (λ x. Contains (answers_in x) a) e i) in
-    ap (λ x. result_as (content_as d x)) same
-result_stands d true v c a e i =
-    let same : a ≡ just (one v) = the_only (just (one v)) a (subst (λ x. Contains (answers_in x) a) e i) in
-    ap (λ x. result_as (content_as d x)) same
+result_stands d partial v c a e i = grind (arith, common_steps, the_only)
 
 nothing_stands : (d : Atoms) (c a : Content) (x : Denoted) → c ≡ nothing → Contains (answers_in c) a → result_as (content_as d a) ≡ Some x → ⊥
-nothing_stands d c a x e i r =
-    let same : a ≡ nothing = the_only nothing a (subst (λ y. Contains (answers_in y) a) e i) in
-    none_is (sym (ap (λ y. result_as (content_as d y)) same) ∙ r)
-  where
-    none_is : None ≡ Some x → ⊥
-    none_is q = cc
+nothing_stands d c a x e i r = grind (arith, common_steps, the_only nothing a, the_only)
 
 some_is : (x y : Denoted) → Some x ≡ Some y → x ≡ y
 some_is x y e = cc
@@ -65,24 +56,15 @@ module _ (p : Program) (specs : Specs) (d : Atoms) (o : Outside) (N : Call → L
   nested_said call before c a after n i required x r = (said call before c after n required).provides a x i r
 
   made_said : (call : Call) (before : List Call) (c a : Content) (after : List Call) → IsMadeCall N p o call before c after → Contains (answers_in c) a → IsConstructedAsSaid specs call.term (stand_for d call.args) (content_as d a)
-  made_said call before c a after k i =
-      pick (has_rules p call.term) _ _ _ (λ h n. nested_said call before c a after n i) (λ h e. outside.impures before call c a h e.0 i) k
+  made_said call before c a after k i = grind (arith, common_steps, nested_said call before c a after, nested_said)
 
   made_follows : (call : Call) (before : List Call) (c : Content) (after : List Call) → IsMadeCall N p o call before c after → IsRequired specs call.term (stand_for d call.args) → Follow specs d before after
-  made_follows call before c after k required =
-      pick (has_rules p call.term) _ _ _
-      (λ h n. (let s = said call before c after n required in (s.made, s.after_those, λ q i. s.required q (contains_from_in s.made q i))))
-      (λ h e. (call ∷ [], e.1, λ q i. elim i [ inl same ↦ subst (λ x. IsRequired specs x.term (stand_for d x.args)) same required | inr other ↦ absurd other ]))
-      k
+  made_follows call before c after k required = grind (arith, common_steps, contains_from_in)
 
   -- a call of a list is one that was made
   made_at : (m : Meaning) (n k : ℕ) (calls before after : List Call) (call : Call) (c a : Content) → AreMadeCalls N p o m n calls before after → slice_get calls k ≡ Some call
       → impure_answer m call.term (k + n) ≡ Some c → Contains (answers_in c) a → IsConstructedAsSaid specs call.term (stand_for d call.args) (content_as d a)
-  made_at m n k [] before after call c a are e q i = absurd (none_there k e)
-    where
-      none_there : (k : ℕ) → slice_get [] k ≡ Some call → ⊥
-      none_there zero x = cc
-      none_there (suc k) x = cc
+  made_at m n k [] before after call c a are e q i = grind (arith, common_steps)
   made_at m n zero (first ∷ rest) before after call c a are e q i =
       let same : first ≡ call = first_is e in
       let is : c ≡ are.0 = content_is (sym (subst (λ x. impure_answer m call.term x ≡ Some c) none_before q) ∙ ap (λ (x : Call). impure_answer m x.term n) (sym same) ∙ are.2) in
@@ -100,14 +82,8 @@ module _ (p : Program) (specs : Specs) (d : Atoms) (o : Outside) (N : Call → L
       made_at m (suc n) k rest are.1 after call c a are.4 e (subst (λ x. impure_answer m call.term x ≡ Some c) (omega arith) q) i
 
   follow_all : (m : Meaning) (n : ℕ) (calls before after : List Call) → AreMadeCalls N p o m n calls before after → ((k : Call) → In calls k → IsRequired specs k.term (stand_for d k.args)) → Follow specs d before after
+  follow_all m n (call ∷ rest) before after are required = grind (arith, common_steps, follow_all m (suc n) rest are.1 after are.4, made_follows, append_assoc, in_either)
   follow_all m n [] before after same required = ([], sym same ∙ sym (append-nil before), λ k i. absurd i)
-  follow_all m n (call ∷ rest) before after are required =
-      let first = made_follows call before are.0 are.1 are.3 (required call (inl refl)) in
-      let later = follow_all m (suc n) rest are.1 after are.4 (λ k i. required k (inr i)) in (
-        first.0 ++ later.0,
-        later.1 ∙ ap (λ x. x ++ later.0) first.1 ∙ append_assoc before first.0 later.0,
-        λ k i. elim (in_either first.0 later.0 k i) [ inl j ↦ first.2 k j | inr j ↦ later.2 k j ],
-      )
 
   -- a meaning of a whole run meets specs
   pub meets : (calls before after : List Call) (call : Call) (m : Meaning) → IsAround N p o call m → AreMadeCalls N p o m 0 calls before after → MeetsSpecs specs d m calls
@@ -123,8 +99,7 @@ module _ (p : Program) (specs : Specs) (d : Atoms) (o : Outside) (N : Call → L
 -- 4. by the depth
 -- an answer that stands for something is the result
 answered_by : (d : Atoms) (partial : Bool) (o : Outcome) (c a : Content) (x : Denoted) → IsAnswer partial o c → Contains (answers_in c) a → result_as (content_as d a) ≡ Some x → (v : Value) × (o.results ≡ result_content partial v ∷ []) × (stands_for d v ≡ x)
-answered_by d partial o c a x (a_result v is results ended) i e = (v, results ∙ ap (λ y. y ∷ []) is, some_is _ _ (sym (result_stands d partial v c a is i) ∙ e))
-answered_by d partial o c a x (no_result partially is results ending) i e = absurd (nothing_stands d c a x is i e)
+answered_by d partial o c a x v i e = grind (arith, common_steps, some_is, result_stands, nothing_stands)
 
 module _ (p : Program) (specs : Specs) (d : Atoms) (denotes : IsDenotation p specs d) (choose : AllChooseAsSaid p specs d) (o : Outside) (outside : MeetsSpecsOutside p specs d o) where
   -- one function, where what it calls is as said

@@ -1,13 +1,13 @@
 -- The premises of the law hold together of an example, and near misses don't.
-use Rattle.std.proofs.Common.{◌≡◌, ◌%◌, ◌-◌, ◌==◌, ◌&&◌, ℕ, ℤ, zero, suc, pos, negsuc, Bool, true, false, [], ◌∷◌, Some, None, slice_get, nat_lt, IsSomeAnd, IsTrue, Contains, refl, sym, ap, subst, ◌∙◌, inl, inr, arith}
-use Rattle.std.proofs.lemmas.Bool.{and_parts, cases_Bool, cond-true, cond-false, false≢true, eqb-true, lt-ltb}
+use Rattle.std.proofs.Common.{◌≡◌, ◌%◌, ◌-◌, ◌==◌, ℕ, ℤ, suc, Bool, true, false, [], ◌∷◌, Some, None, slice_get, nat_lt, IsSomeAnd, IsTrue, Contains, refl, sym, subst, ◌∙◌, inl, inr, arith}
+use Rattle.std.proofs.lemmas.Grind.{common_steps}
+use Rattle.std.proofs.lemmas.Bool.{and_parts, false≢true, eqb-true, lt-ltb}
 use Rattle.std.proofs.lemmas.List.Elements.{All-nil}
 use Rattle.std.proofs.Math.Nat.{mod-lt}
 use Rattle.model.specs.lists.Tables.{TypeEntry, TermEntry, variant_term, struct_term}
 use Rattle.model.specs.lists.KnownTypes.{entry_id}
-use Rattle.model.specs.rules.Values.{Value, Values, no_value, value_and, values_eq, of_list}
+use Rattle.model.specs.rules.Values.{Value, Values, no_value, value_and, of_list}
 use Rattle.model.specs.rules.Meaning.{Content, one, pure_answer}
-use Rattle.model.specs.rules.Outcome.{then_option}
 use Rattle.model.specs.rules.Choice.{choice}
 use Rattle.model.specs.visits.Demands.{demands_of}
 use Rattle.model.specs.rules.Picks.{Pick, site_values}
@@ -21,10 +21,10 @@ use Rattle.model.proofs.ValuesEqual.{eq_all_means}
 use Rattle.laws_typing.specs.WellTypedPrograms.{IsWellTypedRule, IsWellTypedProgram}
 use Rattle.laws_specs.specs.Words.{Denoted, a_word, no_denoted, denoted_and}
 use Rattle.laws_specs.specs.WordOperators.{word_of}
-use Rattle.laws_specs.specs.Specs.{Sort, words, is_of_sort, sort_of, integer_in, literal_of, IsSaid, IsProvided, its_argument, no_unknown}
+use Rattle.laws_specs.specs.Specs.{Sort, words, is_of_sort, sort_of, literal_of, IsSaid, IsProvided, its_argument, no_unknown}
 use Rattle.laws_specs.specs.Conditions.{told, IsConstructedAsSaid, condition, IsValid}
 use Rattle.laws_specs.specs.Meets.{stands_for, stand_for, content_as, answers_in, IsDenotation, MeetsSpecs, AnswersAsSaid}
-use Rattle.laws_specs.specs.Samples.{two, byte, is_sum, x, adding, a_term, impurely, rule_of, doubled}
+use Rattle.laws_specs.specs.Samples.{two, byte, is_sum, x, adding, rule_of, doubled}
 use Rattle.laws_specs.specs.SampleCalls.{sums, sum_specs, bytes_as, a_byte, hundred, adding_to, giving, PremisesHold, OthersAreRefused}
 use Rattle.laws_specs.proofs.SampleConditions.{sum_args, sum_call, only_one, just_one, truths_same, sum_right}
 
@@ -33,22 +33,13 @@ below : (n : ℕ) → nat_lt (n % 256) 256 ≡ true
 below n = lt-ltb (n % 256) 256 (mod-lt n (omega arith))
 
 pub byte_formed : (z : ℤ) → nat_lt (word_of 8 z) 256 ≡ true
-byte_formed (pos n) = below n
-byte_formed (negsuc n) = below (256 - suc (n % 256))
+byte_formed z = grind (arith, common_steps)
 
 pub byte_sorted : (ty : ℕ) (n : ℕ) (s : Sort) → sort_of sum_specs ty ≡ Some s → is_of_sort s (a_word 8 n) ≡ true
-byte_sorted ty n s e =
-    elim (cases_Bool (1 == ty)) [
-      | inl t ↦ subst (λ r. is_of_sort r (a_word 8 n) ≡ true) (some_is (words 8) s (sym (cond-true (1 == ty) (Some (words 8)) None t) ∙ e)) refl
-      | inr f ↦ absurd (none_some s (sym (cond-false (1 == ty) (Some (words 8)) None f) ∙ e))
-    ]
+byte_sorted ty n s e = grind (arith, common_steps, some_is (words 8) s, none_some s, some_is, none_some)
 
 pub byte_numbered : (ty : ℕ) (z : ℤ) (y : Denoted) → literal_of sum_specs z ty ≡ Some y → bytes_as ty z ≡ y
-byte_numbered ty z y e =
-    elim (cases_Bool (1 == ty)) [
-      | inl t ↦ some_is (a_word 8 (word_of 8 z)) y (sym (ap (λ o. then_option o (λ s. integer_in s z)) (cond-true (1 == ty) (Some (words 8)) None t)) ∙ e)
-      | inr f ↦ absurd (none_some y (sym (ap (λ o. then_option o (λ s. integer_in s z)) (cond-false (1 == ty) (Some (words 8)) None f)) ∙ e))
-    ]
+byte_numbered ty z y e = grind (arith, common_steps, some_is (a_word 8 (word_of 8 z)) y, none_some y, some_is, none_some)
 
 denotes : IsDenotation sums sum_specs bytes_as
 denotes = record {
@@ -65,13 +56,7 @@ hundreds = value_and (a_byte 100) (value_and (a_byte 100) no_value)
 
 -- the one that there is
 answered : (n t : ℕ) (vs : Values) (c : Content) → pure_answer (adding_to n) t vs ≡ Some c → (1 ≡ t) × (hundreds ≡ vs) × (one (a_byte n) ≡ c)
-answered n t vs c e =
-    elim (cases_Bool ((1 == t) && values_eq hundreds vs)) [
-      | inl b ↦
-          let a = and_parts (1 == t) (values_eq hundreds vs) b in
-          (eqb-true 1 t a.0, eq_all_means hundreds vs a.1, some_is (one (a_byte n)) c (sym (cond-true ((1 == t) && values_eq hundreds vs) (Some (one (a_byte n))) None b) ∙ e))
-      | inr f ↦ absurd (none_some c (sym (cond-false ((1 == t) && values_eq hundreds vs) (Some (one (a_byte n))) None f) ∙ e))
-    ]
+answered n t vs c e = grind (arith, common_steps, and_parts (1 == t), eqb-true 1 t, some_is (one (a_byte n)) c, none_some c, and_parts, eqb-true, eq_all_means, some_is, none_some)
 
 sum_said : IsConstructedAsSaid sum_specs 1 (two (byte 100) (byte 100)) (told (byte 200))
 sum_said r y e = subst (IsProvided sum_specs 1 (two (byte 100) (byte 100))) (some_is (byte 200) y e) (just_one (IsSaid no_unknown (two (byte 100) (byte 100)) (Some (byte 200))) (is_sum (its_argument 0) (its_argument 1)) refl)
@@ -92,41 +77,19 @@ met = record {
 
 -- 3. what is asked
 no_bool : (b : Bool) (ty : ℕ) → Contains (asked sums (rules_of sums 0)) (bool_term b ty) → ⊥
-no_bool b ty i = by (in_from_contains (argument 0 ∷ (sum_call ∷ [])) (bool_term b ty) i)
-  where
-    by : In (argument 0 ∷ (sum_call ∷ [])) (bool_term b ty) → ⊥
-    by (inl e) = cc
-    by (inr (inl e)) = cc
-    by (inr (inr n)) = n
+no_bool b ty i = grind (arith, common_steps, in_from_contains (argument 0 ∷ (sum_call ∷ [])) (bool_term b ty) i, in_from_contains)
 
 no_int : (z : ℤ) (ty : ℕ) → Contains (asked sums (rules_of sums 0)) (int_term z ty) → ⊥
-no_int z ty i = by (in_from_contains (argument 0 ∷ (sum_call ∷ [])) (int_term z ty) i)
-  where
-    by : In (argument 0 ∷ (sum_call ∷ [])) (int_term z ty) → ⊥
-    by (inl e) = cc
-    by (inr (inl e)) = cc
-    by (inr (inr n)) = n
+no_int z ty i = grind (arith, common_steps, in_from_contains (argument 0 ∷ (sum_call ∷ [])) (int_term z ty) i, in_from_contains)
 
 no_prim : (name : ℕ) → Contains (asked sums (rules_of sums 0)) (prim_term name) → ⊥
-no_prim name i = by (in_from_contains (argument 0 ∷ (sum_call ∷ [])) (prim_term name) i)
-  where
-    by : In (argument 0 ∷ (sum_call ∷ [])) (prim_term name) → ⊥
-    by (inl e) = cc
-    by (inr (inl e)) = cc
-    by (inr (inr n)) = n
+no_prim name i = grind (arith, common_steps, in_from_contains (argument 0 ∷ (sum_call ∷ [])) (prim_term name) i, in_from_contains)
 
 no_extractor : (t : ℕ) (s : SiteTerm) → Contains (asked sums (rules_of sums 0)) (extractor_call t s) → ⊥
-no_extractor t s i = by (in_from_contains (argument 0 ∷ (sum_call ∷ [])) (extractor_call t s) i)
-  where
-    by : In (argument 0 ∷ (sum_call ∷ [])) (extractor_call t s) → ⊥
-    by (inl e) = cc
-    by (inr (inl e)) = cc
-    by (inr (inr n)) = n
+no_extractor t s i = grind (arith, common_steps, in_from_contains (argument 0 ∷ (sum_call ∷ [])) (extractor_call t s) i, in_from_contains)
 
 one_call : (t n : ℕ) (ss : SiteTerms) → In (argument 0 ∷ (sum_call ∷ [])) (constructor_call t ss n) → sum_call ≡ constructor_call t ss n
-one_call t n ss (inl e) = absurd (cc)
-one_call t n ss (inr (inl e)) = e
-one_call t n ss (inr (inr none)) = absurd none
+one_call t n ss h = grind (arith, common_steps)
 
 call_term : (t n : ℕ) (ss : SiteTerms) → sum_call ≡ constructor_call t ss n → (1 ≡ t) × (sum_args ≡ ss) × (0 ≡ n)
 call_term t n ss e = (cc, cc, cc)
@@ -167,39 +130,13 @@ serves = record {
 
 -- 4. the program
 ids : (i : ℕ) (t : TypeEntry) → slice_get sums.types i ≡ Some t → entry_id t ≡ i
-ids zero t e = ap entry_id (sym (some_is _ t e))
-ids (suc zero) t e = ap entry_id (sym (some_is _ t e))
-ids (suc (suc i)) t e = absurd (none_some t e)
+ids i t e = grind (arith, common_steps, some_is, none_some)
 
 declared : (t : ℕ) (e : TermEntry) → slice_get sums.terms t ≡ Some e → ((i : ℕ) → e.kind ≡ variant_term i → ⊥) × (e.kind ≡ struct_term → ⊥)
-declared zero e h = let same = some_is _ e h in ((λ i q. not_variant i (ap (λ (y : TermEntry). y.kind) same ∙ q)), (λ q. not_struct (ap (λ (y : TermEntry). y.kind) same ∙ q)))
-  where
-    not_variant : (i : ℕ) → (a_term 0 (1 ∷ [])).kind ≡ variant_term i → ⊥
-    not_variant i q = cc
-
-    not_struct : (a_term 0 (1 ∷ [])).kind ≡ struct_term → ⊥
-    not_struct q = cc
-declared (suc zero) e h = let same = some_is _ e h in ((λ i q. not_variant i (ap (λ (y : TermEntry). y.kind) same ∙ q)), (λ q. not_struct (ap (λ (y : TermEntry). y.kind) same ∙ q)))
-  where
-    not_variant : (i : ℕ) → (a_term 1 (1 ∷ (1 ∷ []))).kind ≡ variant_term i → ⊥
-    not_variant i q = cc
-
-    not_struct : (a_term 1 (1 ∷ (1 ∷ []))).kind ≡ struct_term → ⊥
-    not_struct q = cc
-declared (suc (suc zero)) e h = let same = some_is _ e h in ((λ i q. not_variant i (ap (λ (y : TermEntry). y.kind) same ∙ q)), (λ q. not_struct (ap (λ (y : TermEntry). y.kind) same ∙ q)))
-  where
-    not_variant : (i : ℕ) → (impurely (a_term 2 (1 ∷ []))).kind ≡ variant_term i → ⊥
-    not_variant i q = cc
-
-    not_struct : (impurely (a_term 2 (1 ∷ []))).kind ≡ struct_term → ⊥
-    not_struct q = cc
-declared (suc (suc (suc t))) e h = absurd (none_some e h)
+declared t e h = grind (arith, common_steps, some_is, none_some)
 
 not_multi : (t : ℕ) → is_multi sums t ≡ false
-not_multi zero = refl
-not_multi (suc zero) = refl
-not_multi (suc (suc zero)) = refl
-not_multi (suc (suc (suc t))) = refl
+not_multi t = grind (arith, common_steps)
 
 the_rule : IsWellTypedRule sums (rule_of (adding x x))
 the_rule = record { formed = refl; patterns = λ e. (tt, tt); conditions = tt; right = (refl, (tt, (tt, tt))); no_priority = λ e. refl }

@@ -1,19 +1,20 @@
 -- The conditions of the samples: those that are valid, and valuations that refute the others.
-use Rattle.std.proofs.Common.{◌≡◌, ℕ, Bool, true, false, List, [], ◌∷◌, Option, Some, None, All, ◌++◌, refl, sym, ap, subst, ◌∙◌, inl, inr}
+use Rattle.std.proofs.Common.{◌≡◌, ℕ, Bool, true, false, List, [], ◌∷◌, Option, Some, None, All, ◌++◌, refl, sym, ap, subst, ◌∙◌, inl, inr, arith}
+use Rattle.std.proofs.lemmas.Grind.{common_steps}
 use Rattle.std.proofs.lemmas.Bool.{and_parts, cases_Bool, cond-true, cond-false, false≢true}
 use Rattle.std.proofs.lemmas.List.Elements.{All-nil, All-cons, All-contains}
 use Rattle.model.specs.rules.Meaning.{look}
 use Rattle.model.specs.rules.Outcome.{then_option}
 use Rattle.model.specs.rules.Program.{Program}
 use Rattle.model.specs.rules.Typed.{TypedExpr}
-use Rattle.model.specs.sites.Sites.{SiteTerm, bool_term, int_term, prim_term, argument, extractor_call, constructor_call, pick_of, variant_made, variant_field, struct_made, struct_field, some_made, some_part, tuple_part, no_site, SiteTerms, no_site_term, site_term_and}
+use Rattle.model.specs.sites.Sites.{SiteTerm, argument, extractor_call, constructor_call, pick_of, SiteTerms, no_site_term, site_term_and}
 use Rattle.model.specs.visits.Demands.{site_term_eq}
 use Rattle.model.proofs.Elements.{in_from_contains, contains_from_in, some_is, none_some}
 use Rattle.model.proofs.Options.{then_some}
 use Rattle.model.proofs.SameSites.{term_means}
 use Rattle.laws_specs.specs.Words.{Denoted, a_truth, a_word, DenotedList, no_denoted, denoted_and, equals}
 use Rattle.laws_specs.specs.Specs.{SpecExpr, its_argument, its_result, the_same, operation, Specs, IsSaid, IsRequired, IsProvided, no_unknown}
-use Rattle.laws_specs.specs.Conditions.{ToldContent, told, as_denoted, result_as, call_of, is_of_type, are_of_entries, is_impure_call, IsAnsweredAsSaid, IsTypedAs, Valuation, denoted_at, denoted_at_each, is_told_formed, IsHeldAs, IsAssumed, AreMade, condition}
+use Rattle.laws_specs.specs.Conditions.{ToldContent, told, as_denoted, result_as, call_of, are_of_entries, is_impure_call, IsAnsweredAsSaid, IsTypedAs, Valuation, denoted_at, denoted_at_each, is_told_formed, IsHeldAs, IsAssumed, AreMade, condition}
 use Rattle.laws_specs.specs.Samples.{of_two, two, byte, is_sum, x, adding, noting, rule_of, program_with, specs_with, doubled, below_itself, IsRight, SumsAreRight, CallsAreRequired}
 
 -- 1. valuations that are listed
@@ -38,19 +39,7 @@ each_held P (y ∷ entries) a s h e =
 pub no_picks : (specs : Specs) (f : Valuation) → ((s : SiteTerm) (h : ToldContent) → f (pick_of s) ≡ Some h → ⊥) → (s : SiteTerm) → IsAnsweredAsSaid specs f s (pick_of s)
 no_picks specs f n (extractor_call t s) = λ y h e there. absurd (n (extractor_call t s) h there)
 no_picks specs f n (constructor_call t ss i) = λ xs h e there. absurd (n (constructor_call t ss i) h there)
-no_picks specs f n (bool_term b ty) = tt
-no_picks specs f n (int_term z ty) = tt
-no_picks specs f n (prim_term name) = tt
-no_picks specs f n (argument i) = tt
-no_picks specs f n (pick_of s) = tt
-no_picks specs f n (variant_made ty variant ss) = tt
-no_picks specs f n (variant_field s variant i) = tt
-no_picks specs f n (struct_made ty ss) = tt
-no_picks specs f n (struct_field s i) = tt
-no_picks specs f n (some_made s) = tt
-no_picks specs f n (some_part s) = tt
-no_picks specs f n (tuple_part s i) = tt
-no_picks specs f n no_site = tt
+no_picks specs f n h = tt
 
 -- 2. what is provided, as one fact
 pub only_one : {X : Type 0} (P : X → Type 0) (y : X) → All P (y ∷ []) → P y
@@ -61,9 +50,7 @@ just_one P y h = All-cons P y [] h (All-nil P)
 
 -- 3. (add x x)
 pub told_is : (o : Option ToldContent) (a : Denoted) → then_option o as_denoted ≡ Some a → o ≡ Some (told a)
-told_is None a e = absurd (none_some a e)
-told_is (Some (told y)) a e = ap (λ z. Some (told z)) (some_is y a e)
-told_is (Some _) a e = absurd (none_some a e)
+told_is o a e = grind (arith, common_steps, none_some, some_is)
 
 pub part_is : (u v w : Denoted) → Some u ≡ Some v → told w ≡ told v → w ≡ u
 part_is u v w e f = cc
@@ -101,12 +88,8 @@ sum_provided b f a h y e q =
     just_one (IsSaid no_unknown (denoted_and b no_denoted) (Some y)) doubled (only_one (IsSaid no_unknown (two b b) (Some y)) (is_sum (its_argument 0) (its_argument 1)) said)
 
 pub sum_right : IsRight (doubled ∷ []) [] [] (adding x x)
-sum_right no_denoted f a = absurd (false≢true a.arguments)
-sum_right (denoted_and b no_denoted) f a = record {
-  provides = λ h y made e q. sum_provided b f a h y e q;
-  requires = λ before after u t n ss xs split made e q. absurd (none_first before after u split);
-}
-sum_right (denoted_and b (denoted_and c rest)) f a = absurd (false≢true (and_parts (is_of_type (program_with (adding x x)).types sum_specs 1 b) false a.arguments).1)
+sum_right (denoted_and b no_denoted) f a = grind (arith, common_steps, sum_provided b f a, sum_provided, none_first)
+sum_right h f a = grind (arith, common_steps, and_parts)
 
 -- 4. an argument alone, which is 1
 abbrev pub one_argument : DenotedList
@@ -210,17 +193,8 @@ sums_are_right_lem = (sum_right, argument_wrong, failing_wrong)
 
 -- 6. an impure call
 note_term : (before after : List SiteTerm) (u : SiteTerm) (t n : ℕ) (ss : SiteTerms) → note_call ∷ [] ≡ before ++ u ∷ after → call_of u ≡ constructor_call t ss n → 2 ≡ t
-note_term [] after u t n ss e q = number (subst (λ z. call_of z ≡ constructor_call t ss n) (sym (first e)) q)
-  where
-    first : note_call ∷ [] ≡ u ∷ after → note_call ≡ u
-    first w = cc
-
-    number : note_call ≡ constructor_call t ss n → 2 ≡ t
-    number w = cc
-note_term (y ∷ before) after u t n ss e q = absurd (none_first before after u (rest e))
-  where
-    rest : note_call ∷ [] ≡ y ∷ (before ++ u ∷ after) → [] ≡ before ++ u ∷ after
-    rest w = cc
+note_term [] after u t n ss e q = grind (arith, common_steps)
+note_term (y ∷ before) after u t n ss e q = grind (arith, common_steps, none_first before after u, none_first)
 
 note_right : IsRight [] [] [] (noting x)
 note_right args f a = record { provides = λ h y made e q. All-nil (IsSaid no_unknown args (Some y)); requires = λ before after u t n ss xs split made e q. subst (λ m. IsRequired (specs_with [] [] []) m xs) (note_term before after u t n ss split e) (All-nil (IsSaid no_unknown xs None)) }

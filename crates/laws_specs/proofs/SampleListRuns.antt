@@ -1,6 +1,6 @@
 -- A multi term runs, and answers are lists of all results.
-use Rattle.std.proofs.Common.{◌≡◌, ◌∷◌, [], ℕ, zero, suc, List, length, Some, Contains, refl, sym, ap, subst, ◌∙◌, inl, inr, arith}
-use Rattle.std.proofs.lemmas.Bool.{true≢false}
+use Rattle.std.proofs.Common.{◌≡◌, ◌∷◌, [], ℕ, List, length, Some, Contains, refl, sym, ap, subst, ◌∙◌, inl, inr, arith}
+use Rattle.std.proofs.lemmas.Grind.{common_steps}
 use Rattle.std.proofs.lemmas.List.Sorted.{IsPermutation-refl, IsPermutation-swap, length_permutation}
 use Rattle.model.specs.rules.Values.{Values}
 use Rattle.model.specs.rules.Meaning.{Content, many, Contents, contents}
@@ -23,9 +23,7 @@ use Rattle.laws_specs.proofs.SampleRuns.{apart_of}
 
 -- 1. `alike` of 100
 liked : (N : Call → List Call → Content → List Call → Type 0) (t : ℕ) (vs : Values) (a : Content) → liking_100.pures t vs ≡ Some a → IsPureAnswer N (lists_with liking) likes t vs a
-liked N t vs a e =
-    let one_term = (answered t vs a e).0 in
-    subst (λ n. IsPureAnswer N (lists_with liking) likes n vs a) one_term (subst (λ n. liking_100.pures n vs ≡ Some a) (sym one_term) e)
+liked N t vs a e = grind (arith, common_steps, answered t vs a e, answered)
 
 untested : (r : TypedRule) → Contains (rules_of (lists_with liking) 0) r → (demands_of (lists_with liking) r).constraints ≡ []
 untested r i = subst (λ q. (demands_of (lists_with liking) q).constraints ≡ []) (in_alone (rule_of liking) r i) refl
@@ -50,8 +48,7 @@ alike_runs before = inr record {
 }
 
 no_run : (n : ℕ) (before after : List Call) (c : Content) → WholeRun (by_bags (lists_with liking)) (lists_with liking) likes n (call_of 0 100) before c after → ⊥
-no_run zero before after c r = r
-no_run (suc n) before after c r = true≢false r.single
+no_run n before after c r = grind (arith, common_steps)
 
 -- 2. answers
 abbrev elements : Content → List Content

@@ -1,11 +1,12 @@
 -- A rule that gives the answers of a multi call is right where the call's spec says so of each, and the premises hold of an example.
-use Rattle.std.proofs.Common.{◌≡◌, ◌==◌, ◌&&◌, ℕ, ℤ, zero, suc, Bool, true, false, List, [], ◌∷◌, Some, None, slice_get, IsSomeAnd, IsTrue, Contains, refl, sym, ap, subst, ◌∙◌, inl, inr}
-use Rattle.std.proofs.lemmas.Bool.{and_parts, cases_Bool, cond-true, cond-false, false≢true, eqb-true}
+use Rattle.std.proofs.Common.{◌≡◌, ◌==◌, ℕ, ℤ, suc, Bool, true, false, List, [], ◌∷◌, Some, None, slice_get, IsSomeAnd, IsTrue, Contains, refl, sym, ap, subst, ◌∙◌, inl, inr, arith}
+use Rattle.std.proofs.lemmas.Grind.{common_steps}
+use Rattle.std.proofs.lemmas.Bool.{and_parts, false≢true, eqb-true}
 use Rattle.std.proofs.lemmas.List.Elements.{All-nil}
 use Rattle.std.proofs.Math.Nat.{suc-ne-zero}
 use Rattle.model.specs.lists.Tables.{TypeEntry, TermEntry, variant_term, struct_term}
 use Rattle.model.specs.lists.KnownTypes.{entry_id}
-use Rattle.model.specs.rules.Values.{Values, no_value, value_and, values_eq, of_list}
+use Rattle.model.specs.rules.Values.{Values, no_value, value_and, of_list}
 use Rattle.model.specs.rules.Meaning.{Content, one, many, pure_answer}
 use Rattle.model.specs.rules.Outcome.{then_option}
 use Rattle.model.specs.rules.Picks.{Pick, site_values}
@@ -22,13 +23,13 @@ use Rattle.laws_typing.specs.WellTypedPrograms.{IsWellTypedRule}
 use Rattle.laws_specs.specs.Words.{Denoted, no_denoted, denoted_and}
 use Rattle.laws_specs.specs.WordOperators.{word_of}
 use Rattle.laws_specs.specs.Specs.{IsSaid, IsProvided, no_unknown}
-use Rattle.laws_specs.specs.Conditions.{ToldContent, told, told_many, result_as, Valuation, denoted_at, denoted_at_each, is_of_type, IsConstructedAsSaid, IsAnsweredAsSaid, IsTypedAs, condition, IsAssumed, IsValid}
+use Rattle.laws_specs.specs.Conditions.{ToldContent, told, told_many, result_as, Valuation, denoted_at, denoted_at_each, IsConstructedAsSaid, condition, IsAssumed, IsValid}
 use Rattle.laws_specs.specs.Meets.{stand_for, content_as, answers_in, IsDenotation, MeetsSpecs}
 use Rattle.laws_specs.specs.Samples.{byte, x, a_term, rule_of, doubled}
 use Rattle.laws_specs.specs.SampleCalls.{bytes_as, a_byte, hundred}
 use Rattle.laws_specs.specs.SampleLists.{answering_lists, lists_with, liking, list_specs, twice_200, liking_100, ListsAreSaid, BagPremisesHold}
 use Rattle.laws_specs.proofs.SampleAnswers.{byte_formed, byte_sorted, byte_numbered}
-use Rattle.laws_specs.proofs.SampleConditions.{no_picks, told_is, part_is, alone, alone_held, alone_formed, one_argument, only_one, just_one, truths_same, none_first, none_made}
+use Rattle.laws_specs.proofs.SampleConditions.{told_is, part_is, alone, one_argument, only_one, just_one, truths_same, none_first, none_made}
 
 -- 1. (like x)
 abbrev like_args : SiteTerms
@@ -51,29 +52,12 @@ like_provided b f a h y e q =
     a.picks like_call (contains_from_in made_sites like_call (inr (inl refl))) refl (denoted_and b no_denoted) h args e (All-nil (IsSaid no_unknown (denoted_and b no_denoted) None)) y q
 
 like_right : IsValid (lists_with liking) list_specs (condition (lists_with liking) (rule_of liking))
-like_right no_denoted f a = absurd (false≢true a.arguments)
-like_right (denoted_and b no_denoted) f a = record {
-  provides = λ h y made e q. like_provided b f a h y e q;
-  requires = λ before after u t n ss xs split made e q. absurd (none_first before after u split);
-}
-like_right (denoted_and b (denoted_and c rest)) f a = absurd (false≢true (and_parts (is_of_type (lists_with liking).types list_specs 1 b) false a.arguments).1)
+like_right (denoted_and b no_denoted) f a = grind (arith, common_steps, like_provided b f a, like_provided, none_first)
+like_right h f a = grind (arith, common_steps, and_parts)
 
 -- 2. x alone
 alone_assumed : IsAssumed (lists_with x) list_specs (condition (lists_with x) (rule_of x)) one_argument alone
-alone_assumed = record {
-  arguments = refl;
-  formed_args = refl;
-  required = All-nil (IsSaid no_unknown one_argument None);
-  unknowns = λ g s xs e sorted formed. absurd (none_some s e);
-  held = alone_held list_specs;
-  formed = alone_formed;
-  constraints = λ s k i. absurd (in_from_contains [] (s, k) i);
-  equalities = λ a b i. absurd (in_from_contains [] (a, b) i);
-  calls = λ s i e. subst (λ z. IsAnsweredAsSaid list_specs alone z z) (in_alone (argument 0) s i) tt;
-  typed = λ s h i e there. subst (λ z. IsTypedAs (lists_with x) list_specs z h) (in_alone (argument 0) s i) tt;
-  picks = λ s i e. no_picks list_specs alone (λ u h there. none_some h there) s;
-  typed_picks = λ s h i e there. absurd (none_some h there);
-}
+alone_assumed = grind (arith, common_steps)
 
 alone_wrong : IsValid (lists_with x) list_specs (condition (lists_with x) (rule_of x)) → ⊥
 alone_wrong right =
@@ -88,13 +72,7 @@ abbrev hundreds : Values
 hundreds = value_and (a_byte 100) no_value
 
 pub answered : (t : ℕ) (vs : Values) (c : Content) → pure_answer liking_100 t vs ≡ Some c → (1 ≡ t) × (hundreds ≡ vs) × (many twice_200 ≡ c)
-answered t vs c e =
-    elim (cases_Bool ((1 == t) && values_eq hundreds vs)) [
-      | inl b ↦
-          let a = and_parts (1 == t) (values_eq hundreds vs) b in
-          (eqb-true 1 t a.0, eq_all_means hundreds vs a.1, some_is (many twice_200) c (sym (cond-true ((1 == t) && values_eq hundreds vs) (Some (many twice_200)) None b) ∙ e))
-      | inr f ↦ absurd (none_some c (sym (cond-false ((1 == t) && values_eq hundreds vs) (Some (many twice_200)) None f) ∙ e))
-    ]
+answered t vs c e = grind (arith, common_steps, and_parts (1 == t), eqb-true 1 t, some_is (many twice_200) c, none_some c, and_parts, eqb-true, eq_all_means, some_is, none_some)
 
 answer_said : IsConstructedAsSaid list_specs 1 (denoted_and (byte 100) no_denoted) (told (byte 200))
 answer_said r y e = subst (IsProvided list_specs 1 (denoted_and (byte 100) no_denoted)) (some_is (byte 200) y e) (just_one (IsSaid no_unknown (denoted_and (byte 100) no_denoted) (Some (byte 200))) doubled refl)
@@ -127,46 +105,19 @@ meets = record {
 
 -- 4. what is asked
 no_bool : (b : Bool) (ty : ℕ) → Contains (asked (lists_with liking) (rules_of (lists_with liking) 0)) (bool_term b ty) → ⊥
-no_bool b ty i = by (in_from_contains made_sites (bool_term b ty) i)
-  where
-    by : In made_sites (bool_term b ty) → ⊥
-    by (inl e) = cc
-    by (inr (inl e)) = cc
-    by (inr (inr (inl e))) = cc
-    by (inr (inr (inr n))) = n
+no_bool b ty i = grind (arith, common_steps, in_from_contains)
 
 no_int : (z : ℤ) (ty : ℕ) → Contains (asked (lists_with liking) (rules_of (lists_with liking) 0)) (int_term z ty) → ⊥
-no_int z ty i = by (in_from_contains made_sites (int_term z ty) i)
-  where
-    by : In made_sites (int_term z ty) → ⊥
-    by (inl e) = cc
-    by (inr (inl e)) = cc
-    by (inr (inr (inl e))) = cc
-    by (inr (inr (inr n))) = n
+no_int z ty i = grind (arith, common_steps, in_from_contains)
 
 no_prim : (name : ℕ) → Contains (asked (lists_with liking) (rules_of (lists_with liking) 0)) (prim_term name) → ⊥
-no_prim name i = by (in_from_contains made_sites (prim_term name) i)
-  where
-    by : In made_sites (prim_term name) → ⊥
-    by (inl e) = cc
-    by (inr (inl e)) = cc
-    by (inr (inr (inl e))) = cc
-    by (inr (inr (inr n))) = n
+no_prim name i = grind (arith, common_steps, in_from_contains)
 
 no_extractor : (t : ℕ) (s : SiteTerm) → Contains (asked (lists_with liking) (rules_of (lists_with liking) 0)) (extractor_call t s) → ⊥
-no_extractor t s i = by (in_from_contains made_sites (extractor_call t s) i)
-  where
-    by : In made_sites (extractor_call t s) → ⊥
-    by (inl e) = cc
-    by (inr (inl e)) = cc
-    by (inr (inr (inl e))) = cc
-    by (inr (inr (inr n))) = n
+no_extractor t s i = grind (arith, common_steps, in_from_contains)
 
 one_call : (t n : ℕ) (ss : SiteTerms) → In made_sites (constructor_call t ss n) → like_call ≡ constructor_call t ss n
-one_call t n ss (inl e) = absurd (cc)
-one_call t n ss (inr (inl e)) = e
-one_call t n ss (inr (inr (inl e))) = absurd (cc)
-one_call t n ss (inr (inr (inr none))) = absurd none
+one_call t n ss h = grind (arith, common_steps)
 
 call_term : (t n : ℕ) (ss : SiteTerms) → like_call ≡ constructor_call t ss n → (1 ≡ t) × (like_args ≡ ss) × (0 ≡ n)
 call_term t n ss e = (cc, cc, cc)
@@ -197,9 +148,7 @@ serves = record {
 
 -- 5. the program
 ids : (i : ℕ) (t : TypeEntry) → slice_get (lists_with liking).types i ≡ Some t → entry_id t ≡ i
-ids zero t e = ap entry_id (sym (some_is _ t e))
-ids (suc zero) t e = ap entry_id (sym (some_is _ t e))
-ids (suc (suc i)) t e = absurd (none_some t e)
+ids i t e = grind (arith, common_steps, some_is, none_some)
 
 not_variant : (id i : ℕ) → (answering_lists (a_term id (1 ∷ []))).kind ≡ variant_term i → ⊥
 not_variant id i q = cc
@@ -208,14 +157,10 @@ not_struct : (id : ℕ) → (answering_lists (a_term id (1 ∷ []))).kind ≡ st
 not_struct id q = cc
 
 declared : (t : ℕ) (e : TermEntry) → slice_get (lists_with liking).terms t ≡ Some e → ((i : ℕ) → e.kind ≡ variant_term i → ⊥) × (e.kind ≡ struct_term → ⊥)
-declared zero e h = let same = ap (λ (y : TermEntry). y.kind) (some_is (answering_lists (a_term 0 (1 ∷ []))) e h) in ((λ i q. not_variant 0 i (same ∙ q)), (λ q. not_struct 0 (same ∙ q)))
-declared (suc zero) e h = let same = ap (λ (y : TermEntry). y.kind) (some_is (answering_lists (a_term 1 (1 ∷ []))) e h) in ((λ i q. not_variant 1 i (same ∙ q)), (λ q. not_struct 1 (same ∙ q)))
-declared (suc (suc t)) e h = absurd (none_some e h)
+declared t e h = grind (arith, common_steps, some_is, not_variant, not_struct, none_some)
 
 not_partial : (t : ℕ) → is_partial (lists_with liking) t ≡ false
-not_partial zero = refl
-not_partial (suc zero) = refl
-not_partial (suc (suc t)) = refl
+not_partial t = grind (arith, common_steps)
 
 the_rule : IsWellTypedRule (lists_with liking) (rule_of liking)
 the_rule = record { formed = refl; patterns = λ e. (tt, tt); conditions = tt; right = (refl, (tt, tt)); no_priority = λ e. refl }

@@ -1,5 +1,6 @@
 -- A rule that is wrong of a number is refuted by a run on another value that stands for the number too.
-use Rattle.std.proofs.Common.{◌≡◌, ℕ, zero, suc, pos, true, false, List, [], ◌∷◌, Some, None, slice_get, Contains, refl, sym, ap, subst, ◌∙◌, inl, inr}
+use Rattle.std.proofs.Common.{◌≡◌, ℕ, pos, true, false, List, [], ◌∷◌, Some, None, slice_get, Contains, refl, sym, subst, inl, inr, arith}
+use Rattle.std.proofs.lemmas.Grind.{common_steps}
 use Rattle.std.specs.List.{AllByRecursion}
 use Rattle.std.proofs.lemmas.Bool.{and_parts, false≢true}
 use Rattle.std.proofs.lemmas.List.Elements.{All-nil}
@@ -14,7 +15,7 @@ use Rattle.laws_typing.specs.WellTypedPrograms.{IsWellTypedRule, IsWellTypedProg
 use Rattle.laws_specs.specs.Words.{Denoted, DenotedList, no_denoted, denoted_and}
 use Rattle.laws_specs.specs.WordOperators.{word_of}
 use Rattle.laws_specs.specs.Specs.{IsSaid, no_unknown}
-use Rattle.laws_specs.specs.Conditions.{told, is_of_type, IsPartHeld, Valuation, condition, IsAssumed, IsValidBelow}
+use Rattle.laws_specs.specs.Conditions.{told, IsPartHeld, Valuation, condition, IsAssumed, IsValidBelow}
 use Rattle.laws_specs.specs.Meets.{stand_for, IsDenotation, AnswersAsSaid}
 use Rattle.laws_specs.specs.ConditionLaws.{AreValidBelow, IsCalled}
 use Rattle.laws_specs.specs.Samples.{byte}
@@ -43,7 +44,6 @@ is_five b f a =
     sym (part_is b part.part (byte 5) part.there part.held)
 
 five_right : IsValidBelow numbers number_specs for_five
-five_right no_denoted f a none = absurd (false≢true a.arguments)
 five_right (denoted_and b no_denoted) f a none = record {
   provides = λ h y made e q.
       just_one (IsSaid no_unknown (one_number b) (Some y)) (ten_where (byte 5))
@@ -51,7 +51,7 @@ five_right (denoted_and b no_denoted) f a none = record {
       (subst (λ z. IsSaid no_unknown (one_number z) (Some (byte 10)) (ten_where (byte 5))) (sym (is_five b f a)) refl));
   requires = λ before after u t n ss xs split made e q. absurd (none_first before after u split);
 }
-five_right (denoted_and b (denoted_and c rest)) f a none = absurd (false≢true (and_parts (is_of_type numbers.types number_specs 1 b) false a.arguments).1)
+five_right h f a none = grind (arith, common_steps, and_parts)
 
 -- 2. a run on 261
 abbrev odd : List Value
@@ -74,9 +74,7 @@ denotes = record {
 
 -- 3. the program
 ids : (i : ℕ) (t : TypeEntry) → slice_get numbers.types i ≡ Some t → entry_id t ≡ i
-ids zero t e = ap entry_id (sym (some_is _ t e))
-ids (suc zero) t e = ap entry_id (sym (some_is _ t e))
-ids (suc (suc i)) t e = absurd (none_some t e)
+ids i t e = grind (arith, common_steps, some_is, none_some)
 
 abbrev code_kind : TermKindEntry
 code_kind = declared_term (record { pure = true; multi = false; partial = false; rec = false }) (Some internal_constructor) None
@@ -88,12 +86,10 @@ not_struct : code_kind ≡ struct_term → ⊥
 not_struct q = cc
 
 declared : (t : ℕ) (e : TermEntry) → slice_get numbers.terms t ≡ Some e → ((i : ℕ) → e.kind ≡ variant_term i → ⊥) × (e.kind ≡ struct_term → ⊥)
-declared zero e h = let same = ap (λ (y : TermEntry). y.kind) (some_is _ e h) in ((λ i q. not_variant i (same ∙ q)), (λ q. not_struct (same ∙ q)))
-declared (suc t) e h = absurd (none_some e h)
+declared t e h = grind (arith, common_steps, some_is, not_variant, not_struct, none_some)
 
 not_multi : (t : ℕ) → is_multi numbers t ≡ false
-not_multi zero = refl
-not_multi (suc t) = refl
+not_multi t = grind (arith, common_steps)
 
 five_typed : IsWellTypedRule numbers for_five
 five_typed = record { formed = refl; patterns = λ e. (tt, tt); conditions = tt; right = tt; no_priority = λ e. absurd (false≢true e) }
@@ -102,15 +98,7 @@ rest_typed : IsWellTypedRule numbers for_rest
 rest_typed = record { formed = refl; patterns = λ e. (tt, tt); conditions = tt; right = tt; no_priority = λ e. refl }
 
 well_typed_program : IsWellTypedProgram numbers
-well_typed_program = record {
-  types = record { ids = ids; first = refl };
-  parts = record { variants = λ t e h i k. absurd ((declared t e h).0 i k); structs = λ t e h k. absurd ((declared t e h).1 k) };
-  not_both = λ t e f. false≢true (sym (not_multi t) ∙ e);
-  rules = λ r i. elim (in_from_contains (for_five ∷ (for_rest ∷ [])) r i) [
-    | inl e ↦ subst (IsWellTypedRule numbers) e five_typed
-    | inr j ↦ elim j [ inl e ↦ subst (IsWellTypedRule numbers) e rest_typed | inr n ↦ absurd n ]
-  ];
-}
+well_typed_program = grind (arith, common_steps, in_from_contains (for_five ∷ (for_rest ∷ [])), ids, declared, not_multi, in_from_contains, five_typed, rest_typed)
 
 -- 4. so the lower rule is wrong
 rest_wrong : IsValidBelow numbers number_specs for_rest → ⊥

@@ -1,17 +1,17 @@
 -- A rule that is right only where the one above it doesn't match.
-use Rattle.std.proofs.Common.{◌≡◌, ◌⊎◌, ◌==◌, ℕ, zero, suc, pos, true, false, List, [], ◌∷◌, Some, None, Contains, refl, sym, ap, subst, ◌∙◌, inl, inr, arith}
+use Rattle.std.proofs.Common.{◌≡◌, ◌⊎◌, ℕ, pos, true, false, List, [], ◌∷◌, Some, Contains, refl, sym, ap, subst, ◌∙◌, inl, inr, arith}
+use Rattle.std.proofs.lemmas.Grind.{common_steps}
 use Rattle.std.proofs.lemmas.Bool.{and_parts, false≢true, eqb-true}
 use Rattle.std.proofs.lemmas.Int.{ints}
-use Rattle.std.proofs.lemmas.List.Elements.{All-nil}
 use Rattle.model.specs.sites.Sites.{Constraint, is_variant, SiteTerm, int_term, argument}
 use Rattle.model.specs.rules.Program.{rules_of}
-use Rattle.model.proofs.Elements.{In, in_from_contains, contains_from_in, some_is, none_some}
-use Rattle.laws_specs.specs.Words.{Denoted, a_truth, an_integer, a_word, variant_of, struct_of, DenotedList, no_denoted, denoted_and}
+use Rattle.model.proofs.Elements.{In, in_from_contains, contains_from_in, some_is}
+use Rattle.laws_specs.specs.Words.{Denoted, variant_of, DenotedList, no_denoted, denoted_and}
 use Rattle.laws_specs.specs.Specs.{IsSaid, no_unknown}
-use Rattle.laws_specs.specs.Conditions.{ToldContent, told, result_as, Valuation, is_told_formed, is_of_type, IsPartHeld, IsHeldAs, IsAnsweredAsSaid, IsTypedAs, condition, IsAssumed, IsAbove, IsNoneAbove, IsValid, IsValidBelow}
+use Rattle.laws_specs.specs.Conditions.{ToldContent, told, result_as, Valuation, is_of_type, IsPartHeld, condition, IsAssumed, IsAbove, IsNoneAbove, IsValid, IsValidBelow}
 use Rattle.laws_specs.specs.Samples.{byte}
 use Rattle.laws_specs.specs.SamplePriorities.{for_a, for_others, codes, letter, its_code, code_specs, PrioritiesCount}
-use Rattle.laws_specs.proofs.SampleConditions.{no_picks, listed_as, each_held, only_one, just_one, truths_same, none_first, none_made}
+use Rattle.laws_specs.proofs.SampleConditions.{listed_as, only_one, just_one, truths_same, none_first, none_made}
 
 -- 1. the lower rule alone, of A
 abbrev argument_a : DenotedList
@@ -23,30 +23,8 @@ wrong_sites = (argument 0, told (letter 0)) ∷ ((int_term (pos 20) 1, told (byt
 abbrev wrong : Valuation
 wrong = listed_as wrong_sites
 
-literal_is : (n : ℕ) (y : Denoted) → Some (byte n) ≡ Some y → told (byte n) ≡ told y
-literal_is n y e = ap told (some_is (byte n) y e)
-
 wrong_assumed : IsAssumed codes code_specs (condition codes for_others) argument_a wrong
-wrong_assumed = record {
-  arguments = refl;
-  formed_args = refl;
-  required = All-nil (IsSaid no_unknown argument_a None);
-  unknowns = λ g s xs e sorted formed. absurd (none_some s e);
-  held = each_held (IsHeldAs code_specs argument_a wrong) wrong_sites (record { part = letter 0; there = refl; held = refl }, ((λ y e. literal_is 20 y e), tt));
-  formed = each_held (λ s h. is_told_formed h ≡ true) wrong_sites (refl, (refl, tt));
-  constraints = λ s k i. absurd (in_from_contains [] (s, k) i);
-  equalities = λ a b i. absurd (in_from_contains [] (a, b) i);
-  calls = λ s i e. elim (in_from_contains (argument 0 ∷ (int_term (pos 20) 1 ∷ [])) s i) [
-    | inl q ↦ subst (λ z. IsAnsweredAsSaid code_specs wrong z z) q tt
-    | inr j ↦ elim j [ inl q ↦ subst (λ z. IsAnsweredAsSaid code_specs wrong z z) q tt | inr n ↦ absurd n ]
-  ];
-  typed = λ s h i e there. elim (in_from_contains (argument 0 ∷ (int_term (pos 20) 1 ∷ [])) s i) [
-    | inl q ↦ subst (λ z. IsTypedAs codes code_specs z h) q tt
-    | inr j ↦ elim j [ inl q ↦ subst (λ z. IsTypedAs codes code_specs z h) q tt | inr n ↦ absurd n ]
-  ];
-  picks = λ s i e. no_picks code_specs wrong (λ u h there. none_some h there) s;
-  typed_picks = λ s h i e there. absurd (none_some h there);
-}
+wrong_assumed = grind (arith, common_steps)
 
 alone_wrong : IsValid codes code_specs (condition codes for_others) → ⊥
 alone_wrong right =
@@ -55,15 +33,7 @@ alone_wrong right =
 
 -- 2. an argument is A or B
 letter_is : (b : Denoted) → is_of_type codes.types code_specs 2 b ≡ true → (letter 0 ≡ b) ⊎ (letter 1 ≡ b)
-letter_is (variant_of t zero no_denoted) h = inl (λ i. variant_of (sym (eqb-true t 2 (and_parts (t == 2) true h).0) i) 0 no_denoted)
-letter_is (variant_of t (suc zero) no_denoted) h = inr (λ i. variant_of (sym (eqb-true t 2 (and_parts (t == 2) true h).0) i) 1 no_denoted)
-letter_is (variant_of t zero (denoted_and x xs)) h = absurd (false≢true (and_parts (t == 2) false h).1)
-letter_is (variant_of t (suc zero) (denoted_and x xs)) h = absurd (false≢true (and_parts (t == 2) false h).1)
-letter_is (variant_of t (suc (suc i)) xs) h = absurd (false≢true (and_parts (t == 2) false h).1)
-letter_is (struct_of t xs) h = absurd (false≢true (and_parts (t == 2) false h).1)
-letter_is (a_truth b) h = absurd (false≢true h)
-letter_is (an_integer z) h = absurd (false≢true h)
-letter_is (a_word w n) h = absurd (false≢true h)
+letter_is b h = grind (arith, common_steps, eqb-true, and_parts)
 
 -- what a literal gives
 pub given_is : (n : ℕ) (h : ToldContent) (y : Denoted) → ((x : Denoted) → Some (byte n) ≡ Some x → h ≡ told x) → result_as h ≡ Some y → byte n ≡ y
@@ -94,7 +64,6 @@ others_said b f a (inl e) = absurd (a.none for_a above (λ s k i. marked (s, k) 
     marked y (inr n) = absurd n
 
 pub others_right : IsValidBelow codes code_specs for_others
-others_right no_denoted f a none = absurd (false≢true a.arguments)
 others_right (denoted_and b no_denoted) f a none = record {
   provides = λ h y made e q.
       (let is = letter_is b (and_parts (is_of_type codes.types code_specs 2 b) true a.arguments).0 in
@@ -102,7 +71,7 @@ others_right (denoted_and b no_denoted) f a none = record {
       (subst (λ z. IsSaid no_unknown (one_letter b) (Some z) its_code) (given_is 20 h y (a.held (int_term (pos 20) 1) h e) q) (others_said b f none is)));
   requires = λ before after u t n ss xs split made e q. absurd (none_first before after u split);
 }
-others_right (denoted_and b (denoted_and c rest)) f a none = absurd (false≢true (and_parts (is_of_type codes.types code_specs 2 b) false a.arguments).1)
+others_right h f a none = grind (arith, common_steps, and_parts)
 
 -- 4. and the other one
 a_said : (b : Denoted) (f : Valuation) → IsAssumed codes code_specs (condition codes for_a) (one_letter b) f → (letter 0 ≡ b) ⊎ (letter 1 ≡ b) → IsSaid no_unknown (one_letter b) (Some (byte 10)) its_code
@@ -125,7 +94,6 @@ a_said b f a (inr e) = absurd (differ met.0 part.part part.there part.held)
         other xs r = cc
 
 pub a_right : IsValidBelow codes code_specs for_a
-a_right no_denoted f a none = absurd (false≢true a.arguments)
 a_right (denoted_and b no_denoted) f a none = record {
   provides = λ h y made e q.
       (let is = letter_is b (and_parts (is_of_type codes.types code_specs 2 b) true a.arguments).0 in
@@ -133,7 +101,7 @@ a_right (denoted_and b no_denoted) f a none = record {
       (subst (λ z. IsSaid no_unknown (one_letter b) (Some z) its_code) (given_is 10 h y (a.held (int_term (pos 10) 1) h e) q) (a_said b f a is)));
   requires = λ before after u t n ss xs split made e q. absurd (none_first before after u split);
 }
-a_right (denoted_and b (denoted_and c rest)) f a none = absurd (false≢true (and_parts (is_of_type codes.types code_specs 2 b) false a.arguments).1)
+a_right h f a none = grind (arith, common_steps, and_parts)
 
 pub priorities_count_lem : PrioritiesCount
 priorities_count_lem = (alone_wrong, others_right, a_right)

@@ -1,9 +1,9 @@
 -- The sample's whole run.
-use Rattle.std.proofs.Common.{◌≡◌, ◌⊎◌, ◌&&◌, ℕ, ℤ, suc, Bool, true, if◌then◌else◌, Option, List, [], ◌∷◌, Some, None, IsSomeAnd, IsTrue, Contains, refl, sym, subst, ◌∙◌, inl, inr}
+use Rattle.std.proofs.Common.{◌≡◌, ◌⊎◌, ◌&&◌, ℕ, ℤ, suc, Bool, true, if◌then◌else◌, Option, List, [], ◌∷◌, Some, None, IsSomeAnd, IsTrue, Contains, refl, sym, subst, inl, inr, arith}
+use Rattle.std.proofs.lemmas.Grind.{common_steps}
 use Rattle.std.specs.Bool.{◌==◌}
 use Rattle.std.specs.List.{AllByRecursion}
-use Rattle.std.proofs.lemmas.Bool.{and_parts, cases_Bool, cond-true, cond-false, eqb-true}
-use Rattle.std.proofs.lemmas.List.Elements.{All-contains, All-from_recursion}
+use Rattle.std.proofs.lemmas.Bool.{and_parts, eqb-true}
 use Rattle.model.specs.rules.Values.{Value, Values, no_value, value_and, values_eq}
 use Rattle.model.specs.rules.Meaning.{Content, one, Meaning, pure_answer, impure_answer}
 use Rattle.model.specs.rules.Outcome.{Call}
@@ -17,7 +17,6 @@ use Rattle.model.proofs.Elements.{in_from_contains, contains_from_in, some_is, n
 use Rattle.model.proofs.ValuesEqual.{eq_all_means}
 use Rattle.laws_specs.specs.Samples.{x, adding, rule_of}
 use Rattle.laws_specs.specs.SampleCalls.{a_byte, as_written}
-use Rattle.laws_specs.proofs.PlainOutcomes.{made_asked}
 use Rattle.laws_specs.specs.WholeRuns.{by_rules, IsPureAnswer, a_result, WholeRun}
 use Rattle.laws_specs.specs.SampleRuns.{noted_rule, noting_program, hundreds, adds_and_notes, call_of, RunsAreWhole}
 
@@ -36,24 +35,16 @@ IsServed m args u = (argument 0 ≡ u) ⊎ (IsPureSite m args u ⊎ IsImpureSite
 
 module _ (m : Meaning) (args : List Value) where
   no_bool : (b : Bool) (ty : ℕ) → IsServed m args (bool_term b ty) → ⊥
-  no_bool b ty (inl e) = cc
-  no_bool b ty (inr (inl (t, ss, vs, c, e, values, answer, fits))) = cc
-  no_bool b ty (inr (inr (t, ss, n, c, e, answer, fits))) = cc
+  no_bool b ty h = grind (arith, common_steps)
 
   no_int : (z : ℤ) (ty : ℕ) → IsServed m args (int_term z ty) → ⊥
-  no_int z ty (inl e) = cc
-  no_int z ty (inr (inl (t, ss, vs, c, e, values, answer, fits))) = cc
-  no_int z ty (inr (inr (t, ss, n, c, e, answer, fits))) = cc
+  no_int z ty h = grind (arith, common_steps)
 
   no_prim : (name : ℕ) → IsServed m args (prim_term name) → ⊥
-  no_prim name (inl e) = cc
-  no_prim name (inr (inl (t, ss, vs, c, e, values, answer, fits))) = cc
-  no_prim name (inr (inr (t, ss, n, c, e, answer, fits))) = cc
+  no_prim name h = grind (arith, common_steps)
 
   no_extractor : (u : ℕ) (s : SiteTerm) → IsServed m args (extractor_call u s) → ⊥
-  no_extractor u s (inl e) = cc
-  no_extractor u s (inr (inl (t, ss, vs, c, e, values, answer, fits))) = cc
-  no_extractor u s (inr (inr (t, ss, n, c, e, answer, fits))) = cc
+  no_extractor u s h = grind (arith, common_steps)
 
   same_pure : (t u n : ℕ) (ss us : SiteTerms) → constructor_call t ss 0 ≡ constructor_call u us n → (t ≡ u) × (ss ≡ us) × (0 ≡ n)
   same_pure t u n ss us e = (cc, cc, cc)
@@ -63,50 +54,14 @@ module _ (m : Meaning) (args : List Value) where
 
   pure_served : (k : Pick) (u : ℕ) (us : SiteTerms) (ws : Values) → IsServed m args (constructor_call u us 0) → site_values m args k us ≡ Some ws
       → IsSomeAnd (pure_answer m u ws) (λ c. IsTrue (fits_constructor noting_program u (kind noting_program u) c))
-  pure_served k u us ws (inl e) h = absurd (cc)
-  pure_served k u us ws (inr (inl (t, ss, vs, c, e, values, answer, fits))) h =
-      let s = same_pure t u 0 ss us e in
-      let v : vs ≡ ws = some_is vs ws (sym (values k) ∙ subst (λ q. site_values m args k q ≡ Some ws) (sym s.1) h) in
-      subst (λ n. IsSomeAnd (pure_answer m n ws) (λ c'. IsTrue (fits_constructor noting_program n (kind noting_program n) c'))) s.0
-      (subst (λ q. IsSomeAnd (pure_answer m t q) (λ c'. IsTrue (fits_constructor noting_program t (kind noting_program t) c'))) v
-      (subst (λ o. IsSomeAnd o (λ c'. IsTrue (fits_constructor noting_program t (kind noting_program t) c'))) (sym answer) fits))
-  pure_served k u us ws (inr (inr (t, ss, n, c, e, answer, fits))) h = absurd (no_zero (same_impure t u 0 n ss us e).1)
-    where
-      no_zero : suc n ≡ 0 → ⊥
-      no_zero q = cc
+  pure_served k u us ws h i = grind (arith, common_steps, same_pure, some_is, same_impure)
 
   impure_served : (u b : ℕ) (us : SiteTerms) → IsServed m args (constructor_call u us (suc b))
       → IsSomeAnd (impure_answer m u b) (λ c. IsTrue (fits_constructor noting_program u (kind noting_program u) c))
-  impure_served u b us (inl e) = absurd (cc)
-  impure_served u b us (inr (inl (t, ss, vs, c, e, values, answer, fits))) = absurd (no_suc (same_pure t u (suc b) ss us e).2)
-    where
-      no_suc : 0 ≡ suc b → ⊥
-      no_suc q = cc
-  impure_served u b us (inr (inr (t, ss, n, c, e, answer, fits))) =
-      let s = same_impure t u (suc b) n ss us e in
-      let same : n ≡ b = suc_same s.1 in
-      subst (λ q. IsSomeAnd (impure_answer m q b) (λ c'. IsTrue (fits_constructor noting_program q (kind noting_program q) c'))) s.0
-      (subst (λ q. IsSomeAnd (impure_answer m t q) (λ c'. IsTrue (fits_constructor noting_program t (kind noting_program t) c'))) same
-      (subst (λ o. IsSomeAnd o (λ c'. IsTrue (fits_constructor noting_program t (kind noting_program t) c'))) (sym answer) fits))
-    where
-      suc_same : suc n ≡ suc b → n ≡ b
-      suc_same q = cc
+  impure_served u b us h = grind (arith, common_steps, same_pure, same_impure)
 
   serves_by : (t : ℕ) → AllByRecursion (IsServed m args) (asked noting_program (rules_of noting_program t)) → Serves noting_program m args (rules_of noting_program t)
-  serves_by t sites = record {
-    bools = λ b ty i. absurd (no_bool b ty (only (bool_term b ty) i));
-    ints = λ z ty i. absurd (no_int z ty (only (int_term z ty) i));
-    written_bools = λ b ty i. absurd (no_bool b ty (only (bool_term b ty) i));
-    written_ints = λ z ty i own. absurd (no_int z ty (only (int_term z ty) i));
-    prims = λ name i. absurd (no_prim name (only (prim_term name) i));
-    extractors = λ k u s v i e. absurd (no_extractor u s (only (extractor_call u s) i));
-    pures = λ k u us ws i e. pure_served k u us ws (only (constructor_call u us 0) i) e;
-    impures = λ k r u b us ws i matched made gave e.
-        impure_served u b us (only (constructor_call u us (suc b)) (made_asked noting_program (rules_of noting_program t) r (constructor_call u us (suc b)) i (in_from_contains (demands_of noting_program r).made (constructor_call u us (suc b)) made)));
-  }
-    where
-      only : (u : SiteTerm) → Contains (asked noting_program (rules_of noting_program t)) u → IsServed m args u
-      only u i = All-contains (IsServed m args) (asked noting_program (rules_of noting_program t)) u (All-from_recursion (IsServed m args) (asked noting_program (rules_of noting_program t)) sites) i
+  serves_by t sites = grind (arith, common_steps)
 
 -- rules that name no constant
 pub apart_of : (p : Program) (m : Meaning) (t : ℕ) → tested_constants p (rules_of p t) ≡ [] → ((r : TypedRule) → Contains (rules_of p t) r → (demands_of p r).constraints ≡ []) → TellsConstantsApart p m (rules_of p t)
@@ -124,21 +79,10 @@ twice_meaning = from_outside adds_and_notes.pures (λ t n. None)
 
 -- whatever a whole run nests, `add` is outside
 added : (N : Call → List Call → Content → List Call → Type 0) (t : ℕ) (vs : Values) (a : Content) → adds_and_notes.pures t vs ≡ Some a → IsPureAnswer N noting_program adds_and_notes t vs a
-added N t vs a e =
-    elim (cases_Bool ((1 == t) && values_eq hundreds vs)) [
-      | inl b ↦ subst (λ n. IsPureAnswer N noting_program adds_and_notes n vs a) (eqb-true 1 t (and_parts (1 == t) (values_eq hundreds vs) b).0) (by_one b)
-      | inr f ↦ absurd (none_some a (sym (cond-false ((1 == t) && values_eq hundreds vs) (Some (one (a_byte 200))) None f) ∙ e))
-    ]
-  where
-    by_one : ((1 == t) && values_eq hundreds vs) ≡ true → adds_and_notes.pures 1 vs ≡ Some a
-    by_one b = subst (λ n. adds_and_notes.pures n vs ≡ Some a) (sym (eqb-true 1 t (and_parts (1 == t) (values_eq hundreds vs) b).0)) e
+added N t vs a e = grind (arith, common_steps, eqb-true 1 t, and_parts (1 == t) (values_eq hundreds vs), none_some a, eqb-true, and_parts, none_some)
 
 only_rule : (t : ℕ) (q r : TypedRule) → rules_of noting_program t ≡ q ∷ [] → (demands_of noting_program q).constraints ≡ [] → Contains (rules_of noting_program t) r → (demands_of noting_program r).constraints ≡ []
-only_rule t q r is bare i =
-    elim (in_from_contains (q ∷ []) r (subst (λ rs. Contains rs r) is i)) [
-      | inl e ↦ subst (λ (y : TypedRule). (demands_of noting_program y).constraints ≡ []) e bare
-      | inr n ↦ absurd n
-    ]
+only_rule t q r is bare i = grind (arith, common_steps, in_from_contains (q ∷ []) r, in_from_contains)
 
 pub twice_run : (before : List Call) → WholeRun (by_rules noting_program) noting_program adds_and_notes 1 (call_of 0 100) before (one (a_byte 200)) before
 twice_run before = record {
@@ -166,16 +110,7 @@ noted_meaning =
     (λ t n. if (2 == t) && (0 == n) then Some (one (a_byte 7)) else None)
 
 doubled_within : (t : ℕ) (vs : Values) (a : Content) → noted_meaning.pures t vs ≡ Some a → IsPureAnswer (WholeRun (by_rules noting_program) noting_program adds_and_notes 1) noting_program adds_and_notes t vs a
-doubled_within t vs a e =
-    elim (cases_Bool ((0 == t) && values_eq (value_and (a_byte 100) no_value) vs)) [
-      | inl b ↦
-          let h = and_parts (0 == t) (values_eq (value_and (a_byte 100) no_value) vs) b in
-          let is : one (a_byte 200) ≡ a = some_is (one (a_byte 200)) a (sym (cond-true ((0 == t) && values_eq (value_and (a_byte 100) no_value) vs) (Some (one (a_byte 200))) None b) ∙ e) in
-          subst (λ n. IsPureAnswer (WholeRun (by_rules noting_program) noting_program adds_and_notes 1) noting_program adds_and_notes n vs a) (eqb-true 0 t h.0)
-          (subst (λ ws. IsPureAnswer (WholeRun (by_rules noting_program) noting_program adds_and_notes 1) noting_program adds_and_notes 0 ws a) (eq_all_means (value_and (a_byte 100) no_value) vs h.1)
-          (subst (IsPureAnswer (WholeRun (by_rules noting_program) noting_program adds_and_notes 1) noting_program adds_and_notes 0 (value_and (a_byte 100) no_value)) is twice_run))
-      | inr f ↦ absurd (none_some a (sym (cond-false ((0 == t) && values_eq (value_and (a_byte 100) no_value) vs) (Some (one (a_byte 200))) None f) ∙ e))
-    ]
+doubled_within t vs a e = grind (arith, common_steps, and_parts, some_is, eqb-true, eq_all_means, twice_run, none_some)
 
 noted_run : WholeRun (by_rules noting_program) noting_program adds_and_notes 2 (call_of 3 100) [] (one (a_byte 7)) (call_of 2 200 ∷ [])
 noted_run = record {

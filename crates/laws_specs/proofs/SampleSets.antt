@@ -1,5 +1,6 @@
 -- The conditions of the sample's rules, by those of its source rules.
-use Rattle.std.proofs.Common.{◌≡◌, ◌⊎◌, ℕ, pos, ◌<ℤ◌, [], ◌∷◌, Some, Contains, IsTrue, refl, sym, subst, inl, inr, arith}
+use Rattle.std.proofs.Common.{◌≡◌, ◌⊎◌, ℕ, pos, [], ◌∷◌, Some, Contains, IsTrue, refl, sym, subst, inl, inr, arith}
+use Rattle.std.proofs.lemmas.Grind.{common_steps}
 use Rattle.std.proofs.lemmas.Int.{ints}
 use Rattle.model.specs.rules.Program.{Program, arg_types, rules_of}
 use Rattle.model.specs.rules.Typed.{TypedRule}
@@ -43,9 +44,7 @@ abbrev sum_specs : Specs
 sum_specs = specs_with (doubled ∷ []) [] []
 
 sum_made : (s : SiteTerm) → In (argument 0 ∷ (sum_of_two ∷ [])) s → In (sum_of_two ∷ (argument 0 ∷ (argument 0 ∷ []))) s ⊎ IsArgument s
-sum_made s (inl e) = inr (0, e)
-sum_made s (inr (inl e)) = inl (inl e)
-sum_made s (inr (inr n)) = absurd n
+sum_made s h = grind (arith, common_steps)
 
 sum_in_set : SumsAreRight → IsValid (program_with (adding x x)) sum_specs (set_condition 0 sums_set (giving 1))
 sum_in_set right args f a =
@@ -54,10 +53,7 @@ sum_in_set right args f a =
     record { provides = shown.provides; requires = shown.requires }
 
 alone_from_set : IsValid (program_with x) sum_specs (set_condition 0 sums_set (giving 0)) → IsValid (program_with x) sum_specs (condition (program_with x) (rule_of x))
-alone_from_set valid args f a =
-    let p = program_with x in
-    let shown = valid args f (fewer_made p sum_specs (condition p (rule_of x)) (set_condition 0 sums_set (giving 0)) refl refl refl (λ s i. inl i) args f a) in
-    record { provides = shown.provides; requires = shown.requires }
+alone_from_set valid args f a = grind (arith, common_steps, fewer_made)
 
 -- 2. rules with priorities
 others_alone : IsValid codes code_specs (set_condition 2 codes_set others_in_set) → IsValid codes code_specs (condition codes for_others)
@@ -66,23 +62,14 @@ others_alone valid args f a =
     record { provides = shown.provides; requires = shown.requires }
 
 others_made : (s : SiteTerm) → In (argument 0 ∷ (int_term (pos 20) 1 ∷ [])) s → In (int_term (pos 20) 1 ∷ []) s ⊎ IsArgument s
-others_made s (inl e) = inr (0, e)
-others_made s (inr i) = inl i
+others_made s h = grind (arith, common_steps)
 
 above_in_set : IsAboveInSet codes_set others_in_set a_in_set
 above_in_set = (contains_from_in codes_set.rules a_in_set (inl refl), omega (arith, ints))
 
 -- only the rule for A is above the other one
 above_is : (q : TypedRule) → IsAbove codes for_others q → for_a ≡ q
-above_is q a = by (in_from_contains (rules_of codes 2) q a.0)
-  where
-    not_below : pos 0 <ℤ pos 0 → ⊥
-    not_below l = omega (arith, ints)
-
-    by : In (for_a ∷ (for_others ∷ [])) q → for_a ≡ q
-    by (inl e) = e
-    by (inr (inl e)) = absurd (not_below (subst (λ (z : TypedRule). pos 0 <ℤ z.prio) (sym e) a.1))
-    by (inr (inr n)) = absurd n
+above_is q a = grind (arith, common_steps, in_from_contains (rules_of codes 2) q a.0, in_from_contains, ints)
 
 none_above : (args : DenotedList) (f : Valuation) → IsNoneAboveInSet code_specs 2 codes_set others_in_set args f → IsNoneAbove codes code_specs for_others args f
 none_above args f n = record {

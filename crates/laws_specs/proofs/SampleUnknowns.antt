@@ -1,36 +1,26 @@
 -- Unknown functions: what is known of their answers by a sort, and without one.
-use Rattle.std.proofs.Common.{◌≡◌, ◌==◌, ◌&&◌, pos, true, false, [], ◌∷◌, Option, Some, None, refl, sym, ap, subst, ◌∙◌, inl, inr}
-use Rattle.std.proofs.lemmas.Bool.{and_parts, cases_Bool, cond-true, cond-false, false≢true, eqb-true}
-use Rattle.std.proofs.lemmas.List.Elements.{All-nil}
+use Rattle.std.proofs.Common.{◌≡◌, ◌&&◌, pos, true, [], Option, Some, refl, sym, ap, subst, ◌∙◌, arith}
+use Rattle.std.proofs.lemmas.Grind.{common_steps}
+use Rattle.std.proofs.lemmas.Bool.{and_parts, false≢true, eqb-true}
 use Rattle.model.specs.sites.Sites.{argument}
-use Rattle.model.proofs.Elements.{in_from_contains, some_is, none_some}
-use Rattle.laws_specs.specs.Words.{Denoted, a_truth, an_integer, a_word, variant_of, struct_of, DenotedList, no_denoted, denoted_and, is_formed, equals, width_of}
-use Rattle.laws_specs.specs.WordOperators.{word_of}
-use Rattle.laws_specs.specs.Specs.{words, is_of_sort, Unknowns, UnknownSort, the_same, operation, no_spec_expr, spec_expr_and, IsSaid, no_unknown}
-use Rattle.laws_specs.specs.Conditions.{told, result_as, is_told_formed, is_of_type, IsPartHeld, IsAnsweredAsSaid, IsTypedAs, IsAssumed, condition}
+use Rattle.model.proofs.Elements.{some_is, none_some}
+use Rattle.laws_specs.specs.Words.{Denoted, a_truth, an_integer, DenotedList, no_denoted, denoted_and, is_formed, equals, width_of}
+use Rattle.laws_specs.specs.Specs.{words, is_of_sort, Unknowns, the_same, operation, no_spec_expr, spec_expr_and, IsSaid, no_unknown}
+use Rattle.laws_specs.specs.Conditions.{told, result_as, is_told_formed, is_of_type, IsPartHeld, IsAssumed, condition}
 use Rattle.laws_specs.specs.Samples.{of_two, byte, x, rule_of, program_with}
 use Rattle.laws_specs.specs.SampleUnknowns.{answers_a_byte, byte_to_byte, of_bytes, by_unknown, IsRightBy, answering, IsDenotedBy, UnknownsHaveSorts}
 use Rattle.laws_specs.proofs.SampleAnswers.{byte_formed, byte_sorted, byte_numbered}
-use Rattle.laws_specs.proofs.SampleConditions.{one_argument, alone, alone_held, alone_formed, no_picks, only_one, just_one, none_first, none_made}
+use Rattle.laws_specs.proofs.SampleConditions.{one_argument, alone, only_one, just_one, none_first, none_made}
 
 -- 1. by its sort
 width_said : (g : Unknowns) (args : DenotedList) (r : Option Denoted) (z : Denoted) → is_of_sort (words 8) z ≡ true
     → IsSaid g args r (operation equals (of_two (operation width_of (spec_expr_and (the_same z) no_spec_expr)) (the_same (an_integer (pos 8)))))
-width_said g args r (a_truth b) h = absurd (false≢true h)
-width_said g args r (an_integer z) h = absurd (false≢true h)
-width_said g args r (a_word w n) h = subst (λ v. IsSaid g args r (operation equals (of_two (operation width_of (spec_expr_and (the_same (a_word v n)) no_spec_expr)) (the_same (an_integer (pos 8)))))) (sym (eqb-true w 8 h)) refl
-width_said g args r (variant_of t i xs) h = absurd (false≢true h)
-width_said g args r (struct_of t xs) h = absurd (false≢true h)
+width_said g args r z h = grind (arith, common_steps, eqb-true)
 
 byte_of_type : (g : Unknowns) (b : Denoted) → is_of_type (program_with x).types (by_unknown g of_bytes) 1 b ≡ true → is_of_sort (words 8) b ≡ true
-byte_of_type g (a_truth b) h = absurd (false≢true h)
-byte_of_type g (an_integer z) h = absurd (false≢true h)
-byte_of_type g (a_word w n) h = (and_parts (w == 8) true h).0
-byte_of_type g (variant_of t i xs) h = absurd (false≢true (and_parts (t == 1) false h).1)
-byte_of_type g (struct_of t xs) h = absurd (false≢true (and_parts (t == 1) false h).1)
+byte_of_type g b h = grind (arith, common_steps, and_parts)
 
 sorted_right : (g : Unknowns) → IsRightBy g of_bytes
-sorted_right g no_denoted f a = absurd (false≢true a.arguments)
 sorted_right g (denoted_and b no_denoted) f a = record {
   provides = λ h y made e q.
       (let part : IsPartHeld (denoted_and b no_denoted) 0 h = a.held (argument 0) h e in
@@ -43,26 +33,11 @@ sorted_right g (denoted_and b no_denoted) f a = record {
       (width_said g (denoted_and b no_denoted) (Some b) (g 0 (denoted_and b no_denoted)) known.0)));
   requires = λ before after u t n ss xs split made e q. absurd (none_first before after u split);
 }
-sorted_right g (denoted_and b (denoted_and c rest)) f a = absurd (false≢true (and_parts (is_of_type (program_with x).types (by_unknown g of_bytes) 1 b) false a.arguments).1)
+sorted_right g h f a = grind (arith, common_steps, and_parts)
 
 -- 2. without a sort
 unsorted_assumed : IsAssumed (program_with x) (by_unknown no_unknown []) (condition (program_with x) (rule_of x)) one_argument alone
-unsorted_assumed =
-    let specs = by_unknown no_unknown [] in
-    record {
-      arguments = refl;
-      formed_args = refl;
-      required = All-nil (IsSaid no_unknown one_argument None);
-      unknowns = λ g s xs e sorted formed. absurd (none_some s e);
-      held = alone_held specs;
-      formed = alone_formed;
-      constraints = λ s k i. absurd (in_from_contains [] (s, k) i);
-      equalities = λ a b i. absurd (in_from_contains [] (a, b) i);
-      calls = λ s i e. elim (in_from_contains (argument 0 ∷ []) s i) [ inl q ↦ subst (λ z. IsAnsweredAsSaid specs alone z z) q tt | inr n ↦ absurd n ];
-      typed = λ s h i e there. elim (in_from_contains (argument 0 ∷ []) s i) [ inl q ↦ subst (λ z. IsTypedAs (program_with x) specs z h) q tt | inr n ↦ absurd n ];
-      picks = λ s i e. no_picks specs alone (λ u h there. none_some h there) s;
-      typed_picks = λ s h i e there. absurd (none_some h there);
-    }
+unsorted_assumed = grind (arith, common_steps)
 
 unsorted_wrong : IsRightBy no_unknown [] → ⊥
 unsorted_wrong right =
@@ -72,16 +47,7 @@ unsorted_wrong right =
 
 -- 3. functions of the sort
 seven_denoted : IsDenotedBy (answering 7)
-seven_denoted = record {
-  formed = λ ty z. byte_formed z;
-  sorted = λ ty z s e. byte_sorted ty (word_of 8 z) s e;
-  numbers = λ ty z y own e. byte_numbered ty z y e;
-  plain = λ ty z h. refl;
-  unknowns = λ f s xs e sorted formed. elim (cases_Bool (0 == f)) [
-    | inl t ↦ subst (λ (r : UnknownSort). (is_of_sort r.gives (byte 7) ≡ true) × (is_formed (byte 7) ≡ true)) (some_is byte_to_byte s (sym (cond-true (0 == f) (Some byte_to_byte) None t) ∙ e)) (refl, refl)
-    | inr n ↦ absurd (none_some s (sym (cond-false (0 == f) (Some byte_to_byte) None n) ∙ e))
-  ];
-}
+seven_denoted = grind (arith, common_steps, some_is byte_to_byte, byte_formed, byte_sorted, byte_numbered, some_is, none_some)
 
 pub unknowns_have_sorts_lem : UnknownsHaveSorts
 unknowns_have_sorts_lem = record {

@@ -1,13 +1,13 @@
 -- Listed widths: what they leave an argument, and atoms.
-use Rattle.std.proofs.Common.{◌≡◌, ◌||◌, ℕ, ℤ, pos, true, false, List, [], ◌∷◌, Some, None, refl, sym, ap, subst, ◌∙◌, ◌==◌, inl, inr}
-use Rattle.std.proofs.lemmas.Bool.{and_parts, cases_Bool, cond-true, cond-false, false≢true, eqb-true}
+use Rattle.std.proofs.Common.{◌≡◌, ℕ, ℤ, pos, true, false, List, [], ◌∷◌, Some, None, refl, sym, ap, subst, ◌∙◌, inl, inr, arith}
+use Rattle.std.proofs.lemmas.Grind.{common_steps}
+use Rattle.std.proofs.lemmas.Bool.{and_parts, false≢true, eqb-true}
 use Rattle.std.proofs.lemmas.List.Elements.{All-nil}
-use Rattle.model.specs.rules.Outcome.{then_option}
 use Rattle.model.specs.sites.Sites.{SiteTerm, argument}
 use Rattle.model.proofs.Elements.{in_from_contains, or_split, some_is, none_some}
-use Rattle.laws_specs.specs.Words.{Denoted, a_truth, an_integer, a_word, variant_of, struct_of, DenotedList, no_denoted, denoted_and}
+use Rattle.laws_specs.specs.Words.{Denoted, a_word, DenotedList, no_denoted, denoted_and}
 use Rattle.laws_specs.specs.WordOperators.{word_of}
-use Rattle.laws_specs.specs.Specs.{Sort, words_among, is_of_sort, sort_of, integer_in, literal_of, IsSaid, no_unknown}
+use Rattle.laws_specs.specs.Specs.{Sort, words_among, is_of_sort, sort_of, literal_of, IsSaid, no_unknown}
 use Rattle.laws_specs.specs.Conditions.{ToldContent, told, result_as, is_told_formed, is_of_type, IsPartHeld, IsHeldAs, IsAnsweredAsSaid, IsTypedAs, Valuation, IsAssumed, condition}
 use Rattle.laws_specs.specs.Meets.{IsDenotation}
 use Rattle.laws_specs.specs.Samples.{x, rule_of, program_with}
@@ -18,18 +18,9 @@ use Rattle.laws_specs.proofs.SampleConditions.{listed_as, each_held, no_picks, o
 
 -- 1. an argument of eight bits
 a_byte_is_said : (b : Denoted) → is_of_type (program_with x).types (among (8 ∷ [])) 1 b ≡ true → IsSaid no_unknown (denoted_and b no_denoted) (Some b) has_eight_bits
-a_byte_is_said (a_truth b) h = absurd (false≢true h)
-a_byte_is_said (an_integer z) h = absurd (false≢true h)
-a_byte_is_said (a_word w n) h =
-    elim (or_split (w == 8) false (and_parts ((w == 8) || false) true h).0) [
-      | inl e ↦ subst (λ v. IsSaid no_unknown (denoted_and (a_word v n) no_denoted) (Some (a_word v n)) has_eight_bits) (sym (eqb-true w 8 e)) refl
-      | inr n ↦ absurd (false≢true n)
-    ]
-a_byte_is_said (variant_of t i xs) h = absurd (false≢true (and_parts (t == 1) false h).1)
-a_byte_is_said (struct_of t xs) h = absurd (false≢true (and_parts (t == 1) false h).1)
+a_byte_is_said b h = grind (arith, common_steps, or_split, and_parts, eqb-true)
 
 byte_right : IsRightAmong (8 ∷ [])
-byte_right no_denoted f a = absurd (false≢true a.arguments)
 byte_right (denoted_and b no_denoted) f a = record {
   provides = λ h y made e q.
       (let part : IsPartHeld (denoted_and b no_denoted) 0 h = a.held (argument 0) h e in
@@ -39,7 +30,7 @@ byte_right (denoted_and b no_denoted) f a = record {
       (a_byte_is_said b (and_parts (is_of_type (program_with x).types (among (8 ∷ [])) 1 b) true a.arguments).0)));
   requires = λ before after u t n ss xs split made e q. absurd (none_first before after u split);
 }
-byte_right (denoted_and b (denoted_and c rest)) f a = absurd (false≢true (and_parts (is_of_type (program_with x).types (among (8 ∷ [])) 1 b) false a.arguments).1)
+byte_right h f a = grind (arith, common_steps, and_parts)
 
 -- 2. and one of sixteen
 abbrev a_wide_one : Denoted
@@ -80,21 +71,11 @@ wide_wrong right =
 
 -- 3. atoms
 byte_listed : (ty n : ℕ) (s : Sort) → sort_of (among (8 ∷ (16 ∷ []))) ty ≡ Some s → is_of_sort s (a_word 8 n) ≡ true
-byte_listed ty n s e =
-    let sort = words_among (8 ∷ (16 ∷ [])) in
-    elim (cases_Bool (1 == ty)) [
-      | inl t ↦ subst (λ r. is_of_sort r (a_word 8 n) ≡ true) (some_is sort s (sym (cond-true (1 == ty) (Some sort) None t) ∙ e)) refl
-      | inr f ↦ absurd (none_some s (sym (cond-false (1 == ty) (Some sort) None f) ∙ e))
-    ]
+byte_listed ty n s e = grind (arith, common_steps, none_some s, some_is, none_some)
 
 -- of listed widths no literal stands for a number
 none_numbered : (ty : ℕ) (z : ℤ) (y : Denoted) → literal_of (among (8 ∷ (16 ∷ []))) z ty ≡ Some y → bytes_as ty z ≡ y
-none_numbered ty z y e =
-    let sort = words_among (8 ∷ (16 ∷ [])) in
-    elim (cases_Bool (1 == ty)) [
-      | inl t ↦ absurd (none_some y (sym (ap (λ o. then_option o (λ s. integer_in s z)) (cond-true (1 == ty) (Some sort) None t)) ∙ e))
-      | inr f ↦ absurd (none_some y (sym (ap (λ o. then_option o (λ s. integer_in s z)) (cond-false (1 == ty) (Some sort) None f)) ∙ e))
-    ]
+none_numbered ty z y e = grind (arith, common_steps, none_some y, none_some)
 
 pub widths_are_listed_lem : WidthsAreListed
 widths_are_listed_lem = record {

@@ -1,9 +1,10 @@
 -- The meaning that gives literals the values that they write serves rules that ask for nothing else, and meets specs of bytes.
-use Rattle.std.proofs.Common.{◌≡◌, ◌⊎◌, ℕ, ℤ, suc, Bool, true, List, Some, slice_get, Contains, refl, sym, ap, subst, ◌∙◌, inl, inr}
+use Rattle.std.proofs.Common.{◌≡◌, ◌⊎◌, ℕ, ℤ, suc, Bool, true, List, Some, slice_get, Contains, refl, ap, subst, arith}
+use Rattle.std.proofs.lemmas.Grind.{common_steps}
 use Rattle.std.specs.List.{AllByRecursion}
 use Rattle.std.proofs.lemmas.List.Elements.{All-contains, All-from_recursion}
 use Rattle.model.specs.lists.Tables.{builtin_type}
-use Rattle.model.specs.rules.Values.{Value, truth, atom, has_atoms, well_typed}
+use Rattle.model.specs.rules.Values.{Value, atom, has_atoms, well_typed}
 use Rattle.model.specs.rules.Outcome.{Call}
 use Rattle.model.specs.rules.Program.{Program, rules_of}
 use Rattle.model.specs.sites.Serves.{asked, Serves}
@@ -12,7 +13,7 @@ use Rattle.model.specs.visits.Demands.{demands_of}
 use Rattle.model.proofs.Elements.{in_from_contains, some_is, none_some}
 use Rattle.laws_specs.specs.Words.{Denoted}
 use Rattle.laws_specs.specs.Specs.{Specs, literal_of}
-use Rattle.laws_specs.specs.Meets.{stands_for, MeetsSpecs}
+use Rattle.laws_specs.specs.Meets.{MeetsSpecs}
 use Rattle.laws_specs.specs.SampleCalls.{bytes_as, written}
 use Rattle.laws_specs.proofs.PlainOutcomes.{made_asked}
 
@@ -21,24 +22,19 @@ abbrev pub IsPlainSite : SiteTerm → Type 0
 IsPlainSite u = (argument 0 ≡ u) ⊎ ((z : ℤ) × (int_term z 1 ≡ u))
 
 no_bool : (b : Bool) (ty : ℕ) → IsPlainSite (bool_term b ty) → ⊥
-no_bool b ty (inl e) = cc
-no_bool b ty (inr (z, e)) = cc
+no_bool b ty h = grind (arith, common_steps)
 
 no_prim : (name : ℕ) → IsPlainSite (prim_term name) → ⊥
-no_prim name (inl e) = cc
-no_prim name (inr (z, e)) = cc
+no_prim name h = grind (arith, common_steps)
 
 no_extractor : (t : ℕ) (s : SiteTerm) → IsPlainSite (extractor_call t s) → ⊥
-no_extractor t s (inl e) = cc
-no_extractor t s (inr (z, e)) = cc
+no_extractor t s h = grind (arith, common_steps)
 
 no_constructor : (t n : ℕ) (ss : SiteTerms) → IsPlainSite (constructor_call t ss n) → ⊥
-no_constructor t n ss (inl e) = cc
-no_constructor t n ss (inr (z, e)) = cc
+no_constructor t n ss h = grind (arith, common_steps)
 
 int_type : (z : ℤ) (ty : ℕ) → IsPlainSite (int_term z ty) → 1 ≡ ty
-int_type z ty (inl e) = absurd (cc)
-int_type z ty (inr (y, e)) = cc
+int_type z ty h = grind (arith, common_steps)
 
 pub written_serves : (p : Program) (t : ℕ) (args : List Value) → slice_get p.types 1 ≡ Some (builtin_type 1) → AllByRecursion IsPlainSite (asked p (rules_of p t)) → Serves p written args (rules_of p t)
 written_serves p t args bytes sites = record {
@@ -57,11 +53,4 @@ written_serves p t args bytes sites = record {
     only u i = All-contains IsPlainSite (asked p (rules_of p t)) u (All-from_recursion IsPlainSite (asked p (rules_of p t)) sites) i
 
 pub written_meets : (specs : Specs) (calls : List Call) → ((ty : ℕ) (z : ℤ) (y : Denoted) → literal_of specs z ty ≡ Some y → bytes_as ty z ≡ y) → MeetsSpecs specs bytes_as written calls
-written_meets specs calls numbered = record {
-  bools = λ b ty v e. ap (stands_for bytes_as) (sym (some_is (truth b) v e));
-  ints = λ z ty v y e l. ap (stands_for bytes_as) (sym (some_is (atom ty z) v e)) ∙ numbered ty z y l;
-  constants = λ name v y e l. absurd (none_some v e);
-  extractors = λ t v c a e i. absurd (none_some c e);
-  pures = λ t vs c a e i. absurd (none_some c e);
-  impures = λ before call c a e o i. absurd (none_some c o);
-}
+written_meets specs calls numbered = grind (arith, common_steps, some_is, none_some)

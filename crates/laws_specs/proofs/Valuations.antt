@@ -1,9 +1,10 @@
 -- What the sites of a run stand for: values, fields, answers and results, by their parts.
-use Rattle.std.proofs.Common.{◌≡◌, ℕ, ℤ, zero, suc, ◌==◌, ◌&&◌, ◌||◌, not, Bool, true, false, List, [], ◌∷◌, Option, Some, None, cond, slice_get, refl, sym, ap, subst, ◌∙◌, inl, inr}
-use Rattle.std.proofs.lemmas.Bool.{and_parts, and_from, cases_Bool, false≢true, eqb-true}
+use Rattle.std.proofs.Common.{◌≡◌, ℕ, ℤ, suc, ◌==◌, ◌&&◌, ◌||◌, not, true, List, ◌∷◌, Option, Some, slice_get, refl, sym, ap, subst, ◌∙◌, inl, inr, arith}
+use Rattle.std.proofs.lemmas.Grind.{common_steps}
+use Rattle.std.proofs.lemmas.Bool.{and_parts, and_from, cases_Bool, eqb-true}
 use Rattle.model.specs.lists.Tables.{TypeEntry}
 use Rattle.model.specs.rules.Values.{Value, truth, atom, of_variant, of_struct, Values, no_value, value_and, listed, of_list, well_typed, all_well_typed, is_truth_type, has_atoms, variant_types, struct_types}
-use Rattle.model.specs.rules.Meaning.{Content, one, parts, nothing, just, many, Meaning, bool_literal, int_literal, literal_value, constant_value, extractor_answer}
+use Rattle.model.specs.rules.Meaning.{Content, one, parts, just, Meaning, bool_literal, int_literal, literal_value, constant_value, extractor_answer}
 use Rattle.model.specs.rules.Outcome.{Call, then_option}
 use Rattle.model.specs.rules.Program.{Program}
 use Rattle.model.specs.rules.Picks.{Pick, picked, part_of_some, field_of_variant, field_of_struct, call_answer, site_content, site_values}
@@ -13,19 +14,14 @@ use Rattle.model.specs.trees.Run.{as_value, from_value, part_at}
 use Rattle.model.proofs.Elements.{or_left, or_right, some_is, none_some}
 use Rattle.model.proofs.Options.{then_some}
 use Rattle.laws_trees.proofs.picks.HeldContents.{is_just}
-use Rattle.laws_specs.specs.Words.{Denoted, a_truth, an_integer, a_word, variant_of, struct_of, DenotedList, denoted_and, denoted_list, is_plain, is_formed, are_formed}
+use Rattle.laws_specs.specs.Words.{Denoted, DenotedList, denoted_and, denoted_list, is_plain, is_formed, are_formed}
 use Rattle.laws_specs.specs.Specs.{Sort, Specs, sort_of}
 use Rattle.laws_specs.specs.Conditions.{ToldContent, told, told_many, is_told_formed, as_denoted, denoted_at_each, IsPartHeld, IsHeldAs, is_modelled_as, is_atom_as, is_of_atoms, is_of_type, are_of_types}
 use Rattle.laws_specs.specs.Meets.{Atoms, stands_for, stand_for, content_as, IsDenotation, MeetsSpecs}
 
 -- 1. optional contents
 pub is_value : (o : Option Content) (v : Value) → then_option o as_value ≡ Some v → o ≡ Some (one v)
-is_value None v e = absurd (none_some v e)
-is_value (Some (one w)) v e = ap (λ (x : Value). Some (one x)) (some_is w v e)
-is_value (Some (parts vs)) v e = absurd (none_some v e)
-is_value (Some nothing) v e = absurd (none_some v e)
-is_value (Some (just c)) v e = absurd (none_some v e)
-is_value (Some (many cs)) v e = absurd (none_some v e)
+is_value o v e = grind (arith, common_steps, none_some, some_is)
 
 abbrev pub told_of : Atoms → Option Content → Option ToldContent
 told_of d o = then_option o (λ c. Some (content_as d c))
@@ -37,18 +33,11 @@ abbrev pub all_denoted_of : Atoms → Option Values → Option DenotedList
 all_denoted_of d o = then_option o (λ vs. Some (stand_for d vs))
 
 value_told : (d : Atoms) (o : Option Content) → then_option (told_of d o) as_denoted ≡ denoted_of d (then_option o as_value)
-value_told d None = refl
-value_told d (Some (one v)) = refl
-value_told d (Some (parts vs)) = refl
-value_told d (Some nothing) = refl
-value_told d (Some (just c)) = refl
-value_told d (Some (many cs)) = refl
+value_told d o = grind (arith, common_steps)
 
 both_told : (d : Atoms) (o : Option Value) (q : Option Values)
     → then_option (denoted_of d o) (λ x. then_option (all_denoted_of d q) (λ xs. Some (denoted_and x xs))) ≡ all_denoted_of d (then_option o (λ v. then_option q (λ vs. Some (value_and v vs))))
-both_told d None q = refl
-both_told d (Some v) None = refl
-both_told d (Some v) (Some vs) = refl
+both_told d o q = grind (arith, common_steps)
 
 pub told_same : (x y : Denoted) → told x ≡ told y → x ≡ y
 told_same x y e = cc
@@ -61,51 +50,35 @@ pub values_there : (d : Atoms) (o : Option Values) (xs : DenotedList) → all_de
 values_there d o xs e = let a = then_some o (λ vs. Some (stand_for d vs)) xs e in (a.0, a.1, some_is (stand_for d a.0) xs a.2)
 
 one_told : (d : Atoms) (c : Content) (x : Denoted) → content_as d c ≡ told x → (v : Value) × (c ≡ one v) × (stands_for d v ≡ x)
-one_told d (one v) x e = (v, refl, same e)
-  where
-    same : told (stands_for d v) ≡ told x → stands_for d v ≡ x
-    same q = cc
-one_told d (parts vs) x e = absurd (cc)
-one_told d nothing x e = absurd (cc)
-one_told d (just c) x e = absurd (cc)
-one_told d (many cs) x e = absurd (cc)
+one_told d (one v) x e = grind (arith, common_steps)
+one_told d c x e = grind (arith, common_steps)
 
 pub value_there : (d : Atoms) (o : Option Content) (x : Denoted) → told_of d o ≡ Some (told x) → (v : Value) × (o ≡ Some (one v)) × (stands_for d v ≡ x)
-value_there d o x e =
-    let a = told_there d o (told x) e in
-    let b = one_told d a.0 x a.2 in
-    (b.0, a.1 ∙ ap Some b.1, b.2)
+value_there d o x e = grind (arith, common_steps, told_there d o (told x) e, one_told d, told_there, one_told)
 
 pub value_held : (d : Atoms) (o : Option Value) (c : Content) → from_value o ≡ Some c → (v : Value) × (o ≡ Some v) × (content_as d c ≡ told (stands_for d v))
-value_held d None c e = absurd (none_some c e)
-value_held d (Some v) c e = (v, refl, ap (content_as d) (sym (some_is (one v) c e)))
+value_held d o c e = grind (arith, common_steps, none_some, some_is)
 
 -- a field of values
 pub field_there : (d : Atoms) (vs : Values) (i : ℕ) (v : Value) → slice_get (listed vs) i ≡ Some v → slice_get (denoted_list (stand_for d vs)) i ≡ Some (stands_for d v)
-field_there d no_value i v e = absurd (none_some v e)
-field_there d (value_and w vs) zero v e = ap (λ x. Some (stands_for d x)) (some_is w v e)
 field_there d (value_and w vs) (suc i) v e = field_there d vs i v e
+field_there d vs i v e = grind (arith, common_steps, none_some, some_is)
 
 pub argument_there : (d : Atoms) (args : List Value) (i : ℕ) (v : Value) → slice_get args i ≡ Some v → slice_get (denoted_list (stand_for d (of_list args))) i ≡ Some (stands_for d v)
-argument_there d [] i v e = absurd (none_some v e)
-argument_there d (w ∷ args) zero v e = ap (λ x. Some (stands_for d x)) (some_is w v e)
 argument_there d (w ∷ args) (suc i) v e = argument_there d args i v e
+argument_there d h i v e = grind (arith, common_steps, none_some, some_is)
 
 part_held : (d : Atoms) (vs : Values) (i : ℕ) (c : Content) → from_value (slice_get (listed vs) i) ≡ Some c → IsPartHeld (stand_for d vs) i (content_as d c)
-part_held d vs i c e =
-    let a = value_held d (slice_get (listed vs) i) c e in
-    record { part = stands_for d a.0; there = field_there d vs i a.0 a.1; held = a.2 }
+part_held d vs i c e = grind (arith, common_steps, value_held d (slice_get (listed vs) i) c e, field_there d vs i, value_held, field_there)
 
 -- and back
 pub field_back : (d : Atoms) (vs : Values) (i : ℕ) (x : Denoted) → slice_get (denoted_list (stand_for d vs)) i ≡ Some x → (v : Value) × (slice_get (listed vs) i ≡ Some v) × (stands_for d v ≡ x)
-field_back d no_value i x e = absurd (none_some x e)
-field_back d (value_and w vs) zero x e = (w, refl, some_is (stands_for d w) x e)
 field_back d (value_and w vs) (suc i) x e = field_back d vs i x e
+field_back d vs i x e = grind (arith, common_steps, none_some, some_is)
 
 pub argument_back : (d : Atoms) (args : List Value) (i : ℕ) (x : Denoted) → slice_get (denoted_list (stand_for d (of_list args))) i ≡ Some x → (v : Value) × (slice_get args i ≡ Some v) × (stands_for d v ≡ x)
-argument_back d [] i x e = absurd (none_some x e)
-argument_back d (w ∷ args) zero x e = (w, refl, some_is (stands_for d w) x e)
 argument_back d (w ∷ args) (suc i) x e = argument_back d args i x e
+argument_back d h i x e = grind (arith, common_steps, none_some, some_is)
 
 pub part_back : (d : Atoms) (vs : Values) (i : ℕ) (h : ToldContent) → IsPartHeld (stand_for d vs) i h → (v : Value) × (from_value (slice_get (listed vs) i) ≡ Some (one v)) × (told (stands_for d v) ≡ h)
 part_back d vs i h a = let b = field_back d vs i a.part a.there in (b.0, ap from_value b.1, ap told b.2 ∙ sym a.held)
@@ -113,35 +86,16 @@ part_back d vs i h a = let b = field_back d vs i a.part a.there in (b.0, ap from
 -- 2. fields, parts and picks
 variant_there : (variant i : ℕ) (v : Value) (c : Content) → field_of_variant variant i v ≡ Some c
     → (ty : ℕ) × (vs : Values) × (v ≡ of_variant ty variant vs) × (from_value (slice_get (listed vs) i) ≡ Some c)
-variant_there variant i (of_variant ty j vs) c e = by (j == variant) refl e
-  where
-    by : (b : Bool) → (j == variant) ≡ b → (cond b (from_value (slice_get (listed vs) i)) None) ≡ Some c
-        → (ty' : ℕ) × (vs' : Values) × (of_variant ty j vs ≡ of_variant ty' variant vs') × (from_value (slice_get (listed vs') i) ≡ Some c)
-    by true q e' = (ty, vs, ap (λ n. of_variant ty n vs) (eqb-true j variant q), e')
-    by false q e' = absurd (none_some c e')
-variant_there variant i (truth b) c e = absurd (none_some c e)
-variant_there variant i (atom ty z) c e = absurd (none_some c e)
-variant_there variant i (of_struct ty vs) c e = absurd (none_some c e)
+variant_there variant i v c e = grind (arith, common_steps, eqb-true, none_some)
 
 struct_there : (i : ℕ) (v : Value) (c : Content) → field_of_struct i v ≡ Some c → (ty : ℕ) × (vs : Values) × (v ≡ of_struct ty vs) × (from_value (slice_get (listed vs) i) ≡ Some c)
-struct_there i (of_struct ty vs) c e = (ty, vs, refl, e)
-struct_there i (truth b) c e = absurd (none_some c e)
-struct_there i (atom ty z) c e = absurd (none_some c e)
-struct_there i (of_variant ty j vs) c e = absurd (none_some c e)
+struct_there i v c e = grind (arith, common_steps, none_some)
 
 parts_there : (i : ℕ) (a c : Content) → part_at a i ≡ Some c → (vs : Values) × (a ≡ parts vs) × (from_value (slice_get (listed vs) i) ≡ Some c)
-parts_there i (parts vs) c e = (vs, refl, e)
-parts_there i (one v) c e = absurd (none_some c e)
-parts_there i nothing c e = absurd (none_some c e)
-parts_there i (just b) c e = absurd (none_some c e)
-parts_there i (many cs) c e = absurd (none_some c e)
+parts_there i a c e = grind (arith, common_steps, none_some)
 
 many_there : (d : Atoms) (k : Pick) (s : SiteTerm) (a c : Content) → picked k s a ≡ Some c → content_as d a ≡ told_many
-many_there d k s (many cs) c e = refl
-many_there d k s (one v) c e = absurd (none_some c e)
-many_there d k s (parts vs) c e = absurd (none_some c e)
-many_there d k s nothing c e = absurd (none_some c e)
-many_there d k s (just b) c e = absurd (none_some c e)
+many_there d k s a c e = grind (arith, common_steps, none_some)
 
 -- 3. the sites of a run, under a pick
 pub record Called : Type 0 where
@@ -175,11 +129,8 @@ module _ (k : Called) where
   args_as = stand_for k.atoms (of_list k.args)
 
   pub each_told : (ss : SiteTerms) → denoted_at_each sites_as ss ≡ all_denoted_of d (values ss)
+  each_told (site_term_and s ss) = grind (arith, common_steps, each_told ss, value_told, both_told)
   each_told no_site_term = refl
-  each_told (site_term_and s ss) =
-      ap (λ o. then_option o (λ x. then_option (denoted_at_each sites_as ss) (λ xs. Some (denoted_and x xs)))) (value_told d (content s))
-      ∙ ap (λ q. then_option (denoted_of d (then_option (content s) as_value)) (λ x. then_option q (λ xs. Some (denoted_and x xs)))) (each_told ss)
-      ∙ both_told d (then_option (content s) as_value) (values ss)
 
   pub told_values : (ss : SiteTerms) (vs : Values) → values ss ≡ Some vs → denoted_at_each sites_as ss ≡ Some (stand_for d vs)
   told_values ss vs e = each_told ss ∙ ap (all_denoted_of d) e
@@ -228,21 +179,17 @@ module _ (k : Called) where
   -- 4. words lie below 2 to their width
   mutual
     value_formed : (v : Value) → is_formed (stands_for d v) ≡ true
-    value_formed (truth b) = refl
-    value_formed (atom ty z) = k.denotes.formed ty z
     value_formed (of_variant ty variant vs) = values_formed vs
     value_formed (of_struct ty vs) = values_formed vs
+    value_formed v = grind (arith, common_steps)
 
     pub values_formed : (vs : Values) → are_formed (stand_for d vs) ≡ true
     values_formed no_value = refl
     values_formed (value_and v vs) = ap (λ b. b && are_formed (stand_for d vs)) (value_formed v) ∙ values_formed vs
 
   content_formed : (c : Content) → is_told_formed (content_as d c) ≡ true
-  content_formed (one v) = value_formed v
-  content_formed (parts vs) = values_formed vs
-  content_formed nothing = refl
   content_formed (just c) = content_formed c
-  content_formed (many cs) = refl
+  content_formed c = grind (arith, common_steps, value_formed, values_formed)
 
   pub site_formed : (s : SiteTerm) (h : ToldContent) → sites_as s ≡ Some h → is_told_formed h ≡ true
   site_formed s h e = let a = told_there d (content s) h e in subst (λ x. is_told_formed x ≡ true) a.2 (content_formed a.0)
@@ -252,15 +199,10 @@ module _ (k : Called) where
   types = k.program.types
 
   atoms_typed : (ty : ℕ) (x : Denoted) → is_of_atoms types k.specs ty x ≡ true → is_of_type types k.specs ty x ≡ true
-  atoms_typed ty (a_truth b) h = h
-  atoms_typed ty (an_integer z) h = h
-  atoms_typed ty (a_word w n) h = h
-  atoms_typed ty (variant_of t i xs) h = or_left (is_of_atoms types k.specs ty (variant_of t i xs)) ((t == ty) && are_of_types types k.specs (variant_types (slice_get types ty) i) xs) h
-  atoms_typed ty (struct_of t xs) h = or_left (is_of_atoms types k.specs ty (struct_of t xs)) ((t == ty) && are_of_types types k.specs (struct_types (slice_get types ty)) xs) h
+  atoms_typed ty x h = grind (arith, common_steps, or_left)
 
   modelled : (ty : ℕ) (z : ℤ) (o : Option Sort) → sort_of k.specs ty ≡ o → is_modelled_as o (d ty z) ≡ true
-  modelled ty z None e = refl
-  modelled ty z (Some s) e = k.denotes.sorted ty z s e
+  modelled ty z o e = grind (arith, common_steps)
 
   atom_as : (ty : ℕ) (z : ℤ) → is_atom_as (slice_get types ty) (sort_of k.specs ty) (d ty z) ≡ true
   atom_as ty z =
@@ -284,10 +226,5 @@ module _ (k : Called) where
         or_right _ _ (and_from (s == ty) (are_of_types types k.specs (struct_types (slice_get types ty)) (stand_for d vs)) a.0 (values_typed (struct_types (slice_get types ty)) vs a.1))
 
     pub values_typed : (tys : Option (List ℕ)) (vs : Values) → all_well_typed types tys vs ≡ true → are_of_types types k.specs tys (stand_for d vs) ≡ true
-    values_typed None vs h = absurd (false≢true h)
-    values_typed (Some []) no_value h = refl
-    values_typed (Some []) (value_and v vs) h = absurd (false≢true h)
-    values_typed (Some (ty ∷ tys)) no_value h = absurd (false≢true h)
-    values_typed (Some (ty ∷ tys)) (value_and v vs) h =
-        let a = and_parts (well_typed types ty v) (all_well_typed types (Some tys) vs) h in
-        and_from (is_of_type types k.specs ty (stands_for d v)) (are_of_types types k.specs (Some tys) (stand_for d vs)) (value_typed ty v a.0) (values_typed (Some tys) vs a.1)
+    values_typed (Some (ty ∷ tys)) (value_and v vs) h = grind (arith, common_steps, value_typed ty v, values_typed (Some tys) vs, and_parts, and_from)
+    values_typed tys vs h = grind (arith, common_steps)

@@ -1,12 +1,13 @@
 -- What is assumed of a source rule is assumed of the rule of the set, completed; and what is shown of the rule of the set is shown of the
 -- source rule.
-use Rattle.std.proofs.Common.{◌≡◌, ℕ, ◌≤◌, true, false, List, [], ◌∷◌, ◌++◌, length, map, flat_map, Option, Some, None, is_some, Contains, IsTrue, refl, sym, ap, subst, ◌∙◌, inl, inr}
+use Rattle.std.proofs.Common.{◌≡◌, ℕ, ◌≤◌, true, false, List, [], ◌∷◌, length, map, flat_map, Some, is_some, Contains, IsTrue, sym, subst, ◌∙◌, inl, inr, arith}
+use Rattle.std.proofs.lemmas.Grind.{common_steps}
 use Rattle.model.specs.rules.Program.{Program, arg_types}
 use Rattle.model.specs.rules.Typed.{TypedRule}
 use Rattle.model.specs.sites.Sites.{Constraint, SetRule, SiteSet, SiteTerm, bool_term, int_term, prim_term, argument, extractor_call, constructor_call, pick_of, variant_made, variant_field, struct_made, struct_field, some_made, some_part, tuple_part, no_site, unfold_site}
 use Rattle.model.specs.sites.Overlap.{BuiltRule}
 use Rattle.model.specs.sites.RuleSets.{IsRuleOf, IsBuilt}
-use Rattle.model.specs.trees.Places.{all_below, return_uses}
+use Rattle.model.specs.trees.Places.{return_uses}
 use Rattle.model.specs.trees.SetRuns.{tested_sites}
 use Rattle.model.specs.visits.Demands.{Demands, demands_of}
 use Rattle.model.proofs.Elements.{In, in_from_contains, contains_from_in, in_either, in_map, map_in, from_flat_map}
@@ -18,7 +19,7 @@ use Rattle.laws_specs.specs.Specs.{Specs, IsRequired, IsProvided}
 use Rattle.laws_specs.specs.Conditions.{ToldContent, told, Valuation, IsMetAs, are_of_types, IsAnsweredAsSaid, IsTypedAs, is_impure_call, call_of, Condition, condition, IsAssumed, AreMade, IsShown, IsValid}
 use Rattle.laws_specs.specs.SetConditions.{pairs_of, set_condition, IsNoneAboveInSet, IsValidBelowInSet}
 use Rattle.laws_specs.proofs.sets.CompletedSites.{completed, stays, each_more, completed_held, completed_formed, calls_stay, picks_stay, nothing_completed}
-use Rattle.laws_specs.proofs.sets.CallsMade.{CallsAre, IsMadeBy, AreMadeBelow, rule_makes_calls}
+use Rattle.laws_specs.proofs.sets.CallsMade.{CallsAre, AreMadeBelow, rule_makes_calls}
 use Rattle.laws_specs.proofs.sets.JoinedSites.{closed_met, closed_equal, constrained_made, equated_made}
 use Rattle.laws_specs.proofs.sets.SetNumbers.{all_calls_below, in_one_class, another_member, pair_members}
 
@@ -36,19 +37,7 @@ module _ (p : Program) (specs : Specs) (c : Condition) (args : DenotedList) (f :
   answered : (s : SiteTerm) → CallsAre Made s → is_impure_call s ≡ false → IsAnsweredAsSaid specs f s s
   answered (extractor_call t u) h e = a.calls (extractor_call t u) (there (extractor_call t u) h.0) e
   answered (constructor_call t ss n) h e = a.calls (constructor_call t ss n) (there (constructor_call t ss n) h.0) e
-  answered (bool_term b ty) h e = tt
-  answered (int_term z ty) h e = tt
-  answered (prim_term name) h e = tt
-  answered (argument i) h e = tt
-  answered (pick_of s) h e = tt
-  answered (variant_made ty variant ss) h e = tt
-  answered (variant_field s variant i) h e = tt
-  answered (struct_made ty ss) h e = tt
-  answered (struct_field s i) h e = tt
-  answered (some_made s) h e = tt
-  answered (some_part s) h e = tt
-  answered (tuple_part s i) h e = tt
-  answered no_site h e = tt
+  answered s h e = tt
 
   pub call_answered : (s : SiteTerm) → CallsAre Made s → is_impure_call s ≡ false → IsAnsweredAsSaid specs g s s
   call_answered s h e = calls_stay specs args f a.held s (answered s h e)
@@ -76,66 +65,24 @@ module _ (p : Program) (specs : Specs) (c : Condition) (args : DenotedList) (f :
   pub call_typed : (s : SiteTerm) (h : ToldContent) → CallsAre Made s → is_impure_call s ≡ false → g s ≡ Some h → IsTypedAs p specs s h
   call_typed (extractor_call t u) h m e q = a.typed (extractor_call t u) h (there (extractor_call t u) m.0) e q
   call_typed (constructor_call t ss n) h m e q = a.typed (constructor_call t ss n) h (there (constructor_call t ss n) m.0) e q
-  call_typed (bool_term b ty) h m e q = tt
-  call_typed (int_term z ty) h m e q = tt
   call_typed (prim_term name) h m e q = a.typed (prim_term name) h (there (prim_term name) m) e q
-  call_typed (argument i) h m e q = tt
-  call_typed (pick_of s) h m e q = tt
-  call_typed (variant_made ty variant ss) h m e q = tt
-  call_typed (variant_field s variant i) h m e q = tt
-  call_typed (struct_made ty ss) h m e q = tt
-  call_typed (struct_field s i) h m e q = tt
-  call_typed (some_made s) h m e q = tt
-  call_typed (some_part s) h m e q = tt
-  call_typed (tuple_part s i) h m e q = tt
-  call_typed no_site h m e q = tt
+  call_typed s h m e q = tt
 
   pub pick_typed : (s : SiteTerm) (h : ToldContent) → CallsAre Made s → is_impure_call s ≡ false → g (pick_of s) ≡ Some h → IsTypedAs p specs s h
   pick_typed (extractor_call t u) h m e q = a.typed_picks (extractor_call t u) h (there (extractor_call t u) m.0) e q
   pick_typed (constructor_call t ss n) h m e q = a.typed_picks (constructor_call t ss n) h (there (constructor_call t ss n) m.0) e q
-  pick_typed (bool_term b ty) h m e q = tt
-  pick_typed (int_term z ty) h m e q = tt
   pick_typed (prim_term name) h m e q = a.typed_picks (prim_term name) h (there (prim_term name) m) e q
-  pick_typed (argument i) h m e q = tt
-  pick_typed (pick_of s) h m e q = tt
-  pick_typed (variant_made ty variant ss) h m e q = tt
-  pick_typed (variant_field s variant i) h m e q = tt
-  pick_typed (struct_made ty ss) h m e q = tt
-  pick_typed (struct_field s i) h m e q = tt
-  pick_typed (some_made s) h m e q = tt
-  pick_typed (some_part s) h m e q = tt
-  pick_typed (tuple_part s i) h m e q = tt
-  pick_typed no_site h m e q = tt
+  pick_typed s h m e q = tt
 
   -- 2. an impure call that was made was made under the completed valuation too
   still_typed : (s : SiteTerm) → ((h : ToldContent) → f s ≡ Some h → IsTypedAs p specs s h) → (h : ToldContent) → g s ≡ Some h → IsTypedAs p specs s h
-  still_typed (extractor_call t u) k h e = k h e
-  still_typed (constructor_call t ss n) k h e = k h e
-  still_typed (bool_term b ty) k h e = tt
-  still_typed (int_term z ty) k h e = tt
-  still_typed (prim_term name) k h e = k h e
-  still_typed (argument i) k h e = tt
-  still_typed (pick_of s) k h e = tt
-  still_typed (variant_made ty variant ss) k h e = tt
-  still_typed (variant_field s variant i) k h e = tt
-  still_typed (struct_made ty ss) k h e = tt
-  still_typed (struct_field s i) k h e = tt
-  still_typed (some_made s) k h e = tt
-  still_typed (some_part s) k h e = tt
-  still_typed (tuple_part s i) k h e = tt
-  still_typed no_site k h e = tt
+  still_typed s k h e = grind (arith, common_steps)
 
   still_there : (u : SiteTerm) → is_some (f u) ≡ true → is_some (g u) ≡ true
-  still_there u e = by (f u) refl e
-    where
-      by : (o : Option ToldContent) → f u ≡ o → is_some o ≡ true → is_some (g u) ≡ true
-      by (Some h) q e' = ap is_some (stays specs args f a.held u h q)
-      by None q e' = absurd (cc)
+  still_there u e = grind (arith, common_steps, stays specs args f a.held u, stays)
 
   still_made : (us : List SiteTerm) → AreMade p specs f us → AreMade p specs g us
-  still_made us m u i =
-      let k = m u i in
-      record { gave = still_there u k.gave; answered = calls_stay specs args f a.held (call_of u) k.answered; typed = still_typed (call_of u) k.typed }
+  still_made us m u i = grind (arith, common_steps, still_there u, calls_stay specs args f a.held (call_of u), still_typed (call_of u), still_there, answered, calls_stay, still_typed)
 
   -- what is shown under the completed valuation of a condition with the same impure calls and the same result
   pub shown_back : (b : Condition) → b.term ≡ c.term → b.impure ≡ c.impure → b.result ≡ c.result → IsShown p specs b args g → IsShown p specs c args f
@@ -169,10 +116,7 @@ module _ (p : Program) (t : ℕ) (set : SiteSet) (built : IsBuilt p t set) (b : 
 
   module _ (specs : Specs) (args : DenotedList) (f : Valuation) (a : IsAssumed p specs (condition p q) args f) where
     constraint_met : (s : SiteTerm) (k : Constraint) → In c.constraints (s, k) → IsMetAs specs (completed f) s k
-    constraint_met s k i =
-        let m = in_map (λ (e : ℕ × Constraint). (tree e.0, e.1)) r.constraints (s, k) i in
-        subst (λ (x : SiteTerm × Constraint). IsMetAs specs (completed f) x.0 x.1) m.2
-        (closed_met p q specs args f a well typed (tree m.0.0) m.0.1 ((asks.constraints m.0.0 m.0.1).0 (contains_from_in r.constraints m.0 m.1)).1)
+    constraint_met s k i = grind (arith, common_steps, closed_met p q specs args f a well typed, contains_from_in r.constraints, in_map, closed_met, contains_from_in)
 
     pair_equal : (s u : SiteTerm) → In c.equalities (s, u) → (x : Denoted) × (completed f s ≡ Some (told x)) × (completed f u ≡ Some (told x))
     pair_equal s u i =
@@ -206,11 +150,7 @@ module _ (p : Program) (t : ℕ) (set : SiteSet) (built : IsBuilt p t set) (b : 
         ]
 
     site_made : (s : SiteTerm) → In c.made s → AreMadeBelow d s
-    site_made s i =
-        let m = in_map tree (all_below set.sites (tested_sites r ++ return_uses (Some r))) s i in
-        subst (AreMadeBelow d) m.2
-        (all_calls_below (IsMadeBy d) set.sites built.sources (tested_sites r ++ return_uses (Some r))
-        (λ n j. elim (in_either (tested_sites r) (return_uses (Some r)) n j) [ inl k ↦ tested_made n k | inr k ↦ returned_made n k ]) m.0 m.1)
+    site_made s i = grind (arith, common_steps, in_either (tested_sites r) (return_uses (Some r)), in_map, all_calls_below, in_either, tested_made, returned_made)
 
     at_site : (s : SiteTerm) → Contains c.made s → AreMadeBelow d s
     at_site s i = site_made s (in_from_contains c.made s i)

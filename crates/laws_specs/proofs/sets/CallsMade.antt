@@ -1,5 +1,6 @@
 -- The calls and the named constants at and below what a rule demands, calls impurely or gives are made by its visit.
-use Rattle.std.proofs.Common.{◌≡◌, ℕ, zero, suc, true, false, List, [], ◌∷◌, refl, subst, inl, inr}
+use Rattle.std.proofs.Common.{◌≡◌, ℕ, true, false, List, [], ◌∷◌, refl, subst, inl, inr, arith}
+use Rattle.std.proofs.lemmas.Grind.{common_steps}
 use Rattle.model.specs.rules.Program.{Program}
 use Rattle.model.specs.rules.Typed.{TypedRule}
 use Rattle.model.specs.sites.Sites.{Constraint, is_present, SiteTerm, bool_term, int_term, prim_term, argument, extractor_call, constructor_call, pick_of, variant_made, variant_field, struct_made, struct_field, some_made, some_part, tuple_part, no_site, SiteTerms, no_site_term, site_term_and}
@@ -37,10 +38,6 @@ abbrev mutual
 module _ (P Q : SiteTerm → Type 0) (more : (s : SiteTerm) → P s → Q s) where
   mutual
     calls_weaken : (s : SiteTerm) → CallsAre P s → CallsAre Q s
-    calls_weaken (bool_term b ty) h = tt
-    calls_weaken (int_term z ty) h = tt
-    calls_weaken (prim_term name) h = more (prim_term name) h
-    calls_weaken (argument i) h = tt
     calls_weaken (extractor_call t a) h = (more (extractor_call t a) h.0, calls_weaken a h.1)
     calls_weaken (constructor_call t args i) h = (more (constructor_call t args i) h.0, all_weaken args h.1)
     calls_weaken (pick_of a) h = calls_weaken a h
@@ -51,7 +48,7 @@ module _ (P Q : SiteTerm → Type 0) (more : (s : SiteTerm) → P s → Q s) whe
     calls_weaken (some_made a) h = calls_weaken a h
     calls_weaken (some_part a) h = calls_weaken a h
     calls_weaken (tuple_part a i) h = calls_weaken a h
-    calls_weaken no_site h = tt
+    calls_weaken s h = grind (arith, common_steps)
 
     all_weaken : (ss : SiteTerms) → AllCallsAre P ss → AllCallsAre Q ss
     all_weaken no_site_term h = tt
@@ -63,15 +60,10 @@ module _ (P : SiteTerm → Type 0) (cs : List (SiteTerm × Constraint)) (calls :
   IsPure u = P u × (is_impure_call u ≡ false)
 
   pure_number : (t i : ℕ) (ss : SiteTerms) → IsPureCall true i → is_impure_call (constructor_call t ss i) ≡ false
-  pure_number t zero ss h = refl
-  pure_number t (suc i) ss h = absurd h
+  pure_number t i ss h = grind (arith, common_steps)
 
   mutual
     pub calls_pure : (s : SiteTerm) → GatesDemanded true true cs calls s → CallsAre P s → CallsAre IsPure s
-    calls_pure (bool_term b ty) g h = tt
-    calls_pure (int_term z ty) g h = tt
-    calls_pure (prim_term name) g h = (h, refl)
-    calls_pure (argument i) g h = tt
     calls_pure (extractor_call t a) g h = ((h.0, refl), calls_pure a g h.1)
     calls_pure (constructor_call t args i) g h = ((h.0, pure_number t i args g.0), all_pure args g.1 h.1)
     calls_pure (pick_of a) g h = calls_pure a g.1 h
@@ -82,7 +74,7 @@ module _ (P : SiteTerm → Type 0) (cs : List (SiteTerm × Constraint)) (calls :
     calls_pure (some_made a) g h = calls_pure a g h
     calls_pure (some_part a) g h = calls_pure a g.1 h
     calls_pure (tuple_part a i) g h = calls_pure a g h
-    calls_pure no_site g h = tt
+    calls_pure s g h = grind (arith, common_steps)
 
     all_pure : (ss : SiteTerms) → AllGatesDemanded true true cs calls ss → AllCallsAre P ss → AllCallsAre IsPure ss
     all_pure no_site_term g h = tt
@@ -167,10 +159,6 @@ each_made d (site_term_and s ss) h = (h.0, each_made d ss h.1)
 -- what a site unwraps is below it
 mutual
   unwrapped_made : (P : SiteTerm → Type 0) (s : SiteTerm) → CallsAre P s → (u : SiteTerm) → In (unwraps s) u → CallsAre P u
-  unwrapped_made P (bool_term b ty) h u i = absurd i
-  unwrapped_made P (int_term z ty) h u i = absurd i
-  unwrapped_made P (prim_term name) h u i = absurd i
-  unwrapped_made P (argument n) h u i = absurd i
   unwrapped_made P (extractor_call t a) h u i = unwrapped_made P a h.1 u i
   unwrapped_made P (constructor_call t args n) h u i = all_unwrapped_made P args h.1 u i
   unwrapped_made P (pick_of a) h u i = unwrapped_made P a h u i
@@ -181,12 +169,11 @@ mutual
   unwrapped_made P (some_made a) h u i = unwrapped_made P a h u i
   unwrapped_made P (some_part a) h u i = elim i [ inl q ↦ subst (CallsAre P) q h | inr j ↦ unwrapped_made P a h u j ]
   unwrapped_made P (tuple_part a n) h u i = unwrapped_made P a h u i
-  unwrapped_made P no_site h u i = absurd i
+  unwrapped_made P s h u i = grind (arith, common_steps)
 
   all_unwrapped_made : (P : SiteTerm → Type 0) (ss : SiteTerms) → AllCallsAre P ss → (u : SiteTerm) → In (unwraps_all ss) u → CallsAre P u
+  all_unwrapped_made P (site_term_and a rest) h u i = grind (arith, common_steps, unwrapped_made P a h.0 u, all_unwrapped_made P rest h.1 u, in_either)
   all_unwrapped_made P no_site_term h u i = absurd i
-  all_unwrapped_made P (site_term_and a rest) h u i =
-      elim (in_either (unwraps a) (unwraps_all rest) u i) [ inl j ↦ unwrapped_made P a h.0 u j | inr j ↦ all_unwrapped_made P rest h.1 u j ]
 
 calls_kept : (p : Program) → KeptWithSites MakesCalls AreMadeBelow p
 calls_kept p = record {

@@ -1,15 +1,16 @@
 -- A valuation that leaves out fields, completed: each field is what its source stands for has there. What was there stays, and calls and
 -- the answers that are picked are as they were.
-use Rattle.std.proofs.Common.{◌≡◌, ℕ, zero, suc, ◌==◌, Bool, true, false, Option, Some, None, cond, slice_get, refl, sym, ap, subst, ◌∙◌, if◌then◌else◌, eqb-true, eq-eqb}
+use Rattle.std.proofs.Common.{◌≡◌, ℕ, suc, ◌==◌, true, Option, Some, None, slice_get, refl, sym, ap, subst, ◌∙◌, if◌then◌else◌, eqb-true, eq-eqb, arith}
+use Rattle.std.proofs.lemmas.Grind.{common_steps}
 use Rattle.std.proofs.lemmas.Bool.{cond-true, and_parts}
 use Rattle.std.specs.Prelude.{IsTrue}
 use Rattle.model.specs.rules.Outcome.{then_option}
-use Rattle.model.specs.sites.Sites.{Constraint, is_variant, is_struct, is_bool, is_int, is_prim, is_present, SiteTerm, bool_term, int_term, prim_term, argument, extractor_call, constructor_call, pick_of, variant_made, variant_field, struct_made, struct_field, some_made, some_part, tuple_part, no_site, SiteTerms, no_site_term, site_term_and}
+use Rattle.model.specs.sites.Sites.{Constraint, SiteTerm, extractor_call, constructor_call, pick_of, variant_field, struct_field, SiteTerms, no_site_term, site_term_and}
 use Rattle.model.proofs.Elements.{some_is, none_some}
 use Rattle.model.proofs.Options.{then_some}
-use Rattle.laws_specs.specs.Words.{Denoted, a_truth, an_integer, a_word, variant_of, struct_of, DenotedList, no_denoted, denoted_and, denoted_list, is_formed, are_formed}
+use Rattle.laws_specs.specs.Words.{Denoted, variant_of, struct_of, DenotedList, denoted_and, denoted_list, is_formed, are_formed}
 use Rattle.laws_specs.specs.Specs.{Specs}
-use Rattle.laws_specs.specs.Conditions.{ToldContent, told, told_parts, told_nothing, told_just, told_many, Valuation, as_denoted, denoted_at, denoted_at_each, is_of_parts, IsPartHeld, IsHeldAs, IsMetAs, is_told_formed, IsAnsweredAsSaid}
+use Rattle.laws_specs.specs.Conditions.{ToldContent, told, told_many, Valuation, as_denoted, denoted_at, denoted_at_each, is_of_parts, IsPartHeld, IsHeldAs, IsMetAs, is_told_formed, IsAnsweredAsSaid}
 
 -- 1. fields
 abbrev pub part_told : Option Denoted → Option ToldContent
@@ -30,8 +31,7 @@ completed f (struct_field s i) = struct_part i (completed f s)
 completed f s = f s
 
 part_from : (o : Option Denoted) (h : ToldContent) → part_told o ≡ Some h → (x : Denoted) × (o ≡ Some x) × (h ≡ told x)
-part_from None h e = absurd (none_some h e)
-part_from (Some x) h e = (x, refl, sym (some_is (told x) h e))
+part_from o h e = grind (arith, common_steps, none_some, some_is)
 
 part_held : (xs : DenotedList) (i : ℕ) (h : ToldContent) → part_told (slice_get (denoted_list xs) i) ≡ Some h → IsPartHeld xs i h
 part_held xs i h e = let a = part_from (slice_get (denoted_list xs) i) h e in record { part = a.0; there = a.1; held = a.2 }
@@ -43,33 +43,10 @@ pub variant_there : (ty variant : ℕ) (xs : DenotedList) (i : ℕ) → variant_
 variant_there ty variant xs i = cond-true (variant == variant) (part_told (slice_get (denoted_list xs) i)) None (eq-eqb variant variant refl)
 
 variant_back : (variant i : ℕ) (o : Option ToldContent) (h : ToldContent) → variant_part variant i o ≡ Some h → (ty : ℕ) × (xs : DenotedList) × (o ≡ Some (told (variant_of ty variant xs))) × IsPartHeld xs i h
-variant_back variant i (Some (told (variant_of ty v xs))) h e = by (v == variant) refl e
-  where
-    by : (b : Bool) → (v == variant) ≡ b → cond b (part_told (slice_get (denoted_list xs) i)) None ≡ Some h
-        → (ty' : ℕ) × (xs' : DenotedList) × (Some (told (variant_of ty v xs)) ≡ Some (told (variant_of ty' variant xs'))) × IsPartHeld xs' i h
-    by true q e' = (ty, xs, ap (λ n. Some (told (variant_of ty n xs))) (eqb-true v variant q), part_held xs i h e')
-    by false q e' = absurd (none_some h e')
-variant_back variant i None h e = absurd (none_some h e)
-variant_back variant i (Some (told (a_truth b))) h e = absurd (none_some h e)
-variant_back variant i (Some (told (an_integer z))) h e = absurd (none_some h e)
-variant_back variant i (Some (told (a_word w n))) h e = absurd (none_some h e)
-variant_back variant i (Some (told (struct_of ty xs))) h e = absurd (none_some h e)
-variant_back variant i (Some (told_parts xs)) h e = absurd (none_some h e)
-variant_back variant i (Some told_nothing) h e = absurd (none_some h e)
-variant_back variant i (Some (told_just g)) h e = absurd (none_some h e)
-variant_back variant i (Some told_many) h e = absurd (none_some h e)
+variant_back variant i o h e = grind (arith, common_steps, eqb-true, part_held, none_some)
 
 struct_back : (i : ℕ) (o : Option ToldContent) (h : ToldContent) → struct_part i o ≡ Some h → (ty : ℕ) × (xs : DenotedList) × (o ≡ Some (told (struct_of ty xs))) × IsPartHeld xs i h
-struct_back i (Some (told (struct_of ty xs))) h e = (ty, xs, refl, part_held xs i h e)
-struct_back i None h e = absurd (none_some h e)
-struct_back i (Some (told (a_truth b))) h e = absurd (none_some h e)
-struct_back i (Some (told (an_integer z))) h e = absurd (none_some h e)
-struct_back i (Some (told (a_word w n))) h e = absurd (none_some h e)
-struct_back i (Some (told (variant_of ty v xs))) h e = absurd (none_some h e)
-struct_back i (Some (told_parts xs)) h e = absurd (none_some h e)
-struct_back i (Some told_nothing) h e = absurd (none_some h e)
-struct_back i (Some (told_just g)) h e = absurd (none_some h e)
-struct_back i (Some told_many) h e = absurd (none_some h e)
+struct_back i o h e = grind (arith, common_steps, part_held, none_some)
 
 -- 2. where more is there, what was there is as it was
 module _ (f g : Valuation) (more : (s : SiteTerm) (h : ToldContent) → f s ≡ Some h → g s ≡ Some h) where
@@ -86,35 +63,15 @@ module _ (f g : Valuation) (more : (s : SiteTerm) (h : ToldContent) → f s ≡ 
       ∙ b.2
 
   pub met_more : (specs : Specs) (s : SiteTerm) (c : Constraint) → IsMetAs specs f s c → IsMetAs specs g s c
-  met_more specs s (is_variant ty variant n) h = (h.0, more s (told (variant_of ty variant h.0)) h.1)
-  met_more specs s (is_struct ty n) h = (h.0, more s (told (struct_of ty h.0)) h.1)
-  met_more specs s (is_bool b ty) h = more s (told (a_truth b)) h
-  met_more specs s (is_int z ty) h = λ x e. more s (told x) (h x e)
-  met_more specs s (is_prim name) h = λ x e. more s (told x) (h x e)
-  met_more specs s is_present h = (h.0, more s (told_just h.0) h.1)
+  met_more specs s c h = grind (arith, common_steps)
 
   held_more : (specs : Specs) (args : DenotedList) (s : SiteTerm) (h : ToldContent) → IsHeldAs specs args f s h → IsHeldAs specs args g s h
-  held_more specs args (bool_term b ty) h a = a
-  held_more specs args (int_term z ty) h a = a
-  held_more specs args (prim_term name) h a = a
-  held_more specs args (argument i) h a = a
-  held_more specs args (extractor_call t s) h a = (a.0, more s (told a.0) a.1)
-  held_more specs args (constructor_call t ss n) h a = (a.0, each_more ss a.0 a.1)
-  held_more specs args (pick_of s) h a = more s told_many a
-  held_more specs args (variant_made ty variant ss) h a = (a.0, each_more ss a.0 a.1, a.2)
-  held_more specs args (variant_field s variant i) h a = (a.0, a.1, more s (told (variant_of a.0 variant a.1)) a.2, a.3)
-  held_more specs args (struct_made ty ss) h a = (a.0, each_more ss a.0 a.1, a.2)
-  held_more specs args (struct_field s i) h a = (a.0, a.1, more s (told (struct_of a.0 a.1)) a.2, a.3)
-  held_more specs args (some_made s) h a = (a.0, more s a.0 a.1, a.2)
-  held_more specs args (some_part s) h a = more s (told_just h) a
-  held_more specs args (tuple_part s i) h a = (a.0, more s (told_parts a.0) a.1, a.2)
-  held_more specs args no_site h a = a
+  held_more specs args s h a = grind (arith, common_steps, each_more)
 
 -- 3. a valuation under which sites are held
 part_formed : (xs : DenotedList) (i : ℕ) (x : Denoted) → are_formed xs ≡ true → slice_get (denoted_list xs) i ≡ Some x → is_formed x ≡ true
-part_formed no_denoted i x h e = absurd (none_some x e)
-part_formed (denoted_and y xs) zero x h e = ap is_formed (sym (some_is y x e)) ∙ (and_parts (is_formed y) (are_formed xs) h).0
 part_formed (denoted_and y xs) (suc i) x h e = part_formed xs i x (and_parts (is_formed y) (are_formed xs) h).1 e
+part_formed xs i x h e = grind (arith, common_steps, none_some, some_is, and_parts)
 
 module _ (specs : Specs) (args : DenotedList) (f : Valuation) (held : (s : SiteTerm) (h : ToldContent) → f s ≡ Some h → IsHeldAs specs args f s h) where
   -- what was there stays
@@ -125,39 +82,13 @@ module _ (specs : Specs) (args : DenotedList) (f : Valuation) (held : (s : SiteT
   stays (struct_field s i) h e =
       let a = held (struct_field s i) h e in
       ap (struct_part i) (stays s (told (struct_of a.0 a.1)) a.2) ∙ part_there a.1 i h a.3
-  stays (bool_term b ty) h e = e
-  stays (int_term z ty) h e = e
-  stays (prim_term name) h e = e
-  stays (argument i) h e = e
-  stays (extractor_call t s) h e = e
-  stays (constructor_call t ss n) h e = e
-  stays (pick_of s) h e = e
-  stays (variant_made ty variant ss) h e = e
-  stays (struct_made ty ss) h e = e
-  stays (some_made s) h e = e
-  stays (some_part s) h e = e
-  stays (tuple_part s i) h e = e
-  stays no_site h e = e
+  stays s h e = grind (arith, common_steps)
 
   kept : (s : SiteTerm) (h : ToldContent) → f s ≡ Some h → IsHeldAs specs args (completed f) s h
   kept s h e = held_more f (completed f) stays specs args s h (held s h e)
 
   pub completed_held : (s : SiteTerm) (h : ToldContent) → completed f s ≡ Some h → IsHeldAs specs args (completed f) s h
-  completed_held (variant_field s variant i) h e = variant_back variant i (completed f s) h e
-  completed_held (struct_field s i) h e = struct_back i (completed f s) h e
-  completed_held (bool_term b ty) h e = kept (bool_term b ty) h e
-  completed_held (int_term z ty) h e = kept (int_term z ty) h e
-  completed_held (prim_term name) h e = kept (prim_term name) h e
-  completed_held (argument i) h e = kept (argument i) h e
-  completed_held (extractor_call t s) h e = kept (extractor_call t s) h e
-  completed_held (constructor_call t ss n) h e = kept (constructor_call t ss n) h e
-  completed_held (pick_of s) h e = kept (pick_of s) h e
-  completed_held (variant_made ty variant ss) h e = kept (variant_made ty variant ss) h e
-  completed_held (struct_made ty ss) h e = kept (struct_made ty ss) h e
-  completed_held (some_made s) h e = kept (some_made s) h e
-  completed_held (some_part s) h e = kept (some_part s) h e
-  completed_held (tuple_part s i) h e = kept (tuple_part s i) h e
-  completed_held no_site h e = kept no_site h e
+  completed_held s h e = grind (arith, common_steps, variant_back, struct_back, kept)
 
   module _ (formed : (s : SiteTerm) (h : ToldContent) → f s ≡ Some h → IsTrue (is_told_formed h)) where
     part_is_formed : (xs : DenotedList) (i : ℕ) (h : ToldContent) → are_formed xs ≡ true → IsPartHeld xs i h → is_told_formed h ≡ true
@@ -168,19 +99,7 @@ module _ (specs : Specs) (args : DenotedList) (f : Valuation) (held : (s : SiteT
         let a = variant_back variant i (completed f s) h e in part_is_formed a.1 i h (completed_formed s (told (variant_of a.0 variant a.1)) a.2) a.3
     completed_formed (struct_field s i) h e =
         let a = struct_back i (completed f s) h e in part_is_formed a.1 i h (completed_formed s (told (struct_of a.0 a.1)) a.2) a.3
-    completed_formed (bool_term b ty) h e = formed (bool_term b ty) h e
-    completed_formed (int_term z ty) h e = formed (int_term z ty) h e
-    completed_formed (prim_term name) h e = formed (prim_term name) h e
-    completed_formed (argument i) h e = formed (argument i) h e
-    completed_formed (extractor_call t s) h e = formed (extractor_call t s) h e
-    completed_formed (constructor_call t ss n) h e = formed (constructor_call t ss n) h e
-    completed_formed (pick_of s) h e = formed (pick_of s) h e
-    completed_formed (variant_made ty variant ss) h e = formed (variant_made ty variant ss) h e
-    completed_formed (struct_made ty ss) h e = formed (struct_made ty ss) h e
-    completed_formed (some_made s) h e = formed (some_made s) h e
-    completed_formed (some_part s) h e = formed (some_part s) h e
-    completed_formed (tuple_part s i) h e = formed (tuple_part s i) h e
-    completed_formed no_site h e = formed no_site h e
+    completed_formed s h e = grind (arith, common_steps)
 
   -- 4. calls are answered as they were
   one_value : (s : SiteTerm) (x y : Denoted) → f s ≡ Some (told x) → completed f s ≡ Some (told y) → y ≡ x
@@ -196,19 +115,7 @@ module _ (specs : Specs) (args : DenotedList) (f : Valuation) (held : (s : SiteT
   calls_stay (constructor_call t ss n) said = λ xs h e q.
       let a = held (constructor_call t ss n) h q in
       said xs h (subst (λ ys. denoted_at_each f ss ≡ Some ys) (sym (one_list ss a.0 xs a.1 e)) a.1) q
-  calls_stay (bool_term b ty) said = tt
-  calls_stay (int_term z ty) said = tt
-  calls_stay (prim_term name) said = tt
-  calls_stay (argument i) said = tt
-  calls_stay (pick_of s) said = tt
-  calls_stay (variant_made ty variant ss) said = tt
-  calls_stay (variant_field s variant i) said = tt
-  calls_stay (struct_made ty ss) said = tt
-  calls_stay (struct_field s i) said = tt
-  calls_stay (some_made s) said = tt
-  calls_stay (some_part s) said = tt
-  calls_stay (tuple_part s i) said = tt
-  calls_stay no_site said = tt
+  calls_stay s said = tt
 
   pub picks_stay : (s : SiteTerm) → IsAnsweredAsSaid specs f s (pick_of s) → IsAnsweredAsSaid specs (completed f) s (pick_of s)
   picks_stay (extractor_call t s) said = λ x h e q.
@@ -217,25 +124,11 @@ module _ (specs : Specs) (args : DenotedList) (f : Valuation) (held : (s : SiteT
   picks_stay (constructor_call t ss n) said = λ xs h e q.
       let a = held (constructor_call t ss n) told_many (held (pick_of (constructor_call t ss n)) h q) in
       said xs h (subst (λ ys. denoted_at_each f ss ≡ Some ys) (sym (one_list ss a.0 xs a.1 e)) a.1) q
-  picks_stay (bool_term b ty) said = tt
-  picks_stay (int_term z ty) said = tt
-  picks_stay (prim_term name) said = tt
-  picks_stay (argument i) said = tt
-  picks_stay (pick_of s) said = tt
-  picks_stay (variant_made ty variant ss) said = tt
-  picks_stay (variant_field s variant i) said = tt
-  picks_stay (struct_made ty ss) said = tt
-  picks_stay (struct_field s i) said = tt
-  picks_stay (some_made s) said = tt
-  picks_stay (some_part s) said = tt
-  picks_stay (tuple_part s i) said = tt
-  picks_stay no_site said = tt
+  picks_stay s said = tt
 
   -- 5. where parts are there that their sites have, nothing is added
   same_option : (o u : Option ToldContent) → ((h : ToldContent) → o ≡ Some h → u ≡ Some h) → ((h : ToldContent) → u ≡ Some h → o ≡ Some h) → o ≡ u
-  same_option None None to from = refl
-  same_option (Some h) u to from = sym (to h refl)
-  same_option None (Some h) to from = from h refl
+  same_option o u to from = grind (arith, common_steps)
 
   module _ (there : (s : SiteTerm) (h : ToldContent) → is_of_parts s ≡ true → IsHeldAs specs args f s h → f s ≡ Some h) where
     nothing_added : (s : SiteTerm) → completed f s ≡ f s
@@ -247,19 +140,7 @@ module _ (specs : Specs) (args : DenotedList) (f : Valuation) (held : (s : SiteT
         same_option (completed f (struct_field s i)) (f (struct_field s i))
         (λ h e. let a = struct_back i (completed f s) h e in there (struct_field s i) h refl (a.0, a.1, sym (nothing_added s) ∙ a.2, a.3))
         (λ h e. stays (struct_field s i) h e)
-    nothing_added (bool_term b ty) = refl
-    nothing_added (int_term z ty) = refl
-    nothing_added (prim_term name) = refl
-    nothing_added (argument i) = refl
-    nothing_added (extractor_call t s) = refl
-    nothing_added (constructor_call t ss n) = refl
-    nothing_added (pick_of s) = refl
-    nothing_added (variant_made ty variant ss) = refl
-    nothing_added (struct_made ty ss) = refl
-    nothing_added (some_made s) = refl
-    nothing_added (some_part s) = refl
-    nothing_added (tuple_part s i) = refl
-    nothing_added no_site = refl
+    nothing_added s = refl
 
     pub nothing_completed : completed f ≡ f
     nothing_completed = λ i s. nothing_added s i

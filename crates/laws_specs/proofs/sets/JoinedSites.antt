@@ -1,9 +1,10 @@
 -- Under what the condition of a source rule assumes, completed: sites that must be equal stand for one thing, and two such sites for a value;
 -- so what follows from the rule's demands is met.
-use Rattle.std.proofs.Common.{◌≡◌, ◌⊎◌, ℕ, zero, suc, ◌+◌, ◌<◌, List, [], ◌∷◌, length, Some, slice_get, Contains, refl, sym, ap, subst, ◌∙◌, inl, inr, arith}
+use Rattle.std.proofs.Common.{◌≡◌, ◌⊎◌, ℕ, zero, suc, ◌+◌, ◌<◌, List, [], ◌∷◌, length, Some, slice_get, Contains, refl, sym, ap, ◌∙◌, inl, inr, arith}
+use Rattle.std.proofs.lemmas.Grind.{common_steps}
 use Rattle.model.specs.rules.Program.{Program}
 use Rattle.model.specs.rules.Typed.{TypedRule}
-use Rattle.model.specs.sites.Sites.{Constraint, is_variant, is_struct, is_bool, is_int, is_prim, is_present, SiteTerm, variant_field, struct_field, fields_from, field_terms}
+use Rattle.model.specs.sites.Sites.{Constraint, is_variant, is_struct, SiteTerm, variant_field, struct_field, fields_from, field_terms}
 use Rattle.model.specs.sites.Closure.{Joined, given, itself, turned, chained, at_field, HasConstraint, IsClosedEquality}
 use Rattle.model.specs.sites.DemandedGates.{DemandsGates}
 use Rattle.model.specs.visits.Demands.{Demands, demands_of, result_of}
@@ -21,13 +22,8 @@ use Rattle.laws_specs.proofs.sets.ShapedSites.{Assuming, IsKnown, AreAsked, rule
 
 -- 1. fields by their places
 pub field_at : (f : ℕ → SiteTerm) (j n i : ℕ) (x : SiteTerm) → slice_get (fields_from f j n) i ≡ Some x → (i < n) × (x ≡ f (j + i))
-field_at f j zero i x e = absurd (none_some x e)
-field_at f j (suc n) zero x e = let same : j ≡ j + 0 = omega arith in (omega arith, sym (some_is (f j) x e) ∙ ap f same)
-field_at f j (suc n) (suc i) x e =
-    let r = field_at f (suc j) n i x e in
-    let l : i < n = r.0 in
-    let same : suc j + i ≡ j + suc i = omega arith in
-    (omega (arith, l), r.1 ∙ ap f same)
+field_at f j (suc n) (suc i) x e = grind (arith, common_steps, field_at f (suc j) n i x e)
+field_at f j n i x e = grind (arith, common_steps, none_some, some_is)
 
 first_field : (f : ℕ → SiteTerm) (n i : ℕ) (x : SiteTerm) → slice_get (fields_from f 0 n) i ≡ Some x → (i < n) × (x ≡ f i)
 first_field f n i x e = let r = field_at f 0 n i x e in let same : 0 + i ≡ i = omega arith in (r.0, r.1 ∙ ap f same)
@@ -39,23 +35,11 @@ there_within (x ∷ xs) (suc i) n e l = there_within xs i (length xs) refl (omeg
 
 -- a completed valuation gives equal sites equal fields
 field_of_equal : (f : Valuation) (k : Constraint) (a b : SiteTerm) (i : ℕ) (x y : SiteTerm) → completed f a ≡ completed f b → slice_get (field_terms k a) i ≡ Some x → slice_get (field_terms k b) i ≡ Some y → completed f x ≡ completed f y
-field_of_equal f (is_variant ty v n) a b i x y e p q =
-    ap (completed f) (first_field (variant_field a v) n i x p).1 ∙ ap (variant_part v i) e ∙ sym (ap (completed f) (first_field (variant_field b v) n i y q).1)
-field_of_equal f (is_struct ty n) a b i x y e p q =
-    ap (completed f) (first_field (struct_field a) n i x p).1 ∙ ap (struct_part i) e ∙ sym (ap (completed f) (first_field (struct_field b) n i y q).1)
-field_of_equal f (is_bool c ty) a b i x y e p q = absurd (none_some x p)
-field_of_equal f (is_int z ty) a b i x y e p q = absurd (none_some x p)
-field_of_equal f (is_prim name) a b i x y e p q = absurd (none_some x p)
-field_of_equal f is_present a b i x y e p q = absurd (none_some x p)
+field_of_equal f k a b i x y e p q = grind (arith, common_steps, first_field, none_some)
 
 -- what a constraint says of a site it says of what the site stands for
 moved_met : (specs : Specs) (f : Valuation) (a b : SiteTerm) (c : Constraint) → f a ≡ f b → IsMetAs specs f a c → IsMetAs specs f b c
-moved_met specs f a b (is_variant ty v n) e h = (h.0, sym e ∙ h.1)
-moved_met specs f a b (is_struct ty n) e h = (h.0, sym e ∙ h.1)
-moved_met specs f a b (is_bool c ty) e h = sym e ∙ h
-moved_met specs f a b (is_int z ty) e h = λ x q. sym e ∙ h x q
-moved_met specs f a b (is_prim name) e h = λ x q. sym e ∙ h x q
-moved_met specs f a b is_present e h = (h.0, sym e ∙ h.1)
+moved_met specs f a b c e h = grind (arith, common_steps)
 
 -- 2. the calls below sites that must be equal
 module _ (d : Demands) (made : MakesCalls d) where
@@ -78,11 +62,7 @@ module _ (d : Demands) (made : MakesCalls d) where
   joined_made (given {a = a} {b = b} c) = inr (made.equal (a, b) (in_from_contains d.equalities (a, b) c))
   joined_made itself = inl refl
   joined_made (turned j) = elim (joined_made j) [ inl e ↦ inl (sym e) | inr m ↦ inr (m.1, m.0) ]
-  joined_made (chained {a = a} {b = b} {c = c} j l) =
-      elim (joined_made j) [
-        | inl e ↦ elim (joined_made l) [ inl g ↦ inl (e ∙ g) | inr m ↦ inr (subst (AreMadeBelow d) (sym e) m.0, m.1) ]
-        | inr m ↦ elim (joined_made l) [ inl g ↦ inr (m.0, subst (AreMadeBelow d) g m.1) | inr n ↦ inr (m.0, n.1) ]
-      ]
+  joined_made (chained {a = a} {b = b} {c = c} j l) = grind (arith, common_steps, joined_made j, joined_made l)
   joined_made (at_field {a = a} {b = b} {x = x} {y = y} {k = k} i j l c e g) =
       elim (joined_made j) [
         | inl q ↦ inl (some_is x y (sym e ∙ ap (λ u. slice_get (field_terms k u) i) q ∙ g))
@@ -139,20 +119,13 @@ module _ (p : Program) (r : TypedRule) (specs : Specs) (args : DenotedList) (f :
       let many = struct_fields_there k t ty n (asked (t, is_struct ty n) (in_from_contains d.constraints (t, is_struct ty n) m)) (known t (is_struct ty n) m) ty h.0 h.1 in
       let y = there_within (denoted_list h.0) i n many l.0 in
       (y.0, ap g l.1 ∙ ap (struct_part i) (sym e ∙ more t (told (struct_of ty h.0)) h.1) ∙ ap part_told y.1)
-  field_told (is_bool b ty) t s i x m e q = absurd (none_some x q)
-  field_told (is_int z ty) t s i x m e q = absurd (none_some x q)
-  field_told (is_prim name) t s i x m e q = absurd (none_some x q)
-  field_told is_present t s i x m e q = absurd (none_some x q)
+  field_told c t s i x m e q = grind (arith, common_steps, none_some)
 
   pub joined_told : {s u : SiteTerm} → Joined d s u → (s ≡ u) ⊎ ((y : Denoted) × (g s ≡ Some (told y)))
   joined_told (given {a = s} {b = u} c) = let e = a.equalities s u c in inr (e.0, more s (told e.0) e.1)
   joined_told itself = inl refl
   joined_told (turned j) = elim (joined_told j) [ inl e ↦ inl (sym e) | inr h ↦ inr (h.0, sym (joined_same j) ∙ h.1) ]
-  joined_told (chained {a = s} {b = u} {c = w} j l) =
-      elim (joined_told j) [
-        | inr h ↦ inr h
-        | inl e ↦ elim (joined_told l) [ inl q ↦ inl (e ∙ q) | inr h ↦ inr (h.0, ap g e ∙ h.1) ]
-      ]
+  joined_told (chained {a = s} {b = u} {c = w} j l) = grind (arith, common_steps, joined_told j, joined_told l)
   joined_told (at_field {a = s} {t = t} {x = x} {k = c} i j l m e q) = inr (field_told c t s i x m (joined_same l) e)
 
   -- so the closed demands are met
@@ -160,11 +133,7 @@ module _ (p : Program) (r : TypedRule) (specs : Specs) (args : DenotedList) (f :
   closed_met s c h = moved_met specs g h.source s c (joined_same h.joined) (met h.source c h.asked)
 
   pub closed_equal : (s u : SiteTerm) → IsClosedEquality d s u → (y : Denoted) × (g s ≡ Some (told y)) × (g u ≡ Some (told y))
-  closed_equal s u h =
-      elim (joined_told h.joined) [
-        | inl e ↦ absurd (h.different e)
-        | inr y ↦ (y.0, y.1, sym (joined_same h.joined) ∙ y.1)
-      ]
+  closed_equal s u h = grind (arith, common_steps, joined_told h.joined, joined_same h.joined, joined_told, joined_same)
 
   -- and the calls below what they speak of are made
   pub constrained_made : (s : SiteTerm) (c : Constraint) → HasConstraint d s c → AreMadeBelow d s

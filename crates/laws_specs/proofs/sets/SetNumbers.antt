@@ -1,8 +1,9 @@
 -- The numbers of a rule of a set: what stands at and below a number is below its tree, and a class has two members at least.
-use Rattle.std.proofs.Common.{◌≡◌, ◌≢◌, ℕ, zero, suc, ◌==◌, ◌≤◌, ◌&&◌, not, Bool, true, false, List, [], ◌∷◌, ◌++◌, length, map, filter, flat_map, Option, Some, None, slice_get, refl, sym, ap, subst, ◌∙◌, inl, inr, arith, eqb-true, eq-eqb}
+use Rattle.std.proofs.Common.{◌≡◌, ◌≢◌, ℕ, zero, suc, ◌==◌, ◌≤◌, not, Bool, true, false, List, [], ◌∷◌, ◌++◌, length, map, filter, flat_map, Option, Some, None, slice_get, refl, sym, subst, ◌∙◌, inl, inr, arith, eqb-true, eq-eqb}
+use Rattle.std.proofs.lemmas.Grind.{common_steps}
 use Rattle.std.proofs.lemmas.Bool.{cases_Bool, and_parts, and_from, false≢true}
 use Rattle.model.specs.lists.Names.{IsDistinct}
-use Rattle.model.specs.sites.Sites.{Site, bool_site, int_site, prim_site, argument_site, extractor_site, constructor_site, iterator_site, make_variant_site, match_variant_site, make_struct_site, extract_struct_site, make_some_site, match_some_site, match_tuple_site, sources_of, sources_at, SiteTerm, each_term, layer, layer_at, unfold_site}
+use Rattle.model.specs.sites.Sites.{Site, sources_of, sources_at, SiteTerm, each_term, layer, layer_at, unfold_site}
 use Rattle.model.specs.trees.Places.{is_in, joins_in, below, all_below}
 use Rattle.model.proofs.DistinctJoined.{distinct_tail, not_in_tail}
 use Rattle.model.proofs.Elements.{In, contains_from_in, from_flat_map, in_map, map_in, in_flat_map, in_filter, filter_from, passed_filter, any_in, in_any}
@@ -24,28 +25,13 @@ module _ (P : SiteTerm → Type 0) (sites : List Site) (first : SourcesFirst sit
   each_source (s ∷ ss) h a (inr i) = each_source ss h.1 a i
 
   only_source : (s a : ℕ) → CallsAre P (at s) → In (s ∷ []) a → CallsAre P (at a)
-  only_source s a h (inl e) = subst (λ n. CallsAre P (at n)) e h
-  only_source s a h (inr n) = absurd n
+  only_source s a h i = grind (arith, common_steps)
 
   layer_sources : (b : Site) → CallsAre P (layer at b) → (a : ℕ) → In (sources_of b) a → CallsAre P (at a)
-  layer_sources (bool_site x ty) h a i = absurd i
-  layer_sources (int_site z ty) h a i = absurd i
-  layer_sources (prim_site name) h a i = absurd i
-  layer_sources (argument_site n) h a i = absurd i
-  layer_sources (extractor_site term source) h a i = only_source source a h.1 i
-  layer_sources (constructor_site term sources n) h a i = each_source sources h.1 a i
-  layer_sources (iterator_site source) h a i = only_source source a h i
-  layer_sources (make_variant_site ty variant fields) h a i = each_source fields h a i
-  layer_sources (match_variant_site source variant field) h a i = only_source source a h i
-  layer_sources (make_struct_site ty fields) h a i = each_source fields h a i
-  layer_sources (extract_struct_site source field) h a i = only_source source a h i
-  layer_sources (make_some_site source) h a i = only_source source a h i
-  layer_sources (match_some_site source) h a i = only_source source a h i
-  layer_sources (match_tuple_site source field) h a i = only_source source a h i
+  layer_sources b h a i = grind (arith, common_steps, only_source, each_source)
 
   optional_sources : (o : Option Site) → CallsAre P (layer_at at o) → (a : ℕ) → In (sources_in o) a → CallsAre P (at a)
-  optional_sources None h a i = absurd i
-  optional_sources (Some b) h a i = layer_sources b h a i
+  optional_sources o h a i = grind (arith, common_steps, layer_sources)
 
   source_calls : (s : ℕ) → CallsAre P (at s) → (a : ℕ) → In (sources_at sites s) a → CallsAre P (at a)
   source_calls s h a i = optional_sources (slice_get sites s) (subst (CallsAre P) (unfolds sites first s) h) a i
@@ -53,17 +39,14 @@ module _ (P : SiteTerm → Type 0) (sites : List Site) (first : SourcesFirst sit
   calls_below : (n s : ℕ) → CallsAre P (at s) → (u : ℕ) → In (below n sites s) u → CallsAre P (at u)
   calls_below zero s h u i = absurd i
   calls_below (suc n) s h u (inl e) = subst (λ m. CallsAre P (at m)) e h
-  calls_below (suc n) s h u (inr i) =
-      let m = from_flat_map (below n sites) (sources_at sites s) u i in calls_below n m.0 (source_calls s h m.0 m.1) u m.2
+  calls_below (suc n) s h u (inr i) = grind (arith, common_steps, calls_below n, from_flat_map (below n sites) (sources_at sites s) u i, source_calls s h, from_flat_map, source_calls)
 
   pub all_calls_below : (ss : List ℕ) → ((s : ℕ) → In ss s → CallsAre P (at s)) → (u : ℕ) → In (all_below sites ss) u → CallsAre P (at u)
   all_calls_below ss f u i = let m = from_flat_map (λ s. below (suc s) sites s) ss u i in calls_below (suc m.0) m.0 (f m.0 m.1) u m.2
 
 -- 2. classes
 pub in_one_class : (classes : List (List ℕ)) (class : List ℕ) (a b : ℕ) → In classes class → In class a → In class b → joins_in classes a b ≡ true
-in_one_class classes class a b c i j =
-    any_in (λ k. is_in a k && is_in b k) classes class c
-    (and_from (is_in a class) (is_in b class) (any_in (λ y. y == a) class a i (eq-eqb a a refl)) (any_in (λ y. y == b) class b j (eq-eqb b b refl)))
+in_one_class classes class a b c i j = grind (arith, common_steps, and_from (is_in a class) (is_in b class), eq-eqb a a refl, eq-eqb b b refl, any_in, and_from, eq-eqb)
 
 distinct_right : (xs ys : List ℕ) → IsDistinct (xs ++ ys) → IsDistinct ys
 distinct_right [] ys h = h
@@ -79,23 +62,19 @@ first_two (c ∷ cs) h x y rest (inr i) = first_two cs (distinct_right c (flat_m
 
 -- each member has another one beside it
 pub another_member : (classes : List (List ℕ)) → IsDistinct (flat_map (λ c. c) classes) → (class : List ℕ) → In classes class → 2 ≤ length class → (a : ℕ) → In class a → (b : ℕ) × In class b × (a ≢ b)
-another_member classes once [] c many a i = absurd i
-another_member classes once (x ∷ []) c many a i = absurd (omega (arith, many))
 another_member classes once (x ∷ (y ∷ rest)) c many a i =
     elim (cases_Bool (a == x)) [
       | inl t ↦ (y, inr (inl refl), λ same. first_two classes once x y rest c (sym (eqb-true a x t) ∙ same))
       | inr n ↦ (x, inl refl, λ same. false≢true (sym n ∙ eq-eqb a x same))
     ]
+another_member classes once a c many h i = grind (arith, common_steps)
 
 -- the class that joins two numbers
 is_member : (class : List ℕ) (a : ℕ) → is_in a class ≡ true → In class a
 is_member class a h = let m = in_any (λ y. y == a) class h in subst (In class) (eqb-true m.0 a m.2) m.1
 
 pub joining_class : (classes : List (List ℕ)) (a b : ℕ) → joins_in classes a b ≡ true → (class : List ℕ) × In classes class × In class a × In class b
-joining_class classes a b h =
-    let m = in_any (λ k. is_in a k && is_in b k) classes h in
-    let e = and_parts (is_in a m.0) (is_in b m.0) m.2 in
-    (m.0, m.1, is_member m.0 a e.0, is_member m.0 b e.1)
+joining_class classes a b h = grind (arith, common_steps, in_any, and_parts, is_member)
 
 -- a pair of a class: two different members
 pub members_pair : (class : List ℕ) (a b : ℕ) → In class a → In class b → a ≢ b → In (pairs_of class) (a, b)
@@ -108,9 +87,4 @@ members_pair class a b i j n =
     passes false e = refl
 
 pub pair_members : (class : List ℕ) (e : ℕ × ℕ) → In (pairs_of class) e → In class e.0 × In class e.1 × (e.0 ≢ e.1)
-pair_members class e i =
-    let m = from_flat_map (λ a. map (λ b. (a, b)) (filter (λ b. not (a == b)) class)) class e i in
-    let n = in_map (λ b. (m.0, b)) (filter (λ b. not (m.0 == b)) class) e m.2 in
-    let passed : not (m.0 == n.0) ≡ true = passed_filter (λ b. not (m.0 == b)) class n.0 n.1 in
-    subst (λ (x : ℕ × ℕ). In class x.0 × In class x.1 × (x.0 ≢ x.1)) n.2
-    (m.1, in_filter (λ b. not (m.0 == b)) class n.0 n.1, λ same. false≢true (sym (ap not (eq-eqb m.0 n.0 same)) ∙ passed))
+pair_members class e i = grind (arith, common_steps, from_flat_map, in_map, passed_filter, in_filter, eq-eqb)

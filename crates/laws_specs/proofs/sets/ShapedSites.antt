@@ -1,5 +1,6 @@
 -- Under what a rule's condition assumes, a site that is asked to be a variant or a struct stands for one with as many fields as its type has.
-use Rattle.std.proofs.Common.{◌≡◌, ℕ, suc, ◌+◌, ◌==◌, ◌&&◌, not, Bool, true, false, List, [], ◌∷◌, length, Some, None, slice_get, if◌then◌else◌, refl, sym, ap, subst, ◌∙◌, inl, inr, arith, eq-eqb}
+use Rattle.std.proofs.Common.{◌≡◌, ℕ, ◌+◌, ◌==◌, ◌&&◌, not, Bool, true, false, List, [], ◌∷◌, length, Some, None, slice_get, if◌then◌else◌, refl, sym, ap, subst, ◌∙◌, arith, eq-eqb}
+use Rattle.std.proofs.lemmas.Grind.{common_steps}
 use Rattle.std.proofs.lemmas.Bool.{and_parts, and_from}
 use Rattle.model.specs.lists.Tables.{TermEntry}
 use Rattle.model.specs.lists.Formed.{is_formed_rule}
@@ -7,9 +8,9 @@ use Rattle.model.specs.rules.Outcome.{then_option}
 use Rattle.model.specs.rules.Values.{variant_types, struct_types}
 use Rattle.model.specs.rules.Program.{Program, Kind, a_variant, a_struct, a_call, unknown, kind, kind_of, arg_types}
 use Rattle.model.specs.rules.Typed.{TypedPatterns, TypedRule}
-use Rattle.model.specs.sites.Sites.{Constraint, is_variant, is_struct, is_bool, is_int, is_prim, is_present, SiteTerm, bool_term, prim_term, argument, extractor_call, constructor_call, pick_of, variant_made, variant_field, struct_made, struct_field, some_part, tuple_part, SiteTerms, no_site_term, site_term_and}
+use Rattle.model.specs.sites.Sites.{Constraint, is_variant, is_struct, is_bool, is_int, is_prim, is_present, SiteTerm, bool_term, prim_term, argument, extractor_call, constructor_call, pick_of, variant_made, variant_field, struct_made, struct_field, some_part, tuple_part, SiteTerms, site_term_and}
 use Rattle.model.specs.sites.Serves.{constant_type, is_type_with_parts, term_args, term_results}
-use Rattle.model.specs.visits.Demands.{Demands, demands_of, Visit, making, asking, pattern_count, output_sites, open_call, open_term, ValuedAll, visit_call, visit_term, asking_all}
+use Rattle.model.specs.visits.Demands.{Demands, demands_of, Visit, asking, pattern_count, output_sites, open_call, open_term, ValuedAll, visit_call, visit_term, asking_all}
 use Rattle.model.proofs.Elements.{In, in_either, contains_from_in, some_is, or_right}
 use Rattle.model.proofs.Options.{then_some}
 use Rattle.laws_typing.specs.WellTypedPrograms.{IsWellTypedProgram}
@@ -28,11 +29,7 @@ use Rattle.laws_specs.proofs.sets.CallsMade.{CallsAre, AllCallsAre}
 use Rattle.laws_specs.proofs.sets.Shapes.{is_shaped, are_shaped, plain_shaped, of_type_shaped, of_types_shaped, variant_fields, struct_fields, field_shaped, as_many_fields}
 
 outputs_answered : (h : ToldContent) (xs : DenotedList) → told_outputs h ≡ Some xs → answered_as h ≡ Some xs
-outputs_answered (told x) xs e = e
-outputs_answered (told_parts ys) xs e = e
-outputs_answered told_nothing xs e = e
-outputs_answered (told_just g) xs e = absurd (cc)
-outputs_answered told_many xs e = e
+outputs_answered h xs e = grind (arith, common_steps)
 
 -- what is assumed of a condition
 pub record Assuming : Type 0 where
@@ -77,11 +74,7 @@ module _ (k : Assuming) where
   facts = record { demands = AreAsked; site = IsShapedAt; matched = λ u. Unit {0}; called = λ u. Unit {0} }
 
   asked_of : (s : SiteTerm) (c : Constraint) (v : Visit) → IsAskedOf s c → AreAsked v.demands → AreAsked (asking s c v).demands
-  asked_of s c v m h x i =
-      elim (in_either v.demands.constraints ((s, c) ∷ []) x i) [
-        | inl j ↦ h x j
-        | inr j ↦ elim j [ inl e ↦ subst (λ (y : SiteTerm × Constraint). IsAskedOf y.0 y.1) e m | inr n ↦ absurd n ]
-      ]
+  asked_of s c v m h x i = grind (arith, common_steps, in_either v.demands.constraints ((s, c) ∷ []) x i, in_either)
 
   all_asked_of : (ss : List SiteTerm) (v : Visit) → AreAsked v.demands → AreAsked (asking_all ss v).demands
   all_asked_of [] v h = h
@@ -145,9 +138,7 @@ module _ (k : Assuming) where
 
   call_asked : (pure multi partial rec infallible : Bool) (call : SiteTerm) (args : TypedPatterns) (v : Visit) → AreAsked v.demands
       → AreAsked (open_call (record { pure = pure; multi = multi; partial = partial; rec = rec }) infallible call args v).visit.demands
-  call_asked pure true partial rec infallible call args v h = h
-  call_asked pure false partial rec true call args v h = h
-  call_asked pure false partial rec false call args v h = asked_of call is_present (making (call ∷ (some_part call ∷ [])) v) tt h
+  call_asked pure multi partial rec infallible call h v i = grind (arith, common_steps, asked_of)
 
   term_opened : (t : ℕ) (e : TermEntry) → slice_get p.terms t ≡ Some e → (n : Kind) → kind p t ≡ n → kind_of e ≡ n → (s : SiteTerm) → IsShapedAt s e.ret_ty → (args : TypedPatterns) → AsMany args e.arg_tys
       → (v : Visit) → AreAsked v.demands → AreAsked (open_term n t s args v).visit.demands × AtEachTyped facts (open_term n t s args v).inputs e.arg_tys
@@ -172,9 +163,6 @@ module _ (k : Assuming) where
 
   -- 3. values
   values_shaped : (ss : SiteTerms) (tys : List ℕ) (xs : DenotedList) → ValuesAtEach facts ss tys → AllCallsAre IsKnown ss → denoted_at_each f ss ≡ Some xs → are_shaped p.types (Some tys) xs ≡ true
-  values_shaped no_site_term [] xs h calls e = subst (λ ys. are_shaped p.types (Some []) ys ≡ true) (some_is no_denoted xs e) refl
-  values_shaped no_site_term (ty ∷ tys) xs h calls e = absurd h
-  values_shaped (site_term_and s ss) [] xs h calls e = absurd h
   values_shaped (site_term_and s ss) (ty ∷ tys) xs h calls e =
       let b = then_some (denoted_at f s) (λ x. then_option (denoted_at_each f ss) (λ ys. Some (denoted_and x ys))) xs e in
       let c = then_some (denoted_at_each f ss) (λ ys. Some (denoted_and b.0 ys)) xs b.2 in
@@ -188,6 +176,7 @@ module _ (k : Assuming) where
       is_told told_nothing x e = absurd (cc)
       is_told (told_just g) x e = absurd (cc)
       is_told told_many x e = absurd (cc)
+  values_shaped ss tys xs h calls e = grind (arith, common_steps, some_is)
 
   variant_shaped : (ty i : ℕ) (ss : SiteTerms) (tys : List ℕ) → variant_types (slice_get p.types ty) i ≡ Some tys → ValuesAtEach facts ss tys → IsShapedAt (variant_made ty i ss) ty
   variant_shaped ty i ss tys e h calls x q =
@@ -229,22 +218,15 @@ module _ (k : Assuming) where
 
   result_at : (partial multi : Bool) (t n ty : ℕ) (ss : SiteTerms) → term_results (slice_get p.terms t) ≡ ty ∷ []
       → IsShapedAt (if partial then some_part (constructor_call t ss n) else (if multi then pick_of (constructor_call t ss n) else constructor_call t ss n)) ty
-  result_at true multi t n ty ss e = answer_shaped t n ty ss e
-  result_at false true t n ty ss e = pick_shaped t n ty ss e
-  result_at false false t n ty ss e = call_shaped t n ty ss e
+  result_at partial multi t n ty ss e = grind (arith, common_steps, answer_shaped, pick_shaped, call_shaped)
 
   call_given : (pure multi partial rec : Bool) (t ty : ℕ) (ss : SiteTerms) (v : Visit) → term_results (slice_get p.terms t) ≡ ty ∷ [] → AreAsked v.demands
       → IsGiven facts (visit_call (record { pure = pure; multi = multi; partial = partial; rec = rec }) t ss v) ty
-  call_given true true partial rec t ty ss v e h = (result_at partial true t 0 ty ss e, h)
-  call_given true false partial rec t ty ss v e h = (result_at partial false t 0 ty ss e, h)
-  call_given false true partial rec t ty ss v e h = (result_at partial true t (suc v.impure_calls) ty ss e, h)
-  call_given false false partial rec t ty ss v e h = (result_at partial false t (suc v.impure_calls) ty ss e, h)
+  call_given pure multi partial rec t ty ss v e h = grind (arith, common_steps, result_at)
 
   term_given : (t : ℕ) (e : TermEntry) → slice_get p.terms t ≡ Some e → (n : Kind) → kind p t ≡ n → kind_of e ≡ n → (w : ValuedAll) → ValuesAtEach facts w.sites e.arg_tys → AreAsked w.visit.demands → IsGiven facts (visit_term n t w) e.ret_ty
-  term_given t e there (a_variant ty i) q m w h g =
-      let b = variant_takes p k.well.parts t e there ty i m in (subst (IsShapedAt (variant_made ty i w.sites)) (sym b.0) (variant_shaped ty i w.sites e.arg_tys b.1 h), g)
-  term_given t e there (a_struct ty) q m w h g =
-      let b = struct_takes p k.well.parts t e there ty m in (subst (IsShapedAt (struct_made ty w.sites)) (sym b.0) (struct_shaped ty w.sites e.arg_tys b.1 h), g)
+  term_given t e there (a_variant ty i) q m w h g = grind (arith, common_steps, variant_shaped ty i w.sites e.arg_tys, variant_takes, variant_shaped)
+  term_given t e there (a_struct ty) q m w h g = grind (arith, common_steps, struct_shaped ty w.sites e.arg_tys, struct_takes, struct_shaped)
   term_given t e there (a_call flags infallible) q m w h g = call_given flags.pure flags.multi flags.partial flags.rec t e.ret_ty w.sites w.visit (ap term_results there) g
   term_given t e there unknown q m w h g = absurd (term_known p t e there q)
 
