@@ -9,8 +9,9 @@ Entry = namedtuple("Entry", "head text")
 # What a word in capitals stands for, where it isn't a name that only the user knows.
 VALUES = {"WHEN": "always never auto", "FOLDER": "folders", "FILE": "files"}
 
-# The tasks with options of their own, which their lines name.
+# The tasks with options of their own, which their lines name, and those of them that look for files in a folder.
 OTHERS = ("fmt", "conditions", "lsp")
+LOOKING = ("fmt", "conditions")
 
 
 class Help:
@@ -35,7 +36,8 @@ class Help:
         """The options of a task, each with the word that it takes, or the empty text."""
         text = next(entry.text for entry in self.tasks if entry.head.split()[0] == task)
         if task in OTHERS:
-            return {word: "" for word in re.findall(r"--[a-z]+", text)} | {"-C": "FOLDER"}
+            named = {word: "" for word in re.findall(r"--[a-z]+", text)}
+            return named | ({"-C": "FOLDER"} if task in LOOKING else {})
         found = {}
         for entry in self.options:
             tasks = re.match(r"((?:[a-z]+, )*[a-z]+): ", entry.text)
