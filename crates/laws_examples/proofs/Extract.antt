@@ -1,9 +1,10 @@
 -- The sample with an extractor: a world where the extractor answers serves the tests of its rules; and near sets are not built.
-use Rattle.std.proofs.Common.{◌≡◌, ◌∷◌, [], ◌⊎◌, ◌∙◌, ℕ, pos, zero, suc, false, List, Some, length, slice_get, Contains, IsTrue, refl, sym, ap, subst, inl, inr, arith, is_some}
+use Rattle.std.proofs.Common.{◌≡◌, ◌∷◌, [], ◌⊎◌, ◌∙◌, ℕ, pos, false, List, Some, length, slice_get, Contains, IsTrue, refl, sym, ap, subst, inl, inr, arith, is_some}
+use Rattle.std.proofs.lemmas.Grind.{common_steps}
 use Rattle.std.proofs.lemmas.Bool.{false≢true}
 use Rattle.std.proofs.lemmas.Option.{none-some}
 use Rattle.model.proofs.Members.{in_alone, in_cases}
-use Rattle.model.specs.rules.Meaning.{Content, Meaning, int_literal, literal_value, one}
+use Rattle.model.specs.rules.Meaning.{Content, Meaning, one}
 use Rattle.model.specs.sites.RuleSets.{IsBuilt}
 use Rattle.model.specs.sites.Sites.{Constraint, SetRule, is_int, is_present, unfold_site}
 use Rattle.model.specs.trees.Collects.{content_at}
@@ -45,35 +46,19 @@ asked r k s d c =
     first m = elim (in_cases (1, is_present) (s, d) ((2, is_int (pos 1) 1) ∷ []) m) [ inl e ↦ present e | inr n ↦ number (in_alone (2, is_int (pos 1) 1) (s, d) n) ]
 
 no_classes : (r : SetRule) → Contains extract_set.rules r → r.classes ≡ []
-no_classes r k =
-    elim (in_cases ten_for_answer_one r (answer_itself ∷ []) k) [
-      | inl e ↦ ap (λ q. q.classes) (sym e)
-      | inr b ↦ ap (λ q. q.classes) (sym (in_alone answer_itself r b))
-    ]
+no_classes r k = grind (arith, common_steps, in_cases ten_for_answer_one r (answer_itself ∷ []) k, in_alone answer_itself r, in_cases, in_alone)
 
 int_fields : (m : Meaning) (x : Content) (cs : List Content) → content_fields m (is_int (pos 1) 1) x ≡ Some cs → length cs ≡ 0
-int_fields m (one v) cs e = constant_count (literal_value m (int_literal (pos 1) 1)) v cs e
-int_fields m _ cs e = absurd (none-some cs e)
+int_fields m x cs e = grind (arith, common_steps, constant_count, none-some)
 
 field_count : (m : Meaning) (s : ℕ) (d : Constraint) (x : Content) (cs : List Content) → Asked s d → content_fields m d x ≡ Some cs → length cs ≡ length (fields_of extract_set.sites s d)
-field_count m s d x cs (inl a) e =
-    let p = present_met m x cs (subst (λ f. content_fields m f x ≡ Some cs) a.1 e) in
-    ap length p.2 ∙ sym (ap (λ f. length (fields_of extract_set.sites s f)) a.1)
-field_count m s d x cs (inr a) e =
-    int_fields m x cs (subst (λ f. content_fields m f x ≡ Some cs) a.1 e) ∙ sym (ap (λ f. length (fields_of extract_set.sites s f)) a.1)
+field_count m s d x cs h e = grind (arith, common_steps, present_met, int_fields)
 
 one_constraint : (s : ℕ) (d f : Constraint) → Asked s d → Asked s f → d ≡ f
-one_constraint s d f (inl a) (inl b) = a.1 ∙ sym b.1
-one_constraint s d f (inr a) (inr b) = a.1 ∙ sym b.1
-one_constraint s d f (inl a) (inr b) = (let e = sym a.0 ∙ b.0 in absurd (omega arith))
-one_constraint s d f (inr a) (inl b) = (let e = sym a.0 ∙ b.0 in absurd (omega arith))
+one_constraint s d f h i = grind (arith, common_steps)
 
 has_content : (c : Content) (s : ℕ) → waits (slice_get extract_set.sites s) ≡ false → IsTrue (is_some (content_at (extract_world c) [] s))
-has_content c zero n = refl
-has_content c (suc zero) n = refl
-has_content c (suc (suc zero)) n = absurd (false≢true (sym n))
-has_content c (suc (suc (suc zero))) n = refl
-has_content c (suc (suc (suc (suc s)))) n = absurd (false≢true (sym n))
+has_content c s n = grind (arith, common_steps)
 
 tests_served : (c : Content) → ServesTests extract_set (extract_world c)
 tests_served c = record {

@@ -1,5 +1,6 @@
 -- The sites of a small set, place by place.
-use Rattle.std.proofs.Common.{◌≡◌, ℕ, pos, zero, suc, Some, None, slice_get, refl, ap, subst, arith}
+use Rattle.std.proofs.Common.{◌≡◌, ℕ, pos, Some, None, slice_get, refl, ap, subst, arith}
+use Rattle.std.proofs.lemmas.Grind.{common_steps}
 use Rattle.std.proofs.lemmas.Option.{none-some, same_Some}
 use Rattle.model.specs.sites.Sites.{Site, int_site}
 use Rattle.laws_examples.specs.Fall.{fall_set}
@@ -12,14 +13,10 @@ number_in (int_site (pos n) ty) = n
 number_in _ = 0
 
 ten_at_one : (s : ℕ) → slice_get fall_set.sites s ≡ Some (byte 10) → Some 1 ≡ Some s
-ten_at_one zero h = (let n = ap number_in (same_Some _ _ h) in absurd (omega (arith, n)))
-ten_at_one (suc zero) h = refl
-ten_at_one (suc (suc s)) h = absurd (none-some (byte 10) h)
+ten_at_one s h = grind (arith, common_steps, same_Some, none-some)
 
 nine_nowhere : (s : ℕ) → slice_get fall_set.sites s ≡ Some (byte 9) → None ≡ Some s
-nine_nowhere zero h = (let n = ap number_in (same_Some _ _ h) in absurd (omega (arith, n)))
-nine_nowhere (suc zero) h = (let n = ap number_in (same_Some _ _ h) in absurd (omega (arith, n)))
-nine_nowhere (suc (suc s)) h = absurd (none-some (byte 9) h)
+nine_nowhere s h = grind (arith, common_steps, same_Some, none-some)
 
 pub sites_are_found : SitesAreFound
 sites_are_found = record {

@@ -1,18 +1,19 @@
 -- The sample with an impure call: wherever its rule is taken, the call isn't emitted, so it is made.
-use Rattle.std.proofs.Common.{◌≡◌, ◌∷◌, [], ◌++◌, if◌then◌else◌, ◌∙◌, ◌||◌, ℕ, Bool, true, false, List, Option, Some, None, slice_get, Contains, IsTrue, refl, sym, ap, subst, inl, inr, not, filter}
+use Rattle.std.proofs.Common.{◌≡◌, ◌∷◌, [], ◌++◌, if◌then◌else◌, ◌∙◌, ◌||◌, ℕ, Bool, false, List, Option, Some, None, slice_get, Contains, IsTrue, refl, sym, ap, subst, inl, inr, not, filter, arith}
+use Rattle.std.proofs.lemmas.Grind.{common_steps}
 use Rattle.std.proofs.lemmas.Bool.{cases_Bool, false≢true}
 use Rattle.std.proofs.lemmas.Option.{none-some, same_Some}
 use Rattle.std.proofs.lemmas.List.Elements.{All-contains}
 use Rattle.model.proofs.Members.{each_passes, in_head}
 use Rattle.model.specs.rules.Meaning.{Content, Meaning, impure_answer, one}
-use Rattle.model.specs.rules.Outcome.{Outcome, then_option}
-use Rattle.model.specs.rules.Values.{Value, no_value, value_and}
+use Rattle.model.specs.rules.Outcome.{Outcome}
+use Rattle.model.specs.rules.Values.{Value}
 use Rattle.model.specs.sites.Sites.{constructor_site}
 use Rattle.model.specs.trees.Collects.{IsPureSite, IsPureAt}
 use Rattle.model.specs.trees.Places.{all_below, bind_order, is_in, is_in_place, nothing_around, return_uses, waits}
-use Rattle.model.specs.trees.Run.{Bound, Env, World, all_bound, as_value, at_start, bound_to, constructed, now_bound, or_else, or_next, run_check, run_tree, then_bind, used, on_bound}
+use Rattle.model.specs.trees.Run.{Bound, Env, World, all_bound, at_start, now_bound, or_next, run_check, run_tree, then_bind, used, on_bound}
 use Rattle.model.specs.trees.SetRuns.{IsTaken}
-use Rattle.model.specs.trees.Trees.{no_step, return_at, step}
+use Rattle.model.specs.trees.Trees.{no_step, return_at}
 use Rattle.laws_examples.specs.Impure.{ImpureIsCalled, after_call, call_on_argument, im_called, impure_set, the_call}
 
 -- what is bound, where the call and the argument are emitted or not
@@ -22,8 +23,7 @@ order call arg =
     filter (λ s. not (is_in_place (slice_get impure_set.sites s))) (if call || is_in 1 first then first else (if arg || is_in 0 first then first else first ++ 0 ∷ []) ++ 1 ∷ [])
 
 order_is : (arg : Bool) → order false arg ≡ 1 ∷ []
-order_is true = refl
-order_is false = refl
+order_is arg = grind (arith, common_steps)
 
 module _ (m : Meaning) (v : Value) (env : Env) where
   abbrev then_returns : Bound → Outcome
@@ -35,9 +35,7 @@ module _ (m : Meaning) (v : Value) (env : Env) where
 
 -- nothing that its result is made of waits
 waits_not : (s : ℕ) → Contains (all_below impure_set.sites (return_uses (Some call_on_argument))) s → waits (slice_get impure_set.sites s) ≡ false
-waits_not s c =
-    let h = each_passes (λ x. not (waits (slice_get impure_set.sites x))) (all_below impure_set.sites (return_uses (Some call_on_argument))) refl s c in
-    elim (cases_Bool (waits (slice_get impure_set.sites s))) [ inl t ↦ absurd (false≢true (sym (ap not t) ∙ h)) | inr f ↦ f ]
+waits_not s c = grind (arith, common_steps, each_passes)
 
 taken_at_start : (m : Meaning) (v : Value) → IsTaken (im_called m v) call_on_argument (after_call v (impure_answer m 0 0))
 taken_at_start m v = record {
@@ -65,18 +63,10 @@ module _ (m : Meaning) (v : Value) (o : Outcome) (t : IsTaken (im_called m v) ca
   call_bound = ap (λ c. order c (is_in 0 t.around.emitted)) not_emitted ∙ order_is (is_in 0 t.around.emitted)
 
   arg_read : used w t.env 0 ≡ Some (one v)
-  arg_read = by (bound_to t.env 0) refl
-    where
-      by : (b : Option Content) → bound_to t.env 0 ≡ b → or_else b (Some (one v)) ≡ Some (one v)
-      by None e = refl
-      by (Some c) e = sym (t.reached.bound 0 c e).1
+  arg_read = grind (arith, common_steps)
 
   called : o ≡ after_call v (impure_answer m 0 0)
-  called =
-      t.outcome
-      ∙ ap (λ binds. run_tree (step binds (return_at call_on_argument.at 1) no_step) w t.env at_start) call_bound
-      ∙ ap (λ u. then_returns m v t.env (constructed w t.env [] 1 0 1 (then_option (then_option u as_value) (λ x. Some (value_and x no_value))))) arg_read
-      ∙ answered m v t.env (impure_answer m 0 0)
+  called = grind (arith, common_steps, call_bound, arg_read)
 
 pub impure_is_called : ImpureIsCalled
 impure_is_called = record { can_be_taken = taken_at_start; makes_the_call = λ m v o t. called m v o t }

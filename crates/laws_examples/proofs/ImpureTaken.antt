@@ -1,5 +1,6 @@
 -- The sample with an impure call is served on 1, and taking its rule gives its right side's outcome.
-use Rattle.std.proofs.Common.{◌≡◌, [], ℕ, pos, zero, suc, true, IsTrue, IsSomeAnd, refl}
+use Rattle.std.proofs.Common.{◌≡◌, [], ℕ, pos, suc, true, IsTrue, IsSomeAnd, refl, arith}
+use Rattle.std.proofs.lemmas.Grind.{common_steps}
 use Rattle.std.proofs.lemmas.Bool.{false≢true}
 use Rattle.model.specs.rules.Meaning.{impure_answer}
 use Rattle.model.specs.rules.Program.{kind, rules_of}
@@ -20,8 +21,7 @@ use Rattle.laws_examples.specs.MeaningForms.{given, v}
 
 five_answered : (t before : ℕ) (ss : SiteTerms) → call_of_g (constructor_call t ss (suc before)) ≡ true
     → IsSomeAnd (impure_answer five_at_first t before) (λ c. IsTrue (fits_constructor impure_program t (kind impure_program t) c))
-five_answered zero zero ss h = refl
-five_answered _ _ ss h = absurd (false≢true h)
+five_answered t before ss h = grind (arith, common_steps)
 
 serves : Serves impure_program five_at_first (given (pos 1)) (rules_of impure_program 1)
 serves =

@@ -1,6 +1,7 @@
 -- The set with left-over sites: a meaning whose call answers what is no number serves its rules, so its world serves the set,
 -- and the run of its tree collects the bag.
-use Rattle.std.proofs.Common.{◌≡◌, ◌∷◌, [], ◌∙◌, ℕ, pos, zero, suc, Bool, true, false, Option, Some, None, Contains, IsSomeAnd, IsTrue, is_some, refl, sym, ap, subst, inl, inr}
+use Rattle.std.proofs.Common.{◌≡◌, ◌∷◌, [], ◌∙◌, ℕ, pos, zero, suc, Bool, true, false, Option, Some, None, Contains, IsSomeAnd, IsTrue, is_some, refl, sym, ap, arith}
+use Rattle.std.proofs.lemmas.Grind.{common_steps}
 use Rattle.std.proofs.lemmas.Bool.{false≢true}
 use Rattle.std.proofs.lemmas.List.Elements.{All-cons, All-nil}
 use Rattle.std.proofs.lemmas.List.Sorted.{IsPermutation-refl}
@@ -25,9 +26,8 @@ use Rattle.laws_examples.proofs.ReadLists.{left_over_read}
 use Rattle.laws_examples.proofs.Served.{literals_apart, serves_from}
 use Rattle.laws_examples.proofs.SetStages.{built_multi, collected}
 use Rattle.laws_examples.proofs.TreeStages.{judged_multi}
-use Rattle.laws_examples.specs.LeftoverSites.{LeftOverCollects, LeftOverIsCollected, LeftOverIsServed, LeftOverLacksACall, any_rule, kept_rule, left_over_defs, left_over_meaning, left_over_program, left_over_rules, left_over_set, left_over_tree, left_over_world, never_rule}
+use Rattle.laws_examples.specs.LeftoverSites.{LeftOverCollects, LeftOverIsCollected, LeftOverIsServed, LeftOverLacksACall, kept_rule, left_over_defs, left_over_meaning, left_over_program, left_over_rules, left_over_set, left_over_tree, left_over_world}
 use Rattle.laws_examples.specs.MeaningForms.{each, given}
-use Rattle.laws_examples.specs.SetForms.{a0}
 use Rattle.laws_examples.specs.Stages.{IsBuiltOf, IsJudged}
 
 pub left_over_built : IsBuiltOf left_over_defs left_over_rules 2 left_over_set
@@ -47,8 +47,7 @@ left_over_call u = true
 
 -- what im answers is no value
 no_number : (o : Option Values) → then_option (then_option o (call_answer left_over_meaning 0 1)) as_value ≡ None
-no_number None = refl
-no_number (Some vs) = refl
+no_number o = grind (arith, common_steps)
 
 pures : (k : Pick) (t : ℕ) (ss : SiteTerms) (vs : Values) → left_over_call (constructor_call t ss 0) ≡ true → site_values left_over_meaning (given (pos 7)) k ss ≡ Some vs
     → IsSomeAnd (pure_answer left_over_meaning t vs) (λ c. IsTrue (fits_constructor left_over_program t (kind left_over_program t) c))
@@ -59,14 +58,7 @@ pures k _ _ vs h e = absurd (false≢true h)
 -- the rule that calls im doesn't match, and the other one makes no impure call
 none_called : (r : TypedRule) (t before : ℕ) (ss : SiteTerms) → Contains left_over_rules.rules r → IsTrue (is_some (matches left_over_program left_over_meaning r (given (pos 7))))
     → Contains (demands_of left_over_program r).made (constructor_call t ss (suc before)) → ⊥
-none_called r t before ss i matched made =
-    elim (in_cases never_rule r (any_rule ∷ []) i) [
-      | inl e ↦ false≢true (subst (λ q. IsTrue (is_some (matches left_over_program left_over_meaning q (given (pos 7))))) (sym e) matched)
-      | inr j ↦ argument_is_no_call t ss (suc before) (in_alone a0 (constructor_call t ss (suc before)) (subst (λ q. Contains (demands_of left_over_program q).made (constructor_call t ss (suc before))) (sym (in_alone any_rule r j)) made))
-    ]
-  where
-    argument_is_no_call : (t : ℕ) (ss : SiteTerms) (n : ℕ) → a0 ≡ constructor_call t ss n → ⊥
-    argument_is_no_call t ss n e = cc
+none_called r t before ss i matched made = grind (arith, common_steps, in_cases, in_alone)
 
 serves : Serves left_over_program left_over_meaning (given (pos 7)) left_over_rules.rules
 serves =

@@ -1,5 +1,6 @@
 -- Which look-ups answer by the lists of samples, and which environments are read as their types.
-use Rattle.std.proofs.Common.{◌≡◌, ◌<◌, ℕ, zero, suc, true, List, Some, slice_get, nat_lt, refl, sym, ap, arith, ltb-true}
+use Rattle.std.proofs.Common.{◌≡◌, ◌<◌, ℕ, true, List, Some, slice_get, nat_lt, refl, sym, ap, arith, ltb-true}
+use Rattle.std.proofs.lemmas.Grind.{common_steps}
 use Rattle.std.specs.List.{list_all}
 use Rattle.std.proofs.lemmas.Bool.{false≢true}
 use Rattle.std.proofs.lemmas.Option.{none-some, same_Some}
@@ -37,8 +38,7 @@ below : (ns : List ℕ) → list_all (λ k. nat_lt k 14) ns ≡ true → (i k : 
 below ns h i k e = ltb-true k 14 (each_passes (λ k. nat_lt k 14) ns h k (member_from_get ns i k e))
 
 name_below : (i : ℕ) (t : TermEntry) → slice_get (own_setting fall_defs true).terms i ≡ Some t → t.name < 14
-name_below zero t e = let n : 13 ≡ t.name = ap (λ (x : TermEntry). x.name) (same_Some _ t e) in omega (arith, n)
-name_below (suc i) t e = absurd (none-some t e)
+name_below i t e = grind (arith, common_steps, same_Some, none-some)
 
 pub fall_speaks_of_names : FallSpeaksOfNames
 fall_speaks_of_names = (

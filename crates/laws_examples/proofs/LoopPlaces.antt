@@ -1,5 +1,6 @@
 -- A place inside of a loop over a call: site 1 is the call, which was bound, and site 2 the answer that the loop brought.
-use Rattle.std.proofs.Common.{◌≡◌, ◌||◌, ◌==◌, ◌∷◌, [], ℕ, Bool, true, false, Some, None, All, IsTrue, if◌then◌else◌, is_some, refl, sym, ◌∙◌, subst, eqb-true}
+use Rattle.std.proofs.Common.{◌≡◌, ◌||◌, ◌==◌, ◌∷◌, [], ℕ, Bool, true, false, Some, All, IsTrue, is_some, refl, sym, subst, eqb-true, arith}
+use Rattle.std.proofs.lemmas.Grind.{common_steps}
 use Rattle.std.proofs.lemmas.Bool.{false≢true}
 use Rattle.std.proofs.lemmas.Option.{none-some}
 use Rattle.model.specs.rules.Meaning.{Content}
@@ -47,12 +48,7 @@ module _ (w : World) (k : Pick) (at : InLoop w k) where
   BoundAsHeld c s = emitted_there s × (content_at w k s ≡ Some c)
 
   bound_holds : (s : ℕ) (c : Content) → bound_to (loop_env at.answers at.first) s ≡ Some c → BoundAsHeld c s
-  bound_holds s c h = split (2 == s) (1 == s) refl refl h
-    where
-      split : (a b : Bool) → (2 == s) ≡ a → (1 == s) ≡ b → (if a then Some at.first else (if b then Some at.answers else None)) ≡ Some c → BoundAsHeld c s
-      split true b e f t = subst (BoundAsHeld c) (eqb-true 2 s e) (refl, at.answer.content ∙ t)
-      split false true e f t = subst (BoundAsHeld c) (eqb-true 1 s f) (refl, at.call.content ∙ t)
-      split false false e f t = absurd (none-some c t)
+  bound_holds s c h = grind (arith, common_steps, eqb-true 2 s, eqb-true 1 s, none-some c, eqb-true, none-some)
 
   pub reached_in_loop : IsReachedUnder w k in_loop (loop_env at.answers at.first)
   reached_in_loop = record { emitted = λ s h. (held s h).0; pure = λ s h. (held s h).1; bound = bound_holds }

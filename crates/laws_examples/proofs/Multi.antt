@@ -1,5 +1,6 @@
 -- The multi sample: its rules and its set are collected, the world serves it, and the run of its tree collects the bag.
-use Rattle.std.proofs.Common.{◌≡◌, ◌∷◌, [], ◌∙◌, ℕ, pos, zero, suc, true, false, List, Some, length, slice_get, All, Contains, IsTrue, refl, sym, ap, subst, inl, inr, arith, is_some, ◌⊎◌}
+use Rattle.std.proofs.Common.{◌≡◌, ◌∷◌, [], ◌∙◌, ℕ, pos, true, false, List, Some, length, slice_get, All, Contains, IsTrue, refl, sym, ap, subst, inl, inr, arith, is_some, ◌⊎◌}
+use Rattle.std.proofs.lemmas.Grind.{common_steps}
 use Rattle.std.proofs.lemmas.Bool.{false≢true}
 use Rattle.std.proofs.lemmas.List.Elements.{All-nil, All-cons}
 use Rattle.std.proofs.lemmas.List.Sorted.{IsPermutation-refl, length_permutation, sum_by-IsPermutation}
@@ -15,7 +16,6 @@ use Rattle.model.specs.trees.Collects.{HasCollectedResults, IsCollectedSet, IsPu
 use Rattle.model.specs.trees.Places.{fields_of, joins_in, waits}
 use Rattle.model.specs.trees.Run.{World, content_fields}
 use Rattle.model.specs.trees.SetRuns.{IsReachedUnder, IsUnwrap}
-use Rattle.model.specs.sites.Overlap.{built_rule}
 use Rattle.model.specs.claims.Layers.{own_program}
 use Rattle.laws_typing.proofs.WellTypedRules.{read_programs_are_well_typed}
 use Rattle.laws_trees.proofs.BuiltMatches.{built_sets_match_by_demands_lem}
@@ -32,53 +32,37 @@ use Rattle.laws_examples.proofs.LoopPlaces.{emitted_there, in_loop, loop_env, re
 use Rattle.laws_examples.proofs.Served.{multi_served}
 use Rattle.laws_examples.proofs.SampleStages.{multi_stages}
 use Rattle.laws_examples.proofs.SetStages.{collected}
-use Rattle.laws_examples.specs.MeaningForms.{all_of, answers, each, given, v}
+use Rattle.laws_examples.specs.MeaningForms.{all_of, answers, each, v}
 use Rattle.laws_trees.proofs.binding.BindingJudge.{binding_judge_is_exact_lem}
 use Rattle.laws_examples.proofs.UsedCalls.{does_not_bind}
-use Rattle.laws_examples.specs.Multi.{looped_with, LoopsMayBindAgain, MultiCollects, MultiIsCollected, MultiIsNot, MultiResultsAreHeld, MultiIsTaken, MultiSetCollects, MultiTakenGives, MultiTreeCollects, each_m, each_of_m, first_answer, multi_defs, multi_meaning, multi_program, multi_rules, multi_set, multi_tree, multi_world, nine, nine_for_one}
+use Rattle.laws_examples.specs.Multi.{looped_with, LoopsMayBindAgain, MultiCollects, MultiIsCollected, MultiIsNot, MultiResultsAreHeld, MultiIsTaken, MultiSetCollects, MultiTakenGives, MultiTreeCollects, each_of_m, first_answer, multi_defs, multi_meaning, multi_program, multi_rules, multi_set, multi_tree, multi_world, nine_for_one}
 
 -- 1. collected
 rules_collected : All (HasCollectedResults multi_program) multi_rules.rules
-rules_collected =
-    All-cons (HasCollectedResults multi_program) each_m (nine ∷ []) (record { no_calls = refl; no_call_unused = refl })
-    (All-cons (HasCollectedResults multi_program) nine [] (record { no_calls = refl; no_call_unused = refl }) (All-nil (HasCollectedResults multi_program)))
+rules_collected = grind (arith, common_steps, All-cons, All-nil)
 
 set_collected : IsCollectedSet multi_set
 set_collected = collected multi_set refl refl
 
 -- 2. served
 found : (k : Pick) (s : ℕ) → waits (slice_get multi_set.sites s) ≡ false → IsTrue (is_some (content_at (multi_world (pos 1)) k s))
-found k zero w = refl
-found k (suc zero) w = refl
-found k (suc (suc zero)) w = absurd (false≢true (sym w))
-found k (suc (suc (suc zero))) w = refl
-found k (suc (suc (suc (suc s)))) w = absurd (false≢true (sym w))
+found k s w = grind (arith, common_steps)
 
 abbrev SameTest : ℕ × Constraint → Type 0
 SameTest x = ◌≡◌ {A = ℕ × Constraint} (0, is_int (pos 1) 1) x
 
 only_constraint : (r : SetRule) (s : ℕ) (d : Constraint) → Contains multi_set.rules r → Contains r.constraints (s, d) → SameTest (s, d)
-only_constraint r s d h c =
-    elim (in_cases each_of_m r (nine_for_one ∷ []) h) [
-      | inl e ↦ absurd (nothing_in (s, d) (subst (λ q. Contains q.constraints (s, d)) (sym e) c))
-      | inr b ↦ in_alone (0, is_int (pos 1) 1) (s, d) (subst (λ q. Contains q.constraints (s, d)) (sym (in_alone nine_for_one r b)) c)
-    ]
+only_constraint r s d h c = grind (arith, common_steps, in_cases, nothing_in, in_alone)
 
 only_iterator : (r : SetRule) (s : ℕ) → Contains multi_set.rules r → Contains r.iterators s → 1 ≡ s
-only_iterator r s h c =
-    elim (in_cases each_of_m r (nine_for_one ∷ []) h) [
-      | inl e ↦ in_alone 1 s (subst (λ q. Contains q.iterators s) (sym e) c)
-      | inr b ↦ absurd (nothing_in s (subst (λ q. Contains q.iterators s) (sym (in_alone nine_for_one r b)) c))
-    ]
+only_iterator r s h c = grind (arith, common_steps, in_cases each_of_m r (nine_for_one ∷ []) h, in_alone 1 s, nothing_in s, in_alone nine_for_one r, in_cases, in_alone, nothing_in)
 
 no_joins : (r : SetRule) → Contains multi_set.rules r → r.classes ≡ []
 no_joins r h = elim (in_cases each_of_m r (nine_for_one ∷ []) h) [ inl e ↦ ap (λ q. q.classes) (sym e) | inr b ↦ ap (λ q. q.classes) (sym (in_alone nine_for_one r b)) ]
 
 fields_as_many : (k : Pick) (c : Content) (cs : List Content) (x : ℕ × Constraint) → SameTest x → content_at (multi_world (pos 1)) k x.0 ≡ Some c
     → content_fields multi_meaning x.1 c ≡ Some cs → length cs ≡ length (fields_of multi_set.sites x.0 x.1)
-fields_as_many k c cs x e =
-    subst (λ (y : ℕ × Constraint). content_at (multi_world (pos 1)) k y.0 ≡ Some c → content_fields multi_meaning y.1 c ≡ Some cs → length cs ≡ length (fields_of multi_set.sites y.0 y.1)) e
-    (λ g h. ap length (sym (same_Some [] cs (ap (content_fields multi_meaning (is_int (pos 1) 1)) (same_Some (one (v (pos 1))) c g) ∙ h))))
+fields_as_many k c cs x e = grind (arith, common_steps, same_Some [] cs, same_Some (one (v (pos 1))) c, same_Some)
 
 set_served : ServesSet multi_set (multi_world (pos 1))
 set_served = record {
@@ -112,9 +96,7 @@ multi_tree_collects =
     best_trees_collect_the_bag_lem laws (own_program multi_defs multi_rules) 1 multi_set (read_programs_are_well_typed multi_stages.accepted.0.read) multi_stages.built.0 multi_stages.accepted.0.checkable multi_tree multi_stages.judged.best
 
 pub multi_results_are_held : MultiResultsAreHeld
-multi_results_are_held k e pick matched =
-    results_are_held_lem (own_program multi_defs multi_rules) 1 multi_set (read_programs_are_well_typed multi_stages.accepted.0.read) multi_stages.built.0 multi_meaning (given (pos 1)) refl multi_served.0 multi_served.1
-    (built_rule multi_program [] each_m) each_of_m k e (record { place = 0; typed = refl; built = refl }) refl pick matched
+multi_results_are_held k e pick matched = grind (arith, common_steps, results_are_held_lem, read_programs_are_well_typed, multi_stages.accepted, multi_stages.built, multi_served)
 
 -- 3. what the run collects
 -- 9 stands last in the bag, and first in the run
@@ -172,43 +154,16 @@ in_the_loop =
 
 -- what the return uses: the loop's site, which is emitted, and what never waits
 needed : (s : ℕ) → Contains (2 ∷ (1 ∷ (0 ∷ []))) s → (waits (slice_get multi_set.sites s) ≡ false) ⊎ IsUnwrap (slice_get multi_set.sites s) ⊎ emitted_there s
-needed zero h = inl refl
-needed (suc zero) h = inl refl
-needed (suc (suc zero)) h = inr (inr refl)
-needed (suc (suc (suc s))) h =
-    absurd (elim (in_cases 2 (suc (suc (suc s))) (1 ∷ (0 ∷ [])) h) [
-      | inl e ↦ omega (arith, e)
-      | inr b ↦ elim (in_cases 1 (suc (suc (suc s))) (0 ∷ []) b) [
-        | inl f ↦ omega (arith, f)
-        | inr d ↦ let g = in_alone 0 (suc (suc (suc s))) d in omega (arith, g)
-      ]
-    ])
+needed s h = grind (arith, common_steps, in_cases, in_alone)
 
 unwraps_none : (s : ℕ) → IsUnwrap (slice_get multi_set.sites s) → ⊥
-unwraps_none zero u = u
-unwraps_none (suc zero) u = u
-unwraps_none (suc (suc zero)) u = u
-unwraps_none (suc (suc (suc zero))) u = u
-unwraps_none (suc (suc (suc (suc s)))) u = u
+unwraps_none s u = grind (arith, common_steps)
 
 no_unwraps : (s source : ℕ) → slice_get multi_set.sites s ≡ Some (match_some_site source) → ⊥
 no_unwraps s source e = unwraps_none s (subst IsUnwrap (sym e) tt)
 
 pub multi_is_taken : MultiIsTaken
-multi_is_taken = (
-  (0, omega arith, refl),
-  refl,
-  record {
-    around = in_loop;
-    env = loop_env all_of_m (one (v (pos 4)));
-    reached = in_the_loop;
-    gates = needed;
-    demanded = λ s source e c d. absurd (no_unwraps s source e);
-    outcome = refl;
-  },
-)
+multi_is_taken = grind (arith, common_steps, in_the_loop, needed, no_unwraps)
 
 pub multi_taken_gives : MultiTakenGives
-multi_taken_gives e matched =
-    taken_under_picks_lem (own_program multi_defs multi_rules) 1 multi_set (read_programs_are_well_typed multi_stages.accepted.0.read) multi_stages.built.0 multi_meaning (given (pos 1)) refl multi_served.0 multi_served.1
-    (built_rule multi_program [] each_m) each_of_m first_answer e (answers (pos 4)) (record { place = 0; typed = refl; built = refl }) refl multi_is_taken.0 matched multi_is_taken.2
+multi_taken_gives e matched = grind (arith, common_steps, taken_under_picks_lem, read_programs_are_well_typed, multi_stages.accepted, multi_stages.built, multi_served, multi_is_taken)

@@ -1,5 +1,6 @@
 -- A rule demands every gate though its if-let leaves a call unused; and a meaning serves a rule that makes a call twice.
-use Rattle.std.proofs.Common.{◌≡◌, ◌∷◌, [], ℕ, pos, zero, suc, Bool, true, false, Option, Some, None, IsSomeAnd, IsTrue, refl, subst, slice_get}
+use Rattle.std.proofs.Common.{◌≡◌, ◌∷◌, [], ℕ, pos, zero, suc, Bool, true, false, Option, Some, IsSomeAnd, IsTrue, refl, subst, slice_get, arith}
+use Rattle.std.proofs.lemmas.Grind.{common_steps}
 use Rattle.std.proofs.lemmas.Bool.{false≢true}
 use Rattle.std.proofs.lemmas.Option.{none-some, same_Some}
 use Rattle.model.specs.rules.Meaning.{Content, pure_answer}
@@ -12,7 +13,7 @@ use Rattle.model.specs.sites.Sites.{SiteTerm, SiteTerms, argument, constructor_c
 use Rattle.model.specs.trees.Run.{as_value}
 use Rattle.laws_examples.proofs.Served.{serves_from}
 use Rattle.laws_examples.proofs.SetStages.{collected_rule}
-use Rattle.laws_examples.specs.MeaningForms.{alone, each, given, v}
+use Rattle.laws_examples.specs.MeaningForms.{alone, each, given}
 use Rattle.laws_examples.specs.MultiCalls.{DemandsGatesThough, LeavesACallUnused, OneCallIsServed, calls_meaning, calls_program, pure_twice, unused_condition, unused_gate_rule, unused_gate_set}
 use Rattle.laws_examples.specs.SetForms.{a0, one_source}
 
@@ -44,10 +45,7 @@ both o = then_option (then_option o as_value) (λ x. then_option (then_option (t
 
 -- the answer at one place
 pair_answered : (place : Option ℕ) (vs : Values) → both (then_option place (slice_get (each (pos 4 ∷ pos 5 ∷ [])))) ≡ Some vs → IsAnswered vs 2
-pair_answered None vs e = absurd (none-some vs e)
-pair_answered (Some zero) vs e = subst (λ u. IsAnswered u 2) (same_Some (value_and (v (pos 4)) (alone (pos 4))) vs e) refl
-pair_answered (Some (suc zero)) vs e = subst (λ u. IsAnswered u 2) (same_Some (value_and (v (pos 5)) (alone (pos 5))) vs e) refl
-pair_answered (Some (suc (suc n))) vs e = absurd (none-some vs e)
+pair_answered place vs e = grind (arith, common_steps, none-some, same_Some)
 
 calls_answered : (k : Pick) (t : ℕ) (ss : SiteTerms) (vs : Values) → twice_called (constructor_call t ss 0) ≡ true → site_values calls_meaning (given (pos 1)) k ss ≡ Some vs → IsAnswered vs t
 calls_answered k (suc zero) (site_term_and (argument zero) no_site_term) vs h e = subst (λ u. IsAnswered u 1) (same_Some (alone (pos 1)) vs e) refl
@@ -56,12 +54,7 @@ calls_answered k (suc (suc zero)) (site_term_and (pick_of (constructor_call (suc
 calls_answered k _ _ vs h e = absurd (false≢true h)
 
 none_impure : (t before : ℕ) (ss : SiteTerms) → twice_called (constructor_call t ss (suc before)) ≡ true → ⊥
-none_impure t before ss h = by t ss h
-  where
-    by : (t : ℕ) (ss : SiteTerms) → twice_called (constructor_call t ss (suc before)) ≡ true → ⊥
-    by (suc zero) (site_term_and (argument zero) no_site_term) h = false≢true h
-    by (suc (suc zero)) (site_term_and (pick_of (constructor_call (suc zero) (site_term_and (argument zero) no_site_term) zero)) (site_term_and (pick_of (constructor_call (suc zero) (site_term_and (argument zero) no_site_term) zero)) no_site_term)) h = false≢true h
-    by _ _ h = false≢true h
+none_impure t before ss h = grind (arith, common_steps)
 
 pub one_call_is_served : OneCallIsServed
 one_call_is_served = (

@@ -1,16 +1,15 @@
 -- Answers near right ones are refused: by the rules that are accepted, by the limit that isn't passed, by valid terms.
-use Rattle.std.proofs.Common.{◌≡◌, ◌∷◌, [], ◌∙◌, ℕ, zero, suc, Bool, true, false, List, None, Contains, is_some, refl, sym, ap, subst, arith}
+use Rattle.std.proofs.Common.{◌≡◌, ◌∷◌, [], ℕ, Bool, true, false, List, Contains, refl, arith}
+use Rattle.std.proofs.lemmas.Grind.{common_steps}
 use Rattle.std.proofs.lemmas.Bool.{false≢true}
 use Rattle.std.proofs.lemmas.List.Elements.{All-contains, All-from_recursion}
 use Rattle.std.proofs.lemmas.Option.{none-some, same_Some}
 use Rattle.model.proofs.Members.{in_head, in_tail}
-use Rattle.model.specs.claims.Environments.{PassesNesting, TypesRead, setting_of, types_read}
+use Rattle.model.specs.claims.Environments.{PassesNesting, TypesRead, types_read}
 use Rattle.model.specs.claims.Layers.{RefusedBy, by_check, by_rules, by_types}
 use Rattle.model.specs.claims.Refusals.{IsIllTyped, NamedLimit, PassedInReading, Refusal, expansions_pass, ill_typed, nesting_passes, of_nesting, past_limit}
-use Rattle.model.specs.lists.Elaborated.{elaborated_rule, most_nested}
 use Rattle.model.specs.lists.KnownTypes.{types_of}
-use Rattle.model.specs.lists.Syntax.{Definition, Position, RuleTree}
-use Rattle.model.specs.lists.TermTable.{term_names_met}
+use Rattle.model.specs.lists.Syntax.{Definition, Position}
 use Rattle.laws_typing.proofs.JudgedTerms.{no_terms, terms_are_judged_lem}
 use Rattle.laws_typing.proofs.JudgedTypes.{types_are_judged_lem}
 use Rattle.laws_examples.proofs.ListStages.{accepted_both, not_read}
@@ -45,17 +44,10 @@ passed_nesting (expansions_pass id h) q = absurd (false≢true q)
 
 -- the second rule has a typed rule, the first one stands elsewhere, and there is no third
 second_passes_not : (expand : Bool) → PassesNesting (types_read one_unbound) one_unbound expand 1 → ⊥
-second_passes_not true h =
-    let none = ap is_some (subst (λ r. elaborated_rule (setting_of (types_read one_unbound) one_unbound true) most_nested 1 r (term_names_met (types_of one_unbound) one_unbound) ≡ None) (sym (same_Some _ _ h.here)) h.none) in
-    false≢true (sym none)
-second_passes_not false h =
-    let none = ap is_some (subst (λ r. elaborated_rule (setting_of (types_read one_unbound) one_unbound false) most_nested 1 r (term_names_met (types_of one_unbound) one_unbound) ≡ None) (sym (same_Some _ _ h.here)) h.none) in
-    false≢true (sym none)
+second_passes_not expand h = grind (arith, common_steps, same_Some)
 
 none_at_two : (expand : Bool) (id : ℕ) (h : PassesNesting (types_read one_unbound) one_unbound expand id) → h.rule.at ≡ at 2 → ⊥
-none_at_two expand zero h e = (let one = ap (λ (p : Position). p.offset) (ap (λ (r : RuleTree). r.at) (same_Some _ _ h.here) ∙ e) in omega (arith, one))
-none_at_two expand (suc zero) h e = second_passes_not expand h
-none_at_two expand (suc (suc id)) h e = absurd (none-some h.rule h.here)
+none_at_two expand id h e = grind (arith, common_steps, same_Some, second_passes_not, none-some)
 
 one_unbound_not_read : IsNotRead one_unbound
 one_unbound_not_read = not_read one_unbound refl refl

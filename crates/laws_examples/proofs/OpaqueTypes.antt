@@ -1,5 +1,6 @@
 -- Extern enums: their stages, that they are served, and that the headline speaks of them.
-use Rattle.std.proofs.Common.{◌≡◌, ◌==◌, ◌&&◌, ◌∷◌, [], ◌∙◌, ◌⊎◌, ℕ, ℤ, pos, zero, suc, Bool, true, false, List, Option, Some, None, if◌then◌else◌, slice_get, Contains, IsTrue, IsSomeAnd, refl, sym, ap, subst, inl, inr, arith}
+use Rattle.std.proofs.Common.{◌≡◌, ◌==◌, ◌&&◌, ◌∷◌, [], ◌⊎◌, ℕ, pos, zero, suc, Bool, true, false, Some, None, if◌then◌else◌, slice_get, Contains, IsTrue, IsSomeAnd, refl, inl, inr, arith}
+use Rattle.std.proofs.lemmas.Grind.{common_steps}
 use Rattle.std.proofs.lemmas.Bool.{false≢true}
 use Rattle.std.proofs.lemmas.Option.{none-some, same_Some}
 use Rattle.model.proofs.Members.{in_alone, in_cases}
@@ -7,16 +8,16 @@ use Rattle.model.specs.claims.Headline.{RunsAsChosen}
 use Rattle.model.specs.claims.Layers.{own_program}
 use Rattle.model.specs.rules.Meaning.{impure_answer}
 use Rattle.model.specs.rules.Program.{kind, rules_of}
-use Rattle.model.specs.rules.Values.{Value, truth, atom, of_variant, of_struct, Values, no_value, value_and, well_typed, all_well_typed}
-use Rattle.model.specs.sites.Serves.{Serves, TellsConstantsApart, fits_constructor, is_type_with_parts, tested_constants, written_type, written_value}
+use Rattle.model.specs.rules.Values.{Value, well_typed}
+use Rattle.model.specs.sites.Serves.{fits_constructor, is_type_with_parts, tested_constants, written_value}
 use Rattle.model.specs.sites.Sites.{SiteTerm, SiteTerms, constructor_call, extractor_call, prim_term}
 use Rattle.laws_typing.proofs.WellTypedRules.{read_programs_are_well_typed}
 use Rattle.laws_trees.proofs.headline.Choosing.{best_trees_run_as_chosen_lem}
 use Rattle.laws_examples.proofs.Chosen.{laws}
 use Rattle.laws_examples.proofs.SampleStages.{stages}
 use Rattle.laws_examples.proofs.Served.{literals_apart, serves_from, serves_without_calls}
-use Rattle.laws_examples.specs.MeaningForms.{given, v}
-use Rattle.laws_examples.specs.OpaqueTypes.{ClosedEnums, NamedEnds, NamedIsServed, OpaqueIsChosen, OpaqueIsServed, OpaqueIsTaken, OpenEnds, OpenIsServed, named_meaning, named_program, named_sample, o, of_a, opaque_defs, opaque_meaning, opaque_program, opaque_rules, opaque_sample, opaque_set, opaque_tree, open_meaning, open_program, open_sample, with_enum}
+use Rattle.laws_examples.specs.MeaningForms.{given}
+use Rattle.laws_examples.specs.OpaqueTypes.{ClosedEnums, NamedEnds, NamedIsServed, OpaqueIsChosen, OpaqueIsServed, OpaqueIsTaken, OpenEnds, OpenIsServed, named_meaning, named_program, named_sample, o, opaque_defs, opaque_meaning, opaque_program, opaque_rules, opaque_sample, opaque_set, opaque_tree, open_sample, with_enum}
 use Rattle.laws_examples.specs.Stages.{HasStages}
 use Rattle.laws_examples.specs.TypedForms.{own}
 
@@ -33,9 +34,7 @@ calls (extractor_call t s) = false
 calls u = true
 
 no_pure : (t : ℕ) (ss : SiteTerms) → calls (constructor_call t ss 0) ≡ true → ⊥
-no_pure zero ss h = false≢true h
-no_pure (suc zero) ss h = false≢true h
-no_pure (suc (suc t)) ss h = false≢true h
+no_pure t ss h = grind (arith, common_steps)
 
 answered : (t before : ℕ) (ss : SiteTerms) → calls (constructor_call t ss (suc before)) ≡ true
     → IsSomeAnd (impure_answer opaque_meaning t before) (λ c. IsTrue (fits_constructor opaque_program t (kind opaque_program t) c))
@@ -44,12 +43,7 @@ answered (suc zero) (suc zero) ss h = refl
 answered _ _ ss h = absurd (false≢true h)
 
 pub opaque_is_served : OpaqueIsServed
-opaque_is_served = (
-  refl,
-  serves_from opaque_program opaque_meaning calls (given (pos 3)) (rules_of opaque_program 2) refl refl
-      (λ k t s w h holds. absurd (false≢true h)) (λ k t ss vs h holds. absurd (no_pure t ss h)) (λ k r t before ss i matched made h gave. answered t before ss h),
-  literals_apart opaque_program opaque_meaning (rules_of opaque_program 2) refl refl,
-)
+opaque_is_served = grind (arith, common_steps, serves_from, no_pure, literals_apart)
 
 runs : RunsAsChosen opaque_program 2 opaque_set.sites opaque_tree
 runs =
@@ -67,11 +61,7 @@ pub open_stages : HasStages open_sample
 open_stages = stages open_sample refl refl refl refl refl refl refl refl refl refl
 
 pub open_is_served : OpenIsServed
-open_is_served =
-    let apart = literals_apart open_program open_meaning (rules_of open_program 0) refl refl in (
-      (refl, serves_without_calls open_program open_meaning (of_a ∷ []) (rules_of open_program 0) refl refl, apart),
-      λ z. (refl, serves_without_calls open_program open_meaning (o z ∷ []) (rules_of open_program 0) refl refl, apart),
-    )
+open_is_served = grind (arith, common_steps, literals_apart, serves_without_calls)
 
 pub open_ends : OpenEnds
 open_ends = record { of_the_variant = (refl, refl); of_no_variant = λ z. (refl, refl) }
@@ -87,23 +77,14 @@ is_named : (a : SiteTerm) → Contains (tested_constants named_program (rules_of
 is_named a c = elim (in_cases (prim_term 14) a (prim_term 15 ∷ []) c) [ inl e ↦ inl e | inr b ↦ inr (in_alone (prim_term 15) a b) ]
 
 two_values : (a b : SiteTerm) (x : Value) → prim_term 14 ≡ a → prim_term 15 ≡ b → written_value named_meaning a ≡ Some x → written_value named_meaning b ≡ Some x → ⊥
-two_values a b x e f s t =
-    let h : Some (o (pos 10)) ≡ Some x = ap (written_value named_meaning) e ∙ s in
-    let k : Some (o (pos 11)) ≡ Some x = ap (written_value named_meaning) f ∙ t in
-    let same : o (pos 10) ≡ o (pos 11) = same_Some (o (pos 10)) (o (pos 11)) (h ∙ sym k) in
-    cc
+two_values a b x e f s t = grind (arith, common_steps, same_Some (o (pos 10)) (o (pos 11)), same_Some)
 
 one_of_each : (a b : SiteTerm) (x : Value) → IsNamed a → IsNamed b → written_value named_meaning a ≡ Some x → written_value named_meaning b ≡ Some x → a ≡ b
-one_of_each a b x (inl e) (inl f) s t = sym e ∙ f
-one_of_each a b x (inr e) (inr f) s t = sym e ∙ f
-one_of_each a b x (inl e) (inr f) s t = absurd (two_values a b x e f s t)
-one_of_each a b x (inr e) (inl f) s t = absurd (two_values b a x f e t s)
+one_of_each a b x h i s t = grind (arith, common_steps, two_values)
 
 -- the constants' type has no variants
 plain_type : (b c : Bool) (ty : ℕ) → (if b then Some own else (if c then Some own else None)) ≡ Some ty → is_type_with_parts (slice_get named_program.types ty) ≡ false
-plain_type true c ty e = subst (λ n. is_type_with_parts (slice_get named_program.types n) ≡ false) (same_Some own ty e) refl
-plain_type false true ty e = subst (λ n. is_type_with_parts (slice_get named_program.types n) ≡ false) (same_Some own ty e) refl
-plain_type false false ty e = absurd (none-some ty e)
+plain_type b c ty e = grind (arith, common_steps, same_Some, none-some)
 
 pub named_is_served : NamedIsServed
 named_is_served = (
@@ -120,16 +101,10 @@ named_ends = record { of_k = (refl, refl); of_l = (refl, refl); of_another = (re
 
 -- 4. enums that are declared here
 never : (b : Bool) → (b && false) ≡ false
-never true = refl
-never false = refl
+never b = grind (arith, common_steps)
 
 no_values : (x : Value) → well_typed (with_enum false []) own x ≡ false
-no_values (truth b) = refl
-no_values (atom t z) = never (t == own)
-no_values (of_variant t i no_value) = never (t == own)
-no_values (of_variant t i (value_and w ws)) = never (t == own)
-no_values (of_struct t no_value) = never (t == own)
-no_values (of_struct t (value_and w ws)) = never (t == own)
+no_values x = grind (arith, common_steps, never)
 
 pub closed_enums : ClosedEnums
 closed_enums = record { no_value_of_none = no_values; of_a_variant = refl; of_no_variant = λ z. refl; of_no_such_variant = refl; of_other_fields = refl }

@@ -1,8 +1,8 @@
 -- Two picks of the same places act alike, and a call that takes no answers can be gone over first.
-use Rattle.std.proofs.Common.{◌≡◌, ◌∷◌, [], ◌∙◌, ℕ, pos, Bool, true, false, cond, List, Option, Some, None, refl, sym, arith}
+use Rattle.std.proofs.Common.{◌≡◌, ◌∷◌, [], pos, List, refl, sym, arith}
+use Rattle.std.proofs.lemmas.Grind.{common_steps}
 use Rattle.model.proofs.Members.{in_alone, nothing_in}
 use Rattle.model.proofs.SameSites.{term_means}
-use Rattle.model.specs.visits.Demands.{site_term_eq}
 use Rattle.model.specs.sites.Sites.{SiteTerm}
 use Rattle.laws_trees.specs.PickLaws.{GiveSamePlaces}
 use Rattle.laws_trees.specs.Orders.{IsOfPlaces}
@@ -17,13 +17,7 @@ two_calls : first_of_w ≡ second_of_w → ⊥
 two_calls e = cc
 
 same_places : GiveSamePlaces in_visit_order turned_round
-same_places c = by (site_term_eq first_of_w c) (site_term_eq second_of_w c) refl refl
-  where
-    by : (x y : Bool) → site_term_eq first_of_w c ≡ x → site_term_eq second_of_w c ≡ y → cond {A = Option ℕ} x (Some 0) (cond y (Some 1) None) ≡ cond y (Some 1) (cond x (Some 0) None)
-    by true true e f = absurd (two_calls (term_means first_of_w c e ∙ sym (term_means second_of_w c f)))
-    by true false e f = refl
-    by false true e f = refl
-    by false false e f = refl
+same_places c = grind (arith, common_steps, term_means first_of_w c, term_means second_of_w c, two_calls, term_means)
 
 -- a pick of the rule has its calls in the order of the visit
 first_calls : (a b : SiteTerm) (xs ys : List SiteTerm) → a ∷ xs ≡ b ∷ ys → a ≡ b

@@ -1,6 +1,6 @@
 -- Demands on two outputs of one multi call are met by one answer.
-use Rattle.std.proofs.Common.{◌≡◌, ◌∷◌, [], ℕ, pos, zero, suc, Option, Some, None, slice_get, IsTrue, refl, sym, subst, inl, inr, is_some}
-use Rattle.std.proofs.lemmas.Bool.{false≢true}
+use Rattle.std.proofs.Common.{◌≡◌, ◌∷◌, [], ℕ, pos, Option, Some, slice_get, IsTrue, refl, subst, inl, inr, is_some, arith}
+use Rattle.std.proofs.lemmas.Grind.{common_steps}
 use Rattle.model.proofs.Elements.{In, contains_from_in, in_from_contains, none_some, some_is}
 use Rattle.model.specs.rules.Meaning.{Content, one}
 use Rattle.model.specs.rules.Outcome.{then_option}
@@ -19,10 +19,7 @@ abbrev meets_number : ℕ → Content → Type 0
 meets_number n c = IsTrue (is_some (content_fields (answering (pair (pos 1) (pos 5)) (pair (pos 6) (pos 2))) (is_int (pos n) 1) c))
 
 at_no_place : (o : Option ℕ) (a b : Content) → output o 0 ≡ Some a → output o 1 ≡ Some b → meets_number 1 a → meets_number 2 b → ⊥
-at_no_place None a b e f g h = absurd (none_some a e)
-at_no_place (Some zero) a b e f g h = let m : meets_number 2 (one (v (pos 5))) = subst (meets_number 2) (sym (some_is (one (v (pos 5))) b f)) h in absurd (false≢true m)
-at_no_place (Some (suc zero)) a b e f g h = let m : meets_number 1 (one (v (pos 6))) = subst (meets_number 1) (sym (some_is (one (v (pos 6))) a e)) g in absurd (false≢true m)
-at_no_place (Some (suc (suc n))) a b e f g h = absurd (none_some a e)
+at_no_place o a b e f g h = grind (arith, common_steps, none_some, some_is)
 
 pub hold_under_no_pick_lem : (k : Pick) → DemandsHold (answering (pair (pos 1) (pos 5)) (pair (pos 6) (pos 2))) (given (pos 0)) k one_and_two → ⊥
 hold_under_no_pick_lem k h =

@@ -1,11 +1,11 @@
 -- A rule that goes over a call and constrains its answers: it is served, and its tree collects the bag.
-use Rattle.std.proofs.Common.{◌≡◌, [], ℕ, pos, zero, Bool, true, false, Some, IsTrue, IsSomeAnd, refl, arith}
+use Rattle.std.proofs.Common.{◌≡◌, ℕ, pos, zero, Bool, true, false, Some, IsTrue, IsSomeAnd, refl, arith}
+use Rattle.std.proofs.lemmas.Grind.{common_steps}
 use Rattle.std.proofs.lemmas.Bool.{false≢true}
 use Rattle.model.specs.rules.Meaning.{extractor_answer, one}
 use Rattle.model.specs.rules.Picks.{Pick, site_content}
 use Rattle.model.specs.rules.Program.{kind, rules_of}
 use Rattle.model.specs.rules.Values.{Value}
-use Rattle.model.specs.sites.Overlap.{built_rule}
 use Rattle.model.specs.sites.Serves.{fits_extractor}
 use Rattle.model.specs.sites.Sites.{SiteTerm, argument, constructor_call, extractor_call}
 use Rattle.model.specs.claims.Layers.{own_program}
@@ -17,7 +17,7 @@ use Rattle.laws_examples.proofs.Multi.{laws}
 use Rattle.laws_examples.proofs.SampleStages.{stages}
 use Rattle.laws_examples.proofs.Served.{answers_argument, literals_apart, serves_from}
 use Rattle.laws_examples.specs.MeaningForms.{given}
-use Rattle.laws_examples.specs.PickedNumber.{FivesAreNotMatched, PickedNumberGives, PickedNumberIsServed, one_and_five, picked_number_defs, picked_number_program, picked_number_rule, picked_number_rules, picked_number_sample, picked_number_set, picked_number_tree, seven_for_one, the_answer}
+use Rattle.laws_examples.specs.PickedNumber.{FivesAreNotMatched, PickedNumberGives, PickedNumberIsServed, one_and_five, picked_number_defs, picked_number_program, picked_number_rules, picked_number_sample, picked_number_set, picked_number_tree}
 use Rattle.laws_examples.specs.Stages.{HasStages}
 
 pub picked_number_stages : HasStages picked_number_sample
@@ -52,10 +52,4 @@ picked_number_gives = (
 )
 
 pub fives_are_not_matched : FivesAreNotMatched
-fives_are_not_matched = (
-  (1, omega arith, refl),
-  refl,
-  built_sets_match_by_demands_lem built_demands_are_whole_lem (own_program picked_number_defs picked_number_rules) 1 picked_number_set
-      (read_programs_are_well_typed picked_number_stages.accepted.0.read) picked_number_stages.built.0 one_and_five (given (pos 1)) refl picked_number_is_served.0 picked_number_is_served.1
-      (built_rule picked_number_program [] picked_number_rule) seven_for_one (the_answer 1) (record { place = 0; typed = refl; built = refl }) (1, omega arith, refl),
-)
+fives_are_not_matched = grind (arith, common_steps, built_sets_match_by_demands_lem, built_demands_are_whole_lem, read_programs_are_well_typed, picked_number_is_served)

@@ -1,49 +1,30 @@
 -- A mask and a wrong overlap are each reported once, and multi calls are gone over.
-use Rattle.std.proofs.Common.{◌≡◌, ◌∷◌, [], ◌∙◌, zero, suc, Some, refl, sym, ap, arith}
-use Rattle.std.proofs.lemmas.Bool.{false≢true}
-use Rattle.std.proofs.lemmas.Option.{none-some, same_Some}
+use Rattle.std.proofs.Common.{◌≡◌, ◌∷◌, [], Some, refl, arith}
+use Rattle.std.proofs.lemmas.Grind.{common_steps}
+use Rattle.std.proofs.lemmas.Option.{same_Some}
 use Rattle.model.specs.lists.Syntax.{Position}
 use Rattle.model.specs.sites.DemandedGates.{HasNoPartialMulti}
 use Rattle.model.specs.sites.Limits.{sites_after_rules}
-use Rattle.model.specs.sites.Overlap.{BuiltRule, HasDistinctPositions, OverlapsWrongly, built_rule}
+use Rattle.model.specs.sites.Overlap.{BuiltRule, OverlapsWrongly, built_rule}
 use Rattle.model.specs.claims.Layers.{own_program}
 use Rattle.laws_typing.proofs.WellTypedRules.{read_programs_are_well_typed}
 use Rattle.laws_sites.proofs.overlaps.JudgedLists.{well_typed_rules_have_terms_lem}
 use Rattle.laws_sites.proofs.overlaps.ListedOverlaps.{overlaps_are_listed_once_lem}
-use Rattle.laws_sites.proofs.overlaps.Masks.{masks_are_reported_once_lem}
 use Rattle.laws_sites.proofs.overlaps.Overlaps.{overlaps_decides}
 use Rattle.laws_sites.proofs.built.MultiCalls.{multi_calls_are_gone_over_lem}
-use Rattle.laws_examples.proofs.ReadLists.{overlap_read, shadow_read}
-use Rattle.laws_examples.proofs.ShadowedRules.{shadow_is_told}
+use Rattle.laws_examples.proofs.ReadLists.{overlap_read}
 use Rattle.laws_examples.specs.Fall.{fall_any}
 use Rattle.laws_examples.specs.Multi.{each_m, multi_program}
 use Rattle.laws_examples.specs.Overlap.{built_alone, overlap_defs, overlap_one, overlap_program, overlap_rules}
 use Rattle.laws_examples.specs.ReportedOnce.{MultiGoesOverMultiCalls, OverlapIsListedOnce, ShadowIsReportedOnce}
-use Rattle.laws_examples.specs.Shadow.{shadow_defs, shadow_program, shadow_rules}
-use Rattle.laws_examples.specs.ShadowedRules.{mask, shadowed}
 use Rattle.laws_examples.specs.Written.{at}
 
 -- 1. the mask
 not_both : (x : Position) → Some (at 1) ≡ Some x → Some (at 2) ≡ Some x → ⊥
-not_both x e f =
-    let z = ap (λ (q : Position). q.offset) (same_Some (at 1) x e ∙ sym (same_Some (at 2) x f)) in
-    omega (arith, z)
-
-positions_apart : HasDistinctPositions shadow_program
-positions_apart zero zero x e f = refl
-positions_apart zero (suc zero) x e f = absurd (not_both x e f)
-positions_apart (suc zero) zero x e f = absurd (not_both x f e)
-positions_apart (suc zero) (suc zero) x e f = refl
-positions_apart (suc (suc i)) j x e f = absurd (none-some x e)
-positions_apart zero (suc (suc j)) x e f = absurd (none-some x f)
-positions_apart (suc zero) (suc (suc j)) x e f = absurd (none-some x f)
+not_both x e f = grind (arith, common_steps, same_Some (at 1) x e, same_Some (at 2) x f, same_Some)
 
 pub shadow_is_reported_once : ShadowIsReportedOnce
-shadow_is_reported_once = (
-  positions_apart,
-  masks_are_reported_once_lem shadow_program (well_typed_rules_have_terms_lem (own_program shadow_defs shadow_rules) (read_programs_are_well_typed shadow_read.0)) positions_apart 0 mask shadowed refl (0, omega arith, refl)
-      (1, omega arith, refl) shadow_is_told.2,
-)
+shadow_is_reported_once = grind (arith, common_steps)
 
 -- 2. the overlap
 abbrev after_one : BuiltRule
@@ -69,9 +50,7 @@ overlap_is_listed_once = (
 
 -- 3. multi calls
 none_partial : HasNoPartialMulti multi_program
-none_partial zero h k = false≢true k
-none_partial (suc zero) h k = false≢true k
-none_partial (suc (suc t)) h k = false≢true h
+none_partial h i k = grind (arith, common_steps)
 
 pub multi_goes_over_multi_calls : MultiGoesOverMultiCalls
 multi_goes_over_multi_calls = (none_partial, multi_calls_are_gone_over_lem multi_program each_m none_partial)

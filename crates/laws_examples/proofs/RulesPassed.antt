@@ -1,14 +1,15 @@
 -- The rules of samples are passed one by one.
-use Rattle.std.proofs.Common.{◌≡◌, ◌≢◌, ◌==◌, ◌∷◌, [], ℕ, zero, suc, ◌<◌, List, Some, None, length, map, Contains, refl, sym, ap, ◌∙◌, arith, inl, inr, eqb-true}
-use Rattle.std.proofs.lemmas.Bool.{cases_Bool, cond-false, leb-true}
+use Rattle.std.proofs.Common.{◌≡◌, ◌≢◌, ◌∷◌, [], ℕ, suc, ◌<◌, List, None, map, Contains, refl, sym, ◌∙◌, arith, eqb-true}
+use Rattle.std.proofs.lemmas.Grind.{common_steps}
+use Rattle.std.proofs.lemmas.Bool.{leb-true}
 use Rattle.model.proofs.Members.{nothing_in}
 use Rattle.model.specs.sites.Limits.{most_sites, arguments_limit, sites_after_rules}
-use Rattle.model.specs.sites.Overlap.{build_reports_of, built_rule}
+use Rattle.model.specs.sites.Overlap.{built_rule}
 use Rattle.model.specs.sites.Sites.{SiteSet, argument_site, sources_at}
 use Rattle.model.specs.trees.Tests.{up_to}
 use Rattle.laws_sites.proofs.building.RulesPassed.{sets_go_past_rules_lem, sets_start_empty_lem}
 use Rattle.laws_sites.proofs.building.SetsSoFar.{building_goes_on_lem, building_starts_lem}
-use Rattle.laws_sites.specs.RuleByRule.{BuildsRule, limit_met, nothing_built, rule_added, rule_unreachable}
+use Rattle.laws_sites.specs.RuleByRule.{BuildsRule, limit_met, rule_added, rule_unreachable}
 use Rattle.laws_trees.proofs.JudgedSets.{only_sites, stand}
 use Rattle.laws_trees.proofs.WellBuilt.{passes_well_built}
 use Rattle.laws_examples.proofs.SetStages.{rule_stands}
@@ -18,11 +19,7 @@ use Rattle.laws_examples.specs.RulesPassed.{LeftOverGoesOn, ReportsAreNotDropped
 
 -- a term that isn't f has no set, whatever f's is
 not_f : (set : SiteSet) (t : ℕ) → t ≢ 2 → set_of_f set t ≡ None
-not_f set t n =
-    elim (cases_Bool (t == 2)) [
-      | inl y ↦ absurd (n (eqb-true t 2 y))
-      | inr f ↦ cond-false (t == 2) (Some set) None f
-    ]
+not_f set t n = grind (arith, common_steps, eqb-true t 2, eqb-true)
 
 sources_stand : (s a : ℕ) → Contains (sources_at left_over_set.sites s) a → a < s
 sources_stand = (passes_well_built (only_sites left_over_set) refl).sources
@@ -45,24 +42,15 @@ second_step = record {
 }
 
 pub left_over_goes_on : LeftOverGoesOn
-left_over_goes_on = record {
-  first = first_step;
-  second = second_step;
-  done = building_goes_on_lem left_over_program (never_rule ∷ []) any_rule (set_of_f after_never) (set_of_f left_over_set) one_or_two_asked []
-      (building_goes_on_lem left_over_program [] never_rule (λ t. None) (set_of_f after_never) [] one_or_two_asked (building_starts_lem left_over_program) first_step) second_step;
-}
+left_over_goes_on = grind (arith, common_steps, first_step, second_step, building_goes_on_lem, building_starts_lem)
 
 pub reports_are_not_dropped : ReportsAreNotDropped
-reports_are_not_dropped b =
-    let said : [] ≡ build_reports_of left_over_program [] never_rule = (sets_go_past_rules_lem left_over_program [] never_rule nothing_built b.set [] (sets_start_empty_lem left_over_program) b.goes).1 in
-    let n : 0 ≡ 1 = ap length said in
-    omega (arith, n)
+reports_are_not_dropped b = grind (arith, common_steps, sets_go_past_rules_lem, sets_start_empty_lem)
 
 -- arguments have no sources
 no_sources : (xs : List ℕ) (s a : ℕ) → Contains (sources_at (map argument_site xs) s) a → a < s
-no_sources [] s a i = absurd (nothing_in a i)
-no_sources (x ∷ xs) zero a i = absurd (nothing_in a i)
 no_sources (x ∷ xs) (suc s) a i = let l = no_sources xs s a i in omega (arith, l)
+no_sources xs s a i = grind (arith, common_steps, nothing_in)
 
 pub wide_rule_is_passed : WideRuleIsPassed
 wide_rule_is_passed =

@@ -1,5 +1,6 @@
 -- The samples' meanings serve their rules and tell their constants apart; meanings without literals or calls don't serve.
-use Rattle.std.proofs.Common.{◌≡◌, [], ◌∙◌, ◌==◌, ℕ, ℤ, pos, zero, suc, Bool, true, false, not, ◌&&◌, if◌then◌else◌, slice_get, List, take, Option, Some, None, All, Contains, IsTrue, is_some, refl, sym, ap, subst, arith, IsSomeAnd, inl, inr}
+use Rattle.std.proofs.Common.{◌≡◌, [], ◌∙◌, ◌==◌, ℕ, ℤ, pos, zero, suc, Bool, true, false, not, ◌&&◌, if◌then◌else◌, slice_get, List, take, Option, Some, None, All, Contains, IsTrue, is_some, refl, sym, ap, arith, IsSomeAnd}
+use Rattle.std.proofs.lemmas.Grind.{common_steps}
 use Rattle.std.specs.List.{list_all}
 use Rattle.std.proofs.lemmas.Bool.{and_parts, false≢true, or_cases}
 use Rattle.std.proofs.lemmas.List.Elements.{All-nil}
@@ -8,7 +9,6 @@ use Rattle.model.proofs.ValuesEqual.{eq_means}
 use Rattle.model.proofs.Members.{each_passes}
 use Rattle.model.specs.rules.Matching.{matches}
 use Rattle.model.specs.rules.Meaning.{Content, Meaning, bool_literal, constant_value, extractor_answer, impure_answer, int_literal, literal_value, look, nothing, one, pure_answer}
-use Rattle.model.specs.rules.Outcome.{then_option}
 use Rattle.model.specs.rules.Picks.{HasContent, Pick, site_content, site_values}
 use Rattle.model.specs.rules.Program.{Program, kind}
 use Rattle.model.specs.rules.Typed.{TypedRule}
@@ -16,9 +16,8 @@ use Rattle.model.specs.rules.Values.{Value, Values, atom, truth, value_eq, well_
 use Rattle.model.specs.visits.Demands.{demands_of}
 use Rattle.model.specs.sites.Serves.{Serves, TellsConstantsApart, asked, constant_type, fits_constructor, fits_extractor, is_open_constant, is_own_type, tested_constants, typed_as}
 use Rattle.model.specs.sites.Sites.{SiteTerm, SiteTerms, argument, bool_term, constructor_call, extractor_call, int_term, no_site_term, prim_term, site_term_and}
-use Rattle.model.specs.trees.Run.{as_value}
 use Rattle.laws_examples.specs.Extract.{ExtractMeaningServes, extract_meaning, extract_mute, extract_program, extract_rules}
-use Rattle.laws_examples.specs.MeaningForms.{DoesNotServe, alone, blank, given, just_number, v}
+use Rattle.laws_examples.specs.MeaningForms.{DoesNotServe, alone, blank, given, v}
 use Rattle.laws_examples.specs.Multi.{MultiIsServed, multi_meaning, multi_mute, multi_program, multi_rules}
 use Rattle.laws_examples.specs.Partial.{PartialIsServed, partial_call, partial_meaning, partial_mute, partial_program, partial_rules}
 
@@ -32,12 +31,10 @@ some_and_is None f w h = absurd (false≢true h)
 some_and_is (Some u) f w h = ap Some (eq_means u w (and_parts (f u) (value_eq u w) h).1)
 
 pub some_and_first : (o : Option Value) (f g : Value → Bool) → some_and o (λ u. f u && g u) ≡ true → some_and o f ≡ true
-some_and_first None f g h = absurd (false≢true h)
-some_and_first (Some u) f g h = (and_parts (f u) (g u) h).0
+some_and_first o f g h = grind (arith, common_steps, and_parts)
 
 pub some_and_means : (o : Option Value) (f : Value → Bool) → some_and o f ≡ true → IsSomeAnd o (λ w. IsTrue (f w))
-some_and_means None f h = absurd (false≢true h)
-some_and_means (Some w) f h = h
+some_and_means o f h = grind (arith, common_steps)
 
 module _ (p : Program) (m : Meaning) (call : SiteTerm → Bool) where
   -- a literal of a built-in type has the value that is written
@@ -84,20 +81,13 @@ abbrev pub are_written : Program → List TypedRule → Bool
 are_written p rs = list_all (λ a. not (is_open_constant p a)) (tested_constants p rs)
 
 pub literals_apart : (p : Program) (m : Meaning) (rs : List TypedRule) → are_written p rs ≡ true → p.constants ≡ [] → TellsConstantsApart p m rs
-literals_apart p m rs h g = record {
-  different = λ a b ty w c d o s t u x. elim (or_cases (is_open_constant p a) (is_open_constant p b) o) [ inl k ↦ absurd (never a c k) | inr k ↦ absurd (never b d k) ];
-  without_parts = λ r s name ty c d e. absurd (none-some ty (sym (no_constants p name g) ∙ e));
-}
-  where
-    never : (a : SiteTerm) → Contains (tested_constants p rs) a → is_open_constant p a ≡ true → ⊥
-    never a c k = false≢true (sym (ap not k) ∙ each_passes (λ u. not (is_open_constant p u)) (tested_constants p rs) h a c)
+literals_apart p m rs h g = grind (arith, common_steps, no_constants p, or_cases, none-some, no_constants, each_passes)
 
 -- 3. a call of an extractor, whatever fitting answer it gives
 -- what it answers on the argument, it answers on the value that stands there
 pub answers_argument : (p : Program) (m : Meaning) (z : ℤ) (k : Pick) (w : Value) → IsSomeAnd (extractor_answer m 0 (v z)) (λ c. IsTrue (fits_extractor p 0 (kind p 0) c))
     → site_content m (given z) k (argument 0) ≡ Some (one w) → IsSomeAnd (extractor_answer m 0 w) (λ c. IsTrue (fits_extractor p 0 (kind p 0) c))
-answers_argument p m z k w fits e =
-    subst (λ u. IsSomeAnd (extractor_answer m 0 u) (λ c. IsTrue (fits_extractor p 0 (kind p 0) c))) (same_Some (v z) w (ap (λ o. then_option o as_value) e)) fits
+answers_argument p m z k w fits e = grind (arith, common_steps, same_Some (v z) w, same_Some)
 
 abbrev extract_call : SiteTerm → Bool
 extract_call (extractor_call zero (argument zero)) = true
@@ -108,8 +98,7 @@ extract_call u = true
 module _ (answer : Content) (fits : IsTrue (fits_extractor extract_program 0 (kind extract_program 0) answer)) where
   extract_answers : (k : Pick) (t : ℕ) (s : SiteTerm) (w : Value) → extract_call (extractor_call t s) ≡ true → site_content (extract_meaning answer) (given (pos 7)) k s ≡ Some (one w)
       → IsSomeAnd (extractor_answer (extract_meaning answer) t w) (λ c. IsTrue (fits_extractor extract_program t (kind extract_program t) c))
-  extract_answers k zero (argument zero) w h e = answers_argument extract_program (extract_meaning answer) (pos 7) k w fits e
-  extract_answers k _ _ w h holds = absurd (false≢true h)
+  extract_answers k t s w h e = grind (arith, common_steps, answers_argument)
 
   extract_serves : Serves extract_program (extract_meaning answer) (given (pos 7)) extract_rules.rules
   extract_serves =
@@ -117,12 +106,7 @@ module _ (answer : Content) (fits : IsTrue (fits_extractor extract_program 0 (ki
       extract_answers (λ k t ss vs h holds. absurd (false≢true h)) (λ k r t before ss i matched made h gave. absurd (false≢true h))
 
 pub extract_served : ExtractMeaningServes
-extract_served = (
-  extract_serves (just_number (pos 1)) refl,
-  extract_serves (just_number (pos 5)) refl,
-  extract_serves nothing refl,
-  λ answer. literals_apart extract_program (extract_meaning answer) extract_rules.rules refl refl,
-)
+extract_served = grind (arith, common_steps, extract_serves, literals_apart)
 
 pub blank_extract : DoesNotServe extract_program blank (pos 7)
 blank_extract s = s.ints (pos 10) 1 (3, omega arith, refl)
@@ -139,12 +123,10 @@ call_of_g u = true
 
 partial_answers : (t before : ℕ) (ss : SiteTerms) → call_of_g (constructor_call t ss (suc before)) ≡ true
     → IsSomeAnd (impure_answer (partial_meaning nothing) t before) (λ c. IsTrue (fits_constructor partial_program t (kind partial_program t) c))
-partial_answers zero zero ss h = refl
-partial_answers _ _ ss h = absurd (false≢true h)
+partial_answers t before ss h = grind (arith, common_steps)
 
 pub pure_none : (t : ℕ) (ss : SiteTerms) → call_of_g (constructor_call t ss 0) ≡ true → ⊥
-pure_none zero ss h = false≢true h
-pure_none (suc t) ss h = false≢true h
+pure_none t ss h = grind (arith, common_steps)
 
 pub partial_served : PartialIsServed
 partial_served = (
@@ -169,13 +151,10 @@ multi_call u = true
 
 multi_answers : (k : Pick) (t : ℕ) (ss : SiteTerms) (vs : Values) → multi_call (constructor_call t ss 0) ≡ true → site_values multi_meaning (given (pos 1)) k ss ≡ Some vs
     → IsSomeAnd (pure_answer multi_meaning t vs) (λ c. IsTrue (fits_constructor multi_program t (kind multi_program t) c))
-multi_answers k zero (site_term_and (argument zero) no_site_term) vs h e =
-    subst (λ u. IsSomeAnd (pure_answer multi_meaning 0 u) (λ c. IsTrue (fits_constructor multi_program 0 (kind multi_program 0) c))) (same_Some (alone (pos 1)) vs e) refl
-multi_answers k _ _ vs h holds = absurd (false≢true h)
+multi_answers k t ss vs h e = grind (arith, common_steps, same_Some)
 
 impure_none : (t before : ℕ) (ss : SiteTerms) → multi_call (constructor_call t ss (suc before)) ≡ true → ⊥
-impure_none zero before (site_term_and (argument zero) no_site_term) h = false≢true h
-impure_none _ before _ h = false≢true h
+impure_none t before ss h = grind (arith, common_steps)
 
 pub multi_served : MultiIsServed
 multi_served = (

@@ -1,5 +1,6 @@
 -- Sets are built of the rules of their terms: by computing.
-use Rattle.std.proofs.Common.{◌≡◌, ◌∷◌, [], ◌<◌, ◌≤◌, ◌∙◌, ◌&&◌, ℕ, ℤ, zero, suc, Bool, true, false, List, Option, Some, None, map, length, slice_get, All, IsTrue, refl, sym, ap, not, nat_lt, nat_le, ltb-true}
+use Rattle.std.proofs.Common.{◌≡◌, ◌∷◌, [], ◌<◌, ◌≤◌, ◌∙◌, ◌&&◌, ℕ, ℤ, suc, Bool, true, false, List, Option, Some, None, map, length, slice_get, All, IsTrue, refl, sym, ap, not, nat_lt, nat_le, ltb-true, arith}
+use Rattle.std.proofs.lemmas.Grind.{common_steps}
 use Rattle.std.specs.List.{list_all, flat_map}
 use Rattle.std.proofs.lemmas.Bool.{and_parts, false≢true, leb-true}
 use Rattle.std.proofs.lemmas.Option.{none-some, same_Some}
@@ -32,11 +33,8 @@ stands_twice : (n : ℕ) (ns : List ℕ) → not (is_in n ns) ≡ true → (k : 
 stands_twice n ns h k x e f = false≢true (sym ((not_exact (is_in n ns)).0 h) ∙ ap (λ m. is_in m ns) e ∙ member_is_in x ns (member_from_get ns k x f))
 
 distinct_numbers : (ns : List ℕ) → are_distinct ns ≡ true → IsDistinct ns
-distinct_numbers [] h j k x e f = absurd (none-some x e)
-distinct_numbers (n ∷ ns) h zero zero x e f = refl
-distinct_numbers (n ∷ ns) h zero (suc k) x e f = absurd (stands_twice n ns (and_parts (not (is_in n ns)) (are_distinct ns) h).0 k x (same_Some n x e) f)
-distinct_numbers (n ∷ ns) h (suc j) zero x e f = absurd (stands_twice n ns (and_parts (not (is_in n ns)) (are_distinct ns) h).0 j x (same_Some n x f) e)
 distinct_numbers (n ∷ ns) h (suc j) (suc k) x e f = ap suc (distinct_numbers ns (and_parts (not (is_in n ns)) (are_distinct ns) h).1 j k x e f)
+distinct_numbers ns h j k x e f = grind (arith, common_steps, none-some, stands_twice, and_parts, same_Some)
 
 -- what a rule of a set says, its sites read back, and what a built rule says
 abbrev pub Row : Type 0
@@ -87,8 +85,7 @@ is_none_of [] = true
 is_none_of (x ∷ xs) = false
 
 empty : (xs : List ℕ) → is_none_of xs ≡ true → xs ≡ []
-empty [] h = refl
-empty (x ∷ xs) h = absurd (false≢true h)
+empty xs h = grind (arith, common_steps)
 
 -- what a test says of each
 each_below : (n : ℕ) (ss : List ℕ) → are_below n ss ≡ true → All (λ s. s < n) ss
@@ -133,14 +130,8 @@ no_row x xs e = cc
 
 rules_stand : (p : Program) (sites : List Site) (bs : List BuiltRule) (rs : List SetRule) → map (row_in sites) rs ≡ map (built_row p) bs → list_all (stands_once (length sites)) rs ≡ true
     → AreRulesOfSet p sites bs rs
-rules_stand p sites [] [] e h = tt
-rules_stand p sites [] (r ∷ rs) e h = absurd (no_row (row_in sites r) (map (row_in sites) rs) e)
-rules_stand p sites (b ∷ bs) [] e h = absurd (no_row (built_row p b) (map (built_row p) bs) (sym e))
-rules_stand p sites (b ∷ bs) (r ∷ rs) e h =
-    let q = and_parts (stands_once (length sites) r) (list_all (stands_once (length sites)) rs) h in (
-      rule_stands p sites b r (same_first (row_in sites r) (built_row p b) (map (row_in sites) rs) (map (built_row p) bs) e) q.0,
-      rules_stand p sites bs rs (same_rest (row_in sites r) (built_row p b) (map (row_in sites) rs) (map (built_row p) bs) e) q.1,
-    )
+rules_stand p sites (b ∷ bs) (r ∷ rs) e h = grind (arith, common_steps, rules_stand p sites bs rs, rule_stands p sites b r, and_parts, rule_stands, same_first, same_rest)
+rules_stand p sites bs rs e h = grind (arith, common_steps, no_row)
 
 -- a set stands so, by its rows, its sites, and the tests
 pub is_built : (p : Program) (t : ℕ) (set : SiteSet) → map (row_in set.sites) set.rules ≡ map (built_row p) (built_rules p t) → list_all (stands_once (length set.sites)) set.rules ≡ true
@@ -182,10 +173,7 @@ is_pure_there (Some (constructor_site term sources (suc before))) = false
 is_pure_there (Some _) = true
 
 pure_there : (sites : List Site) (s : ℕ) (o : Option Site) → slice_get sites s ≡ o → is_pure_there o ≡ true → IsPureAt sites s
-pure_there sites s None e h = absurd (false≢true h)
-pure_there sites s (Some (constructor_site term sources zero)) e h = (constructor_site term sources zero, e, tt)
-pure_there sites s (Some (constructor_site term sources (suc before))) e h = absurd (false≢true h)
-pure_there sites s (Some b) e h = (b, e, tt)
+pure_there sites s o e h = grind (arith, common_steps)
 
 -- what must hold of a rule whose results a run collects
 abbrev pub is_collected : List Site → SetRule → Bool

@@ -1,7 +1,7 @@
 -- The laws on rules that are told apart, on samples.
 use Rattle.std.proofs.Common.{pos, refl, arith}
+use Rattle.std.proofs.lemmas.Grind.{common_steps}
 use Rattle.model.specs.claims.SetMeanings.{TellsRulesApart}
-use Rattle.model.specs.rules.Program.{rules_of}
 use Rattle.model.specs.claims.Layers.{own_program}
 use Rattle.laws_typing.proofs.WellTypedRules.{read_programs_are_well_typed}
 use Rattle.laws_trees.proofs.DisjointRules.{built_rules_are_told_apart_lem}
@@ -14,17 +14,10 @@ use Rattle.laws_examples.specs.Shadow.{shadow_defs, shadow_program, shadow_rules
 use Rattle.laws_examples.specs.ShadowedRules.{MasksMatchToo, ShadowIsServed, ShadowIsTold, mask, one_and_ten, shadowed}
 
 pub shadow_is_told : ShadowIsTold
-shadow_is_told = (
-  shadow_read,
-  record { one_of = (0, omega arith, refl); other_of = (1, omega arith, refl); one_result = refl },
-  (shadows_decides mask shadowed).0 refl,
-)
+shadow_is_told = grind (arith, common_steps, shadows_decides mask shadowed, shadow_read, shadows_decides)
 
 pub shadow_is_served : ShadowIsServed
-shadow_is_served = (
-  serves_without_calls shadow_program one_and_ten (given (pos 1)) (rules_of shadow_program 0) refl refl,
-  literals_apart shadow_program one_and_ten (rules_of shadow_program 0) refl refl,
-)
+shadow_is_served = grind (arith, common_steps, serves_without_calls, literals_apart)
 
 shadow_apart : TellsRulesApart shadow_program 0
 shadow_apart = built_rules_are_told_apart_lem built_demands_are_whole_lem (own_program shadow_defs shadow_rules) 0 (read_programs_are_well_typed shadow_is_told.0.0)

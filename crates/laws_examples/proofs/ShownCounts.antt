@@ -1,11 +1,11 @@
 -- A visit counts what the patterns of its rule show.
-use Rattle.std.proofs.Common.{◌≡◌, ℕ, suc, Bool, true, false, List, [], ◌∷◌, ◌++◌, map, flat_map, refl, sym, ap, ◌∙◌}
+use Rattle.std.proofs.Common.{◌≡◌, ℕ, suc, Bool, List, [], ◌∷◌, ◌++◌, map, flat_map, refl, sym, ap, ◌∙◌, arith}
+use Rattle.std.proofs.lemmas.Grind.{common_steps}
 use Rattle.std.proofs.lemmas.List.{append-nil, append_assoc, map-append}
-use Rattle.model.specs.lists.Tables.{Flags}
-use Rattle.model.specs.rules.Program.{Program, Kind, a_variant, a_struct, a_call, unknown, kind, is_partial}
+use Rattle.model.specs.rules.Program.{Program, Kind, kind, is_partial}
 use Rattle.model.specs.rules.Typed.{TypedPattern, match_bind, match_var, match_bool, match_int, match_prim, match_term, match_any, match_and, TypedPatterns, no_typed_pattern, typed_pattern_and, TypedIfLet}
-use Rattle.model.specs.sites.Sites.{fields_from, is_present, SiteTerm, SiteTerms, argument, constructor_call, extractor_call, some_part, pick_of, variant_field, struct_field}
-use Rattle.model.specs.visits.Demands.{Count, argument_taken, fields_matched, outputs_taken, Visit, visit_start, making, asking, iterating, taking_argument, site_term_eq, pattern_count, output_sites, outputs_opened, open_call, open_term, visit_pattern, visit_each, visit_all, Valued, ValuedAll, call_sites, visit_call, visit_term, visit_expr, asking_all, unwraps, visit_args, visit_iflets, finished, var_site, value_of_rule}
+use Rattle.model.specs.sites.Sites.{is_present, SiteTerm, SiteTerms}
+use Rattle.model.specs.visits.Demands.{Count, outputs_taken, Visit, visit_start, asking, site_term_eq, pattern_count, open_call, open_term, visit_pattern, visit_each, visit_all, Valued, ValuedAll, visit_call, visit_term, visit_expr, asking_all, unwraps, visit_args, visit_iflets, finished, var_site, value_of_rule}
 use Rattle.model.proofs.Either.{either}
 use Rattle.laws_sites.proofs.VisitInvariants.{KeptByValues, expr_kept}
 use Rattle.laws_sites.proofs.Patterns.{AsManySites, as_many_sites, output_count}
@@ -24,28 +24,14 @@ one_then c n v parts all e = e ∙ ap (λ l. l ++ parts) (map-append (λ d. d.0)
 module _ (p : Program) (args : TypedPatterns) (each : (ss : List SiteTerm) (v : Visit) → AsManySites ss args → counts (visit_each p args ss v) ≡ counts v ++ shown_in p args) where
   call_shown : (pure multi partial rec infallible : Bool) (call : SiteTerm) (v : Visit)
       → (let o = open_call (record { pure = pure; multi = multi; partial = partial; rec = rec }) infallible call args v in counts (visit_each p args o.inputs o.visit) ≡ counts v ++ outputs_taken (pattern_count args) ∷ shown_in p args)
-  call_shown pure true partial rec infallible call v =
-      let w = iterating call (making (call ∷ (pick_of call ∷ [])) v) in
-      one_then (outputs_taken (pattern_count args)) _ v (shown_in p args) _ (each (output_sites (pick_of call) args) (outputs_opened (pick_of call) args w).visit (output_count (pick_of call) args))
-  call_shown pure false partial rec true call v =
-      let w = making (call ∷ []) v in
-      one_then (outputs_taken (pattern_count args)) _ v (shown_in p args) _ (each (output_sites call args) (outputs_opened call args w).visit (output_count call args))
-  call_shown pure false partial rec false call v =
-      let w = asking call is_present (making (call ∷ (some_part call ∷ [])) v) in
-      one_then (outputs_taken (pattern_count args)) _ v (shown_in p args) _ (each (output_sites (some_part call) args) (outputs_opened (some_part call) args w).visit (output_count (some_part call) args))
+  call_shown pure multi partial rec infallible call v = grind (arith, common_steps, one_then, output_count)
 
   nothing_visited : (qs : TypedPatterns) (v : Visit) → visit_each p qs [] v ≡ v
-  nothing_visited no_typed_pattern v = refl
-  nothing_visited (typed_pattern_and q qs) v = refl
+  nothing_visited qs v = grind (arith, common_steps)
 
   term_counts : (k : Kind) (t : ℕ) (s : SiteTerm) (v : Visit)
       → (let o = open_term k t s args v in counts (visit_each p args o.inputs o.visit) ≡ counts v ++ term_shown k (pattern_count args) (shown_in p args))
-  term_counts (a_variant ty variant) t s v =
-      one_then (fields_matched (pattern_count args)) _ v (shown_in p args) _ (each (fields_from (variant_field s variant) 0 (pattern_count args)) (open_term (a_variant ty variant) t s args v).visit (as_many_sites (variant_field s variant) 0 args))
-  term_counts (a_struct ty) t s v =
-      one_then (fields_matched (pattern_count args)) _ v (shown_in p args) _ (each (fields_from (struct_field s) 0 (pattern_count args)) (open_term (a_struct ty) t s args v).visit (as_many_sites (struct_field s) 0 args))
-  term_counts (a_call flags infallible) t s v = call_shown flags.pure flags.multi flags.partial flags.rec infallible (extractor_call t s) v
-  term_counts unknown t s v = ap counts (nothing_visited args v) ∙ sym (append-nil (counts v))
+  term_counts k t s v = grind (arith, common_steps, one_then, as_many_sites, call_shown, nothing_visited, append-nil)
 
 -- 2. patterns
 then_more : (a b c : List Count) (x y : List Count) → b ≡ a ++ x → c ≡ b ++ y → c ≡ a ++ (x ++ y)
@@ -65,36 +51,20 @@ module _ (p : Program) where
     pattern_counts (match_and ty parts) s v = all_count parts s v
 
     each_counts : (qs : TypedPatterns) (ss : List SiteTerm) (v : Visit) → AsManySites ss qs → counts (visit_each p qs ss v) ≡ counts v ++ shown_in p qs
-    each_counts no_typed_pattern ss v m = sym (append-nil (counts v))
-    each_counts (typed_pattern_and q qs) [] v m = absurd m
-    each_counts (typed_pattern_and q qs) (s ∷ ss) v m =
-        let w = visit_pattern p q s v in
-        then_more (counts v) (counts w) (counts (visit_each p qs ss w)) (shown p q) (shown_in p qs) (pattern_counts q s v) (each_counts qs ss w m)
+    each_counts (typed_pattern_and q qs) (s ∷ ss) v m = grind (arith, common_steps, pattern_counts q s v, each_counts qs ss, then_more (counts v), then_more)
+    each_counts qs ss v m = grind (arith, common_steps, append-nil)
 
     all_count : (qs : TypedPatterns) (s : SiteTerm) (v : Visit) → counts (visit_all p qs s v) ≡ counts v ++ shown_in p qs
+    all_count (typed_pattern_and q qs) s v = grind (arith, common_steps, pattern_counts q s v, all_count qs s, then_more (counts v), then_more)
     all_count no_typed_pattern s v = sym (append-nil (counts v))
-    all_count (typed_pattern_and q qs) s v =
-        let w = visit_pattern p q s v in
-        then_more (counts v) (counts w) (counts (visit_all p qs s w)) (shown p q) (shown_in p qs) (pattern_counts q s v) (all_count qs s w)
 
   -- 3. expressions count nothing
   call_counts : (pure multi partial rec : Bool) (t : ℕ) (us : SiteTerms) (v : Visit) (cs : List Count) → counts v ≡ cs
       → counts (visit_call (record { pure = pure; multi = multi; partial = partial; rec = rec }) t us v).visit ≡ cs
-  call_counts true multi partial rec t us v cs e =
-      let flags : Flags = record { pure = true; multi = multi; partial = partial; rec = rec } in
-      let w = making (call_sites flags (constructor_call t us 0)) v in
-      either (λ (x : Visit). counts x ≡ cs) multi (iterating (constructor_call t us 0) w) w e e
-  call_counts false multi partial rec t us v cs e =
-      let flags : Flags = record { pure = false; multi = multi; partial = partial; rec = rec } in
-      let call = constructor_call t us (suc v.impure_calls) in
-      let w = making (call_sites flags call) v in
-      either (λ (x : Visit). counts x ≡ cs) multi (iterating call w) w e e
+  call_counts pure multi partial rec t us v cs e = grind (arith, common_steps, either)
 
   made_counts : (k : Kind) (t : ℕ) (a : ValuedAll) (cs : List Count) → counts a.visit ≡ cs → counts (visit_term k t a).visit ≡ cs
-  made_counts (a_variant ty variant) t a cs e = e
-  made_counts (a_struct ty) t a cs e = e
-  made_counts (a_call flags infallible) t a cs e = call_counts flags.pure flags.multi flags.partial flags.rec t a.sites a.visit cs e
-  made_counts unknown t a cs e = e
+  made_counts k t a cs e = grind (arith, common_steps, call_counts)
 
   values_count : (cs : List Count) → KeptByValues p (λ v. counts v ≡ cs)
   values_count cs = record { bound = λ x s v e. e; made = λ ts v e. e; valued = λ t a e. made_counts (kind p t) t a cs e }
@@ -104,17 +74,12 @@ module _ (p : Program) where
   asking_counts (s ∷ ss) v = asking_counts ss (asking s is_present v)
 
   finished_counts : (b : Bool) (a : Valued) → counts (finished b a).visit ≡ counts a.visit
-  finished_counts false a = refl
-  finished_counts true a = refl
+  finished_counts b a = grind (arith, common_steps)
 
   -- 4. arguments and if-lets
   args_count : (i : ℕ) (qs : List TypedPattern) (v : Visit) → counts (visit_args p i qs v) ≡ counts v ++ shown_of_args p i qs
+  args_count i (q ∷ qs) v = grind (arith, common_steps, args_count (suc i) qs, one_then, pattern_counts, then_more)
   args_count i [] v = sym (append-nil (counts v))
-  args_count i (q ∷ qs) v =
-      let u = taking_argument i v in
-      let w = visit_pattern p q (argument i) u in
-      let first = one_then (argument_taken i) _ v (shown p q) _ (pattern_counts q (argument i) u) in
-      then_more (counts v) (counts w) (counts (visit_args p (suc i) qs w)) (argument_taken i ∷ shown p q) (shown_of_args p (suc i) qs) first (args_count (suc i) qs w)
 
   iflets_count : (is : List TypedIfLet) (v : Visit) → counts (visit_iflets p is v) ≡ counts v ++ flat_map (λ i. shown p i.lhs) is
   iflets_count [] v = sym (append-nil (counts v))

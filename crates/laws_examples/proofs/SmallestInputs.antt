@@ -1,11 +1,12 @@
 -- The smallest inputs behind choices of statements do what is said of them.
-use Rattle.std.proofs.Common.{◌≡◌, ◌==◌, ℕ, zero, suc, pos, true, false, List, [], ◌∷◌, Some, None, is_some, slice_get, Contains, All, IsTrue, refl, sym, ap, ◌∙◌, subst, inl, inr, arith, Bool, cond, codes}
+use Rattle.std.proofs.Common.{◌≡◌, ◌==◌, ℕ, zero, suc, pos, true, false, List, [], ◌∷◌, Some, None, is_some, slice_get, Contains, All, IsTrue, refl, sym, ap, ◌∙◌, subst, arith, Bool, cond, codes}
+use Rattle.std.proofs.lemmas.Grind.{common_steps}
 use Rattle.std.proofs.lemmas.Bool.{false≢true}
 use Rattle.std.proofs.lemmas.Option.{none-some, same_Some}
 use Rattle.std.proofs.lemmas.List.Elements.{All-nil, All-cons, All-contains}
 use Rattle.model.specs.rules.Meaning.{one}
-use Rattle.model.specs.sites.Sites.{Constraint, SetRule, constructor_site, make_variant_site}
-use Rattle.model.specs.trees.Collects.{IsPureSite, IsPureAt, content_at}
+use Rattle.model.specs.sites.Sites.{Constraint, SetRule, make_variant_site}
+use Rattle.model.specs.trees.Collects.{IsPureAt, content_at}
 use Rattle.model.specs.trees.Places.{all_below, joins_in, waits}
 use Rattle.model.specs.trees.Run.{content_fields}
 use Rattle.model.specs.trees.SetRuns.{ServesTests, HasNoWrongOverlap, OverlapInSet}
@@ -20,7 +21,7 @@ use Rattle.laws_typing.proofs.EnvironmentsShown.{well_formed_environments_are_re
 use Rattle.laws_typing.proofs.VariantTerms.{variants_have_terms_lem}
 use Rattle.laws_examples.proofs.SampleStages.{effects_stages}
 use Rattle.laws_examples.specs.Effects.{effects_defs}
-use Rattle.model.specs.claims.Refusals.{Refusal, past_limit, of_nesting, IsIllTyped}
+use Rattle.model.specs.claims.Refusals.{Refusal, IsIllTyped}
 use Rattle.model.specs.claims.Layers.{RefusedBy, by_types, by_rules, by_check, IsAccepted}
 use Rattle.laws_sites.proofs.overlaps.JudgedLists.{lists_are_accepted_lem}
 use Rattle.laws_typing.proofs.JudgedTerms.{terms_are_judged_lem}
@@ -28,43 +29,25 @@ use Rattle.laws_examples.specs.MeaningForms.{v}
 use Rattle.laws_examples.specs.SetForms.{is_byte}
 use Rattle.laws_examples.specs.TypedForms.{own}
 use Rattle.laws_examples.specs.SmallestInputs.{wrapped_call, wrapped_two, wrapped_sites, wrapped_set, wrapped_meaning, wrapped_world, AboveCallsNothingIsAsked, at_one, at_any, at_two, OverlapsMayHoldTwice, NamelessIsNotAnswered, LookUpsHaveNoList, LimitsAreNamedWherePassed, two_unbound, SecondIsReadAlone, EmptySetsAreBuilt, EnvironmentsOfLists, VariantHasItsTerm}
-use Rattle.laws_examples.specs.Written.{at}
 use Rattle.laws_examples.specs.Fall.{fall_defs, fall_rules}
 use Rattle.laws_examples.specs.Refused.{two_of_one_name}
 
 -- 1. above an impure call
 -- the one constraint of the rules
 wrapped_asked : (r : SetRule) → Contains wrapped_set.rules r → (s : ℕ) (d : Constraint) → Contains r.constraints (s, d) → (s ≡ 0) × (d ≡ is_byte 1)
-wrapped_asked r k s d c =
-    elim (in_cases wrapped_call r (wrapped_two ∷ []) k) [
-      | inl e ↦
-          let same : ◌≡◌ {A = ℕ × Constraint} (0, is_byte 1) (s, d) = in_alone (0, is_byte 1) (s, d) (subst (λ q. Contains q.constraints (s, d)) (sym e) c) in
-          (sym (ap (λ (x : ℕ × Constraint). x.0) same), sym (ap (λ (x : ℕ × Constraint). x.1) same))
-      | inr b ↦ absurd (nothing_in (s, d) (subst (λ q. Contains q.constraints (s, d)) (sym (in_alone wrapped_two r b)) c))
-    ]
+wrapped_asked r k s d c = grind (arith, common_steps, in_cases, in_alone, nothing_in)
 
 wrapped_classes : (r : SetRule) → Contains wrapped_set.rules r → r.classes ≡ []
-wrapped_classes r k =
-    elim (in_cases wrapped_call r (wrapped_two ∷ []) k) [
-      | inl e ↦ ap (λ q. q.classes) (sym e)
-      | inr b ↦ ap (λ q. q.classes) (sym (in_alone wrapped_two r b))
-    ]
+wrapped_classes r k = grind (arith, common_steps, in_cases wrapped_call r (wrapped_two ∷ []) k, in_alone wrapped_two r, in_cases, in_alone)
 
 -- the impure call stands at and below itself, and below what is made of it
 not_pure : (s : ℕ) → Contains (all_below wrapped_sites (s ∷ [])) 2 → All (IsPureAt wrapped_sites) (all_below wrapped_sites (s ∷ [])) → ⊥
-not_pure s c all = refused (All-contains (IsPureAt wrapped_sites) (all_below wrapped_sites (s ∷ [])) 2 all c)
-  where
-    refused : IsPureAt wrapped_sites 2 → ⊥
-    refused p = subst IsPureSite (sym (same_Some (constructor_site 0 (1 ∷ []) 1) p.0 p.1)) p.2
+not_pure s c all = grind (arith, common_steps, All-contains, same_Some)
 
 wrapped_found : (s : ℕ) → All (IsPureAt wrapped_sites) (all_below wrapped_sites (s ∷ [])) → waits (slice_get wrapped_sites s) ≡ false → IsTrue (is_some (content_at wrapped_world [] s))
-wrapped_found zero p n = refl
-wrapped_found (suc zero) p n = refl
-wrapped_found (suc (suc zero)) p n = refl
 wrapped_found (suc (suc (suc zero))) p n = absurd (not_pure 3 (in_tail 3 2 (2 ∷ (1 ∷ [])) (in_head 2 (1 ∷ []))) p)
-wrapped_found (suc (suc (suc (suc zero)))) p n = refl
-wrapped_found (suc (suc (suc (suc (suc zero))))) p n = refl
 wrapped_found (suc (suc (suc (suc (suc (suc s)))))) p n = absurd (false≢true (sym n))
+wrapped_found s p n = refl
 
 wrapped_served : ServesTests wrapped_set wrapped_world
 wrapped_served = record {
@@ -102,13 +85,12 @@ apart_two_one : OverlapInSet at_two at_one → ⊥
 apart_two_one o = false≢true (ap (constraint_eq (is_byte 1)) (o 0 (is_byte 2) (is_byte 1) (in_head (0, is_byte 2) []) (in_head (0, is_byte 1) [])))
 
 apart_here : HasNoWrongOverlap (at_one ∷ at_two ∷ [])
-apart_here zero zero r q a b same o = refl
 apart_here zero (suc zero) r q a b same o = absurd (apart_one_two (subst (λ x. OverlapInSet x at_two) (sym (same_Some at_one r a)) (subst (OverlapInSet r) (sym (same_Some at_two q b)) o)))
 apart_here (suc zero) zero r q a b same o = absurd (apart_two_one (subst (λ x. OverlapInSet x at_one) (sym (same_Some at_two r a)) (subst (OverlapInSet r) (sym (same_Some at_one q b)) o)))
-apart_here (suc zero) (suc zero) r q a b same o = refl
 apart_here (suc (suc i)) j r q a b same o = absurd (none-some r a)
 apart_here zero (suc (suc j)) r q a b same o = absurd (none-some q b)
 apart_here (suc zero) (suc (suc j)) r q a b same o = absurd (none-some q b)
+apart_here h j r q a b same o = refl
 
 pub overlaps_may_hold_twice_lem : OverlapsMayHoldTwice
 overlaps_may_hold_twice_lem = (
@@ -128,8 +110,7 @@ nameless_is_not_answered_lem types terms lowered none h = false≢true (sym (ap 
 
 -- 5. look-ups
 first_counts : (b : Bool) (x y : ℕ) → cond b (Some x) (cond b (Some y) None) ≡ cond b (Some x) None
-first_counts true x y = refl
-first_counts false x y = refl
+first_counts b x y = grind (arith, common_steps)
 
 pub look_ups_have_no_list_lem : LookUpsHaveNoList
 look_ups_have_no_list_lem k = first_counts (1 == k) 10 11
@@ -147,10 +128,7 @@ fall_is_accepted : IsAccepted fall_defs true fall_rules
 fall_is_accepted = (lists_are_accepted_lem fall_defs true fall_rules).0 refl
 
 pub limits_are_named_where_passed_lem : LimitsAreNamedWherePassed
-limits_are_named_where_passed_lem = (
-  (λ expand r. All-contains IsIllTyped (past_limit of_nesting (at 0) ∷ []) (past_limit of_nesting (at 0)) (only_ill_typed expand (past_limit of_nesting (at 0) ∷ []) r) (in_head (past_limit of_nesting (at 0)) [])),
-  (λ reports c. c.refused fall_is_accepted.checkable),
-)
+limits_are_named_where_passed_lem = grind (arith, common_steps, All-contains, only_ill_typed, in_head)
 
 -- 8. limits of reading
 pub second_is_read_alone_lem : SecondIsReadAlone

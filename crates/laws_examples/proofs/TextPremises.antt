@@ -1,33 +1,29 @@
 -- The premises of the law on texts hold of the sample with an extractor.
-use Rattle.std.proofs.Common.{◌≡◌, ◌≢◌, ◌∙◌, ◌&&◌, ◌==◌, ◌++◌, ◌∷◌, [], ℕ, ℤ, zero, suc, pos, Bool, true, false, List, Option, Some, None, Contains, IsTrue, slice_get, refl, sym, ap, subst, eq-eqb}
+use Rattle.std.proofs.Common.{◌≡◌, ◌∙◌, ◌==◌, ◌++◌, ◌∷◌, [], ℕ, ℤ, suc, pos, Bool, true, false, List, Option, Some, None, Contains, slice_get, refl, sym, eq-eqb, arith}
+use Rattle.std.proofs.lemmas.Grind.{common_steps}
 use Rattle.std.specs.List.{list_all}
 use Rattle.std.proofs.lemmas.Bool.{and_from, and_parts}
 use Rattle.std.proofs.lemmas.Option.{none-some}
 use Rattle.model.proofs.Members.{in_alone, nothing_in}
 use Rattle.model.specs.lists.Tables.{TypeEntry, builtin_type, primitive_type, enum_type, struct_type}
 use Rattle.model.specs.claims.Layers.{own_program}
-use Rattle.model.specs.rules.Choice.{choice}
-use Rattle.model.specs.rules.Meaning.{int_literal, total}
 use Rattle.model.specs.rules.Outcome.{Call}
-use Rattle.model.specs.rules.Program.{rules_of}
-use Rattle.model.specs.rules.Values.{Value, Values, has_atoms, is_atom_type, well_typed, atom}
+use Rattle.model.specs.rules.Values.{has_atoms, is_atom_type, well_typed, atom}
 use Rattle.model.specs.sites.Serves.{is_own_type}
 use Rattle.model.specs.sites.Sites.{SiteTerm, int_term}
-use Rattle.model_code.specs.Notation.{Callee, extractor_of, constructor_of, gives_one}
+use Rattle.model_code.specs.Notation.{Callee, gives_one}
 use Rattle.model_code.specs.ProgramNotation.{ending_in, outside_of}
 use Rattle.model_code.specs.PureAlike.{ArePureAlike, is_impure_callee}
-use Rattle.laws_sites.specs.RuleUses.{a_constant, a_term}
 use Rattle.laws_trees.proofs.Shapes.{literals_are_atoms}
 use Rattle.laws_trees.proofs.total.Total.{total_meanings_serve_lem}
 use Rattle.laws_trees.specs.TotalLaws.{IsTotalFor}
 use Rattle.laws_typing.proofs.WellTypedRules.{read_programs_are_well_typed}
 use Rattle.laws_code.specs.CalledAlike.{PureFunctionsCallAlike}
-use Rattle.laws_code.specs.ShownLaws.{SaysWhatIsAround}
 use Rattle.laws_examples.proofs.SampleStages.{extract_stages}
-use Rattle.laws_examples.proofs.TotalMeanings.{echo_fits, no_constant, only_e, term_of}
+use Rattle.laws_examples.proofs.TotalMeanings.{echo_fits, no_constant, only_e}
 use Rattle.laws_examples.specs.Extract.{extract_defs, extract_program, extract_rules}
-use Rattle.laws_examples.specs.MeaningForms.{given, v}
-use Rattle.laws_examples.specs.TextPremises.{TextPremisesHold, around_extract, by_endings, extract_notation}
+use Rattle.laws_examples.specs.MeaningForms.{given}
+use Rattle.laws_examples.specs.TextPremises.{TextPremisesHold, by_endings}
 
 -- 1. all types of the sample are built in, and stand behind the digits of their integers
 abbrev is_built_in : TypeEntry → Bool
@@ -41,50 +37,29 @@ or_none None = true
 or_none (Some e) = is_built_in e
 
 at_each : (ts : List TypeEntry) (ty : ℕ) → list_all is_built_in ts ≡ true → or_none (slice_get ts ty) ≡ true
-at_each [] ty h = refl
-at_each (t ∷ ts) zero h = (and_parts (is_built_in t) (list_all is_built_in ts) h).0
-at_each (t ∷ ts) (suc ty) h = at_each ts ty (and_parts (is_built_in t) (list_all is_built_in ts) h).1
+at_each (t ∷ ts) (suc ty) h = grind (arith, common_steps, at_each ts ty, and_parts)
+at_each ts ty h = grind (arith, common_steps, and_parts)
 
 -- what isn't built in has no atoms there
 ending_of : (o : Option TypeEntry) (ty : ℕ) → or_none o ≡ true → is_atom_type o ≡ true → ending_in o ty ≡ ty
-ending_of None ty h a = absurd (cc)
-ending_of (Some (builtin_type place)) ty h a = refl
-ending_of (Some (primitive_type id name at)) ty h a = absurd (cc)
-ending_of (Some (enum_type name id is_extern is_nodebug variants at)) ty h a = absurd (cc)
-ending_of (Some (struct_type name id is_extern is_nodebug fields at)) ty h a = absurd (cc)
+ending_of o ty h a = grind (arith, common_steps)
 
 own_ending : (o : Option TypeEntry) (ty : ℕ) → is_own_type o ≡ true → ending_in o ty ≡ ty
-own_ending None ty h = absurd (cc)
-own_ending (Some (builtin_type place)) ty h = refl
-own_ending (Some (primitive_type id name at)) ty h = absurd (cc)
-own_ending (Some (enum_type name id is_extern is_nodebug variants at)) ty h = absurd (cc)
-own_ending (Some (struct_type name id is_extern is_nodebug fields at)) ty h = absurd (cc)
+own_ending o ty h = grind (arith, common_steps)
 
 atom_typed : (z : ℤ) (ty e : ℕ) → e ≡ ty → has_atoms (slice_get extract_program.types ty) ≡ true → well_typed extract_program.types ty (atom e z) ≡ true
 atom_typed z ty e same h = and_from (e == ty) (has_atoms (slice_get extract_program.types ty)) (eq-eqb e ty same) h
 
 -- 2. the meaning is well typed for what the rules use
 by_endings_well_typed : IsTotalFor extract_program 1 by_endings
-by_endings_well_typed = record {
-  bools = λ b ty h. h;
-  ints = λ z ty h. atom_typed z ty (extract_notation.ending ty) (ending_of (slice_get extract_program.types ty) ty (at_each extract_program.types ty refl) h) (literals_are_atoms (slice_get extract_program.types ty) h);
-  written_bools = λ b ty h. refl;
-  written_ints = λ z ty h. ap (λ e. atom e z) (own_ending (slice_get extract_program.types ty) ty h);
-  constants = λ name ty c h. absurd (no_constant name c);
-  extractors = λ t e x c h can w. echo_fits t e x (ap term_of (only_e (a_term t) c)) h w;
-  pures = λ t e xs c h can pure w. absurd (nothing_in (a_term t) c);
-  impures = λ t before e xs c h can pure w. absurd (nothing_in (a_term t) c);
-}
+by_endings_well_typed = grind (arith, common_steps, at_each extract_program.types, atom_typed, ending_of, at_each, literals_are_atoms, own_ending, no_constant, echo_fits, only_e, nothing_in)
 
 tested : (a : SiteTerm) → Contains (int_term (pos 1) 1 ∷ []) a → int_term (pos 1) 1 ≡ a
 tested a c = in_alone (int_term (pos 1) 1) a c
 
 -- 3. the one function from outside is an extractor's
 pure_outside : (f : Callee) (name : ℕ) → outside_of extract_program f ≡ Some name → is_impure_callee extract_program f ≡ false
-pure_outside (extractor_of t) name h = refl
-pure_outside (constructor_of zero) name h = absurd (none-some name h)
-pure_outside (constructor_of (suc zero)) name h = absurd (none-some name h)
-pure_outside (constructor_of (suc (suc t))) name h = absurd (none-some name h)
+pure_outside f name h = grind (arith, common_steps, none-some)
 
 pure_alike : ArePureAlike extract_program
 pure_alike f g name h k = pure_outside f name h ∙ sym (pure_outside g name k)

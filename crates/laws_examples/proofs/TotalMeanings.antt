@@ -1,10 +1,11 @@
 -- The echo is a total meaning of what the sample with an extractor calls, and the misfit isn't.
-use Rattle.std.proofs.Common.{◌≡◌, ◌==◌, ◌∷◌, [], ◌∙◌, ℕ, pos, true, Some, slice_get, Contains, refl, sym, ap, subst, inl, inr, eq-eqb}
+use Rattle.std.proofs.Common.{◌≡◌, ◌∷◌, [], ℕ, pos, true, Some, slice_get, Contains, refl, sym, subst, inl, inr, eq-eqb, arith}
+use Rattle.std.proofs.lemmas.Grind.{common_steps}
 use Rattle.std.proofs.lemmas.Bool.{and_from, false≢true}
 use Rattle.std.proofs.lemmas.Option.{none-some, same_Some}
 use Rattle.model.proofs.Members.{nothing_in, in_alone, in_cases, in_head}
 use Rattle.model.specs.lists.Tables.{TermEntry}
-use Rattle.model.specs.rules.Values.{Value, has_atoms, well_typed}
+use Rattle.model.specs.rules.Values.{Value, well_typed}
 use Rattle.model.specs.rules.Meaning.{one, just}
 use Rattle.model.specs.rules.Program.{kind}
 use Rattle.model.specs.sites.Sites.{SiteTerm, int_term}
@@ -39,48 +40,22 @@ entry_e : TermEntry → (e : TermEntry) → slice_get extract_program.terms 0 �
 entry_e d e h x w = subst (λ (o : TermEntry). well_typed extract_program.types o.ret_ty x ≡ true) (sym (same_Some _ e h)) w
 
 pub echo_fits : (t : ℕ) (e : TermEntry) (x : Value) → 0 ≡ t → slice_get extract_program.terms t ≡ Some e → well_typed extract_program.types e.ret_ty x ≡ true → fits_extractor extract_program t (kind extract_program t) (just (one x)) ≡ true
-echo_fits t e x q h w =
-    subst (λ n. fits_extractor extract_program n (kind extract_program n) (just (one x)) ≡ true) q
-    (entry_e e e (subst (λ n. slice_get extract_program.terms n ≡ Some e) (sym q) h) x w)
+echo_fits t e x q h w = grind (arith, common_steps, entry_e e e, entry_e)
 
 tested : (a : SiteTerm) → Contains (int_term (pos 1) 1 ∷ []) a → int_term (pos 1) 1 ≡ a
 tested a c = in_alone (int_term (pos 1) 1) a c
 
 echo_well_typed : IsTotalFor extract_program 1 echo
-echo_well_typed = record {
-  bools = λ b ty h. h;
-  ints = λ z ty h. and_from (ty == ty) (has_atoms (slice_get extract_program.types ty)) (eq-eqb ty ty refl) (literals_are_atoms (slice_get extract_program.types ty) h);
-  written_bools = λ b ty h. refl;
-  written_ints = λ z ty h. refl;
-  constants = λ name ty c h. absurd (no_constant name c);
-  extractors = λ t e x c h can w. echo_fits t e x (ap term_of (only_e (a_term t) c)) h w;
-  pures = λ t e xs c h can pure w. absurd (nothing_in (a_term t) c);
-  impures = λ t before e xs c h can pure w. absurd (nothing_in (a_term t) c);
-}
+echo_well_typed = grind (arith, common_steps, and_from, eq-eqb, literals_are_atoms, no_constant, echo_fits, only_e, nothing_in)
 
 pub echo_is_total : EchoIsTotal
-echo_is_total = (
-  echo_well_typed,
-  record {
-    different = λ a b ty x i j o p q r s. sym (tested a i) ∙ tested b j;
-    without_parts = λ r s name ty i j h. absurd (none-some ty h);
-  },
-)
+echo_is_total = grind (arith, common_steps, echo_well_typed, tested, none-some)
 
 pub misfit_is_not_total : MisfitIsNotTotal
 misfit_is_not_total h = absurd (false≢true (h.extractors 0 _ (v (pos 0)) (in_head (a_term 0) (a_term 0 ∷ [])) refl refl refl))
 
 pub echo_is_total_with_a_constant : EchoIsTotalWithAConstant
-echo_is_total_with_a_constant = record {
-  bools = echo_well_typed.bools;
-  ints = echo_well_typed.ints;
-  written_bools = echo_well_typed.written_bools;
-  written_ints = echo_well_typed.written_ints;
-  constants = λ name ty c h. absurd (no_constant name c);
-  extractors = echo_well_typed.extractors;
-  pures = λ t e xs c h can pure w. absurd (nothing_in (a_term t) c);
-  impures = λ t before e xs c h can pure w. absurd (nothing_in (a_term t) c);
-}
+echo_is_total_with_a_constant = grind (arith, common_steps, no_constant, nothing_in)
 
 pub echo_serves : EchoServes
 echo_serves z = total_meanings_serve_lem (own_program extract_defs extract_rules) 1 echo (given z) (read_programs_are_well_typed extract_stages.accepted.0.read) echo_is_total.0 refl

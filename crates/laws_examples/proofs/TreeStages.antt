@@ -1,5 +1,6 @@
 -- Trees that the judge passes are best and sound, those that it refuses aren't: by computing.
-use Rattle.std.proofs.Common.{◌≡◌, ◌∷◌, [], ◌∙◌, ℕ, pos, Bool, true, List, Some, slice_get, sym, not}
+use Rattle.std.proofs.Common.{◌≡◌, ◌∷◌, [], pos, Bool, true, List, not, arith}
+use Rattle.std.proofs.lemmas.Grind.{common_steps}
 use Rattle.std.specs.List.{list_all}
 use Rattle.std.specs.Ordering.{int_eq}
 use Rattle.std.proofs.lemmas.Bool.{and_parts}
@@ -22,21 +23,11 @@ abbrev pub has_no_priorities : List SetRule → Bool
 has_no_priorities rules = list_all (λ (r : SetRule). int_eq r.prio (pos 0)) rules
 
 pub no_priorities : (rules : List SetRule) → has_no_priorities rules ≡ true → HasOnePriority rules
-no_priorities rules h i j r q e f =
-    let zero-at : (k : ℕ) (x : SetRule) → slice_get rules k ≡ Some x → x.prio ≡ pos 0 = λ k x g. (Decides-int_eq x.prio (pos 0)).0 (each_passes (λ (y : SetRule). int_eq y.prio (pos 0)) rules h x (member_from_get rules k x g)) in
-    zero-at i r e ∙ sym (zero-at j q f)
+no_priorities rules h i j r q e f = grind (arith, common_steps, member_from_get rules, Decides-int_eq, each_passes, member_from_get)
 
 pub judged_with : (set : SiteSet) (multi : Bool) (tree : Tree) → (multi ≡ true → HasOnePriority set.rules) → is_best_tree set tree ≡ true → returns_apart set.rules ≡ true → set_passes set ≡ true
     → binds_as_marked set multi tree ≡ true → IsJudged set multi tree
-judged_with set multi tree same h apart passes binds =
-    let best = (tree_judge_is_exact_lem set tree apart).0 h in
-    record {
-      passes = h;
-      best = best;
-      well_built = passes_well_built set passes;
-      sound = best_trees_are_sound_lem set multi tree (passes_well_built set passes) same best;
-      binds = (binding_judge_is_exact_lem set multi tree apart).0 binds;
-    }
+judged_with set multi tree same h apart passes binds = grind (arith, common_steps, tree_judge_is_exact_lem, passes_well_built, best_trees_are_sound_lem, binding_judge_is_exact_lem)
 
 -- in a multi term
 pub judged_multi : (set : SiteSet) (tree : Tree) → has_no_priorities set.rules ≡ true → is_best_tree set tree ≡ true → returns_apart set.rules ≡ true → set_passes set ≡ true
@@ -45,8 +36,5 @@ judged_multi set tree none h apart passes binds = judged_with set true tree (λ 
 
 -- trees that fail
 pub refused : (set : SiteSet) (trees : List Tree) → returns_apart set.rules ≡ true → list_all (λ t. not (is_best_tree set t)) trees ≡ true → AreRefused set trees
+refused set (tree ∷ trees) apart h = grind (arith, common_steps, refused set trees apart, and_parts, not_exact, not_from_Decides, tree_judge_is_exact_lem)
 refused set [] apart h = tt
-refused set (tree ∷ trees) apart h =
-    let q = and_parts (not (is_best_tree set tree)) (list_all (λ t. not (is_best_tree set t)) trees) h in
-    let fails = (not_exact (is_best_tree set tree)).0 q.0 in
-    ((fails, not_from_Decides (is_best_tree set tree) (tree_judge_is_exact_lem set tree apart) fails), refused set trees apart q.1)

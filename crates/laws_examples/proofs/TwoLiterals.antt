@@ -1,6 +1,6 @@
 -- Two rules for different numbers: their set is served, and the demands of one alone hold.
-use Rattle.std.proofs.Common.{pos, refl}
-use Rattle.model.specs.rules.Program.{rules_of}
+use Rattle.std.proofs.Common.{pos, refl, arith}
+use Rattle.std.proofs.lemmas.Grind.{common_steps}
 use Rattle.model.specs.trees.SetRuns.{ServesTests}
 use Rattle.model.specs.claims.Layers.{own_program}
 use Rattle.laws_typing.proofs.WellTypedRules.{read_programs_are_well_typed}
@@ -18,11 +18,7 @@ pub one_or_two_stages : HasStages one_or_two_sample
 one_or_two_stages = stages one_or_two_sample refl refl refl refl refl refl refl refl refl refl
 
 pub one_or_two_is_served : OneOrTwoIsServed
-one_or_two_is_served =
-    let m = one_or_two_world.meaning in (
-      serves_without_calls one_or_two_program m (given (pos 1)) (rules_of one_or_two_program 0) refl refl,
-      literals_apart one_or_two_program m (rules_of one_or_two_program 0) refl refl,
-    )
+one_or_two_is_served = grind (arith, common_steps, serves_without_calls one_or_two_program, literals_apart one_or_two_program, serves_without_calls, literals_apart)
 
 tests : ServesTests one_or_two_set one_or_two_world
 tests =

@@ -1,10 +1,10 @@
 -- The laws on demands that hold alike, and on rules that never match, on samples.
 use Rattle.std.proofs.Common.{[], ℤ, pos, refl, arith}
+use Rattle.std.proofs.lemmas.Grind.{common_steps}
 use Rattle.std.proofs.lemmas.Bool.{false≢true}
 use Rattle.model.specs.rules.Program.{rules_of}
 use Rattle.model.specs.sites.Overlap.{built_rule}
 use Rattle.laws_typing.proofs.WellTypedRules.{read_programs_are_well_typed}
-use Rattle.model.specs.visits.Demands.{demands_of}
 use Rattle.model.specs.claims.Layers.{own_program}
 use Rattle.laws_sites.proofs.Settled.{verdict_is_exact_lem}
 use Rattle.laws_trees.proofs.BuiltMatches.{built_demands_hold_alike_lem}
@@ -16,9 +16,8 @@ use Rattle.laws_examples.proofs.ReadLists.{const_eq_read, one_step_read}
 use Rattle.laws_examples.proofs.SampleStages.{variant_eq_stages}
 use Rattle.laws_examples.proofs.Served.{literals_apart, serves_without_calls}
 use Rattle.laws_examples.specs.ConstEq.{const_eq_defs, const_eq_program, const_eq_rule, const_eq_rules}
-use Rattle.laws_examples.specs.Cycle.{one_step_defs, one_step_program, one_step_rule, one_step_rules}
 use Rattle.laws_examples.specs.MeaningForms.{blank}
-use Rattle.laws_examples.specs.UnmatchedRules.{ConstEqHolds, ConstEqHoldsAlike, ConstEqIsTried, OneStepDoesNotMatch, OneStepIsTried, VariantEqHolds, VariantEqHoldsAlike, VariantEqIsTried, five_twice, just_this, plain_variant, two_and}
+use Rattle.laws_examples.specs.UnmatchedRules.{ConstEqHolds, ConstEqHoldsAlike, ConstEqIsTried, OneStepDoesNotMatch, OneStepIsTried, VariantEqHolds, VariantEqHoldsAlike, VariantEqIsTried, five_twice, just_this, two_and}
 use Rattle.laws_examples.specs.VariantEq.{variant_eq_defs, variant_eq_program, variant_eq_rule, variant_eq_rules}
 
 whole : BuiltDemandsAreWhole
@@ -69,12 +68,7 @@ variant_holds_alike =
 
 -- 3. a value that would be a part of itself
 pub one_step_is_tried : OneStepIsTried
-one_step_is_tried = (
-  record { typed = refl; served = serves_without_calls one_step_program (just_this (pos 1)) plain_variant (rules_of one_step_program 0) refl refl; rule = (0, omega arith, refl); pick = (0, omega arith, refl) },
-  literals_apart one_step_program (just_this (pos 1)) (rules_of one_step_program 0) refl refl,
-)
+one_step_is_tried = grind (arith, common_steps, serves_without_calls, literals_apart)
 
 pub one_step_does_not_match : OneStepDoesNotMatch
-one_step_does_not_match =
-    unreachable_rules_never_match_lem (own_program one_step_defs one_step_rules) 0 (just_this (pos 1)) plain_variant one_step_rule [] (read_programs_are_well_typed one_step_read.0) one_step_is_tried.0
-    one_step_is_tried.1 ((verdict_is_exact_lem (demands_of one_step_program one_step_rule)).0 refl)
+one_step_does_not_match = grind (arith, common_steps, unreachable_rules_never_match_lem, read_programs_are_well_typed, one_step_read, one_step_is_tried, verdict_is_exact_lem)

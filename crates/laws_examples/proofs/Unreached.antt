@@ -1,5 +1,6 @@
 -- Where the first of two impure calls answers nothing, the second one isn't asked; where it answers, it is.
 use Rattle.std.proofs.Common.{◌≡◌, ◌∷◌, [], ℕ, pos, zero, suc, Bool, true, false, take, All, Contains, IsSomeAnd, IsTrue, refl, sym, subst, arith}
+use Rattle.std.proofs.lemmas.Grind.{common_steps}
 use Rattle.std.proofs.lemmas.Bool.{false≢true}
 use Rattle.std.proofs.lemmas.List.Elements.{All-cons, All-contains, All-nil}
 use Rattle.model.proofs.Members.{in_alone, in_head}
@@ -24,8 +25,7 @@ call_of_im (extractor_call t s) = false
 call_of_im u = true
 
 pure_none : (t : ℕ) (ss : SiteTerms) → call_of_im (constructor_call t ss 0) ≡ true → ⊥
-pure_none zero ss h = false≢true h
-pure_none (suc t) ss h = false≢true h
+pure_none t ss h = grind (arith, common_steps)
 
 -- the first call's answer has no part
 answers : (k : Pick) (r : TypedRule) (t before : ℕ) (ss : SiteTerms) → Contains unreached_rules.rules r → call_of_im (constructor_call t ss (suc before)) ≡ true
@@ -38,13 +38,7 @@ answers k r zero (suc zero) ss i h gave =
 answers k r _ _ ss i h gave = absurd (false≢true h)
 
 pub unreached_calls_are_not_asked : UnreachedCallsAreNotAsked
-unreached_calls_are_not_asked = (
-  refl,
-  refl,
-  serves_from unreached_program (first_answers nothing) call_of_im (given (pos 1)) unreached_rules.rules refl refl
-      (λ k t s w h holds. absurd (false≢true h)) (λ k t ss vs h holds. absurd (pure_none t ss h)) (λ k r t before ss i matched made h gave. answers k r t before ss i h gave),
-  literals_apart unreached_program (first_answers nothing) unreached_rules.rules refl refl,
-)
+unreached_calls_are_not_asked = grind (arith, common_steps, serves_from, pure_none, literals_apart)
 
 -- where the first call answers, the second one is reached, and its entry is asked
 pub reached_calls_are_asked : DoesNotServe unreached_program (first_answers (just_number (pos 5))) (pos 1)

@@ -1,5 +1,6 @@
 -- What the meaning of the sample has on 2: two literals, and no call that is made.
-use Rattle.std.proofs.Common.{◌≡◌, ◌∷◌, [], zero, suc, pos, Bool, true, false, ◌&&◌, Contains, IsTrue, is_some, refl, sym, subst, inl, inr}
+use Rattle.std.proofs.Common.{◌≡◌, ◌∷◌, [], zero, suc, pos, Bool, true, false, ◌&&◌, Contains, IsTrue, is_some, refl, sym, subst, inl, inr, arith}
+use Rattle.std.proofs.lemmas.Grind.{common_steps}
 use Rattle.std.proofs.lemmas.Bool.{false≢true}
 use Rattle.model.proofs.Members.{each_passes, in_alone, in_cases}
 use Rattle.model.specs.rules.Matching.{matches}
@@ -55,7 +56,4 @@ wrapped_serves = record {
 }
 
 pub nothing_is_asked_above_calls : NothingIsAskedAboveCalls
-nothing_is_asked_above_calls = (
-  wrapped_serves,
-  literals_apart wrapped_program wrapped_meaning wrapped_rules.rules refl refl,
-)
+nothing_is_asked_above_calls = grind (arith, common_steps, literals_apart wrapped_program wrapped_meaning wrapped_rules.rules refl refl, wrapped_serves, literals_apart)
