@@ -1,2 +1,4 @@
 pub mod Arenas
+pub mod CaseViews
 pub mod Namings
+pub mod Standing

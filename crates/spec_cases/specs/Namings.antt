@@ -3,6 +3,7 @@ use Rattle.std.specs.Prelude.{◌≡◌, ℕ, Bool, true, false, List, [], ◌�
 use Rattle.model.specs.sites.Sites.{SiteTerm}
 use Rattle.laws_specs.specs.Words as D
 use Rattle.model_questions.specs.Formulas as M
+use Rattle.model_questions.specs.Forms as MF
 use Rattle.spec_cases.specs.declared.operators.Operator.{Operator}
 use Rattle.spec_cases.specs.declared.operators.Operator.TheVariants as Op
 use Rattle.spec_cases.specs.declared.formulas.Place.{Place}
@@ -23,7 +24,8 @@ use Rattle.spec_cases.specs.declared.formulas.FactNode.{FactNode}
 use Rattle.spec_cases.specs.declared.formulas.FactNode.TheVariants as FN
 use Rattle.spec_cases.specs.declared.formulas.Node.{Node}
 use Rattle.spec_cases.specs.declared.formulas.Node.TheVariants as N
-use Rattle.spec_cases.specs.Arenas.{Arena}
+use Rattle.spec_cases.specs.declared.forms.Form.{Form}
+use Rattle.spec_cases.specs.declared.forms.Form.TheVariants as Fo
 
 abbrev pub operator_view : Operator → D.Operator
 operator_view Op.Equals = D.equals
@@ -93,13 +95,14 @@ is_plain_fact (M.one_fact a b) = false
 is_plain_fact (M.no_fact a) = false
 is_plain_fact (M.same_facts a b) = false
 
--- what each number stands for: sites, places, and formulas that are made of others
+-- what each number stands for: sites, places, formulas that are made of others, and fields
 pub record Naming : Type 0 where
   pub site : ℕ → SiteTerm
   pub place : ℕ → M.Place
   pub word : ℕ → M.Word
   pub integer : ℕ → M.Integer
   pub fact : ℕ → M.Fact
+  pub fields : ℕ → MF.Forms
   pub made_words : (n : ℕ) → is_plain_word (word n) ≡ false
   pub made_integers : (n : ℕ) → is_plain_integer (integer n) ≡ false
   pub made_facts : (n : ℕ) → is_plain_fact (fact n) ≡ false
@@ -156,17 +159,31 @@ module _ (v : Naming) where
   layer_of_fact (FN.No a) = M.no_fact (fact_of a)
   layer_of_fact (FN.Same a b) = M.same_facts (fact_of a) (fact_of b)
 
+  abbrev pub form_of : Form → MF.Form
+  form_of (Fo.Fact f) = MF.a_fact (fact_of f)
+  form_of (Fo.Integer z) = MF.an_integer_by (integer_of z)
+  form_of (Fo.Word w t) = MF.a_word_by w (word_of t)
+  form_of (Fo.Variant ty i fs) = MF.variant_by ty.0 i.0 (v.fields fs.0)
+  form_of (Fo.Struct ty fs) = MF.struct_by ty.0 (v.fields fs.0)
+  form_of (Fo.AnyOf ty p) = MF.any_of ty.0 (v.place p.0)
+  form_of (Fo.SomeAt p) = MF.some_at (v.place p.0)
+
+  abbrev pub forms_of : List Form → MF.Forms
+  forms_of [] = MF.no_form
+  forms_of (f ∷ fs) = MF.form_and (form_of f) (forms_of fs)
+
   -- a number stands for what was made
   abbrev pub IsNamed : ℕ → Node → Type 0
+  IsNamed n (N.Place x) = v.place n ≡ layer_of_place x
+  IsNamed n (N.Fields fs) = v.fields n ≡ forms_of fs.items
   IsNamed n (N.Word x) = v.word n ≡ layer_of_word x
   IsNamed n (N.Integer x) = v.integer n ≡ layer_of_integer x
   IsNamed n (N.Fact x) = v.fact n ≡ layer_of_fact x
 
 -- each number of an arena stands for what was made
-pub record Names (v : Naming) (a : Arena) : Type 0 where
-  pub places : (p : ℕ) (x : Place) → slice_get a.places p ≡ Some x → v.place p ≡ layer_of_place v x
-  pub nodes : (n : ℕ) (x : Node) → slice_get a.nodes n ≡ Some x → IsNamed v n x
+pub record Names (v : Naming) (nodes : List Node) : Type 0 where
+  pub named : (n : ℕ) (x : Node) → slice_get nodes n ≡ Some x → IsNamed v n x
 
 -- formulas are added, and what was there stands for what it stood for; whatever the numbers stand for now, P is so
-abbrev pub Makes : Arena → Arena → (Naming → Type 0) → Type 0
+abbrev pub Makes : List Node → List Node → (Naming → Type 0) → Type 0
 Makes old new P = (v : Naming) → Names v new → Names v old × P v

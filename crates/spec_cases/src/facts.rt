@@ -3,8 +3,9 @@ ghost use Rattle.std.specs.Prelude.{◌≡◌, IfOk};
 ghost use Rattle.model_questions.specs.Formulas as M;
 ghost use Rattle.spec_cases.specs.Namings.{fact_of, Makes};
 
+use crate::arena::Formulas;
 use crate::faults::Fault;
-use crate::formulas::{Fact, FactNode, Formulas};
+use crate::formulas::{Fact, FactNode};
 
 impl Formulas {
     /// Both, of which the first isn't known.

@@ -1,0 +1,2 @@
+mod CaseSteps
+mod Standing
