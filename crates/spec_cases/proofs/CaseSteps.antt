@@ -5,7 +5,9 @@ use Rattle.model_questions.specs.Formulas as MF
 use Rattle.model_questions.specs.Forms as M
 use Rattle.spec_cases.specs.declared.cases.Case.{Case}
 use Rattle.spec_cases.specs.Namings.{Naming, fact_of}
-use Rattle.spec_cases.specs.CaseViews.{guarded_case, guarded_each}
+use Rattle.spec_cases.specs.declared.cases.Cases.{Cases}
+use Rattle.spec_cases.specs.CaseViews.{guarded_case, guarded_each, guarded}
+use Rattle.spec_cases.specs.Following.{joined_parts}
 
 module _ {X : Type 0} (v : Naming) (g : MF.Fact) where
   abbrev each_left : List (Case X) → List (M.Case X)
@@ -23,3 +25,18 @@ module _ {X : Type 0} (v : Naming) (g : MF.Fact) where
 
   pub under_done : (out cases : List (Case X)) (i : ℕ) → length cases ≤ i → guarded_each v out ++ each_left (drop i cases) ≡ each_left cases → guarded_each v out ≡ each_left cases
   under_done out cases i h inv = sym (append-nil (guarded_each v out)) ∙ ap (λ l. guarded_each v out ++ l) (sym (at_drop_all each_left cases i h)) ∙ inv
+
+module _ {X : Type 0} (v : Naming) where
+  abbrev parts_left : List (Cases X) → List (M.Case X)
+  parts_left ps = (joined_parts (map (guarded v) ps)).cases
+
+  pub gathered_more : (out new : List (Case X)) (parts : List (Cases X)) (part : Cases X) (more : List (Case X)) (i : ℕ) → i < length parts → part ≡ get_or parts i part → more ≡ part.cases.items → new ≡ out ++ more
+      → guarded_each v out ++ parts_left (drop i parts) ≡ parts_left parts → guarded_each v new ++ parts_left (drop (i + 1) parts) ≡ parts_left parts
+  gathered_more out new parts part more i h at all is inv =
+      let tail = parts_left (drop (i + 1) parts) in
+      ap (λ l. guarded_each v l ++ tail) (is ∙ ap (λ l. out ++ l) all) ∙ ap (λ l. l ++ tail) (map-append (guarded_case v) out part.cases.items) ∙ append_assoc (guarded_each v out) (guarded_each v part.cases.items) tail
+      ∙ ap (λ p. guarded_each v out ++ parts_left (p ∷ drop (i + 1) parts)) at ∙ ap (λ l. guarded_each v out ++ l) (sym (at_drop_more parts_left parts i part h))
+      ∙ inv
+
+  pub gathered_done : (out : List (Case X)) (parts : List (Cases X)) (i : ℕ) → length parts ≤ i → guarded_each v out ++ parts_left (drop i parts) ≡ parts_left parts → guarded_each v out ≡ parts_left parts
+  gathered_done out parts i h inv = sym (append-nil (guarded_each v out)) ∙ ap (λ l. guarded_each v out ++ l) (sym (at_drop_all parts_left parts i h)) ∙ inv

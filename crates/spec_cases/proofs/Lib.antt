@@ -1,2 +1,4 @@
 mod CaseSteps
+mod PairSteps
+mod ShapeSteps
 mod Standing

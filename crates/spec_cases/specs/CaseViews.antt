@@ -25,6 +25,12 @@ module _ {X Y : Type 0} (f : X → Y) where
   abbrev pub with_values : M.Cases X → M.Cases Y
   with_values cs = record { cases = map with_value cs.cases; rest = cs.rest }
 
+abbrev pub case_of : Naming → Case Form → M.Case M.Form
+case_of v c = with_value (form_of v) (guarded_case v c)
+
+abbrev pub form_cases : Naming → List (Case Form) → List (M.Case M.Form)
+form_cases v cs = map (with_value (form_of v)) (guarded_each v cs)
+
 abbrev pub cases_of : Naming → Cases Form → M.Cases M.Form
 cases_of v cs = with_values (form_of v) (guarded v cs)
 

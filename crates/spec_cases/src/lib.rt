@@ -3,9 +3,13 @@
 
 pub mod arena;
 pub mod cases;
+pub mod deciding;
 pub mod facts;
 pub mod faults;
+pub mod following;
 pub mod forms;
 pub mod formulas;
+pub mod merging;
 pub mod operators;
 mod order;
+pub mod shapes;
