@@ -1,4 +1,6 @@
 mod CaseSteps
 mod PairSteps
 mod ShapeSteps
+mod ShapedOperands
+mod SizedResults
 mod Standing

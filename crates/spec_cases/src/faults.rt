@@ -13,6 +13,8 @@ pub enum Fault {
     Full,
     /// It would be made of a formula that isn't there.
     Foreign,
+    /// It has a width past 2 to 32, or a number past 2 to 127.
+    TooGreat,
 }
 
 impl From<AllocError> for Fault {
@@ -37,6 +39,7 @@ impl Drop for Fault {
             Fault::Memory(_) => {}
             Fault::Full => {}
             Fault::Foreign => {}
+            Fault::TooGreat => {}
         }
     }
 }

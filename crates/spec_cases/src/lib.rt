@@ -12,4 +12,5 @@ pub mod formulas;
 pub mod merging;
 pub mod operators;
 mod order;
+pub mod results;
 pub mod shapes;
