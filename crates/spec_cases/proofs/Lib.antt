@@ -1,3 +1,4 @@
+mod AppliedSteps
 mod CaseSteps
 mod PairSteps
 mod ShapeSteps

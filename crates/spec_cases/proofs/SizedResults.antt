@@ -27,7 +27,7 @@ as_word_sized (M.integer_by n nf) y = refl
 as_word_sized (M.integer_answered n nf) y = refl
 as_word_sized (M.either_integer n nf ng) y = refl
 
-widened_sized : (z : M.Integer) (w : ℕ) (a : M.Word) → E.result D.widened (M.integer_and z (M.word_and w a M.no_operand)) ≡ widened_result (size_of z) w
+pub widened_sized : (z : M.Integer) (w : ℕ) (a : M.Word) → E.result D.widened (M.integer_and z (M.word_and w a M.no_operand)) ≡ widened_result (size_of z) w
 widened_sized (M.written_integer (pos n)) w a = refl
 widened_sized (M.written_integer (negsuc n)) w a = refl
 widened_sized (M.integer_at n) w a = refl
@@ -35,7 +35,7 @@ widened_sized (M.integer_by n nf) w a = refl
 widened_sized (M.integer_answered n nf) w a = refl
 widened_sized (M.either_integer n nf ng) w a = refl
 
-widened_signed_sized : (z : M.Integer) (w : ℕ) (a : M.Word) → E.result D.widened_signed (M.integer_and z (M.word_and w a M.no_operand)) ≡ widened_result (size_of z) w
+pub widened_signed_sized : (z : M.Integer) (w : ℕ) (a : M.Word) → E.result D.widened_signed (M.integer_and z (M.word_and w a M.no_operand)) ≡ widened_result (size_of z) w
 widened_signed_sized (M.written_integer (pos n)) w a = refl
 widened_signed_sized (M.written_integer (negsuc n)) w a = refl
 widened_signed_sized (M.integer_at n) w a = refl

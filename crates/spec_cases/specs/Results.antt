@@ -1,6 +1,8 @@
 -- What operators come to, as the model has it.
 use Rattle.std.specs.Prelude.{ℕ, pos, ◌+◌, ◌-◌, not, ◌&&◌, nat_lt, Option, Some, None}
 use Rattle.model_questions.specs.Formulas as M
+use Rattle.laws_specs.specs.Words as D
+use Rattle.model_questions.specs.Forms as MF
 use Rattle.model_questions.specs.Evaluated as E
 use Rattle.spec_cases.specs.declared.results.Outcome.{Outcome}
 use Rattle.spec_cases.specs.declared.results.Outcome.TheVariants as R
@@ -29,3 +31,7 @@ widened_result None width = E.unknown_result
 abbrev pub bits_result : Option ℕ → Option ℕ → ℕ → E.Result
 bits_result (Some high) (Some low) width = E.word_where (not (nat_lt high low) && nat_lt high width) ((high + 1) - low)
 bits_result _ _ width = E.unknown_result
+
+-- what an operator comes to at a width
+abbrev pub at_size : D.Operator → ℕ → M.Operands → MF.Cases MF.Form
+at_size o w rest = E.came_to o (M.integer_and (M.written_integer (pos w)) rest) (E.result o (M.integer_and (M.written_integer (pos w)) rest))

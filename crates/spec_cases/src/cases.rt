@@ -68,11 +68,7 @@ pub fn one_case<X: Copy>(alloc: Global, gives: X) -> Result<Cases<X>, Fault>
 
 impl Formulas {
     // Each under a further guard.
-    fn each_under<X: Copy>(
-        &mut self,
-        guard: Fact,
-        cases: &[Case<X>],
-    ) -> Result<Vec<Case<X>>, Fault>
+    fn each_under<X: Copy>(&mut self, guard: Fact, cases: &[Case<X>]) -> Result<Vec<Case<X>>, Fault>
         ensures { IfOk result (λ cs. Makes self.old self.new (λ v. guarded_each v cs.items ≡ M.each_under (fact_of v guard) (guarded_each v cases.now))) }
     {
         let mut out = Vec::new(self.alloc());
@@ -104,11 +100,7 @@ impl Formulas {
     /// # Errors
     ///
     /// As `made_fact`.
-    pub fn joined_cases<X: Copy>(
-        &mut self,
-        a: Cases<X>,
-        b: &Cases<X>,
-    ) -> Result<Cases<X>, Fault>
+    pub fn joined_cases<X: Copy>(&mut self, a: Cases<X>, b: &Cases<X>) -> Result<Cases<X>, Fault>
         ensures { IfOk result (λ cs. Makes self.old self.new (λ v. guarded v cs ≡ M.joined_cases (guarded v a) (guarded v b.now))) }
     {
         let rest = self.one_of(a.rest, b.rest)?;

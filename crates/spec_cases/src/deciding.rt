@@ -33,10 +33,8 @@ impl Form {
         match self {
             Form::Fact(fact) => fact,
             Form::AnyOf { .. } | Form::SomeAt { .. } => Fact::Known(true),
-            Form::Integer(_)
-            | Form::Word(_, _)
-            | Form::Variant { .. }
-            | Form::Struct { .. } => Fact::Known(false),
+            Form::Integer(_) | Form::Word(_, _) | Form::Variant { .. } | Form::Struct { .. } =>
+                Fact::Known(false),
         }
     }
 }

@@ -41,11 +41,7 @@ impl Formulas {
     /// # Errors
     ///
     /// As `made_fact`.
-    pub fn then_parts<X: Copy>(
-        &mut self,
-        rest: Fact,
-        parts: &[Cases<X>],
-    ) -> Result<Cases<X>, Fault>
+    pub fn then_parts<X: Copy>(&mut self, rest: Fact, parts: &[Cases<X>]) -> Result<Cases<X>, Fault>
         ensures { IfOk result (λ cs. Makes self.old self.new (λ v. guarded v cs ≡ then_parts (fact_of v rest) (map (guarded v) parts.now))) }
     {
         let cases = gathered(self.alloc(), parts)?;

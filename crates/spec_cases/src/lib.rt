@@ -1,8 +1,10 @@
 //! What specs say of values, by cases of formulas.
 #![tactic(auto)]
 
+pub mod applied;
 pub mod arena;
 pub mod cases;
+pub mod choosing;
 pub mod deciding;
 pub mod facts;
 pub mod faults;
@@ -14,3 +16,4 @@ pub mod operators;
 mod order;
 pub mod results;
 pub mod shapes;
+pub mod sizes;

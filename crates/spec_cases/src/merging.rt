@@ -82,10 +82,8 @@ impl Form {
             Form::Fact(fact) => other.beside_fact(fact),
             Form::Integer(integer) => other.beside_integer(integer),
             Form::Word(width, word) => other.beside_word(width, word),
-            Form::Variant { .. }
-            | Form::Struct { .. }
-            | Form::AnyOf { .. }
-            | Form::SomeAt { .. } => None,
+            Form::Variant { .. } | Form::Struct { .. } | Form::AnyOf { .. } | Form::SomeAt { .. } =>
+                None,
         }
     }
 }
@@ -102,9 +100,9 @@ impl Formulas {
                 let second = self.both_of(other, b)?;
                 Ok(Form::Fact(self.one_of(first, second)?))
             }
-            Pair::Integers(a, b) => Ok(Form::Integer(
-                self.made_integer(IntegerNode::Either(guard, a, b))?,
-            )),
+            Pair::Integers(a, b) => Ok(Form::Integer(self.made_integer(IntegerNode::Either(
+                guard, a, b,
+            ))?)),
             Pair::Words(width, a, b) => Ok(Form::Word(
                 width,
                 self.made_word(WordNode::Either(guard, a, b))?,

@@ -3,9 +3,7 @@ ghost use Rattle.std.specs.Prelude.{◌≡◌};
 ghost use Rattle.spec_cases.specs.Arenas.{fact_within, form_within, forms_within, integer_within, node_within, operand_within, operands_within, place_within, word_within};
 
 use crate::forms::Form;
-use crate::formulas::{
-    Fact, FactNode, Integer, IntegerNode, Node, Operand, Place, Word, WordNode,
-};
+use crate::formulas::{Fact, FactNode, Integer, IntegerNode, Node, Operand, Place, Word, WordNode};
 
 impl Place {
     fn is_within(self, count: usize) -> bool

@@ -157,10 +157,8 @@ impl Operator {
         ensures { (a b : M.Fact) → outcome_view result ≡ E.result (operator_view self) (M.fact_and a (M.fact_and b M.no_operand)) }
     {
         match self {
-            Operator::Equals
-            | Operator::Both
-            | Operator::OneOf
-            | Operator::Implied => Outcome::Truth,
+            Operator::Equals | Operator::Both | Operator::OneOf | Operator::Implied =>
+                Outcome::Truth,
             Operator::Negation
             | Operator::Less
             | Operator::LessOrEqual
@@ -206,12 +204,8 @@ impl Operator {
             → outcome_view r ≡ E.result (operator_view self) (M.integer_and (integer_of v first) (M.integer_and z M.no_operand))) }
     {
         match self {
-            Operator::Equals
-            | Operator::Less
-            | Operator::LessOrEqual => Ok(Outcome::Truth),
-            Operator::Plus
-            | Operator::Minus
-            | Operator::Times => Ok(Outcome::Integer),
+            Operator::Equals | Operator::Less | Operator::LessOrEqual => Ok(Outcome::Truth),
+            Operator::Plus | Operator::Minus | Operator::Times => Ok(Outcome::Integer),
             Operator::AsWord => Ok(word_written(first)?),
             Operator::Both
             | Operator::OneOf
@@ -253,10 +247,8 @@ impl Operator {
         ensures { (a : M.Word) → outcome_view result ≡ E.result (operator_view self) (M.word_and width a M.no_operand) }
     {
         match self {
-            Operator::WordNot
-            | Operator::WordNegated => Outcome::Word(width),
-            Operator::AsInteger
-            | Operator::WidthOf => Outcome::Integer,
+            Operator::WordNot | Operator::WordNegated => Outcome::Word(width),
+            Operator::AsInteger | Operator::WidthOf => Outcome::Integer,
             Operator::Equals
             | Operator::Both
             | Operator::OneOf
@@ -304,9 +296,7 @@ impl Operator {
             | Operator::WordLess
             | Operator::WordLessOrEqual
             | Operator::SignedLess
-            | Operator::SignedLessOrEqual => {
-                Ok(Outcome::Truth.of_same_width(width, other))
-            },
+            | Operator::SignedLessOrEqual => { Ok(Outcome::Truth.of_same_width(width, other)) },
             Operator::WordPlus
             | Operator::WordMinus
             | Operator::WordTimes
@@ -321,9 +311,7 @@ impl Operator {
             | Operator::ShiftedRight
             | Operator::ShiftedRightSigned
             | Operator::RotatedLeft
-            | Operator::RotatedRight => {
-                Ok(Outcome::Word(width).of_same_width(width, other))
-            },
+            | Operator::RotatedRight => { Ok(Outcome::Word(width).of_same_width(width, other)) },
             Operator::Joined => match width.checked_add(other) {
                 Some(sum) => Ok(Outcome::Word(sum)),
                 None => Err(Fault::TooGreat),
@@ -354,8 +342,7 @@ impl Operator {
         ensures { (a : M.Word) (z : M.Integer) → outcome_view result ≡ E.result (operator_view self) (M.word_and width a (M.integer_and z M.no_operand)) }
     {
         match self {
-            Operator::RotatedLeft
-            | Operator::RotatedRight => Outcome::Word(width),
+            Operator::RotatedLeft | Operator::RotatedRight => Outcome::Word(width),
             Operator::Equals
             | Operator::Both
             | Operator::OneOf
@@ -403,8 +390,7 @@ impl Operator {
             → outcome_view r ≡ E.result (operator_view self) (M.integer_and (integer_of v first) (M.word_and width a M.no_operand))) }
     {
         match self {
-            Operator::Widened
-            | Operator::WidenedSigned => Ok(word_widened(first, width)?),
+            Operator::Widened | Operator::WidenedSigned => Ok(word_widened(first, width)?),
             Operator::Equals
             | Operator::Both
             | Operator::OneOf

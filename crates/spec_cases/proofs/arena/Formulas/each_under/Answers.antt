@@ -9,7 +9,7 @@ loop-case-preserved g c = λ v n.
     let before = c.loop-case.invariant v made.0 in (
       before.0,
       under_more v (fact_of v c.args.guard) c.loop-case.out.items c.push.new.self.items c.args.cases.now _ c.case-item.result c.loop-case.case-index (search rules) c.case-item.is c.in_ok-push.ensures.items
-      (ap (λ f. record { guard = f; gives = c.case-item.result.gives }) made.1) before.1,
+          (ap (λ f. record { guard = f; gives = c.case-item.result.gives }) made.1) before.1,
     )
 
 pub returns : goal.returns
