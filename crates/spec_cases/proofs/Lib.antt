@@ -1,5 +1,6 @@
 mod AppliedSteps
 mod CaseSteps
+mod OpeningSteps
 mod PairSteps
 mod ShapeSteps
 mod ShapedOperands

@@ -3,6 +3,7 @@ pub mod CaseViews
 pub mod Following
 pub mod Merging
 pub mod Namings
+pub mod Opening
 pub mod Results
 pub mod Shapes
 pub mod Standing

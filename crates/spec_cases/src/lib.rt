@@ -12,6 +12,7 @@ pub mod following;
 pub mod forms;
 pub mod formulas;
 pub mod merging;
+pub mod opening;
 pub mod operators;
 mod order;
 pub mod results;
