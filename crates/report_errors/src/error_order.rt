@@ -1,11 +1,10 @@
 //! Which errors a person is shown, and which say no more than another one.
 
-use crate::codes::code_of;
 use crate::definitions::rule_around;
 use crate::mentions::{Mentions, Need};
-use crate::template_errors::{TemplateUse, first_like};
-use crate::terms_in_errors::{is_of_impure, path_in, undefined_in, unusable_in};
+use crate::template_errors::{UseError, first_like};
 use core_syntax::syntax::{Def, Error, Pos};
+use core_why::{Why, Wrong};
 use std::alloc::{AllocError, Global};
 use std::collections::BTreeMap;
 
@@ -55,12 +54,12 @@ impl Order {
         alloc: Global,
         defs: &[Def],
         errors: &[Error],
-        uses: &[Option<TemplateUse<'_>>],
+        uses: &[Option<UseError<'_>>],
     ) -> Result<Order, AllocError> {
         let causes = Causes::new(alloc, errors)?;
         let mut leaders = Vec::new(alloc);
         for (number, error) in errors.iter().enumerate() {
-            let mut leader = match first_like(errors, uses, number) {
+            let mut leader = match first_like(uses, number) {
                 Some(first) => first,
                 None => number,
             };
@@ -104,11 +103,11 @@ fn shown_of(alloc: Global, leaders: &[usize]) -> Result<Vec<usize>, AllocError> 
     Ok(shown)
 }
 
-/// What a type error says, or the empty text for other errors.
-pub(crate) fn words_of(error: &Error) -> &str {
+/// What isn't right, if that is a definition or what it says.
+pub(crate) fn why_of(error: &Error) -> Option<&Why> {
     match error {
-        Error::TypeError { msg, .. } => msg.as_str(),
-        _ => "",
+        Error::TypeError { msg, .. } => Some(msg),
+        _ => None,
     }
 }
 
@@ -170,22 +169,36 @@ impl<'a> Causes<'a> {
         // the numbers of cycles, by their extractors
         let mut numbers = BTreeMap::new(alloc);
         for (number, error) in errors.iter().enumerate() {
-            let words = words_of(error);
-            if let Some(term) = undefined_in(words) {
-                if !causes.terms.contains_key(&term) {
-                    causes.terms.insert(term, number)?;
-                }
-            }
-            if let (Some(pos), "no-constructor") = (place_of(error), code_of(words)) {
-                causes.unmade.insert(pos, number)?;
-            }
-            let cycle = match cycle_in(alloc, words)? {
+            let why = why_of(error);
+            causes.add_term(why, place_of(error), number)?;
+            let cycle = match cycle_in(alloc, why)? {
                 Some(cycle) => Some(causes.number_of(&mut numbers, cycle, number)?),
                 None => None,
             };
             causes.cycles.push(cycle)?;
         }
         Ok(causes)
+    }
+
+    // Adds the term that the error of a number, at this place, says isn't defined or has no constructor.
+    fn add_term(
+        &mut self,
+        why: Option<&'a Why>,
+        place: Option<Pos>,
+        number: usize,
+    ) -> Result<(), AllocError> {
+        match (why, place) {
+            (Some(Why::Named(term, Wrong::Undefined)), _) => {
+                if !self.terms.contains_key(&term.as_str()) {
+                    self.terms.insert(term.as_str(), number)?;
+                }
+            }
+            (Some(Why::Named(_, Wrong::NoConstructor)), Some(pos)) => {
+                self.unmade.insert(pos, number)?;
+            }
+            _ => {}
+        }
+        Ok(())
     }
 
     // The number of a cycle that the error of a number tells.
@@ -213,8 +226,8 @@ impl<'a> Causes<'a> {
 
     // The error that one is told with, where it is told with a cause.
     fn of(&self, error: &'a Error, number: usize) -> Option<usize> {
-        if let Some(term) = unusable_in(words_of(error)) {
-            return self.terms.get(&term).copied();
+        if let Why::Named(term, Wrong::NoExtractor | Wrong::NoConstructor) = why_of(error)? {
+            return self.terms.get(&term.as_str()).copied();
         }
         let cycle = (*self.cycles.get(number)?)?;
         Some(self.leaders.get(cycle)?.number)
@@ -222,23 +235,23 @@ impl<'a> Causes<'a> {
 }
 
 // The cycle that an error tells.
-fn cycle_in<'a>(alloc: Global, words: &'a str) -> Result<Option<Cycle<'a>>, AllocError> {
-    let Some(path) = path_in(words) else {
+fn cycle_in<'a>(alloc: Global, why: Option<&'a Why>) -> Result<Option<Cycle<'a>>, AllocError> {
+    let Some(Why::Recursion(way)) = why else {
         return Ok(None);
     };
-    let Some((way, last)) = path.rsplit_once(" -> ") else {
+    let Some((last, way)) = way.split_last() else {
         return Ok(None);
     };
     let mut members = Vec::new(alloc);
-    let mut begun = false;
-    for name in way.split(" -> ") {
-        begun = begun || name == last;
-        if begun {
-            members.push(name)?;
+    let mut closed = false;
+    for (i, name) in way.iter().enumerate() {
+        let is_last = name == last;
+        closed = closed || i == 0 && is_last;
+        if is_last || !members.is_empty() {
+            members.push(name.as_str())?;
         }
     }
     members.sort()?;
-    let closed = way.split(" -> ").next() == Some(last);
     Ok(Some(Cycle { closed, members }))
 }
 
@@ -257,11 +270,12 @@ fn leader_beside<'a>(
     let Some(pos) = place_of(error) else {
         return Ok(number);
     };
-    let words = words_of(error);
-    let cause = match code_of(words) {
-        "unknown-variable" => cause_of_unknown(alloc, defs, errors, number, pos)?,
-        "mismatched-types" => cause_of_mismatch(alloc, defs, causes, pos)?,
-        "forbidden-term" if is_of_impure(words) => match causes.unmade.get(&pos).copied() {
+    let cause = match why_of(error) {
+        Some(Why::Named(_, Wrong::UnknownVariable)) => {
+            cause_of_unknown(alloc, defs, errors, number, pos)?
+        }
+        Some(Why::Mismatch { .. }) => cause_of_mismatch(alloc, defs, causes, pos)?,
+        Some(Why::Named(_, Wrong::Impure)) => match causes.unmade.get(&pos).copied() {
             Some(unmade) => Some(unmade),
             None => first_impure(defs, errors, pos),
         },
@@ -331,7 +345,7 @@ fn source_of(names: &Mentions<'_>, pos: Pos) -> Option<Pos> {
 fn first_impure(defs: &[Def], errors: &[Error], pos: Pos) -> Option<usize> {
     let condition = condition_around(defs, pos)?;
     for (number, error) in errors.iter().enumerate() {
-        if let (Some(other), true) = (place_of(error), is_of_impure(words_of(error))) {
+        if let (Some(other), Some(Why::Named(_, Wrong::Impure))) = (place_of(error), why_of(error)) {
             if condition_around(defs, other) == Some(condition) {
                 return Some(number);
             }
@@ -370,42 +384,37 @@ fn is_between(place: Pos, begin: Pos, end: Pos) -> bool {
 // The error that one is told with, where the error beside it says the same: the one before it, or that behind it where a type
 // has the name of a built-in one. Else itself.
 fn beside(errors: &[Error], number: usize, leaders: &[usize]) -> usize {
-    let words = match errors.get(number) {
-        Some(error) => words_of(error),
-        None => "",
+    let Some((name, wrong)) = named_at(errors, number) else {
+        return number;
     };
     let next = number.saturating_add(1);
-    if let Some(behind) = errors.get(next) {
-        if is_of_builtin(words, words_of(behind)) {
+    if let (Wrong::TypeTwice, Some((behind, Wrong::TypeBuiltin))) = (
+        wrong,
+        named_at(errors, next),
+    ) {
+        if name == behind {
             return next;
         }
     }
     let last = number.saturating_sub(1);
-    match (errors.get(last), leaders.last()) {
-        (Some(before), Some(leader)) if *leader == last && says_again(words_of(before), words) => {
+    match (named_at(errors, last), leaders.last()) {
+        (Some(before), Some(leader)) if *leader == last && says_again(before, (name, wrong)) => {
             last
         }
         _ => number,
     }
 }
 
-// Whether an error says that a type is defined twice, and the next one that its name is a built-in type's.
-fn is_of_builtin(words: &str, next: &str) -> bool {
-    match (
-        words.strip_suffix("' defined more than once"),
-        next.strip_suffix("' is a built-in type"),
-    ) {
-        (Some(left), Some(right)) => left == right && left.starts_with("Type with name '"),
-        _ => false,
-    }
+// The name that the error of a number is of, and how it isn't right.
+fn named_at(errors: &[Error], number: usize) -> Option<(&str, Wrong)> {
+    why_of(errors.get(number)?)?.named()
 }
 
 // Whether an error tells the other place of what the one before it says.
-fn says_again(before: &str, words: &str) -> bool {
-    match words {
-        "Extractor was already defined here"
-        | "External extractor already defined"
-        | "Internal extractor macro body already defined" => true,
-        _ => before == words && words.starts_with("Duplicate decl for '"),
+fn says_again(before: (&str, Wrong), error: (&str, Wrong)) -> bool {
+    match (before, error) {
+        (_, (_, Wrong::FirstExtractor | Wrong::FirstTemplateOfExtractor | Wrong::FirstTemplate)) => true,
+        ((name, Wrong::TermTwice), (own, Wrong::TermTwice)) => name == own,
+        _ => false,
     }
 }

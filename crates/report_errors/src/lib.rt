@@ -16,7 +16,6 @@ use std::alloc::{AllocError, Global};
 use text_reader::errors::{Mistake, Problem, TextError};
 use text_reader::heads::nearest;
 
-mod codes;
 mod conflicts;
 mod declarations;
 pub mod definitions;
@@ -40,7 +39,6 @@ pub mod reports;
 pub mod site_words;
 mod template_errors;
 pub mod term_sizes;
-mod terms_in_errors;
 pub mod tree_sizes;
 pub mod undefined_terms;
 mod unknown;
