@@ -1,6 +1,7 @@
 //! What isn't right with definitions. Names are owned texts, since an error outlives the tables that have them.
 
 /// What isn't right with a definition, or with what it says.
+#[derive(Drop)]
 pub enum Why {
     /// What has this name isn't right, in this way.
     Named(String, Wrong),
@@ -70,6 +71,7 @@ pub enum Why {
 }
 
 /// A field, as errors call it.
+#[derive(Drop)]
 pub enum FieldName {
     Text(String),
     Number(usize),
@@ -159,60 +161,4 @@ pub enum Wrong {
     PriorityInMulti,
     RuleTwice,
     Undefined,
-}
-
-// Written out, since a derived `Drop` is proved again in each crate that drops the type, and a written one here alone.
-
-impl Drop for FieldName {
-    fn drop(self) {
-        match self {
-            FieldName::Text(_) => {}
-            FieldName::Number(_) => {}
-        }
-    }
-}
-
-impl Drop for Why {
-    fn drop(self) {
-        match self {
-            Why::Named(_, _) => {}
-            Why::FieldTwice {
-                name: _,
-                variant: _,
-            } => {}
-            Why::FieldType {
-                ty: _,
-                field: _,
-                variant: _,
-            } => {}
-            Why::ConverterTwice { inner: _, outer: _ } => {}
-            Why::TemplateTerm {
-                term: _,
-                unknown: _,
-            } => {}
-            Why::TemplateArgument {
-                term: _,
-                greatest: _,
-                count: _,
-            } => {}
-            Why::Recursion(_) => {}
-            Why::MacroArgument(_) => {}
-            Why::NoRoot => {}
-            Why::LetType { ty: _, variable: _ } => {}
-            Why::Mismatch {
-                what: _,
-                name: _,
-                want: _,
-                has: _,
-            } => {}
-            Why::NoInteger { ty: _, val: _ } => {}
-            Why::NoTruth { ty: _, val: _ } => {}
-            Why::UntypedInteger => {}
-            Why::ArgumentCount {
-                term: _,
-                got: _,
-                expect: _,
-            } => {}
-        }
-    }
 }

@@ -345,7 +345,10 @@ fn source_of(names: &Mentions<'_>, pos: Pos) -> Option<Pos> {
 fn first_impure(defs: &[Def], errors: &[Error], pos: Pos) -> Option<usize> {
     let condition = condition_around(defs, pos)?;
     for (number, error) in errors.iter().enumerate() {
-        if let (Some(other), Some(Why::Named(_, Wrong::Impure))) = (place_of(error), why_of(error)) {
+        if let (Some(other), Some(Why::Named(_, Wrong::Impure))) = (
+            place_of(error),
+            why_of(error),
+        ) {
             if condition_around(defs, other) == Some(condition) {
                 return Some(number);
             }
@@ -413,7 +416,8 @@ fn named_at(errors: &[Error], number: usize) -> Option<(&str, Wrong)> {
 // Whether an error tells the other place of what the one before it says.
 fn says_again(before: (&str, Wrong), error: (&str, Wrong)) -> bool {
     match (before, error) {
-        (_, (_, Wrong::FirstExtractor | Wrong::FirstTemplateOfExtractor | Wrong::FirstTemplate)) => true,
+        (_, (_, Wrong::FirstExtractor | Wrong::FirstTemplateOfExtractor | Wrong::FirstTemplate)) =>
+            true,
         ((name, Wrong::TermTwice), (own, Wrong::TermTwice)) => name == own,
         _ => false,
     }

@@ -133,7 +133,10 @@ fn around_name(wrong: Wrong) -> Option<(&'static str, &'static str)> {
         Wrong::UnknownConstantType => ("Unknown type '", "' for constant"),
         Wrong::UndeclaredRoot => ("Rule LHS root term '", "' is not defined"),
         Wrong::UndeclaredTemplate => {
-            ("Extractor macro body definition on a non-existent term '", "'")
+            (
+                "Extractor macro body definition on a non-existent term '",
+                "'",
+            )
         }
         Wrong::ConstructorTwice => ("Duplicate external constructor definition for '", "'"),
         Wrong::ExtractorTwice => ("Duplicate external extractor definition for '", "'"),

@@ -272,8 +272,20 @@ fn check_flags(
         return Ok(());
     };
     check_allowed(errors, pos, sym, is_pure_enough(flags, *own), Wrong::Impure)?;
-    check_allowed(errors, pos, sym, is_single_enough(flags, *own), Wrong::MultiConstructor)?;
-    check_allowed(errors, pos, sym, is_total_enough(flags, *own), partial_under(flags))?;
+    check_allowed(
+        errors,
+        pos,
+        sym,
+        is_single_enough(flags, *own),
+        Wrong::MultiConstructor,
+    )?;
+    check_allowed(
+        errors,
+        pos,
+        sym,
+        is_total_enough(flags, *own),
+        partial_under(flags),
+    )?;
     Ok(())
 }
 
