@@ -46,9 +46,8 @@ impl TermTable {
             return Ok(());
         };
         let earlier = self.terms[existing.index()].decl_pos;
-        let name = decl.term.0.as_str();
-        report_name(errors, decl.pos, Wrong::TermTwice, name)?;
-        report_name(errors, earlier, Wrong::TermTwice, name)
+        report_name(errors, decl.pos, Wrong::TermTwice, &decl.term.0)?;
+        report_name(errors, earlier, Wrong::TermTwice, &decl.term.0)
     }
 
     // Adds a declared term, if the types that it names are known.
@@ -69,8 +68,8 @@ impl TermTable {
             return Ok(());
         };
         let Some(ret_ty) = tyenv.get_type_by_name(&decl.ret_ty) else {
-            let wrong = Wrong::UnknownResult;
-            return report_name(errors, decl.ret_ty.1, wrong, decl.ret_ty.0.as_str());
+            let name = &decl.ret_ty;
+            return report_name(errors, name.1, Wrong::UnknownResult, &name.0);
         };
         self.push_term(decl, name, arg_tys, ret_ty)
     }
@@ -159,8 +158,7 @@ fn arg_types(
     let mut arg_tys = Vec::with_capacity(*errors.allocator(), names.len())?;
     for name in names {
         let Some(ty) = tyenv.get_type_by_name(name) else {
-            let wrong = Wrong::UnknownArgument;
-            report_name(errors, name.1, wrong, name.0.as_str())?;
+            report_name(errors, name.1, Wrong::UnknownArgument, &name.0)?;
             return Ok(None);
         };
         arg_tys.push(ty)?;

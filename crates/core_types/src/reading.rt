@@ -216,10 +216,9 @@ fn report_duplicate(
 ) -> Result<(), AllocError>
     ensures told { OnOk result (NotesTaken existing.0 (position ty.now.pos) errors.old.items errors.new.items) }
 {
-    let name = ty.name.0.as_str();
-    report_name(errors, ty.pos, Wrong::TypeTwice, name)?;
+    report_name(errors, ty.pos, Wrong::TypeTwice, &ty.name.0)?;
     if existing.index() >= BuiltinType::ALL.len() {
         return Ok(());
     }
-    report_name(errors, ty.pos, Wrong::TypeBuiltin, name)
+    report_name(errors, ty.pos, Wrong::TypeBuiltin, &ty.name.0)
 }

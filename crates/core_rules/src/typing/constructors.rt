@@ -44,7 +44,7 @@ impl TermEnv {
         if term.has_constructor() {
             return Ok(());
         }
-        report_name(errors, pos, Wrong::NoConstructor, name.0.as_str())
+        report_name(errors, pos, Wrong::NoConstructor, &name.0)
     }
 
     // The same of each of these uses.

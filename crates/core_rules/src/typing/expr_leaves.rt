@@ -87,12 +87,7 @@ impl TermEnv {
     {
         let name = tyenv.intern_mut(val)?;
         let Some(ty) = constant_type(tyenv, name) else {
-            report_name(
-                &mut work.errors,
-                pos,
-                Wrong::UnknownConstant,
-                val.0.as_str(),
-            )?;
+            report_name(&mut work.errors, pos, Wrong::UnknownConstant, &val.0)?;
             return Ok(None);
         };
         if !meets_expected(ty, expected_ty) {

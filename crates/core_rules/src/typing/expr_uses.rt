@@ -101,12 +101,7 @@ impl TermEnv {
             (expr_view whole.now) flags (expected expected_ty) result }
     {
         let Some(bound) = find_var(tyenv, work, name) else {
-            report_name(
-                &mut work.errors,
-                pos,
-                Wrong::UnknownVariable,
-                name.0.as_str(),
-            )?;
+            report_name(&mut work.errors, pos, Wrong::UnknownVariable, &name.0)?;
             return Ok(VarUse::Wrong);
         };
         if let Some(by) = self.expr_converter(bound.ty, expected_ty) {
@@ -115,12 +110,8 @@ impl TermEnv {
             return Ok(VarUse::Conversion(inside, left));
         }
         if let Some(by) = self.declared_converter(bound.ty, expected_ty) {
-            report_name(
-                &mut work.errors,
-                pos,
-                Wrong::NoConstructor,
-                tyenv.text_of(by.name),
-            )?;
+            let name = tyenv.text_of(by.name);
+            report_name(&mut work.errors, pos, Wrong::NoConstructor, name)?;
             return Ok(VarUse::Wrong);
         }
         check_expected(
@@ -168,12 +159,8 @@ impl TermEnv {
             return Ok(CallUse::Conversion(inside, left));
         }
         if let Some(by) = self.declared_converter(term.ret_ty, expected_ty) {
-            report_name(
-                &mut work.errors,
-                pos,
-                Wrong::NoConstructor,
-                tyenv.text_of(by.name),
-            )?;
+            let name = tyenv.text_of(by.name);
+            report_name(&mut work.errors, pos, Wrong::NoConstructor, name)?;
             return Ok(CallUse::Wrong);
         }
         check_call(tyenv, work, term, sym, args.len(), pos, expected_ty, flags)?;
@@ -271,21 +258,12 @@ fn check_flags(
     let TermKind::Decl { flags: own, .. } = &term.kind else {
         return Ok(());
     };
-    check_allowed(errors, pos, sym, is_pure_enough(flags, *own), Wrong::Impure)?;
-    check_allowed(
-        errors,
-        pos,
-        sym,
-        is_single_enough(flags, *own),
-        Wrong::MultiConstructor,
-    )?;
-    check_allowed(
-        errors,
-        pos,
-        sym,
-        is_total_enough(flags, *own),
-        partial_under(flags),
-    )?;
+    let pure = is_pure_enough(flags, *own);
+    check_allowed(errors, pos, sym, pure, Wrong::Impure)?;
+    let single = is_single_enough(flags, *own);
+    check_allowed(errors, pos, sym, single, Wrong::MultiConstructor)?;
+    let total = is_total_enough(flags, *own);
+    check_allowed(errors, pos, sym, total, partial_under(flags))?;
     Ok(())
 }
 
@@ -313,7 +291,7 @@ fn check_allowed(
     if is_allowed {
         return Ok(());
     }
-    report_name(errors, pos, wrong, sym.0.as_str())
+    report_name(errors, pos, wrong, &sym.0)
 }
 
 // Whether a term of flags of its own is pure where the flags in force ask for that.
@@ -351,7 +329,7 @@ fn report_unknown(
         Some(_) => Wrong::CalledVariable,
         None => Wrong::UnknownConstructor,
     };
-    report_name(&mut work.errors, pos, wrong, sym.0.as_str())
+    report_name(&mut work.errors, pos, wrong, &sym.0)
 }
 
 // Whether an expression of a type may stand where a type, or any type, is expected.

@@ -115,12 +115,7 @@ impl TermEnv {
     {
         let name = tyenv.intern_mut(val)?;
         let Some(ty) = constant_type(tyenv, name) else {
-            report_name(
-                &mut work.errors,
-                pos,
-                Wrong::UnknownConstant,
-                val.0.as_str(),
-            )?;
+            report_name(&mut work.errors, pos, Wrong::UnknownConstant, &val.0)?;
             return Ok(None);
         };
         check_same(
@@ -189,5 +184,5 @@ fn check_new(work: &mut Progress, name: Sym, var: &Ident, pos: Pos) -> Result<()
     if work.lookup(name).is_none() {
         return Ok(());
     }
-    report_name(&mut work.errors, pos, Wrong::Rebound, var.0.as_str())
+    report_name(&mut work.errors, pos, Wrong::Rebound, &var.0)
 }

@@ -98,12 +98,7 @@ impl TermEnv {
             (pattern_views args.now) expected_ty.0 result }
     {
         let Some(term) = self.find_term(tyenv, sym) else {
-            report_name(
-                &mut work.errors,
-                pos,
-                Wrong::UnknownExtractor,
-                sym.0.as_str(),
-            )?;
+            report_name(&mut work.errors, pos, Wrong::UnknownExtractor, &sym.0)?;
             return Ok(PatternUse::Wrong);
         };
         if let Some(by) = self.pattern_converter(term.ret_ty, expected_ty) {
@@ -180,15 +175,13 @@ fn check_extractor(
     ensures checks { OnOk result (Checks errors.old.items errors.new.items (is_matchable multi (term_view term.now).kind ≡ true)) }
     ensures places { OnOk result (NotesAt (position pos ∷ []) errors.old.items errors.new.items) }
 {
-    let name = sym.0.as_str();
     if !term.has_extractor() {
-        return report_name(errors, pos, Wrong::NoExtractor, name);
+        return report_name(errors, pos, Wrong::NoExtractor, &sym.0);
     }
     if is_usable(term, multi) {
         return Ok(());
     }
-    let wrong = Wrong::MultiExtractor;
-    report_name(errors, pos, wrong, name)
+    report_name(errors, pos, Wrong::MultiExtractor, &sym.0)
 }
 
 // Whether a rule whose term is multi or not may use a term's extractor: those of multi terms give many answers.

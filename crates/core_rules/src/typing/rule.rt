@@ -56,13 +56,11 @@ impl TermEnv {
             return Ok(None);
         };
         let Some(term) = self.find_term(tyenv, sym) else {
-            let wrong = Wrong::UndeclaredRoot;
-            report_name(&mut work.errors, rule.pos, wrong, sym.0.as_str())?;
+            report_name(&mut work.errors, rule.pos, Wrong::UndeclaredRoot, &sym.0)?;
             return Ok(None);
         };
         let Some(flags) = flags_of(term) else {
-            let wrong = Wrong::RootOfVariant;
-            report_name(&mut work.errors, rule.pos, wrong, sym.0.as_str())?;
+            report_name(&mut work.errors, rule.pos, Wrong::RootOfVariant, &sym.0)?;
             return Ok(None);
         };
         let args = args_of(rule);
@@ -117,7 +115,7 @@ fn check_priority(
     if !(flags.multi && prio.is_some()) {
         return Ok(());
     }
-    report_name(errors, pos, Wrong::PriorityInMulti, sym.0.as_str())
+    report_name(errors, pos, Wrong::PriorityInMulti, &sym.0)
 }
 
 // The rule of these sides and these variables. Its own name is met last.

@@ -77,18 +77,16 @@ impl TermTable {
         ensures terms { self.new.terms ≡ self.old.terms }
     {
         let Some(inner) = tyenv.get_type_by_name(&converter.inner_ty) else {
-            let wrong = Wrong::UnknownInner;
             let name = &converter.inner_ty;
-            return report_name(errors, name.1, wrong, name.0.as_str());
+            return report_name(errors, name.1, Wrong::UnknownInner, &name.0);
         };
         let Some(outer) = tyenv.get_type_by_name(&converter.outer_ty) else {
-            let wrong = Wrong::UnknownOuter;
             let name = &converter.outer_ty;
-            return report_name(errors, name.1, wrong, name.0.as_str());
+            return report_name(errors, name.1, Wrong::UnknownOuter, &name.0);
         };
         let Some(term) = self.find_term(tyenv, &converter.term) else {
             let name = &converter.term;
-            return report_name(errors, name.1, Wrong::UnknownConverter, name.0.as_str());
+            return report_name(errors, name.1, Wrong::UnknownConverter, &name.0);
         };
         if self.converters.contains_key(&(inner, outer)) {
             return report_converted(errors, converter);

@@ -98,5 +98,5 @@ fn check_marks(errors: &mut Vec<Error>, decl: &Decl) -> Result<(), AllocError>
     if !(decl.multi && decl.partial) {
         return Ok(());
     }
-    report_name(errors, decl.pos, Wrong::MultiPartial, decl.term.0.as_str())
+    report_name(errors, decl.pos, Wrong::MultiPartial, &decl.term.0)
 }

@@ -125,8 +125,7 @@ impl TermTable {
         ensures placed { OnOk result (IsPlacedAmong (table_positions self.old) self.new) }
     {
         let Some(id) = self.find_term(tyenv, term) else {
-            let wrong = Wrong::UndeclaredConstructor;
-            return report_name(errors, pos, wrong, term.0.as_str());
+            return report_name(errors, pos, Wrong::UndeclaredConstructor, &term.0);
         };
         if !may_have_constructor(errors, &self.terms[id.index()], term, pos)? {
             return Ok(());
@@ -154,8 +153,7 @@ impl TermTable {
         ensures placed { OnOk result (IsPlacedAmong (position pos ∷ table_positions self.old) self.new) }
     {
         let Some(id) = self.find_term(tyenv, term) else {
-            let wrong = Wrong::UndeclaredExtractor;
-            return report_name(errors, pos, wrong, term.0.as_str());
+            return report_name(errors, pos, Wrong::UndeclaredExtractor, &term.0);
         };
         if !may_have_external(errors, &self.terms[id.index()], term, pos)? {
             return Ok(());
@@ -185,7 +183,7 @@ fn may_have_constructor(
     let Some(wrong) = why_no_constructor(entry) else {
         return Ok(true);
     };
-    report_name(errors, pos, wrong, term.0.as_str())?;
+    report_name(errors, pos, wrong, &term.0)?;
     Ok(false)
 }
 

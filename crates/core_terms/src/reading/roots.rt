@@ -80,11 +80,10 @@ impl TermTable {
             return report(errors, rule.pos, Why::NoRoot);
         };
         let Some(id) = self.find_term(tyenv, root) else {
-            let name = root.0.as_str();
-            return report_name(errors, rule.pos, Wrong::UndeclaredRoot, name);
+            return report_name(errors, rule.pos, Wrong::UndeclaredRoot, &root.0);
         };
         if let Some(wrong) = why_no_root(&self.terms[id.index()]) {
-            return report_name(errors, rule.pos, wrong, root.0.as_str());
+            return report_name(errors, rule.pos, wrong, &root.0);
         }
         set_internal(&mut self.terms[id.index()]);
         Ok(())

@@ -124,7 +124,7 @@ impl TermTable {
         ensures placed { OnOk result (IsPlacedAmong (extractor_positions (extractor_view extractor.now) ++ table_positions self.old) self.new) }
     {
         let Some(id) = self.find_term(tyenv, &extractor.term) else {
-            let name = extractor.term.0.as_str();
+            let name = &extractor.term.0;
             report_name(errors, extractor.pos, Wrong::UndeclaredTemplate, name)?;
             return Ok(false);
         };

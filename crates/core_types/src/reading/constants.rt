@@ -56,8 +56,7 @@ impl TypeEnv {
             self.old errors.old.items self.new errors.new.items) }
     {
         let Some(id) = self.get_type_by_name(ty) else {
-            let wrong = Wrong::UnknownConstantType;
-            return report_name(errors, pos, wrong, ty.0.as_str());
+            return report_name(errors, pos, Wrong::UnknownConstantType, &ty.0);
         };
         let sym = self.intern_mut(name)?;
         self.const_types.insert(sym, id)?;

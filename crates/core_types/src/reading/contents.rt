@@ -55,13 +55,11 @@ impl TypeEnv {
             self.old errors.old.items self.new errors.new.items) }
     {
         if ty.is_nodebug {
-            let wrong = Wrong::NodebugPrimitive;
-            report_name(errors, ty.pos, wrong, ty.name.0.as_str())?;
+            report_name(errors, ty.pos, Wrong::NodebugPrimitive, &ty.name.0)?;
             return Ok(None);
         }
         if ty.is_extern {
-            let wrong = Wrong::ExternPrimitive;
-            report_name(errors, ty.pos, wrong, ty.name.0.as_str())?;
+            report_name(errors, ty.pos, Wrong::ExternPrimitive, &ty.name.0)?;
             return Ok(None);
         }
         let name = self.intern_mut(inner)?;
@@ -173,12 +171,7 @@ impl TypeEnv {
         let fullname = self.intern_mut(&full_name)?;
         let name = self.intern_mut(&variant.name)?;
         if !seen.insert(name)? {
-            report_name(
-                errors,
-                variant.pos,
-                Wrong::VariantTwice,
-                variant.name.0.as_str(),
-            )?;
+            report_name(errors, variant.pos, Wrong::VariantTwice, &variant.name.0)?;
             return Ok(None);
         }
         let Some(fields) = self.read_fields(errors, &variant.fields, Some(&variant.name))? else {
@@ -233,6 +226,6 @@ fn has_both_marks(errors: &mut Vec<Error>, ty: &syntax::Type) -> Result<bool, Al
     if !(ty.is_extern && ty.is_nodebug) {
         return Ok(false);
     }
-    report_name(errors, ty.pos, Wrong::NodebugExtern, ty.name.0.as_str())?;
+    report_name(errors, ty.pos, Wrong::NodebugExtern, &ty.name.0)?;
     Ok(true)
 }
