@@ -32,8 +32,9 @@ pub enum Why {
         greatest: usize,
         count: usize,
     },
-    /// Templates name one another, along this way: from the term at which the error stands to one that is on it before.
-    Recursion(Vec<String>),
+    /// Templates name one another, along this way: from the term at which the error stands to one that is on it before. A way may be
+    /// long, so it is one text: the names, which have no blanks, with a blank between two.
+    Recursion(String),
     /// The macro argument of this number stands outside of a template.
     MacroArgument(usize),
     /// The pattern of a rule has no term at its root.

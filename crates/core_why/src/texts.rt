@@ -116,12 +116,11 @@ fn write_variant<W: fmt::Write>(
 }
 
 // Writes the way along which templates name one another.
-fn write_way<W: fmt::Write>(f: &mut fmt::Formatter<W>, way: &[String]) -> fmt::Result {
-    let Some(first) = way.first() else {
-        return Ok(());
-    };
+fn write_way<W: fmt::Write>(f: &mut fmt::Formatter<W>, way: &str) -> fmt::Result {
+    let mut names = way.split(' ');
+    let first = names.next().unwrap_or("");
     write!(f, "`{first}` extractor definition is recursive: {first}")?;
-    for name in way.iter().skip(1) {
+    for name in names {
         write!(f, " -> {name}")?;
     }
     Ok(())

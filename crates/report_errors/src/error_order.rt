@@ -239,19 +239,19 @@ fn cycle_in<'a>(alloc: Global, why: Option<&'a Why>) -> Result<Option<Cycle<'a>>
     let Some(Why::Recursion(way)) = why else {
         return Ok(None);
     };
-    let Some((last, way)) = way.split_last() else {
+    let Some((way, last)) = way.rsplit_once(' ') else {
         return Ok(None);
     };
     let mut members = Vec::new(alloc);
-    let mut closed = false;
-    for (i, name) in way.iter().enumerate() {
-        let is_last = name == last;
-        closed = closed || i == 0 && is_last;
-        if is_last || !members.is_empty() {
-            members.push(name.as_str())?;
+    let mut begun = false;
+    for name in way.split(' ') {
+        begun = begun || name == last;
+        if begun {
+            members.push(name)?;
         }
     }
     members.sort()?;
+    let closed = way.split(' ').next() == Some(last);
     Ok(Some(Cycle { closed, members }))
 }
 

@@ -174,7 +174,7 @@ fn add_cycle(told: &Told<'_>, report: &mut Report) -> Result<(), AllocError> {
     let Why::Recursion(way) = told.why else {
         return Ok(());
     };
-    for name in way.iter().take(MOST_EXTRACTORS) {
+    for name in way.split(' ').take(MOST_EXTRACTORS) {
         if let Some(place) = place_of_template(told.defs, name) {
             let text = format!(in told.alloc; "`{name}` is defined here")?;
             report.add_new_label(place, text)?;

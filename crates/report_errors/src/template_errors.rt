@@ -68,7 +68,7 @@ pub(crate) fn uses_behind<'a>(
     for (number, error) in errors.iter().enumerate() {
         let found = match (template_of(defs, error), place_of(error), why_of(error)) {
             (Some(extractor), Some(pos), Some(why)) => {
-                let said = (pos, format!(in alloc; "{why}")?);
+                let said = (pos, said_by(alloc, why)?);
                 let (first, before) = counts.get(&said).copied().unwrap_or((number, 0usize));
                 counts.insert(said, (first, before.saturating_add(1)))?;
                 use_error(&uses, extractor, why, first, before)
@@ -78,6 +78,14 @@ pub(crate) fn uses_behind<'a>(
         behind.push(found)?;
     }
     Ok(behind)
+}
+
+// What an error says: the text, or the way of templates that name one another. That may be long, and isn't copied.
+fn said_by(alloc: Global, why: &Why) -> Result<(String, &str), AllocError> {
+    match why {
+        Why::Recursion(way) => Ok((String::new(alloc), way.as_str())),
+        _ => Ok((format!(in alloc; "{why}")?, "")),
+    }
 }
 
 // The extractor in whose template an error stands.

@@ -102,11 +102,12 @@ impl TermTable {
         ensures noted { OnOk result (NotesMore errors.old.items errors.new.items) }
         ensures places { OnOk result (NotesAt (position pos ∷ []) errors.old.items errors.new.items) }
     {
-        let alloc = *errors.allocator();
-        let mut way = Vec::new(alloc);
+        let mut way = String::new(*errors.allocator());
         for term in path {
-            let name = tyenv.text_of(self.terms[term.index()].name);
-            way.push(String::from_str(alloc, name)?)?;
+            if !way.is_empty() {
+                way.push(' ')?;
+            }
+            way.push_str(tyenv.text_of(self.terms[term.index()].name))?;
         }
         report(errors, pos, Why::Recursion(way))
     }
