@@ -14,7 +14,7 @@ ghost use Rattle.core_terms.specs.ReadTerms.{RootsRead};
 ghost use Rattle.core_terms.specs.TermBreaches.{of_definitions, FirstStandsAt};
 ghost use Rattle.core_terms.specs.TermViews.{term_view};
 ghost use Rattle.core_terms.specs.Templating.{AddsFound, AreArguments, AreCallees, AreFound, CantTakeTemplate, HaveUnknown, IsTemplate, IsWrongTemplate, NameNothing, ReadsIfTemplate, ReadsExtractor, SetsCallees, TakesTemplate, TemplatesRead, may_have_template};
-ghost use Rattle.core_terms.specs.TermPositions.{argument_places, entry_positions, table_positions, taker_places, IsPlacedAmong};
+ghost use Rattle.core_terms.specs.TermPositions.{argument_places, entry_positions, table_positions, IsPlacedAmong};
 
 use crate::reading::externs::report_second;
 use crate::term::{ExtractorKind, Term, TermFlags, TermKind};
