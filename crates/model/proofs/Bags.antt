@@ -1,12 +1,12 @@
 -- What the elements of a list make, one after another, and as a bag: whatever order they are taken in.
 use Rattle.std.proofs.Common.{◌≡◌, ℕ, suc, ◌+◌, ◌<◌, ◌≤◌, ◌==◌, Bool, true, false, cond, List, [], ◌∷◌, ◌++◌, length, flat_map, count_by, Some, slice_get, Contains, refl, sym, ap, ◌∙◌, subst, subst₂, inl, inr, arith, eqb-true, eq-eqb}
 use Rattle.std.specs.Prelude.{IsPermutation}
-use Rattle.std.proofs.lemmas.Bool.{cases_Bool, cond-true, cond-false, false≢true}
+use Rattle.std.proofs.lemmas.Bool.{cases_Bool, false≢true}
 use Rattle.std.proofs.lemmas.List.{append_assoc}
 use Rattle.std.proofs.lemmas.List.Elements.{Contains-append_left, Contains-append_right, Contains-append_cases}
 use Rattle.std.proofs.lemmas.List.Sums.{sum_by-cons}
 use Rattle.std.proofs.lemmas.List.Sorted.{sum_by-IsPermutation, IsPermutation-middle, IsPermutation-refl, IsPermutation-trans, IsPermutation-append, IsPermutation-append_left, IsPermutation-append_right, IsPermutation-append_comm}
-use Rattle.std.proofs.lemmas.Grind.{flat_map-append}
+use Rattle.std.proofs.lemmas.Grind.{flat_map-append, common_steps}
 use Rattle.model.specs.rules.Program.{numbers_from}
 use Rattle.model.proofs.Members.{nothing_in, in_head, in_tail, in_cases, member_counted}
 
@@ -70,16 +70,10 @@ split_at x (y ∷ ys) c =
     ]
 
 counted_yes : (p : ℕ → Bool) (x : ℕ) (xs : List ℕ) → p x ≡ true → count_by p (x ∷ xs) ≡ suc (count_by p xs)
-counted_yes p x xs t =
-    let a : count_by p (x ∷ xs) ≡ cond (p x) 1 0 + count_by p xs = sum_by-cons (λ y. cond (p y) 1 0) x xs in
-    let b = cond-true {A = ℕ} (p x) 1 0 t in
-    omega (arith, a, b)
+counted_yes p x xs t = grind (arith, common_steps, sum_by-cons)
 
 counted_no : (p : ℕ → Bool) (x : ℕ) (xs : List ℕ) → p x ≡ false → count_by p (x ∷ xs) ≡ count_by p xs
-counted_no p x xs f =
-    let a : count_by p (x ∷ xs) ≡ cond (p x) 1 0 + count_by p xs = sum_by-cons (λ y. cond (p y) 1 0) x xs in
-    let b = cond-false {A = ℕ} (p x) 1 0 f in
-    omega (arith, a, b)
+counted_no p x xs f = grind (arith, common_steps, sum_by-cons)
 
 counted_middle : (p : ℕ → Bool) (xs : List ℕ) (x : ℕ) (ys : List ℕ) → count_by p (xs ++ x ∷ ys) ≡ count_by p (x ∷ (xs ++ ys))
 counted_middle p xs x ys = sym (sum_by-IsPermutation (λ y. cond (p y) 1 0) (xs ++ x ∷ ys) (x ∷ (xs ++ ys)) (IsPermutation-middle xs x ys))

@@ -1,17 +1,14 @@
 -- The terms that expressions call: where each is such, each is what follows.
 use Rattle.std.proofs.Common.{ℕ}
-use Rattle.model.specs.rules.Typed.{TypedExpr, make_term, make_var, make_bool, make_int, make_prim, make_let, TypedExprs, no_typed_expr, typed_expr_and, TypedLets, no_typed_let, typed_let_and}
+use Rattle.model.specs.rules.Typed.{TypedExpr, make_term, make_let, TypedExprs, no_typed_expr, typed_expr_and, TypedLets, no_typed_let, typed_let_and}
 use Rattle.model.specs.rules.CalledTerms.{CallsAlone, CallAlone, LetsCallAlone}
 
 module _ (P Q : ℕ → Type 0) (f : (t : ℕ) → P t → Q t) where
   mutual
     pub calls_such : (x : TypedExpr) → CallsAlone P x → CallsAlone Q x
     calls_such (make_term ty t args) h = (f t h.0, call_such args h.1)
-    calls_such (make_var ty x) h = tt
-    calls_such (make_bool ty b) h = tt
-    calls_such (make_int ty z) h = tt
-    calls_such (make_prim ty name) h = tt
     calls_such (make_let ty defs body) h = (lets_call_such defs h.0, calls_such body h.1)
+    calls_such x h = tt
 
     call_such : (xs : TypedExprs) → CallAlone P xs → CallAlone Q xs
     call_such no_typed_expr h = tt

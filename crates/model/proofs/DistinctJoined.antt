@@ -1,5 +1,6 @@
 -- Lists in which nothing stands twice, from their parts.
-use Rattle.std.proofs.Common.{◌≡◌, zero, suc, Bool, List, [], ◌∷◌, ◌++◌, map, filter, Contains, flat_map, refl, sym, ap, subst, inl, inr, arith}
+use Rattle.std.proofs.Common.{◌≡◌, suc, Bool, List, [], ◌∷◌, ◌++◌, map, filter, Contains, flat_map, refl, sym, subst, inl, inr, arith}
+use Rattle.std.proofs.lemmas.Grind.{common_steps}
 use Rattle.std.proofs.lemmas.Bool.{cases_Bool, cond-true, cond-false}
 use Rattle.std.proofs.lemmas.Option.{same_Some}
 use Rattle.std.proofs.lemmas.List.Elements.{Contains-append_cases}
@@ -9,10 +10,7 @@ use Rattle.model.proofs.Positions.{distinct_nil}
 
 module _ {X : Type 0} where
   pub distinct_cons : (x : X) (xs : List X) → (Contains xs x → ⊥) → IsDistinct xs → IsDistinct (x ∷ xs)
-  distinct_cons x xs n d zero zero y e f = refl
-  distinct_cons x xs n d zero (suc k) y e f = absurd (n (subst (Contains xs) (sym (same_Some x y e)) (member_from_get xs k y f)))
-  distinct_cons x xs n d (suc j) zero y e f = absurd (n (subst (Contains xs) (sym (same_Some x y f)) (member_from_get xs j y e)))
-  distinct_cons x xs n d (suc j) (suc k) y e f = ap suc (d j k y e f)
+  distinct_cons x xs n d h i y e f = grind (arith, common_steps, same_Some, member_from_get)
 
   pub distinct_tail : (x : X) (xs : List X) → IsDistinct (x ∷ xs) → IsDistinct xs
   distinct_tail x xs d j k y e f = let s = d (suc j) (suc k) y e f in omega (arith, s)

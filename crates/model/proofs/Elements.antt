@@ -1,6 +1,7 @@
 -- Elements of lists, as a choice by recursion, and tests of lists.
-use Rattle.std.proofs.Common.{◌≡◌, ◌⊎◌, ℕ, zero, suc, ◌<◌, Bool, true, false, ◌||◌, List, [], ◌∷◌, ◌++◌, map, length, get_or, Some, None, slice_get, Contains, filter, flat_map, refl, sym, ap, ◌∙◌, subst, inl, inr, arith}
-use Rattle.std.proofs.lemmas.Bool.{cases_Bool, cond-true, cond-false, and_parts, and_from, false≢true}
+use Rattle.std.proofs.Common.{◌≡◌, ◌⊎◌, ℕ, suc, ◌<◌, Bool, true, ◌||◌, List, [], ◌∷◌, ◌++◌, map, length, get_or, Some, None, slice_get, Contains, filter, flat_map, refl, sym, ap, ◌∙◌, subst, inl, inr, arith}
+use Rattle.std.proofs.lemmas.Grind.{common_steps}
+use Rattle.std.proofs.lemmas.Bool.{and_parts, and_from, false≢true}
 use Rattle.std.specs.List.{list_any, list_all, zip}
 
 abbrev pub In : {X : Type 0} → List X → X → Type 0
@@ -8,22 +9,18 @@ In [] x = ⊥
 In (y ∷ ys) x = (y ≡ x) ⊎ In ys x
 
 pub or_split : (a b : Bool) → (a || b) ≡ true → (a ≡ true) ⊎ (b ≡ true)
-or_split true b h = inl refl
-or_split false b h = inr h
+or_split a b h = grind (arith, common_steps)
 
 pub or_left : (a b : Bool) → a ≡ true → (a || b) ≡ true
-or_left true b h = refl
-or_left false b h = absurd (false≢true h)
+or_left a b h = grind (arith, common_steps)
 
 pub or_right : (a b : Bool) → b ≡ true → (a || b) ≡ true
-or_right true b h = refl
-or_right false b h = h
+or_right a b h = grind (arith, common_steps)
 
 module _ {X : Type 0} where
   in_from_place : (xs : List X) (x : X) (k : ℕ) → k < length xs → get_or xs k x ≡ x → In xs x
-  in_from_place [] x k lt e = absurd (omega arith)
-  in_from_place (y ∷ ys) x zero lt e = inl e
   in_from_place (y ∷ ys) x (suc k) lt e = inr (in_from_place ys x k (omega arith) e)
+  in_from_place xs x k lt e = grind (arith, common_steps)
 
   pub in_from_contains : (xs : List X) (x : X) → Contains xs x → In xs x
   in_from_contains xs x c = in_from_place xs x c.0 c.1 c.2
@@ -54,9 +51,8 @@ module _ {X : Type 0} where
   in_either (y ∷ xs) ys x (inr i) = elim (in_either xs ys x i) [ inl a ↦ inl (inr a) | inr b ↦ inr b ]
 
   pub in_slice : (xs : List X) (k : ℕ) (x : X) → slice_get xs k ≡ Some x → In xs x
-  in_slice [] k x e = absurd (none_some x e)
-  in_slice (y ∷ ys) zero x e = inl (some_is y x e)
   in_slice (y ∷ ys) (suc k) x e = inr (in_slice ys k x e)
+  in_slice xs k x e = grind (arith, common_steps, none_some, some_is)
 
   pub slice_in : (xs : List X) (x : X) → In xs x → (k : ℕ) × (slice_get xs k ≡ Some x)
   slice_in (y ∷ ys) x (inl e) = (0, ap Some e)
@@ -69,12 +65,8 @@ module _ {X : Type 0} where
   any_in p (y ∷ ys) x (inr i) h = or_right (p y) (list_any p ys) (any_in p ys x i h)
 
   pub in_any : (p : X → Bool) (xs : List X) → list_any p xs ≡ true → (x : X) × In xs x × (p x ≡ true)
+  in_any p (y ∷ ys) h = grind (arith, common_steps, in_any p ys, or_split (p y) (list_any p ys) h, or_split)
   in_any p [] h = absurd (false≢true h)
-  in_any p (y ∷ ys) h =
-      elim (or_split (p y) (list_any p ys) h) [
-        | inl t ↦ (y, inl refl, t)
-        | inr t ↦ let r = in_any p ys t in (r.0, inr r.1, r.2)
-      ]
 
   pub all_in : (p : X → Bool) (xs : List X) (x : X) → list_all p xs ≡ true → In xs x → p x ≡ true
   all_in p [] x h i = absurd i
@@ -86,30 +78,17 @@ module _ {X : Type 0} where
   all_from p (y ∷ ys) f = and_from (p y) (list_all p ys) (f y (inl refl)) (all_from p ys (λ x i. f x (inr i)))
 
 pub in_filter : {X : Type 0} (p : X → Bool) (xs : List X) (x : X) → In (filter p xs) x → In xs x
+in_filter p (y ∷ ys) x i = grind (arith, common_steps, in_filter p ys x)
 in_filter p [] x i = absurd i
-in_filter p (y ∷ ys) x i =
-    elim (cases_Bool (p y)) [
-      | inl t ↦ elim (subst (λ l. In l x) (cond-true (p y) (y ∷ filter p ys) (filter p ys) t) i) [ inl e ↦ inl e | inr j ↦ inr (in_filter p ys x j) ]
-      | inr f ↦ inr (in_filter p ys x (subst (λ l. In l x) (cond-false (p y) (y ∷ filter p ys) (filter p ys) f) i))
-    ]
 
 pub filter_from : {X : Type 0} (p : X → Bool) (xs : List X) (x : X) → In xs x → p x ≡ true → In (filter p xs) x
 filter_from p [] x i h = absurd i
-filter_from p (y ∷ ys) x (inl e) h =
-    subst (λ l. In l x) (sym (cond-true (p y) (y ∷ filter p ys) (filter p ys) (ap p e ∙ h))) (inl e)
-filter_from p (y ∷ ys) x (inr i) h =
-    elim (cases_Bool (p y)) [
-      | inl t ↦ subst (λ l. In l x) (sym (cond-true (p y) (y ∷ filter p ys) (filter p ys) t)) (inr (filter_from p ys x i h))
-      | inr f ↦ subst (λ l. In l x) (sym (cond-false (p y) (y ∷ filter p ys) (filter p ys) f)) (filter_from p ys x i h)
-    ]
+filter_from p (y ∷ ys) x (inl e) h = grind (arith, common_steps)
+filter_from p (y ∷ ys) x (inr i) h = grind (arith, common_steps, filter_from p ys x i h)
 
 pub passed_filter : {X : Type 0} (p : X → Bool) (xs : List X) (x : X) → In (filter p xs) x → p x ≡ true
+passed_filter p (y ∷ ys) x i = grind (arith, common_steps, passed_filter p ys x)
 passed_filter p [] x i = absurd i
-passed_filter p (y ∷ ys) x i =
-    elim (cases_Bool (p y)) [
-      | inl t ↦ elim (subst (λ l. In l x) (cond-true (p y) (y ∷ filter p ys) (filter p ys) t) i) [ inl e ↦ ap p (sym e) ∙ t | inr j ↦ passed_filter p ys x j ]
-      | inr f ↦ passed_filter p ys x (subst (λ l. In l x) (cond-false (p y) (y ∷ filter p ys) (filter p ys) f) i)
-    ]
 
 pub in_map : {X Y : Type 0} (f : X → Y) (xs : List X) (y : Y) → In (map f xs) y → (x : X) × In xs x × (f x ≡ y)
 in_map f [] y i = absurd i
@@ -127,19 +106,13 @@ in_flat_map f (z ∷ xs) x y (inl e) j = in_left (f z) (flat_map f xs) y (subst 
 in_flat_map f (z ∷ xs) x y (inr i) j = in_right (f z) (flat_map f xs) y (in_flat_map f xs x y i j)
 
 pub from_flat_map : {X Y : Type 0} (f : X → List Y) (xs : List X) (y : Y) → In (flat_map f xs) y → (x : X) × In xs x × In (f x) y
+from_flat_map f (x ∷ xs) y i = grind (arith, common_steps, from_flat_map f xs y, in_either (f x) (flat_map f xs) y i, in_either)
 from_flat_map f [] y i = absurd i
-from_flat_map f (x ∷ xs) y i =
-    elim (in_either (f x) (flat_map f xs) y i) [
-      | inl a ↦ (x, inl refl, a)
-      | inr b ↦ let r = from_flat_map f xs y b in (r.0, inr r.1, r.2)
-    ]
 
 -- elements at one place
 pub zip_in : {X Y : Type 0} (xs : List X) (ys : List Y) (i : ℕ) (x : X) (y : Y) → slice_get xs i ≡ Some x → slice_get ys i ≡ Some y → In (zip xs ys) (x, y)
-zip_in [] ys i x y e f = absurd (none_some x e)
-zip_in (a ∷ xs) [] i x y e f = absurd (none_some y f)
-zip_in (a ∷ xs) (b ∷ ys) zero x y e f = inl (λ k. (some_is a x e k, some_is b y f k))
 zip_in (a ∷ xs) (b ∷ ys) (suc i) x y e f = inr (zip_in xs ys i x y e f)
+zip_in xs ys i x y e f = grind (arith, common_steps, none_some, some_is)
 
 pub in_zip : {X Y : Type 0} (xs : List X) (ys : List Y) (e : X × Y) → In (zip xs ys) e → (i : ℕ) × (slice_get xs i ≡ Some e.0) × (slice_get ys i ≡ Some e.1)
 in_zip [] ys e i = absurd i

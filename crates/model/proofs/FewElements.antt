@@ -1,5 +1,6 @@
 -- Lists of no element, and of one.
-use Rattle.std.proofs.Common.{◌≡◌, List, [], ◌∷◌, ◌++◌, refl, subst, inl, inr}
+use Rattle.std.proofs.Common.{◌≡◌, List, [], ◌∷◌, ◌++◌, refl, subst, inl, arith}
+use Rattle.std.proofs.lemmas.Grind.{common_steps}
 use Rattle.model.proofs.Elements.{In}
 
 module _ {X : Type 0} where
@@ -7,8 +8,7 @@ module _ {X : Type 0} where
   not_empty x xs e = absurd (cc)
 
   pub not_nothing : (xs : List X) (x : X) → xs ++ x ∷ [] ≡ [] → ⊥
-  not_nothing [] x e = absurd (cc)
-  not_nothing (y ∷ ys) x e = absurd (cc)
+  not_nothing xs x e = grind (arith, common_steps)
 
   pub none_in : (xs : List X) → xs ≡ [] → (x : X) → In xs x → ⊥
   none_in xs e x i = subst (λ l. In l x) e i
@@ -18,5 +18,4 @@ module _ {X : Type 0} where
   nothing_if_none (x ∷ xs) f = absurd (f x (inl refl))
 
   pub in_one : (x y : X) → In (x ∷ []) y → x ≡ y
-  in_one x y (inl e) = e
-  in_one x y (inr n) = absurd n
+  in_one x y h = grind (arith, common_steps)

@@ -1,7 +1,7 @@
 -- The first place of a text among texts.
-use Rattle.std.proofs.Common.{◌≡◌, ℕ, zero, suc, ◌+◌, ◌<◌, ◌||◌, true, false, cond, List, [], ◌∷◌, ◌++◌, length, Some, None, option_map, slice_get, refl, sym, ap, ◌∙◌, arith}
+use Rattle.std.proofs.Common.{◌≡◌, ℕ, zero, suc, ◌+◌, ◌<◌, true, false, cond, List, [], ◌∷◌, ◌++◌, length, Some, None, option_map, slice_get, refl, ap, arith}
+use Rattle.std.proofs.lemmas.Grind.{common_steps}
 use Rattle.std.specs.Str.{bytes_eq}
-use Rattle.std.proofs.lemmas.Bool.{false≢true}
 use Rattle.model.specs.lists.Names.{has_name, IsDistinct}
 use Rattle.model.specs.lists.TypeTable.{place_from}
 use Rattle.model.proofs.Bytes.{same_bytes, same_self}
@@ -10,46 +10,26 @@ use Rattle.model.proofs.Positions as positions
 
 -- counted from one further
 pub place_next : (n : ℕ) (x : List ℕ) (ts : List (List ℕ)) → place_from (suc n) x ts ≡ option_map suc (place_from n x ts)
+place_next n x (y ∷ ys) = grind (arith, common_steps, place_next (suc n) x ys)
 place_next n x [] = refl
-place_next n x (y ∷ ys) =
-    elim (bytes_eq y x) as (λ b. cond b (Some (suc n)) (place_from (suc (suc n)) x ys) ≡ option_map suc (cond b (Some n) (place_from (suc n) x ys))) [
-      | true ↦ refl
-      | false ↦ place_next (suc n) x ys
-    ]
 
 -- a text that isn't among texts has no place, and the other way round
 pub place_absent : (n : ℕ) (ts : List (List ℕ)) (x : List ℕ) → has_name ts x ≡ false → place_from n x ts ≡ None
+place_absent n (y ∷ ys) x e = grind (arith, common_steps, place_absent (suc n) ys x)
 place_absent n [] x e = refl
-place_absent n (y ∷ ys) x e =
-    elim (bytes_eq y x) as (λ b. b || has_name ys x ≡ false → cond b (Some n) (place_from (suc n) x ys) ≡ None) [
-      | true ↦ λ h. absurd (false≢true (sym h))
-      | false ↦ λ none. place_absent (suc n) ys x none
-    ] e
 
 pub place_missing : (n : ℕ) (ts : List (List ℕ)) (x : List ℕ) → place_from n x ts ≡ None → has_name ts x ≡ false
+place_missing n (y ∷ ys) x e = grind (arith, common_steps, place_missing (suc n) ys x)
 place_missing n [] x e = refl
-place_missing n (y ∷ ys) x e =
-    elim (bytes_eq y x) as (λ b. cond b (Some n) (place_from (suc n) x ys) ≡ None → b || has_name ys x ≡ false) [
-      | true ↦ λ h. absurd (cc)
-      | false ↦ λ h. place_missing (suc n) ys x h
-    ] e
 
 -- one more text: the new one's place is the last, the others keep theirs
 pub place_push_new : (n : ℕ) (ts : List (List ℕ)) (x : List ℕ) → place_from n x ts ≡ None → place_from n x (ts ++ x ∷ []) ≡ Some (n + length ts)
+place_push_new n (y ∷ ys) x e = grind (arith, common_steps, place_push_new (suc n) ys x)
 place_push_new n [] x e = rw (same_self x) (ap Some (omega arith))
-place_push_new n (y ∷ ys) x e =
-    elim (bytes_eq y x) as (λ b. cond b (Some n) (place_from (suc n) x ys) ≡ None → cond b (Some n) (place_from (suc n) x (ys ++ x ∷ [])) ≡ Some (n + suc (length ys))) [
-      | true ↦ λ h. absurd (cc)
-      | false ↦ λ h. place_push_new (suc n) ys x h ∙ ap Some (omega arith)
-    ] e
 
 pub place_push_other : (n : ℕ) (ts : List (List ℕ)) (y x : List ℕ) → bytes_eq y x ≡ false → place_from n x (ts ++ y ∷ []) ≡ place_from n x ts
+place_push_other n (z ∷ zs) y x e = grind (arith, common_steps, place_push_other (suc n) zs y x e)
 place_push_other n [] y x e = rw e refl
-place_push_other n (z ∷ zs) y x e =
-    elim (bytes_eq z x) as (λ b. cond b (Some n) (place_from (suc n) x (zs ++ y ∷ [])) ≡ cond b (Some n) (place_from (suc n) x zs)) [
-      | true ↦ refl
-      | false ↦ place_push_other (suc n) zs y x e
-    ]
 
 pub place_there : (n : ℕ) (ts : List (List ℕ)) (x : List ℕ) (k : ℕ) → place_from n x ts ≡ Some k → (j : ℕ) × (j < length ts) × (slice_get ts j ≡ Some x)
 place_there n [] x k e = absurd (cc)

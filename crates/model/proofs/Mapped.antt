@@ -1,11 +1,11 @@
 -- What stands in a list whose elements are mapped.
-use Rattle.std.proofs.Common.{◌≡◌, ℕ, List, [], ◌∷◌, map, Option, Some, None, option_map, slice_get, refl, sym, ap, ◌∙◌}
+use Rattle.std.proofs.Common.{◌≡◌, ℕ, List, [], ◌∷◌, map, Option, Some, option_map, slice_get, refl, sym, ap, ◌∙◌, arith}
+use Rattle.std.proofs.lemmas.Grind.{common_steps}
 use Rattle.std.proofs.lemmas.Option.{none-some, same_Some, slice_get-map}
 
 module _ {X Y : Type 0} (f : X → Y) where
   pub mapped_some : (o : Option X) (y : Y) → option_map f o ≡ Some y → (x : X) × (o ≡ Some x) × (f x ≡ y)
-  mapped_some None y e = absurd (none-some y e)
-  mapped_some (Some x) y e = (x, refl, same_Some (f x) y e)
+  mapped_some o y e = grind (arith, common_steps, none-some, same_Some)
 
   pub get_mapped : (xs : List X) (i : ℕ) (y : Y) → slice_get (map f xs) i ≡ Some y → (x : X) × (slice_get xs i ≡ Some x) × (f x ≡ y)
   get_mapped xs i y e = mapped_some (slice_get xs i) y (sym (slice_get-map f xs i) ∙ e)

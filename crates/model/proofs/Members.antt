@@ -1,5 +1,6 @@
 -- Members of lists: by their places, in lists that are filtered, mapped and joined, and tests of members.
 use Rattle.std.proofs.Common.{◌≡◌, ◌≢◌, ◌⊎◌, ℕ, zero, suc, ◌==◌, ◌<◌, Bool, true, false, List, [], ◌∷◌, map, length, get_or, Some, slice_get, Contains, All, filter, flat_map, count_by, refl, sym, ap, ◌∙◌, subst, inl, inr, arith, eqb-true, eq-eqb}
+use Rattle.std.proofs.lemmas.Grind.{common_steps}
 use Rattle.std.specs.List.{list_all, list_any}
 use Rattle.std.proofs.lemmas.Bool.{cases_Bool, cond-true, cond-false, and_parts, and_from, or_cases, or_left, or_right, false≢true}
 use Rattle.std.proofs.lemmas.List.Elements.{Contains-append_left, Contains-append_right, Contains-append_cases}
@@ -20,8 +21,7 @@ module _ {X : Type 0} where
   in_tail y x xs c = (let l = c.1 in (suc c.0, omega arith, c.2))
 
   member_at : (y x : X) (xs : List X) (k : ℕ) → k < length (y ∷ xs) → get_or (y ∷ xs) k x ≡ x → (y ≡ x) ⊎ Contains xs x
-  member_at y x xs zero l e = inl e
-  member_at y x xs (suc k) l e = inr (k, omega arith, e)
+  member_at y x xs k l e = grind (arith, common_steps)
 
   pub in_cases : (y x : X) (xs : List X) → Contains (y ∷ xs) x → (y ≡ x) ⊎ Contains xs x
   in_cases y x xs c = member_at y x xs c.0 c.1 c.2
@@ -45,12 +45,8 @@ module _ {X : Type 0} where
   get_within (x ∷ xs) (suc i) l = get_within xs i (omega arith)
 
 pub member_kept : (i : ℕ) (xs : List ℕ) → filter (λ j. j == i) xs ≢ [] → Contains xs i
+member_kept i (x ∷ xs) h = grind (arith, common_steps, member_kept i xs, eqb-true x i, in_head x xs, in_tail x i xs, eqb-true, in_head, in_tail)
 member_kept i [] h = absurd (h refl)
-member_kept i (x ∷ xs) h =
-    elim (cases_Bool (x == i)) [
-      | inl t ↦ subst (Contains (x ∷ xs)) (eqb-true x i t) (in_head x xs)
-      | inr n ↦ in_tail x i xs (member_kept i xs (λ e. h (cond-false (x == i) (x ∷ filter (λ j. j == i) xs) (filter (λ j. j == i) xs) n ∙ e)))
-    ]
 
 pub member_counted : (i : ℕ) (xs : List ℕ) → count_by (λ j. j == i) xs ≡ 1 → Contains xs i
 member_counted i xs h =
@@ -71,10 +67,8 @@ constraint_in (d ∷ ds) s c e =
 
 module _ {X : Type 0} where
   pub each_passes : (p : X → Bool) (xs : List X) → list_all p xs ≡ true → (x : X) → Contains xs x → p x ≡ true
+  each_passes p (y ∷ ys) h x c = grind (arith, common_steps, each_passes p ys, and_parts (p y) (list_all p ys) h, in_cases y x ys c, and_parts, in_cases)
   each_passes p [] h x c = absurd (nothing_in x c)
-  each_passes p (y ∷ ys) h x c =
-      let both = and_parts (p y) (list_all p ys) h in
-      elim (in_cases y x ys c) [ inl e ↦ ap p (sym e) ∙ both.0 | inr d ↦ each_passes p ys both.1 x d ]
 
   pub all_pass : (p : X → Bool) (xs : List X) → ((x : X) → Contains xs x → p x ≡ true) → list_all p xs ≡ true
   all_pass p [] h = refl
@@ -82,20 +76,12 @@ module _ {X : Type 0} where
 
   -- the member that passes, and that one passes
   pub one_passes : (p : X → Bool) (xs : List X) → list_any p xs ≡ true → (x : X) × Contains xs x × (p x ≡ true)
+  one_passes p (y ∷ ys) h = grind (arith, common_steps, one_passes p ys, or_cases (p y) (list_any p ys) h, in_head y ys, in_tail y, or_cases, in_head, in_tail)
   one_passes p [] h = absurd (false≢true h)
-  one_passes p (y ∷ ys) h =
-      elim (or_cases (p y) (list_any p ys) h) [
-        | inl a ↦ (y, in_head y ys, a)
-        | inr b ↦ let r = one_passes p ys b in (r.0, in_tail y r.0 ys r.1, r.2)
-      ]
 
   pub passes_any : (p : X → Bool) (xs : List X) (x : X) → Contains xs x → p x ≡ true → list_any p xs ≡ true
+  passes_any p (y ∷ ys) x c h = grind (arith, common_steps, passes_any p ys x, in_cases y x ys c, or_left (p y) (list_any p ys), or_right (p y) (list_any p ys), in_cases, or_left, or_right)
   passes_any p [] x c h = absurd (nothing_in x c)
-  passes_any p (y ∷ ys) x c h =
-      elim (in_cases y x ys c) [
-        | inl e ↦ or_left (p y) (list_any p ys) (ap p e ∙ h)
-        | inr d ↦ or_right (p y) (list_any p ys) (passes_any p ys x d h)
-      ]
 
   pub all_members : (P : X → Type 0) (xs : List X) → ((x : X) → Contains xs x → P x) → All P xs
   all_members P xs h k d l = h (get_or xs k d) (k, l, same xs k d (get_or xs k d) l)
@@ -140,12 +126,8 @@ module _ {X Y : Type 0} where
       ]
 
   pub in_map : (f : X → Y) (xs : List X) (x : X) → Contains xs x → Contains (map f xs) (f x)
+  in_map f (y ∷ ys) x c = grind (arith, common_steps, in_map f ys x, in_cases y x ys c, in_head (f y) (map f ys), in_tail (f y) (f x) (map f ys), in_cases, in_head, in_tail)
   in_map f [] x c = absurd (nothing_in x c)
-  in_map f (y ∷ ys) x c =
-      elim (in_cases y x ys c) [
-        | inl e ↦ subst (λ z. Contains (map f (y ∷ ys)) (f z)) e (in_head (f y) (map f ys))
-        | inr d ↦ in_tail (f y) (f x) (map f ys) (in_map f ys x d)
-      ]
 
   pub in_flat_map : (f : X → List Y) (xs : List X) (x : X) (y : Y) → Contains xs x → Contains (f x) y → Contains (flat_map f xs) y
   in_flat_map f [] x y c d = absurd (nothing_in x c)
@@ -164,20 +146,12 @@ module _ {X Y : Type 0} where
       ]
 
 pub member_found : (x : ℕ) (xs : List ℕ) → is_in x xs ≡ true → Contains xs x
+member_found x (y ∷ ys) h = grind (arith, common_steps, member_found x ys, or_cases (y == x) (is_in x ys) h, eqb-true y x, in_head y ys, in_tail y x ys, or_cases, eqb-true, in_head, in_tail)
 member_found x [] h = absurd (false≢true h)
-member_found x (y ∷ ys) h =
-    elim (or_cases (y == x) (is_in x ys) h) [
-      | inl t ↦ subst (Contains (y ∷ ys)) (eqb-true y x t) (in_head y ys)
-      | inr r ↦ in_tail y x ys (member_found x ys r)
-    ]
 
 pub member_is_in : (x : ℕ) (xs : List ℕ) → Contains xs x → is_in x xs ≡ true
+member_is_in x (y ∷ ys) c = grind (arith, common_steps, member_is_in x ys, in_cases, or_left, eq-eqb, or_right)
 member_is_in x [] c = absurd (nothing_in x c)
-member_is_in x (y ∷ ys) c =
-    elim (in_cases y x ys c) [
-      | inl e ↦ or_left (y == x) (is_in x ys) (eq-eqb y x e)
-      | inr d ↦ or_right (y == x) (is_in x ys) (member_is_in x ys d)
-    ]
 
 pub in_up_to : (n i : ℕ) → i < n → Contains (up_to n) i
 in_up_to zero i l = absurd (omega arith)
@@ -191,9 +165,5 @@ in_up_to (suc n) i l =
     less i n l f = (let d : i ≢ n = λ e. false≢true (sym f ∙ eq-eqb i n e) in omega arith)
 
 pub from_up_to : (n i : ℕ) → Contains (up_to n) i → i < n
+from_up_to (suc n) i c = grind (arith, common_steps, from_up_to n i, Contains-append_cases (up_to n) (n ∷ []) i c, in_alone n i, Contains-append_cases, in_alone)
 from_up_to zero i c = absurd (nothing_in i c)
-from_up_to (suc n) i c =
-    elim (Contains-append_cases (up_to n) (n ∷ []) i c) [
-      | inl a ↦ let l = from_up_to n i a in omega arith
-      | inr b ↦ let e = in_alone n i b in omega arith
-    ]

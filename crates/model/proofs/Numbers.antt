@@ -1,5 +1,6 @@
 -- Numbers in lists: in one list or another, and the numbers of a list's elements, in order.
-use Rattle.std.proofs.Common.{◌≡◌, ◌⊎◌, ℕ, zero, suc, ◌+◌, ◌<◌, ◌≤◌, ◌==◌, Bool, true, false, cond, List, [], ◌∷◌, ◌++◌, length, filter, Contains, refl, sym, ap, ◌∙◌, subst, inl, inr, eqb-true, eq-eqb, arith}
+use Rattle.std.proofs.Common.{◌≡◌, ◌⊎◌, ℕ, suc, ◌+◌, ◌<◌, ◌≤◌, ◌==◌, Bool, true, false, List, [], ◌∷◌, ◌++◌, length, filter, Contains, refl, sym, ap, ◌∙◌, inl, inr, eqb-true, eq-eqb, arith}
+use Rattle.std.proofs.lemmas.Grind.{common_steps}
 use Rattle.std.proofs.lemmas.Bool.{cases_Bool, cond-true, cond-false, cases_lt, or_cases, or_left, or_right}
 use Rattle.std.proofs.lemmas.List.Folds.{list_any-append}
 use Rattle.std.specs.Cmp.{unsigned_tied}
@@ -13,8 +14,7 @@ use Rattle.model.proofs.Members.{nothing_in, in_head, in_tail, in_cases, member_
 
 -- 1. in one list or the other
 pub in_either : (t : ℕ) (xs ys : List ℕ) → is_in t (xs ++ ys) ≡ true → Contains xs t ⊎ (is_in t ys ≡ true)
-in_either t xs ys h =
-    elim (or_cases (is_in t xs) (is_in t ys) (sym (list_any-append (λ y. y == t) xs ys) ∙ h)) [ inl a ↦ inl (member_found t xs a) | inr b ↦ inr b ]
+in_either t xs ys h = grind (arith, common_steps, or_cases (is_in t xs) (is_in t ys), member_found t xs, or_cases, list_any-append, member_found)
 
 pub in_first : (t : ℕ) (xs ys : List ℕ) → Contains xs t → is_in t (xs ++ ys) ≡ true
 in_first t xs ys c = list_any-append (λ y. y == t) xs ys ∙ or_left (is_in t xs) (is_in t ys) (member_is_in t xs c)
@@ -24,22 +24,16 @@ in_second t xs ys h = list_any-append (λ y. y == t) xs ys ∙ or_right (is_in t
 
 -- 2. the numbers of a list's elements, from i on
 pub numbers_below : {X : Type 0} (i : ℕ) (xs : List X) (n : ℕ) → Contains (numbers_from i xs) n → (i ≤ n) × (n < i + length xs)
+numbers_below i (x ∷ xs) n h = grind (arith, common_steps, numbers_below (suc i) xs n, in_cases i n (numbers_from (suc i) xs) h, in_cases)
 numbers_below i [] n h = absurd (nothing_in n h)
-numbers_below i (x ∷ xs) n h =
-    elim (in_cases i n (numbers_from (suc i) xs) h) [
-      | inl e ↦ (omega (arith, e), omega (arith, e))
-      | inr r ↦ let b = numbers_below (suc i) xs n r in (omega (arith, b.0), omega (arith, b.1))
-    ]
 
 pub numbers_all : {X : Type 0} (i : ℕ) (xs : List X) (n : ℕ) → n < length xs → Contains (numbers_from i xs) (i + n)
-numbers_all i [] n h = absurd (omega (arith, h))
-numbers_all i (x ∷ xs) zero h = subst (Contains (numbers_from i (x ∷ xs))) (omega arith) (in_head i (numbers_from (suc i) xs))
-numbers_all i (x ∷ xs) (suc n) h = subst (Contains (numbers_from i (x ∷ xs))) (omega arith) (in_tail i (suc i + n) (numbers_from (suc i) xs) (numbers_all (suc i) xs n (omega (arith, h))))
+numbers_all i (x ∷ xs) (suc n) h = grind (arith, common_steps, numbers_all (suc i) xs n, in_tail i (suc i + n) (numbers_from (suc i) xs), in_tail)
+numbers_all i xs n h = grind (arith, common_steps, in_head)
 
 pub numbers_distinct : {X : Type 0} (i : ℕ) (xs : List X) → IsDistinct (numbers_from i xs)
+numbers_distinct i (x ∷ xs) = grind (arith, common_steps, numbers_distinct (suc i) xs, distinct_cons i (numbers_from (suc i) xs), numbers_below (suc i) xs i, distinct_cons, numbers_below)
 numbers_distinct i [] = distinct_nil
-numbers_distinct i (x ∷ xs) =
-    distinct_cons i (numbers_from (suc i) xs) (λ h. let b = numbers_below (suc i) xs i h in omega (arith, b.0)) (numbers_distinct (suc i) xs)
 
 -- those that pass
 pub none_pass : {X : Type 0} (P : ℕ → Bool) (i : ℕ) (xs : List X) → ((t : ℕ) → P t ≡ false) → filter P (numbers_from i xs) ≡ []
@@ -48,11 +42,8 @@ none_pass P i (x ∷ xs) h = cond-false (P i) (i ∷ filter P (numbers_from (suc
 
 module _ {X : Type 0} (P Q : ℕ → Bool) where
   pub filters_same : (i : ℕ) (xs : List X) → ((t : ℕ) → i ≤ t → Q t ≡ P t) → filter Q (numbers_from i xs) ≡ filter P (numbers_from i xs)
+  filters_same i (x ∷ xs) h = grind (arith, common_steps, filters_same (suc i) xs)
   filters_same i [] h = refl
-  filters_same i (x ∷ xs) h =
-      let e = h i (omega arith) in
-      let r = filters_same (suc i) xs (λ t l. h t (omega arith)) in
-      λ j. cond (e j) (i ∷ r j) (r j)
 
   pub record TakenOut (s i : ℕ) (xs : List X) : Type 0 where
     pub first : List ℕ
@@ -104,9 +95,4 @@ module _ {X : Type 0} (P Q : ℕ → Bool) where
 -- 3. compared
 -- a test of numbers by their order is one by whether they are the same
 pub tied : (a b : ℕ) → is_eq (nat_cmp a b) ≡ (b == a)
-tied a b =
-    unsigned_tied a b
-    ∙ elim (cases_Bool (a == b)) [
-      | inl t ↦ t ∙ sym (eq-eqb b a (sym (eqb-true a b t)))
-      | inr m ↦ elim (cases_Bool (b == a)) [ inl t ↦ eq-eqb a b (sym (eqb-true b a t)) ∙ sym t | inr k ↦ m ∙ sym k ]
-    ]
+tied a b = grind (arith, common_steps, eq-eqb b a, eqb-true a b, eq-eqb a b, eqb-true b a, eq-eqb, eqb-true, unsigned_tied)

@@ -1,5 +1,6 @@
 -- What stands at a position, in a list and in a longer one, and lists in which nothing stands twice.
-use Rattle.std.proofs.Common.{◌≡◌, ℕ, zero, suc, ◌<◌, List, [], ◌∷◌, ◌++◌, length, None, Some, slice_get, refl, sym, ap, subst, ◌∙◌, arith, inl, inr, ◌⊎◌, ⊎_elim}
+use Rattle.std.proofs.Common.{◌≡◌, ℕ, zero, suc, ◌<◌, List, [], ◌∷◌, ◌++◌, length, None, Some, slice_get, refl, sym, ap, ◌∙◌, arith, inl, inr, ◌⊎◌, ⊎_elim}
+use Rattle.std.proofs.lemmas.Grind.{common_steps}
 use Rattle.model.specs.lists.Names.{IsDistinct}
 
 module _ {X : Type 0} where
@@ -8,9 +9,8 @@ module _ {X : Type 0} where
   past_end (x ∷ xs) = past_end xs
 
   pub get_front : (xs ys : List X) (k : ℕ) (z : X) → slice_get xs k ≡ Some z → slice_get (xs ++ ys) k ≡ Some z
-  get_front [] ys k z e = absurd (cc)
-  get_front (x ∷ xs) ys zero z e = e
   get_front (x ∷ xs) ys (suc k) z e = get_front xs ys k z e
+  get_front xs ys k z e = grind (arith, common_steps)
 
   pub get_middle : (xs : List X) (y : X) (ys : List X) → slice_get (xs ++ y ∷ ys) (length xs) ≡ Some y
   get_middle [] y ys = refl
@@ -27,9 +27,7 @@ module _ {X : Type 0} where
   distinct_nil j k x p q = absurd (cc)
 
   pub distinct_one : (y : X) → IsDistinct (y ∷ [])
-  distinct_one y zero zero x p q = refl
-  distinct_one y zero (suc k) x p q = absurd (cc)
-  distinct_one y (suc j) k x p q = absurd (cc)
+  distinct_one y h k x p q = grind (arith, common_steps)
 
   pub distinct_push : (xs : List X) (x : X) → IsDistinct xs → ((j : ℕ) → slice_get xs j ≡ Some x → ⊥) → IsDistinct (xs ++ x ∷ [])
   distinct_push xs x once new j k a p q =
@@ -39,8 +37,4 @@ module _ {X : Type 0} where
 
   -- what stands before itself stands twice
   pub twice : (xs rest whole : List X) (x : X) (j : ℕ) → IsDistinct whole → xs ++ x ∷ rest ≡ whole → j < length xs → slice_get xs j ≡ Some x → ⊥
-  twice xs rest whole x j once e before at =
-      let first : slice_get whole j ≡ Some x = subst (λ w. slice_get w j ≡ Some x) e (get_front xs (x ∷ rest) j x at) in
-      let second : slice_get whole (length xs) ≡ Some x = subst (λ w. slice_get w (length xs) ≡ Some x) e (get_middle xs x rest) in
-      let same : j ≡ length xs = once j (length xs) x first second in
-      omega (arith, before, same)
+  twice xs rest whole x j once e before at = grind (arith, common_steps, get_front xs (x ∷ rest) j x at, get_middle xs x rest, get_front, get_middle)

@@ -1,6 +1,7 @@
 -- Lists of site terms: what they have, and that sites that are made stand once.
-use Rattle.std.proofs.Common.{◌≡◌, true, List, [], ◌∷◌, ◌++◌, sym, ◌∙◌, subst, inl, inr}
-use Rattle.std.proofs.lemmas.Bool.{cases_Bool, cond-true, cond-false, false≢true}
+use Rattle.std.proofs.Common.{◌≡◌, true, List, [], ◌∷◌, ◌++◌, inl, inr, arith}
+use Rattle.std.proofs.lemmas.Grind.{common_steps}
+use Rattle.std.proofs.lemmas.Bool.{false≢true}
 use Rattle.model.specs.lists.Names.{IsDistinct}
 use Rattle.model.specs.sites.Sites.{SiteTerm}
 use Rattle.model.specs.visits.Demands.{site_term_eq, has_site, with_sites}
@@ -19,11 +20,5 @@ has_in (t ∷ ts) s h = elim (or_split (site_term_eq t s) (has_site ts s) h) [ i
 
 -- sites that are made stand once
 pub once_with : (ts xs : List SiteTerm) → IsDistinct ts → IsDistinct (with_sites ts xs)
+once_with ts (x ∷ xs) d = grind (arith, common_steps, once_with ts xs d, once_with (ts ++ x ∷ []) xs, distinct_push ts x d, in_has ts x, in_slice ts, distinct_push, in_has, in_slice)
 once_with ts [] d = d
-once_with ts (x ∷ xs) d =
-    elim (cases_Bool (has_site ts x)) [
-      | inl h ↦ subst (λ l. IsDistinct (with_sites l xs)) (sym (cond-true (has_site ts x) ts (ts ++ x ∷ []) h)) (once_with ts xs d)
-      | inr h ↦
-          subst (λ l. IsDistinct (with_sites l xs)) (sym (cond-false (has_site ts x) ts (ts ++ x ∷ []) h))
-          (once_with (ts ++ x ∷ []) xs (distinct_push ts x d (λ j e. false≢true (sym h ∙ in_has ts x (in_slice ts j x e)))))
-    ]
