@@ -1,5 +1,6 @@
 -- More names leave types readable, and the terms of a list valid or not.
 use Rattle.std.proofs.Common.{◌≡◌, ◌↔◌, ℕ, ◌<◌, List, [], ◌∷◌, ◌++◌, length, map, slice_get, is_some, flat_map, All, IsTrue, refl, sym, ap, ◌∙◌, subst, inl, inr, arith}
+use Rattle.std.proofs.lemmas.Grind.{common_steps}
 use Rattle.std.proofs.Math.Path.{ap₂}
 use Rattle.std.specs.List.{cons_option, filter_map}
 use Rattle.std.proofs.lemmas.List.{length-append}
@@ -7,7 +8,7 @@ use Rattle.std.proofs.lemmas.List.Elements.{All-contains}
 use Rattle.std.proofs.lemmas.Option.{same_Some}
 use Rattle.model.specs.lists.Syntax.{Definition, DeclTree, ExtractorTree, ConverterTree}
 use Rattle.model.specs.lists.Names.{has_name, IsDistinct}
-use Rattle.model.specs.lists.Tables.{VariantEntry, TypeEntry, builtin_type, primitive_type, enum_type, struct_type}
+use Rattle.model.specs.lists.Tables.{VariantEntry, TypeEntry, enum_type, struct_type}
 use Rattle.model.specs.lists.TypeTable.{place_from, IsKnownType}
 use Rattle.model.specs.lists.KnownTypes.{KnownTypes, entry_numbers, variant_numbers, field_numbers}
 use Rattle.model.specs.lists.TermTable.{decl_names, decl_trees, made_by, term_names, terms_in, extractor_trees, converter_trees, IsValidTerms}
@@ -20,24 +21,18 @@ use Rattle.laws_typing.specs.AfterRefusals.{with_more, RefusedEnvironmentsCanBeR
 
 -- 1. the names of the terms that types make are read alike
 made_inside : (t : TypeEntry) (n : ℕ) → In (made_by t) n → In (entry_numbers t) n
-made_inside (builtin_type place) n i = absurd i
-made_inside (primitive_type id name at) n i = absurd i
 made_inside (struct_type name id is_extern is_nodebug fields at) n (inl e) = inl e
-made_inside (struct_type name id is_extern is_nodebug fields at) n (inr i) = absurd i
 made_inside (enum_type name id is_extern is_nodebug variants at) n i = inr (by variants i)
   where
     by : (vs : List VariantEntry) → In (map (λ v. v.full_name) vs) n → In (flat_map variant_numbers vs) n
     by [] j = absurd j
     by (v ∷ vs) (inl e) = inl e
     by (v ∷ vs) (inr j) = inr (inr (in_right (field_numbers v.fields) (flat_map variant_numbers vs) n (by vs j)))
+made_inside t n i = grind (arith, common_steps)
 
 all_made_inside : (ts : List TypeEntry) (n : ℕ) → In (flat_map made_by ts) n → In (flat_map entry_numbers ts) n
+all_made_inside (t ∷ ts) n i = grind (arith, common_steps, all_made_inside ts n, in_either, in_left, made_inside, in_right)
 all_made_inside [] n i = absurd i
-all_made_inside (t ∷ ts) n i =
-    elim (in_either (made_by t) (flat_map made_by ts) n i) [
-      | inl j ↦ in_left (entry_numbers t) (flat_map entry_numbers ts) n (made_inside t n j)
-      | inr j ↦ in_right (entry_numbers t) (flat_map entry_numbers ts) n (all_made_inside ts n j)
-    ]
 
 read_alike : (names more : List (List ℕ)) (ns : List ℕ) → ((n : ℕ) → In ns n → n < length names) → filter_map (slice_get names) ns ≡ filter_map (slice_get (names ++ more)) ns
 read_alike names more [] h = refl

@@ -1,7 +1,7 @@
 -- Converters that differ by the names of their types differ by the ids.
-use Rattle.std.proofs.Common.{◌≡◌, ℕ, suc, ◌≤◌, true, false, cond, List, [], ◌∷◌, map, Some, None, is_some, unwrap_or, Contains, IsTrue, refl, sym, ap, ◌∙◌, subst, arith}
+use Rattle.std.proofs.Common.{◌≡◌, ℕ, suc, ◌≤◌, true, false, cond, List, [], ◌∷◌, map, Some, Contains, refl, sym, ap, ◌∙◌, subst, arith}
+use Rattle.std.proofs.lemmas.Grind.{common_steps}
 use Rattle.std.specs.Str.{bytes_eq}
-use Rattle.std.proofs.lemmas.Bool.{false≢true}
 use Rattle.std.proofs.lemmas.List.Elements.{All-contains}
 use Rattle.std.proofs.lemmas.Option.{same_Some}
 use Rattle.model.specs.lists.Syntax.{Name, ConverterTree}
@@ -38,11 +38,7 @@ one_place (z ∷ zs) n k x y p q =
     ] refl p
 
 known_place : (k : KnownTypes) (n : Name) → IsKnownType k.type_names n → type_named k n.text ≡ Some (known_type k n)
-known_place k n h =
-    elim (type_named k n.text) as (λ o. IsTrue (is_some o) → o ≡ Some (unwrap_or o 0)) [
-      | None ↦ λ e. absurd (false≢true e)
-      | Some i ↦ λ _. refl
-    ] h
+known_place k n h = grind (arith, common_steps)
 
 -- known types of one id have one name
 one_type : (k : KnownTypes) (a b : Name) → IsKnownType k.type_names a → IsKnownType k.type_names b → known_type k a ≡ known_type k b → a.text ≡ b.text

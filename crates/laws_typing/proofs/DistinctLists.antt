@@ -1,5 +1,6 @@
 -- Tests of lists in which nothing stands twice, and of what stands among others, are exact.
-use Rattle.std.proofs.Common.{◌≡◌, ℕ, zero, suc, Bool, true, false, not, ◌&&◌, ◌||◌, List, [], ◌∷◌, Contains, Decides, refl, sym, ap, ◌∙◌, subst, ⊎_elim}
+use Rattle.std.proofs.Common.{◌≡◌, ℕ, suc, Bool, true, false, not, ◌&&◌, ◌||◌, List, [], ◌∷◌, Contains, Decides, refl, sym, ◌∙◌, arith}
+use Rattle.std.proofs.lemmas.Grind.{common_steps}
 use Rattle.std.specs.Str.{bytes_eq}
 use Rattle.std.proofs.lemmas.Bool.{false≢true}
 use Rattle.std.proofs.lemmas.Bool.Decides.{Decides-at, Decides-like, Decides-and, Decides-or, Decides-not}
@@ -20,11 +21,8 @@ record AmongTest (X : Type 0) : Type 0 where
   more : (y : X) (ys : List X) (x : X) → has (y ∷ ys) x ≡ (eq y x || has ys x)
 
 stands : {X : Type 0} (t : AmongTest X) (xs : List X) (x : X) → Decides (t.has xs x) (Contains xs x)
+stands t (y ∷ ys) x = grind (arith, common_steps, stands t ys x, Decides-at, Decides-like, in_head, in_tail, in_cases, Decides-or)
 stands t [] x = (λ h. absurd (false≢true (sym (t.none x) ∙ h)), λ c. absurd (nothing_in x c))
-stands t (y ∷ ys) x =
-    Decides-at (t.has (y ∷ ys) x) (t.eq y x || t.has ys x) (t.more y ys x)
-    (Decides-like (t.eq y x || t.has ys x) (⊎_elim (λ e. subst (Contains (y ∷ ys)) e (in_head y ys)) (λ c. in_tail y x ys c)) (in_cases y x ys)
-    (Decides-or (t.eq y x) (t.has ys x) (t.same y x) (stands t ys x)))
 
 -- a test whether no element stands among those after it, by recursion
 record DistinctTest (X : Type 0) : Type 0 where
@@ -36,10 +34,7 @@ record DistinctTest (X : Type 0) : Type 0 where
 
 module _ {X : Type 0} where
   joined : (x : X) (xs : List X) → (Contains xs x → ⊥) × IsDistinct xs → IsDistinct (x ∷ xs)
-  joined x xs h zero zero y p q = refl
-  joined x xs h zero (suc k) y p q = absurd (h.0 (member_from_get xs k x (q ∙ sym p)))
-  joined x xs h (suc j) zero y p q = absurd (h.0 (member_from_get xs j x (p ∙ sym q)))
-  joined x xs h (suc j) (suc k) y p q = ap suc (h.1 j k y p q)
+  joined x xs h i j y p q = grind (arith, common_steps, member_from_get)
 
   taken : (x : X) (xs : List X) → IsDistinct (x ∷ xs) → (Contains xs x → ⊥) × IsDistinct xs
   taken x xs d = (
@@ -66,9 +61,7 @@ abbrev pair_eq : List ℕ × List ℕ → List ℕ × List ℕ → Bool
 pair_eq p q = bytes_eq p.0 q.0 && bytes_eq p.1 q.1
 
 pair_eq_decides : (p q : List ℕ × List ℕ) → Decides (pair_eq p q) (p ≡ q)
-pair_eq_decides p q =
-    Decides-like (pair_eq p q) (λ h k. (h.0 k, h.1 k)) (λ e. (ap (λ r. r.0) e, ap (λ r. r.1) e))
-    (Decides-and (bytes_eq p.0 q.0) (bytes_eq p.1 q.1) (bytes_eq-Decides p.0 q.0) (bytes_eq-Decides p.1 q.1))
+pair_eq_decides p q = grind (arith, common_steps, Decides-like, Decides-and, bytes_eq-Decides)
 
 has_pair_decides : (ps : List (List ℕ × List ℕ)) (p : List ℕ × List ℕ) → Decides (has_pair ps p) (Contains ps p)
 has_pair_decides = stands (record { eq = pair_eq; has = has_pair; same = pair_eq_decides; none = λ _. refl; more = λ _ _ _. refl })

@@ -1,11 +1,12 @@
 -- What an expression calls, where it elaborates under some flags.
-use Rattle.std.proofs.Common.{◌≡◌, ℕ, true, List, Option, Some}
+use Rattle.std.proofs.Common.{◌≡◌, ℕ, true, List, Option, Some, arith}
+use Rattle.std.proofs.lemmas.Grind.{common_steps}
 use Rattle.model.specs.lists.Syntax.{ExprTree, ExprTrees, LetTrees}
 use Rattle.model.specs.lists.Tables.{Flags, TermEntry}
 use Rattle.model.specs.rules.CalledTerms.{CallsAlone, CallAlone, LetsCallAlone}
 use Rattle.model.specs.rules.Typed.{TypedExpr, TypedExprs, TypedLets}
 use Rattle.model.specs.lists.Setting.{Setting, Scope, entry_named, is_callable}
-use Rattle.model.specs.lists.Elaborates.{ElaboratesExpr, ElaboratesArgs, ElaboratesLets, a_call, converted_call, a_variable, converted_variable, truth_expr, integer_expr, constant_expr, let_in, no_arg, an_arg, no_def, a_def}
+use Rattle.model.specs.lists.Elaborates.{ElaboratesExpr, ElaboratesArgs, ElaboratesLets, a_call, converted_call, converted_variable, let_in, no_arg, an_arg, no_def, a_def}
 
 -- each term that these flags let be called is such
 abbrev pub CallableAreSuch : Setting → Flags → (ℕ → Type 0) → Type 0
@@ -16,12 +17,9 @@ module _ (e : Setting) (flags : Flags) (P : ℕ → Type 0) (such : CallableAreS
     pub expr_calls : {d n : ℕ} {ty : Option ℕ} {x : ExprTree} {s t : Scope} {q : TypedExpr} → ElaboratesExpr e flags d x ty s q t n → CallsAlone P q
     expr_calls (a_call {entry = entry} i j k g) = (such _ entry i k, args_call g)
     expr_calls (converted_call i j k g) = expr_calls g
-    expr_calls (a_variable i j) = tt
     expr_calls (converted_variable i j k g) = expr_calls g
-    expr_calls (truth_expr i) = tt
-    expr_calls (integer_expr i) = tt
-    expr_calls (constant_expr i j) = tt
     expr_calls (let_in g i) = (lets_call g, expr_calls i)
+    expr_calls h = grind (arith, common_steps)
 
     args_call : {d n : ℕ} {tys : List ℕ} {xs : ExprTrees} {s t : Scope} {qs : TypedExprs} → ElaboratesArgs e flags d xs tys s qs t n → CallAlone P qs
     args_call no_arg = tt

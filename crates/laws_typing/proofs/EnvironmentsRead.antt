@@ -1,6 +1,7 @@
 -- A well-formed type environment shows types that can be read: the name of each type is that of its one number, and the
 -- constants are those that its look-up answers.
 use Rattle.std.proofs.Common.{◌≡◌, ◌==◌, ℕ, zero, suc, ◌+◌, ◌<◌, true, false, if◌then◌else◌, List, [], ◌∷◌, length, Option, Some, None, unwrap_or, slice_get, IsTrue, All, refl, sym, ap, ◌∙◌, subst, inl, inr, arith, eq-eqb, eqb-true}
+use Rattle.std.proofs.lemmas.Grind.{common_steps}
 use Rattle.std.proofs.lemmas.Bool.{cases_Bool, cond-true, cond-false, false≢true}
 use Rattle.std.proofs.lemmas.Option.{same_Some, none-some, slice_get_within}
 use Rattle.std.specs.List.{enumerate_from}
@@ -45,9 +46,7 @@ entry_answered f zero e i = absurd i
 entry_answered f (suc n) e i = of (f n) refl (entry_answered f n e) i
   where
     of : (o : Option ℕ) → f n ≡ o → (In (entries_below f n) e → f e.0 ≡ Some e.1) → In (elim o as (λ _. List (ℕ × ℕ)) [ None ↦ entries_below f n | Some v ↦ (n, v) ∷ entries_below f n ]) e → f e.0 ≡ Some e.1
-    of None q before j = before j
-    of (Some v) q before (inl s) = ap f (sym (ap (λ (x : ℕ × ℕ). x.0) s)) ∙ q ∙ ap Some (ap (λ (x : ℕ × ℕ). x.1) s)
-    of (Some v) q before (inr j) = before j
+    of o q before j = grind (arith, common_steps)
 
 answered_entry : (f : ℕ → Option ℕ) (n k v : ℕ) → k < n → f k ≡ Some v → In (entries_below f n) (k, v)
 unfolding entries_below
@@ -71,8 +70,7 @@ answered_entry f (suc n) k v l e =
 
 -- 2. names of types
 is_type_of : (o : Option ℕ) (ty : ℕ) → o ≡ Some ty → is_type o ty ≡ true
-is_type_of None ty h = absurd (none-some ty h)
-is_type_of (Some t) ty h = eq-eqb t ty (same_Some t ty h)
+is_type_of o ty h = grind (arith, common_steps, none-some, eq-eqb, same_Some)
 
 -- the greatest number below n that a look-up answers with a type
 key_of : (ℕ → Option ℕ) → ℕ → ℕ → ℕ

@@ -1,6 +1,6 @@
 -- A type environment that shows types that can be read is well formed.
-use Rattle.std.proofs.Common.{◌≡◌, ◌==◌, ℕ, ◌<◌, true, List, [], ◌∷◌, length, take, Some, slice_get, All, flat_map, sym, ap, ◌∙◌, subst, inl, inr, arith, eqb-true}
-use Rattle.std.proofs.lemmas.Bool.{cases_Bool, cond-true, cond-false}
+use Rattle.std.proofs.Common.{◌≡◌, ◌==◌, ℕ, ◌<◌, true, List, [], ◌∷◌, length, take, Some, slice_get, All, flat_map, sym, ap, ◌∙◌, subst, arith, eqb-true}
+use Rattle.std.proofs.lemmas.Grind.{common_steps}
 use Rattle.std.proofs.lemmas.List.Elements.{All-contains}
 use Rattle.std.proofs.lemmas.Option.{same_Some, none-some, slice_get_within}
 use Rattle.std.specs.List.{enumerate_from}
@@ -19,15 +19,8 @@ use Rattle.laws_typing.proofs.EnvironmentsRead.{in_enumerated, enumerated_in, re
 use Rattle.laws_typing.proofs.VariantTerms.{looked_up}
 
 look_in : (es : List (ℕ × ℕ)) (k v : ℕ) → look (λ n. n == k) es ≡ Some v → In es (k, v)
+look_in (e ∷ es) k v h = grind (arith, common_steps, look_in es k v, eqb-true e.0 k, same_Some e.1 v, eqb-true, same_Some)
 look_in [] k v h = absurd (none-some v h)
-look_in (e ∷ es) k v h =
-    elim (cases_Bool (e.0 == k)) [
-      | inl t ↦
-          let same = eqb-true e.0 k t in
-          let one = same_Some e.1 v (sym (cond-true (e.0 == k) (Some e.1) (look (λ n. n == k) es) t) ∙ h) in
-          inl (λ i. (same i, one i))
-      | inr n ↦ inr (look_in es k v (sym (cond-false (e.0 == k) (Some e.1) (look (λ n. n == k) es) n) ∙ h))
-    ]
 
 module _ (e : TypesRead) (r : AreReadable e) where
   abbrev names : List (List ℕ)
@@ -63,15 +56,7 @@ module _ (e : TypesRead) (r : AreReadable e) where
 
   module _ (env : TypeEnvironment) (h : IsReadAs env e) where
     type_below : (k ty : ℕ) → env.type_of k ≡ Some ty → (k < length env.names) × (ty < length env.types)
-    type_below k ty g =
-        let n = name_of k ty (look_in pairs k ty (sym (h.look_ups k) ∙ g)) in
-        let a = number_below names n.name n.met in
-        let l = slice_get_within e.known.type_names ty n.name n.listed in
-        let s = n.numbered_so in
-        let x = ap length h.names in
-        let y = ap length h.types in
-        let z = r.well_formed.as_many_names in
-        (omega (arith, a, s, x), omega (arith, l, y, z))
+    type_below k ty g = grind (arith, common_steps, name_of k ty, slice_get_within e.known.type_names ty, name_of, look_in, number_below, slice_get_within)
 
     constant_below : (k ty : ℕ) → env.constant_type_of k ≡ Some ty → (k < length env.names) × (ty < length env.types)
     constant_below k ty g =

@@ -1,13 +1,13 @@
 -- Rules that elaborate hang together.
 use Rattle.std.proofs.Common.{◌≡◌, ℕ, zero, suc, ◌+◌, ◌<◌, ◌≤◌, Bool, true, false, cond, eqb, List, [], ◌∷◌, ◌++◌, length, map, Option, Some, None, slice_get, refl, sym, subst, ◌∙◌, arith}
+use Rattle.std.proofs.lemmas.Grind.{common_steps}
 use Rattle.std.proofs.lemmas.Bool.{and_parts, eq-eqb}
 use Rattle.std.proofs.lemmas.List.{length_push}
 use Rattle.std.proofs.lemmas.Option.{same_Some, none-some}
 use Rattle.model.specs.lists.Syntax.{PatternTree, PatternTrees, ExprTree, ExprTrees, LetTrees, IfLetTree}
-use Rattle.model.specs.rules.Outcome.{then_option}
-use Rattle.model.specs.lists.Tables.{Flags, TermEntry, TermKindEntry, variant_term, struct_term, declared_term}
+use Rattle.model.specs.lists.Tables.{Flags, TermEntry, TermKindEntry}
 use Rattle.model.specs.rules.Program.{Program}
-use Rattle.model.specs.rules.Typed.{TypedPattern, TypedPatterns, no_typed_pattern, typed_pattern_and, TypedExpr, TypedExprs, TypedLets, TypedVar, TypedIfLet, TypedRule}
+use Rattle.model.specs.rules.Typed.{TypedPattern, TypedPatterns, typed_pattern_and, TypedExpr, TypedExprs, TypedLets, TypedVar, TypedIfLet, TypedRule}
 use Rattle.model.specs.lists.Setting.{new_var, var_named, Setting, Scope, bound, entry_named, bool_type, expr_type, has_constructor, has_extractor, is_callable, is_matchable, on_lhs}
 use Rattle.model.specs.lists.Names.{number, with_name}
 use Rattle.model.specs.lists.Elaborated.{typed_list}
@@ -36,38 +36,22 @@ abbrev usable : List TypedVar → List (ℕ × ℕ)
 usable vs = map number_and_type vs
 
 is_new : (n m : ℕ) (vs : List TypedVar) → n ≤ m → Descends n vs → var_type (usable vs) m ≡ None
+is_new n m (v ∷ vs) le d = grind (arith, common_steps, is_new v.id m vs, ne-eqb v.id m, ne-eqb)
 is_new n m [] le d = refl
-is_new n m (v ∷ vs) le d =
-    let l = d.0 in
-    rw (ne-eqb v.id m (λ same. absurd (omega (arith, l, le, same)))) (is_new v.id m vs (omega (arith, l, le)) d.1)
 
 below : (n name : ℕ) (vs : List TypedVar) (v : TypedVar) → Descends n vs → var_named name vs ≡ Some v → v.id < n
+below n name (w ∷ ws) v d h = grind (arith, common_steps, below w.id name ws v d.1, same_Some)
 below n name [] v d h = absurd (none-some v h)
-below n name (w ∷ ws) v d h =
-    elim (eqb w.name name) as (λ b. cond b (Some w) (var_named name ws) ≡ Some v → v.id < n) [
-      | true ↦ λ i. subst (λ (u : TypedVar). u.id < n) (same_Some _ _ i) d.0
-      | false ↦ λ i. let l = d.0 in let m = below w.id name ws v d.1 i in omega (arith, l, m)
-    ] h
 
 has_its_type : (n name : ℕ) (vs : List TypedVar) (v : TypedVar) → Descends n vs → var_named name vs ≡ Some v → var_type (usable vs) v.id ≡ Some v.ty
+has_its_type n name (w ∷ ws) v d h = grind (arith, common_steps, has_its_type w.id name ws v d.1, same_Some, eq-eqb, below, ne-eqb)
 has_its_type n name [] v d h = absurd (none-some v h)
-has_its_type n name (w ∷ ws) v d h =
-    elim (eqb w.name name) as (λ b. cond b (Some w) (var_named name ws) ≡ Some v → var_type (usable (w ∷ ws)) v.id ≡ Some v.ty) [
-      | true ↦ λ i. subst (λ (u : TypedVar). var_type (usable (w ∷ ws)) u.id ≡ Some u.ty) (same_Some _ _ i) (rw (eq-eqb w.id w.id refl) refl)
-      | false ↦ λ i.
-          let l = below w.id name ws v d.1 i in
-          rw (ne-eqb w.id v.id (λ same. absurd (omega (arith, l, same)))) (has_its_type w.id name ws v d.1 i)
-    ] h
 
 extracts : (multi : Bool) (k : TermKindEntry) → is_matchable multi k ≡ true → has_extractor k ≡ true
-extracts multi (variant_term i) h = refl
-extracts multi struct_term h = refl
-extracts multi (declared_term own c x) h = (and_parts _ _ h).0
+extracts multi k h = grind (arith, common_steps, and_parts)
 
 pub constructs : (flags : Flags) (k : TermKindEntry) → is_callable flags k ≡ true → has_constructor k ≡ true
-constructs flags (variant_term i) h = refl
-constructs flags struct_term h = refl
-constructs flags (declared_term own c x) h = (and_parts _ _ h).0
+constructs flags k h = grind (arith, common_steps, and_parts)
 
 pub named_at : (name : ℕ) (ts : List TermEntry) (t : TermEntry) → entry_named name ts ≡ Some t → (k : ℕ) × (slice_get ts k ≡ Some t)
 named_at name [] t h = absurd (none-some t h)
@@ -113,14 +97,12 @@ module _ (e : Setting) (rules : List TypedRule) (at_ids : TermsAtIds e.terms) wh
       pattern_formed (all_of g) o = each_formed g o
 
       parts_formed : {d n : ℕ} {tys : List ℕ} {xs : PatternTrees} {s t : Scope} {qs : TypedPatterns} → ElaboratesParts e multi d xs tys s qs t n → InOrder s → (formed_parts p qs tys (usable s.visible) ≡ Some (usable t.visible)) × InOrder t
+      parts_formed (part {ty = ty} {q = q} g h) o = grind (arith, common_steps, pattern_formed g o, parts_formed h, eq-eqb, pattern_at_type)
       parts_formed no_part o = (refl, o)
-      parts_formed (part {ty = ty} {q = q} g h) o =
-          let r = pattern_formed g o in let u = parts_formed h r.1 in (rw (eq-eqb (pattern_type q) ty (pattern_at_type e multi g), r.0, u.0) refl, u.1)
 
       each_formed : {d ty n : ℕ} {xs : PatternTrees} {s t : Scope} {qs : TypedPatterns} → ElaboratesEach e multi d xs ty s qs t n → InOrder s → (formed_each p qs ty (usable s.visible) ≡ Some (usable t.visible)) × InOrder t
+      each_formed (one_more {ty = ty} {q = q} g h) o = grind (arith, common_steps, pattern_formed g o, each_formed h, eq-eqb, pattern_at_type)
       each_formed no_more o = (refl, o)
-      each_formed (one_more {ty = ty} {q = q} g h) o =
-          let r = pattern_formed g o in let u = each_formed h r.1 in (rw (eq-eqb (pattern_type q) ty (pattern_at_type e multi g), r.0, u.0) refl, u.1)
 
   -- an expression leaves what can be used, and variables are only added
   module _ (flags : Flags) where
@@ -179,18 +161,8 @@ module _ (e : Setting) (rules : List TypedRule) (at_ids : TermsAtIds e.terms) wh
       (rw (r.0, eq-eqb (pattern_type q) (expr_type x) (pattern_at_type e flags.multi h), here, l.0) refl, l.1)
 
   list_formed : (qs : TypedPatterns) (tys : List ℕ) (vars : List (ℕ × ℕ)) → formed_list p (typed_list qs) tys vars ≡ formed_parts p qs tys vars
-  list_formed no_typed_pattern [] vars = refl
-  list_formed no_typed_pattern (ty ∷ tys) vars = refl
-  list_formed (typed_pattern_and q rest) [] vars = refl
-  list_formed (typed_pattern_and q rest) (ty ∷ tys) vars =
-      elim (eqb (pattern_type q) ty) as (λ b. cond b (then_option (formed_pattern p q vars) (λ more. formed_list p (typed_list rest) tys more)) None
-      ≡ cond b (then_option (formed_pattern p q vars) (λ more. formed_parts p rest tys more)) None) [
-        | true ↦ elim (formed_pattern p q vars) as (λ o. then_option o (λ more. formed_list p (typed_list rest) tys more) ≡ then_option o (λ more. formed_parts p rest tys more)) [
-          | None ↦ refl
-          | Some more ↦ list_formed rest tys more
-        ]
-        | false ↦ refl
-      ]
+  list_formed (typed_pattern_and q rest) (ty ∷ tys) vars = grind (arith, common_steps, list_formed rest tys)
+  list_formed qs tys vars = grind (arith, common_steps)
 
 pub rules_are_formed : RulesAreFormed
 rules_are_formed e rules at_ids d id r names q t n (a_rule {entry = entry} {flags = flags} {s = s} {t = after} {u = u} {args = args} {iflets = iflets} {rhs = rhs} h i j k f g x) =

@@ -1,5 +1,6 @@
 -- The judge of types that are handed in is exact.
-use Rattle.std.proofs.Common.{◌≡◌, ℕ, zero, suc, ◌+◌, ◌<◌, ◌==◌, Bool, true, false, ◌&&◌, nat_lt, List, [], ◌∷◌, length, take, Some, slice_get, Decides, IsTrue, refl, ap, ap₂, arith}
+use Rattle.std.proofs.Common.{◌≡◌, ℕ, suc, ◌+◌, ◌<◌, ◌==◌, Bool, true, false, ◌&&◌, nat_lt, List, [], ◌∷◌, length, take, Some, slice_get, Decides, IsTrue, refl, ap, ap₂, arith}
+use Rattle.std.proofs.lemmas.Grind.{common_steps}
 use Rattle.std.specs.List.{flat_map}
 use Rattle.std.proofs.lemmas.Bool.{false≢true}
 use Rattle.std.proofs.lemmas.Bool.Decides.{Decides-at, Decides-like, Decides-and, Decides-eqb, Decides-ltb, not_from_Decides}
@@ -31,11 +32,10 @@ same_rest : (n m : ℕ) (xs : List (List ℕ)) (t : TypeEntry) (ts : List TypeEn
 same_rest n m xs t ts e = (cc, cc)
 
 begins : (n : ℕ) (xs : List (List ℕ)) (types : List TypeEntry) → Decides (begin_with_builtins n xs types) (take (length xs) types ≡ builtin_from n xs)
-begins n [] types = (λ _. refl, λ _. refl)
-begins n (x ∷ xs) [] = (λ h. absurd (false≢true h), λ e. cc)
 begins n (x ∷ xs) (t ∷ types) =
     Decides-like (begin_with_builtins n (x ∷ xs) (t ∷ types)) (λ h. ap₂ ◌∷◌ h.0 h.1) (same_rest n (suc n) xs t (take (length xs) types))
     (both (builtin_there n t) (begins (suc n) xs types))
+begins n xs types = grind (arith, common_steps)
 
 -- a test whether the ids of things count up from a number
 record CountTest (X : Type 0) : Type 0 where
@@ -49,8 +49,7 @@ module _ {X : Type 0} (t : CountTest X) where
   Counts n xs = (i : ℕ) (x : X) → slice_get xs i ≡ Some x → t.id x ≡ n + i
 
   one_more : (n : ℕ) (x : X) (xs : List X) → (t.id x ≡ n) × Counts (suc n) xs → Counts n (x ∷ xs)
-  one_more n x xs h zero y e = (let first = h.0 in let same = ap t.id (same_Some x y e) in omega arith)
-  one_more n x xs h (suc i) y e = (let later = h.1 i y e in omega arith)
+  one_more n x xs h i y e = grind (arith, common_steps, same_Some)
 
   one_less : (n : ℕ) (x : X) (xs : List X) → Counts n (x ∷ xs) → (t.id x ≡ n) × Counts (suc n) xs
   one_less n x xs h = ((let first = h 0 x refl in omega arith), λ i y e. (let later = h (suc i) y e in omega arith))

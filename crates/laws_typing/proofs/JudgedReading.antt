@@ -1,5 +1,6 @@
 -- The judge of reading gives a list's typed rules, and nothing where it has none.
-use Rattle.std.proofs.Common.{◌≡◌, Bool, true, ◌&&◌, List, Option, Some, None, is_some, refl, sym, ap, ◌∙◌, subst}
+use Rattle.std.proofs.Common.{◌≡◌, Bool, true, ◌&&◌, List, Option, Some, None, is_some, refl, sym, ap, ◌∙◌, arith}
+use Rattle.std.proofs.lemmas.Grind.{common_steps}
 use Rattle.std.proofs.lemmas.Bool.{false≢true, and_parts, and_from, cond-true}
 use Rattle.std.proofs.lemmas.Option.{none-some, same_Some}
 use Rattle.model.specs.lists.Syntax.{Definition}
@@ -17,10 +18,7 @@ use Rattle.laws_typing.proofs.JudgedTypes.{types_are_judged_lem}
 use Rattle.laws_typing.proofs.JudgedTerms.{terms_are_judged_lem, defined_are_judged_lem}
 
 apart_gives : (o : Option TypedRules) (rules : TypedRules) → named_apart o ≡ Some rules → (o ≡ Some rules) × (are_distinct (rule_names rules.rules) ≡ true)
-apart_gives None rules h = absurd (none-some rules h)
-apart_gives (Some l) rules h =
-    let p = if_gives (are_distinct (rule_names l.rules)) (Some l) h in
-    (p.1, subst (λ m. are_distinct (rule_names m.rules) ≡ true) (same_Some l rules p.1) p.0)
+apart_gives o rules h = grind (arith, common_steps, none-some, if_gives, same_Some)
 
 apart : (rules : TypedRules) → are_distinct (rule_names rules.rules) ≡ true → named_apart (Some rules) ≡ Some rules
 apart rules h = cond-true (are_distinct (rule_names rules.rules)) (Some rules) None h
@@ -46,11 +44,7 @@ module _ (e : TypesRead) (defs : List Definition) (expand : Bool) (rules : Typed
       }
 
   given : IsElaborated e defs expand rules → elaborated_list e defs expand ≡ Some rules
-  given r =
-      let first = and_from (are_readable e) (has_valid_terms e.known defs) ((read_types_are_judged_lem e).1 r.readable) ((terms_are_judged_lem e.known defs).1 r.terms) in
-      let tests = and_from (are_readable e && has_valid_terms e.known defs) (all_defined defs) first ((defined_are_judged_lem defs).1 r.defined) in
-      cond-true tables (named_apart all_typed) None tests
-      ∙ subst (λ o. named_apart o ≡ Some rules) (sym r.elaborate.typed) (apart rules ((numbers_differ (rule_names rules.rules)).1 r.elaborate.distinct))
+  given r = grind (arith, common_steps, and_from, read_types_are_judged_lem, terms_are_judged_lem, defined_are_judged_lem, apart, numbers_differ)
 
 pub lists_are_elaborated_lem : ListsAreElaborated
 lists_are_elaborated_lem e defs expand rules = (elaborated e defs expand rules, given e defs expand rules)

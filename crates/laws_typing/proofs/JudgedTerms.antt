@@ -1,5 +1,6 @@
 -- The judge of terms is exact.
-use Rattle.std.proofs.Common.{◌≡◌, ℕ, ◌==◌, false, not, ◌&&◌, List, [], ◌∷◌, ◌++◌, length, Some, All, Decides, refl, ap, arith}
+use Rattle.std.proofs.Common.{◌≡◌, ℕ, ◌==◌, false, not, ◌&&◌, List, [], ◌++◌, length, Some, All, Decides, arith}
+use Rattle.std.proofs.lemmas.Grind.{common_steps}
 use Rattle.std.specs.List.{list_all}
 use Rattle.std.proofs.lemmas.Bool.Decides.{Decides-like, Decides-eqb, not_from_Decides}
 use Rattle.model.specs.lists.Syntax.{Name, ConverterTree, Definition}
@@ -13,19 +14,13 @@ use Rattle.laws_typing.proofs.JudgedTypes.{itself, both, each, below}
 use Rattle.laws_typing.proofs.UsesFound.{cycles_are_found_lem}
 
 holds_none : (xs : List ℕ) → Decides (length xs == 0) (xs ≡ [])
-holds_none [] = (λ _. refl, λ _. refl)
-holds_none (x ∷ xs) = (
-  (λ h. (let e = (Decides-eqb (length (x ∷ xs)) 0).0 h in absurd (omega arith))),
-  λ e. (Decides-eqb (length (x ∷ xs)) 0).1 (ap length e),
-)
+holds_none xs = grind (arith, common_steps, Decides-eqb)
 
 known : (k : KnownTypes) (ns : List Name) → Decides (list_all (is_known_type k.type_names) ns) (All (IsKnownType k.type_names) ns)
 known k ns = each (is_known_type k.type_names) (IsKnownType k.type_names) (λ n. itself (is_known_type k.type_names n)) ns
 
 converts : (k : KnownTypes) (defs : List Definition) (c : ConverterTree) → Decides (is_known_converter k defs c) (IsKnownConverter k defs c)
-converts k defs c =
-    Decides-like (is_known_converter k defs c) (λ h. (h.0, h.1.0, h.1.1)) (λ h. (h.0, (h.1, h.2)))
-    (both (itself (is_known_term k defs c.term)) (both (itself (is_known_type k.type_names c.inner_ty)) (itself (is_known_type k.type_names c.outer_ty))))
+converts k defs c = grind (arith, common_steps, Decides-like, both, itself)
 
 pub terms_are_judged_lem : TermsAreJudged
 terms_are_judged_lem k defs =

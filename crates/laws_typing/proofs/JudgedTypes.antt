@@ -1,7 +1,8 @@
 -- The judge of types is exact.
-use Rattle.std.proofs.Common.{◌≡◌, Bool, true, false, not, ◌&&◌, ◌||◌, List, All, Decides, IsTrue, refl, ℕ, ◌<◌, nat_lt}
+use Rattle.std.proofs.Common.{◌≡◌, Bool, false, not, ◌&&◌, ◌||◌, List, All, Decides, IsTrue, refl, ℕ, ◌<◌, nat_lt, arith}
+use Rattle.std.proofs.lemmas.Grind.{common_steps}
 use Rattle.std.specs.List.{list_all}
-use Rattle.std.proofs.lemmas.Bool.{false≢true, not-true, not_from_false}
+use Rattle.std.proofs.lemmas.Bool.{not-true, not_from_false}
 use Rattle.std.proofs.lemmas.Bool.Decides.{Decides-like, Decides-and, Decides-by_and, Decides-ltb}
 use Rattle.model.specs.lists.TypeTable.{type_trees, constant_trees, all_type_names, field_lists, field_names, field_type_names, is_primitive, variants_of, IsKnownType, IsUnmarkedIfPrimitive, HasAtMostOneMark, HasDistinctVariants, HasDistinctFields, HasKnownTypes, IsOfKnownType}
 use Rattle.model.specs.lists.ListJudge.{is_known_type, is_unmarked_if_primitive, has_at_most_one_mark, has_distinct_variants, has_distinct_fields, has_known_types, has_valid_types}
@@ -26,8 +27,7 @@ clear : (b : Bool) → Decides (not b) (b ≡ false)
 clear b = (not-true b, not_from_false b)
 
 unmarked : (a b c : Bool) → Decides (not a || (not b && not c)) (IsTrue a → (b ≡ false) × (c ≡ false))
-unmarked true b c = Decides-like (not b && not c) (λ h _. h) (λ h. h refl) (both (clear b) (clear c))
-unmarked false b c = (λ _ h. absurd (false≢true h), λ _. refl)
+unmarked a b c = grind (arith, common_steps, Decides-like, both, clear)
 
 pub types_are_judged_lem : TypesAreJudged
 types_are_judged_lem defs =

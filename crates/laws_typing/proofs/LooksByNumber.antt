@@ -1,5 +1,6 @@
 -- What is looked up by the numbers of names is what is known of the names.
-use Rattle.std.proofs.Common.{◌≡◌, ◌==◌, ℕ, suc, ◌+◌, nat_eq, true, false, cond, List, [], ◌∷◌, map, Option, Some, None, slice_get, Contains, refl, sym, ap, subst, ◌∙◌, arith, eqb-true}
+use Rattle.std.proofs.Common.{◌≡◌, ◌==◌, ℕ, suc, ◌+◌, true, cond, List, [], ◌∷◌, map, Option, Some, None, slice_get, Contains, ap, subst, ◌∙◌, arith, eqb-true}
+use Rattle.std.proofs.lemmas.Grind.{common_steps}
 use Rattle.std.specs.List.{enumerate_from}
 use Rattle.std.specs.Str.{bytes_eq}
 use Rattle.model.specs.lists.Names.{number, has_name, IsDistinct}
@@ -12,22 +13,10 @@ use Rattle.model.proofs.Names.{found, has_at, same_test}
 
 -- a name with an answer of its own, by its number
 pub number_looked_up : (ns : List (List ℕ)) (x : List ℕ) (id : ℕ) (before : List ℕ → Option ℕ) → IsDistinct ns → has_name ns x ≡ true → (k : ℕ) → cond (number ns x == k) (Some id) (then_option (slice_get ns k) before) ≡ then_option (slice_get ns k) (λ y. cond (bytes_eq x y) (Some id) (before y))
-number_looked_up ns x id before once met k =
-    elim (slice_get ns k) as (λ o. slice_get ns k ≡ o → cond (number ns x == k) (Some id) (then_option o before) ≡ then_option o (λ y. cond (bytes_eq x y) (Some id) (before y))) [
-      | None ↦ λ past. elim (number ns x == k) as (λ b. (number ns x == k) ≡ b → cond b (Some id) None ≡ None) [
-        | true ↦ λ t.
-            let here : slice_get ns k ≡ Some x = subst (λ j. slice_get ns j ≡ Some x) (eqb-true (number ns x) k t) (found ns x met) in
-            absurd (cc)
-        | false ↦ λ _. refl
-      ] refl
-      | Some y ↦ λ here.
-          let same : number ns y ≡ k = once (number ns y) k y (found ns y (has_at ns k y here)) here in
-          ap (λ b. cond b (Some id) (before y)) (ap (nat_eq (number ns x)) (sym same) ∙ same_test ns x y met)
-    ] refl
+number_looked_up ns x id before once met k = grind (arith, common_steps, eqb-true (number ns x) k, found ns x met, found ns, has_at ns k, same_test ns x, eqb-true, found, has_at, same_test)
 
 pub nothing_then : (o : Option (List ℕ)) → None ≡ then_option {Y = ℕ} o (λ x. None)
-nothing_then None = refl
-nothing_then (Some x) = refl
+nothing_then o = grind (arith, common_steps)
 
 after : (i : ℕ) → i + 1 ≡ suc i
 after i = omega arith

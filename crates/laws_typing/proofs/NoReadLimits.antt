@@ -1,5 +1,6 @@
 -- No rule of a list that elaborates passes a limit on expansions.
-use Rattle.std.proofs.Common.{◌≡◌, ℕ, zero, suc, ◌+◌, ◌≤◌, Bool, List, [], ◌++◌, Option, Some, None, option_map, slice_get, flat_map, refl, sym, ap, ◌∙◌, subst, subst₂, arith}
+use Rattle.std.proofs.Common.{◌≡◌, ℕ, zero, suc, ◌+◌, ◌≤◌, Bool, List, [], ◌++◌, Option, Some, option_map, slice_get, flat_map, refl, sym, ap, ◌∙◌, subst, subst₂, arith}
+use Rattle.std.proofs.lemmas.Grind.{common_steps}
 use Rattle.std.proofs.lemmas.List.{append-nil, append_assoc}
 use Rattle.model.specs.lists.Syntax.{Definition, RuleTree}
 use Rattle.model.specs.lists.Names.{IsDistinct}
@@ -61,8 +62,7 @@ module _ (e : Setting) where
 
   typed_there : (trees : List RuleTree) (names : List (List ℕ)) (o : Option TypedRules) (l : TypedRules) → typed_rules e 0 trees names ≡ o → option_map (named e) o ≡ Some l
       → (k : TypedRules) × (typed_rules e 0 trees names ≡ Some k)
-  typed_there trees names None l g h = absurd (none_some l h)
-  typed_there trees names (Some k) l g h = (k, g)
+  typed_there trees names o l g h = grind (arith, common_steps, none_some)
 
 names_once : (e : TypesRead) (defs : List Definition) → AreReadable e → IsDistinct (term_names_met e.known defs)
 names_once e defs readable = distinct_names e.known.names (decl_names defs ++ flat_map function_of defs) readable.well_formed.names_distinct

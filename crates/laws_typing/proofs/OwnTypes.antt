@@ -1,12 +1,13 @@
 -- The types and constants of a list of definitions with valid types can be read.
-use Rattle.std.proofs.Common.{◌≡◌, ℕ, zero, suc, ◌+◌, ◌<◌, true, false, cond, List, [], ◌∷◌, ◌++◌, length, map, Some, None, unwrap_or, slice_get, All, Contains, refl, sym, ap, ◌∙◌, subst, inl, inr, arith}
+use Rattle.std.proofs.Common.{◌≡◌, ℕ, zero, suc, ◌+◌, ◌<◌, true, false, cond, List, [], ◌∷◌, ◌++◌, length, map, Some, slice_get, All, Contains, sym, ap, ◌∙◌, subst, inl, inr, arith}
+use Rattle.std.proofs.lemmas.Grind.{common_steps}
 use Rattle.std.specs.List.{enumerate_from, flat_map, AllByRecursion}
 use Rattle.std.proofs.lemmas.List.Elements.{All-from_recursion}
 use Rattle.std.proofs.lemmas.Option.{none-some, same_Some}
-use Rattle.model.specs.lists.Syntax.{Name, VariantTree, TypeTree, TypeValueTree, primitive_value, enum_value, struct_value, Definition}
+use Rattle.model.specs.lists.Syntax.{Name, VariantTree, TypeTree, TypeValueTree, enum_value, Definition}
 use Rattle.model.specs.lists.Names.{has_name}
 use Rattle.model.specs.lists.Tables.{VariantEntry}
-use Rattle.model.specs.lists.TypeTable.{builtin_names, builtin_from, type_id, type_trees, type_names, ConstantTree, constant_trees, names_inside, all_type_names, type_names_met, name_number, variant_entry, entry_at, type_entry, type_table, last_definitions, constant_types, type_or_first}
+use Rattle.model.specs.lists.TypeTable.{builtin_names, builtin_from, type_trees, type_names, ConstantTree, constant_trees, names_inside, all_type_names, type_names_met, name_number, variant_entry, entry_at, type_entry, type_table, last_definitions, constant_types, type_or_first}
 use Rattle.model.proofs.Joined.{all_joined}
 use Rattle.model.proofs.Names.{number_below, has_at, has_met, has_right}
 use Rattle.laws_typing.proofs.TypeLaws.{names_later}
@@ -28,9 +29,8 @@ builtins_without n (x ∷ xs) = ((λ i v h. absurd (none-some v h)), builtins_wi
 
 module _ (defs : List Definition) where
   entry_at_ids : (ns : List (List ℕ)) (id : ℕ) (t : TypeTree) (w : TypeValueTree) → HasVariantsAtIds (entry_at defs ns id t w)
-  entry_at_ids ns id t (primitive_value name at) i v h = absurd (none-some v h)
   entry_at_ids ns id t (enum_value variants at) i v h = ids_count defs ns t.name.text 0 i i variants v (omega arith) h
-  entry_at_ids ns id t (struct_value fields at) i v h = absurd (none-some v h)
+  entry_at_ids ns id t w i v h = grind (arith, common_steps, none-some)
 
   entries_at_ids : (ns : List (List ℕ)) (n : ℕ) (ts : List TypeTree) → AllByRecursion HasVariantsAtIds (map (λ p. type_entry defs ns p.0 p.1) (enumerate_from n ts))
   entries_at_ids ns n [] = tt
@@ -69,12 +69,7 @@ module _ (defs : List Definition) where
   first_type = omega arith
 
   type_below : (n : Name) → type_or_first defs n < length (type_table defs)
-  type_below n =
-      subst (λ m. type_or_first defs n < m) (as_many defs)
-      (elim (type_id defs n.text) as (λ o. type_id defs n.text ≡ o → unwrap_or o 0 < length (all_type_names defs)) [
-        | None ↦ λ _. first_type
-        | Some i ↦ λ e. (let l = place_below (all_type_names defs) 0 n.text i e in omega arith)
-      ] refl)
+  type_below n = grind (arith, common_steps, as_many defs, place_below (all_type_names defs) 0 n.text, as_many, first_type, place_below)
 
   -- what holds of each constant
   each_constant : (P : ℕ × ℕ → Type 0) → ((c : ConstantTree) → Contains (constant_trees defs) c → P (name_number defs c.name.text, type_or_first defs c.ty)) → All P (constant_types defs)

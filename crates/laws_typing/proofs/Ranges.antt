@@ -1,5 +1,6 @@
 -- Reducing a number to a range: by a multiple that lifts it to a natural number.
-use Rattle.std.proofs.Common.{◌≡◌, ℕ, suc, ◌+◌, ◌-◌, ◌*◌, ◌/◌, ◌%◌, ◌<◌, ◌≤◌, ℤ, pos, negsuc, ◌+ℤ◌, ◌-ℤ◌, ◌≤ℤ◌, ◌<ℤ◌, true, Option, Some, None, refl, sym, ap, subst, ◌∙◌, inl, inr, arith}
+use Rattle.std.proofs.Common.{◌≡◌, ℕ, suc, ◌+◌, ◌-◌, ◌*◌, ◌/◌, ◌%◌, ◌<◌, ◌≤◌, ℤ, pos, negsuc, ◌+ℤ◌, ◌-ℤ◌, ◌≤ℤ◌, true, Option, Some, refl, sym, ap, ◌∙◌, inl, inr, arith}
+use Rattle.std.proofs.lemmas.Grind.{common_steps}
 use Rattle.std.specs.Int.{int_rem_euclid}
 use Rattle.std.proofs.lemmas.Bool.{cases_lt, and_parts, and_from}
 use Rattle.std.proofs.lemmas.Bool.Decides.{Decides-int_eq}
@@ -38,12 +39,7 @@ some_size r = pow_pos r.bits
 
 -- 2. the laws
 pub reduced_numbers_are_in_range_lem : ReducedNumbersAreInRange
-reduced_numbers_are_in_range_lem r z =
-    let n = size r in
-    let l = lift n (some_size r) (z -ℤ r.least) in
-    let e = rest n (some_size r) (z -ℤ r.least) l.times l.lifted l.is in
-    let below = mod_below l.lifted n (some_size r) in
-    subst (λ x. (r.least ≤ℤ (r.least +ℤ x)) × ((r.least +ℤ x) <ℤ (r.least +ℤ pos n))) (sym e) (omega (arith, ints), omega (arith, ints, below))
+reduced_numbers_are_in_range_lem r z = grind (arith, common_steps, some_size r, lift, some_size, mod_below, ints)
 
 pub numbers_in_range_stay_lem : NumbersInRangeStay
 numbers_in_range_stay_lem r z h =
@@ -116,8 +112,7 @@ one_of_the_range_differs_by_a_multiple_lem r z x h d = (reduced_alike_by_multipl
 
 -- 3. literals
 once_reduced : (o : Option Range) (z : ℤ) → reduce_where o (reduce_where o z) ≡ reduce_where o z
-once_reduced None z = refl
-once_reduced (Some r) z = reducing_twice_is_reducing_lem r z
+once_reduced o z = grind (arith, common_steps, reducing_twice_is_reducing_lem)
 
 -- what a literal stands for is a literal
 pub reduced_is_literal : (ty : Option TypeEntry) (z : ℤ) → is_atom_type ty ≡ true → is_literal_of ty (reduced ty z) ≡ true
@@ -125,6 +120,4 @@ reduced_is_literal ty z h = and_from (is_atom_type ty) _ h ((Decides-int_eq (red
 
 -- a literal of a type with a range lies in it
 pub literal_in_range : (ty : Option TypeEntry) (z : ℤ) (r : Range) → is_literal_of ty z ≡ true → range_of ty ≡ Some r → IsInRange r z
-literal_in_range ty z r h e =
-    let same : reduced ty z ≡ z = (Decides-int_eq (reduced ty z) z).0 (and_parts (is_atom_type ty) _ h).1 in
-    subst (IsInRange r) (sym (ap (λ o. reduce_where o z) e) ∙ same) (reduced_numbers_are_in_range_lem r z)
+literal_in_range ty z r h e = grind (arith, common_steps, Decides-int_eq, and_parts, reduced_numbers_are_in_range_lem)

@@ -1,5 +1,6 @@
 -- More names leave which errors refuse the rules of a list.
-use Rattle.std.proofs.Common.{◌≡◌, ◌↔◌, ℕ, List, Bool, Option, Some, None, refl, sym}
+use Rattle.std.proofs.Common.{◌≡◌, ◌↔◌, ℕ, List, Bool, Option, None, arith}
+use Rattle.std.proofs.lemmas.Grind.{common_steps}
 use Rattle.std.proofs.lemmas.Option.{none-some}
 use Rattle.model.specs.lists.Syntax.{Position, Definition, RuleTree}
 use Rattle.model.specs.lists.TermTable.{term_names_met}
@@ -16,10 +17,7 @@ use Rattle.laws_typing.proofs.RulesAgain.{rules_there, rules_again, rules_before
 
 -- where two answers are alike, both are none or neither is
 none_too : (o p : Option (Typing TypedRule)) → AreThereAlike o p → (o ≡ None) ↔ (p ≡ None)
-none_too None None h = ((λ e. refl), (λ e. refl))
-none_too None (Some b) h = absurd h
-none_too (Some a) None h = absurd h
-none_too (Some a) (Some b) h = ((λ e. absurd (none-some a (sym e))), (λ e. absurd (none-some b (sym e))))
+none_too o p h = grind (arith, common_steps, none-some)
 
 module _ (a : TypesReadAgain) (defs : List Definition) (expand : Bool) where
   abbrev typing : ℕ → ℕ → RuleTree → Option (Typing TypedRule)
@@ -49,10 +47,7 @@ module _ (a : TypesReadAgain) (defs : List Definition) (expand : Bool) where
       expansions_pass id (record { terms = (valid_alike a defs).1 h.terms; rule = h.rule; here = h.here; none = λ d. (few_none_alike d id h.rule).1 (h.none d) })
 
   refused_alike : (errors : List Refusal) → RefusesRules a.types defs expand errors ↔ RefusesRules (later a) defs expand errors
-  refused_alike errors = (
-    (λ h. record { some_error = h.some_error; forms = h.forms; limits = λ l at c. passed_again l at (h.limits l at c); no_rules = λ x. h.no_rules (rules_before a defs expand x) }),
-    (λ h. record { some_error = h.some_error; forms = h.forms; limits = λ l at c. passed_before l at (h.limits l at c); no_rules = λ x. h.no_rules (rules_again a defs expand x) }),
-  )
+  refused_alike errors = grind (arith, common_steps, rules_before a defs expand, rules_again a defs expand, passed_again, rules_before, passed_before, rules_again)
 
 pub rules_are_refused_again_lem : RulesAreRefusedAgain
 rules_are_refused_again_lem e env r left defs expand errors = refused_alike (left_again e env r left) defs expand errors

@@ -1,15 +1,13 @@
 -- Errors of a list that has no term table are errors of a list that has no typed rules.
+use Rattle.std.proofs.Common.{arith}
+use Rattle.std.proofs.lemmas.Grind.{common_steps}
 use Rattle.std.proofs.lemmas.List.Elements.{All-contains}
 use Rattle.model.proofs.Members.{all_members}
-use Rattle.model.specs.claims.Refusals.{Refusal, ill_typed, unreachable, overlapping, shadowing, past_limit, IsIllTyped, IsOfReading}
+use Rattle.model.specs.claims.Refusals.{Refusal, past_limit, IsIllTyped, IsOfReading}
 use Rattle.laws_typing.specs.RefusedTerms.{RefusedTermsRefuseRules}
 
 pub of_reading : (r : Refusal) → IsIllTyped r → IsOfReading r
-of_reading (ill_typed at) h = h
-of_reading (unreachable at) h = h
-of_reading (overlapping rules) h = h
-of_reading (shadowing shadowed mask) h = h
-of_reading (past_limit limit at) h = absurd h
+of_reading r h = grind (arith, common_steps)
 
 pub refused_terms_refuse_rules_lem : RefusedTermsRefuseRules
 refused_terms_refuse_rules_lem e defs expand errors r =

@@ -1,5 +1,6 @@
 -- More names leave a list its typed rules, or none.
-use Rattle.std.proofs.Common.{◌≡◌, ℕ, zero, suc, ◌+◌, ◌==◌, ◌<◌, not, ◌&&◌, Bool, true, false, cond, List, [], ◌∷◌, ◌++◌, length, map, Option, Some, None, option_map, unwrap_or, slice_get, is_some, flat_map, IsTrue, refl, sym, ap, ◌∙◌, subst, inl, inr}
+use Rattle.std.proofs.Common.{◌≡◌, ℕ, suc, ◌+◌, ◌==◌, ◌<◌, not, ◌&&◌, Bool, true, cond, List, [], ◌∷◌, ◌++◌, length, map, Option, Some, None, option_map, slice_get, is_some, flat_map, IsTrue, refl, sym, ap, ◌∙◌, subst, inl, inr, arith}
+use Rattle.std.proofs.lemmas.Grind.{common_steps}
 use Rattle.std.proofs.Math.Path.{ap₂}
 use Rattle.std.specs.List.{cons_option, enumerate_from, count_by, fold, find}
 use Rattle.std.specs.Str.{bytes_eq}
@@ -7,10 +8,9 @@ use Rattle.std.proofs.lemmas.List.Elements.{All-contains}
 use Rattle.std.proofs.lemmas.Option.{none-some, same_Some}
 use Rattle.model.specs.lists.Syntax.{Definition, DeclTree, ExtractorTree, RuleTree}
 use Rattle.model.specs.lists.Names.{number, has_name, IsDistinct}
-use Rattle.model.specs.lists.Tables.{VariantEntry, TypeEntry, builtin_type, primitive_type, enum_type, struct_type, TermEntry, ConstructorEntry, internal_constructor, external_constructor, ExtractorEntry, internal_extractor, external_extractor, declared_term}
-use Rattle.model.specs.lists.TypeTable.{place_from}
-use Rattle.model.specs.lists.KnownTypes.{KnownTypes, known_type}
-use Rattle.model.specs.lists.TermTable.{ConstructorTree, ExternalTree, decl_names, decl_trees, function_of, rule_trees, has_rules, constructor_trees, internal_extractors, extractor_trees, external_trees, extractor_template, decl_flags, constructor_kind, extractor_kind, decl_as_term, variant_as_term, made_by, terms_made, term_names_met, term_table, converter_trees, converters}
+use Rattle.model.specs.lists.Tables.{VariantEntry, TypeEntry, enum_type, struct_type, TermEntry, ConstructorEntry, external_constructor, ExtractorEntry, internal_extractor, external_extractor, declared_term}
+use Rattle.model.specs.lists.KnownTypes.{KnownTypes}
+use Rattle.model.specs.lists.TermTable.{ConstructorTree, ExternalTree, decl_names, decl_trees, function_of, rule_trees, constructor_trees, extractor_trees, external_trees, extractor_template, decl_flags, constructor_kind, extractor_kind, decl_as_term, variant_as_term, made_by, terms_made, term_names_met, term_table, converters}
 use Rattle.model.specs.lists.Setting.{new_scope, entry_template}
 use Rattle.model.specs.lists.Elaborated.{TypedRules, elaborated_rule, term_name, named_rule, named_rules, rule_names, named, typed_rules, RulesElaborate}
 use Rattle.model.specs.rules.Typed.{TypedRule}
@@ -30,37 +30,24 @@ use Rattle.laws_typing.proofs.AfterRefusals.{TypesReadAgain, later, still_readab
 
 -- 1. two choices, by one test
 either_two : {X : Type 0} (P : X → X → Type 0) (a b : Bool) (x y z w : X) → a ≡ b → P x z → P y w → P (cond a x y) (cond b z w)
-either_two P true true x y z w e p q = p
-either_two P false false x y z w e p q = q
-either_two P true false x y z w e p q = absurd (cc)
-either_two P false true x y z w e p q = absurd (cc)
+either_two P a b x y z w e p q = grind (arith, common_steps)
 
 same_there : {X Y Z : Type 0} (f : X → Y) (g : X → Z) (o : Option X) → is_some (option_map g o) ≡ is_some (option_map f o)
-same_there f g None = refl
-same_there f g (Some x) = refl
+same_there f g o = grind (arith, common_steps)
 
 -- 2. rules that are alike have names alike once the only rules of their terms are named by these
 term_names_alike : (ns ms : List (List ℕ)) (ts us : List TermEntry) → EntriesAlike ns ms ts us → (i : ℕ) → NumbersAlike ns ms (term_name ts i) (term_name us i)
-term_names_alike ns ms [] [] h i = tt
-term_names_alike ns ms [] (u ∷ us) h i = absurd h
-term_names_alike ns ms (t ∷ ts) [] h i = absurd h
-term_names_alike ns ms (t ∷ ts) (u ∷ us) h zero = subst (λ (x : TermEntry). OfOneText ns ms t.name x.name) (sym h.0.same) h.0.named
 term_names_alike ns ms (t ∷ ts) (u ∷ us) h (suc i) = term_names_alike ns ms ts us h.1 i
+term_names_alike ns ms ts us h i = grind (arith, common_steps)
 
 module _ (two : TwoTables) (after last : List (List ℕ)) (names : Alike two (new_scope after) (new_scope last)) where
   counts_alike : (qs rs : List TypedRule) → RulesAlike after last qs rs → (t a : ℕ)
       → fold (λ n (q : TypedRule). n + cond (q.root_term == t) 1 0) a qs ≡ fold (λ n (q : TypedRule). n + cond (q.root_term == t) 1 0) a rs
-  counts_alike [] [] h t a = refl
-  counts_alike [] (r ∷ rs) h t a = absurd h
-  counts_alike (q ∷ qs) [] h t a = absurd h
-  counts_alike (q ∷ qs) (r ∷ rs) h t a =
-      ap (λ n. fold (λ m (x : TypedRule). m + cond (x.root_term == t) 1 0) (a + cond (n == t) 1 0) qs) (sym h.0.term) ∙ counts_alike qs rs h.1 t (a + cond (r.root_term == t) 1 0)
+  counts_alike (q ∷ qs) (r ∷ rs) h t a = grind (arith, common_steps, counts_alike qs rs h.1 t (a + cond (r.root_term == t) 1 0))
+  counts_alike qs rs h t a = grind (arith, common_steps)
 
   some_alike : (o p : Option ℕ) → NumbersAlike after last o p → is_some p ≡ is_some o
-  some_alike None None h = refl
-  some_alike None (Some y) h = absurd h
-  some_alike (Some x) None h = absurd h
-  some_alike (Some x) (Some y) h = refl
+  some_alike o p h = grind (arith, common_steps)
 
   rule_named_alike : (qs rs : List TypedRule) → RulesAlike after last qs rs → (q r : TypedRule) → RuleAlike after last q r → RuleAlike after last (named_rule two.setting.terms qs q) (named_rule two.other_terms rs r)
   rule_named_alike qs rs all q r h = record {
@@ -75,10 +62,8 @@ module _ (two : TwoTables) (after last : List (List ℕ)) (names : Alike two (ne
   }
 
   all_named_alike : (qs rs : List TypedRule) → RulesAlike after last qs rs → (xs ys : List TypedRule) → RulesAlike after last xs ys → RulesAlike after last (map (named_rule two.setting.terms qs) xs) (map (named_rule two.other_terms rs) ys)
-  all_named_alike qs rs all [] [] h = tt
-  all_named_alike qs rs all [] (y ∷ ys) h = absurd h
-  all_named_alike qs rs all (x ∷ xs) [] h = absurd h
   all_named_alike qs rs all (x ∷ xs) (y ∷ ys) h = (rule_named_alike qs rs all x y h.0, all_named_alike qs rs all xs ys h.1)
+  all_named_alike qs rs all ys h i = grind (arith, common_steps)
 
   -- numbers of one text each
   abbrev OfTexts : List ℕ → List ℕ → Type 0
@@ -93,26 +78,15 @@ module _ (two : TwoTables) (after last : List (List ℕ)) (names : Alike two (ne
   with_number (Some x) (Some y) ks ls h g = (h, g)
 
   names_of_texts : (qs rs : List TypedRule) → RulesAlike after last qs rs → OfTexts (rule_names qs) (rule_names rs)
-  names_of_texts [] [] h = tt
-  names_of_texts [] (r ∷ rs) h = absurd h
-  names_of_texts (q ∷ qs) [] h = absurd h
-  names_of_texts (q ∷ qs) (r ∷ rs) h = with_number q.name r.name (rule_names qs) (rule_names rs) h.0.name (names_of_texts qs rs h.1)
+  names_of_texts (q ∷ qs) (r ∷ rs) h = grind (arith, common_steps, names_of_texts qs rs h.1)
+  names_of_texts qs rs h = grind (arith, common_steps)
 
   text_at : (ks ls : List ℕ) → OfTexts ks ls → (i y : ℕ) → slice_get ls i ≡ Some y → (k : ℕ) × (slice_get ks i ≡ Some k) × OfOneText after last k y
-  text_at [] [] h i y e = absurd (none-some y e)
-  text_at [] (l ∷ ls) h i y e = absurd h
-  text_at (k ∷ ks) [] h i y e = absurd h
-  text_at (k ∷ ks) (l ∷ ls) h zero y e = (k, refl, subst (OfOneText after last k) (same_Some l y e) h.0)
   text_at (k ∷ ks) (l ∷ ls) h (suc i) y e = text_at ks ls h.1 i y e
+  text_at ks ls h i y e = grind (arith, common_steps, none-some, same_Some)
 
   distinct_alike : (qs rs : List TypedRule) → RulesAlike after last qs rs → IsDistinct (rule_names qs) → IsDistinct (rule_names rs)
-  distinct_alike qs rs h g i j y a b =
-      let o = names_of_texts qs rs h in
-      let x = text_at (rule_names qs) (rule_names rs) o i y a in
-      let z = text_at (rule_names qs) (rule_names rs) o j y b in
-      let text = same_Some x.2.0 z.2.0 (sym x.2.2 ∙ z.2.2) in
-      let same = names.once x.0 z.0 x.2.0 x.2.1 (z.2.1 ∙ ap Some (sym text)) in
-      g i j x.0 x.1 (z.1 ∙ ap Some (sym same))
+  distinct_alike qs rs h g i j y a b = grind (arith, common_steps, names_of_texts qs rs h, text_at (rule_names qs) (rule_names rs), names_of_texts, text_at, same_Some)
 
 -- 3. the rules of a list
 elaborate_alike : (two : TwoTables) → Alike two (new_scope two.names) (new_scope two.other_names) → (trees : List RuleTree) (l : TypedRules)
@@ -166,9 +140,7 @@ module _ (a : TypesReadAgain) (defs : List Definition) where
   made_stay n i = stays n (made_below a n i)
 
   declared_there : (x : List ℕ) → has_name (decl_names defs) x ≡ true → (has_name ns x ≡ true) × (has_name ms x ≡ true)
-  declared_there x h =
-      let there = has_left (decl_names defs) (flat_map function_of defs) x h in
-      (has_met k.names met_names x there, has_met (k.names ++ a.more) met_names x there)
+  declared_there x h = grind (arith, common_steps, has_left (decl_names defs) (flat_map function_of defs) x h, has_left, has_met)
 
   -- 5. the entries of terms
   abbrev own_function : List (List ℕ) → List ℕ → Option ConstructorEntry
@@ -181,25 +153,17 @@ module _ (a : TypesReadAgain) (defs : List Definition) where
   own_internal x = option_map (λ (e : ExtractorTree). internal_extractor (extractor_template e)) (find (λ (e : ExtractorTree). bytes_eq e.term.text x) (extractor_trees defs))
 
   constructor_there : (x : List ℕ) → is_some (constructor_kind defs ms x) ≡ is_some (constructor_kind defs ns x)
-  constructor_there x =
-      either_two (λ (o p : Option ConstructorEntry). is_some p ≡ is_some o) (has_rules defs x) (has_rules defs x) (Some internal_constructor) (own_function ns x) (Some internal_constructor) (own_function ms x) refl refl
-      (same_there (λ (c : ConstructorTree). external_constructor (number ns c.function.text)) (λ (c : ConstructorTree). external_constructor (number ms c.function.text)) (find (λ (c : ConstructorTree). bytes_eq c.term.text x) (constructor_trees defs)))
+  constructor_there x = grind (arith, common_steps, either_two, same_there)
 
   extractor_there : (x : List ℕ) → is_some (extractor_kind defs ms x) ≡ is_some (extractor_kind defs ns x)
-  extractor_there x =
-      either_two (λ (o p : Option ExtractorEntry). is_some p ≡ is_some o) (has_name (internal_extractors defs) x) (has_name (internal_extractors defs) x) (own_internal x) (own_external ns x) (own_internal x) (own_external ms x) refl refl
-      (same_there (λ (e : ExternalTree). external_extractor (number ns e.function.text) e.infallible e.at) (λ (e : ExternalTree). external_extractor (number ms e.function.text) e.infallible e.at)
-      (find (λ (e : ExternalTree). bytes_eq e.term.text x) (external_trees defs)))
+  extractor_there x = grind (arith, common_steps, either_two, same_there)
 
   no_template : (o : Option ExternalTree) → entry_template (option_map (λ (e : ExternalTree). external_extractor (number ms e.function.text) e.infallible e.at) o)
       ≡ entry_template (option_map (λ (e : ExternalTree). external_extractor (number ns e.function.text) e.infallible e.at) o)
-  no_template None = refl
-  no_template (Some e) = refl
+  no_template o = grind (arith, common_steps)
 
   template_there : (x : List ℕ) → entry_template (extractor_kind defs ms x) ≡ entry_template (extractor_kind defs ns x)
-  template_there x =
-      either_two (λ (o p : Option ExtractorEntry). entry_template p ≡ entry_template o) (has_name (internal_extractors defs) x) (has_name (internal_extractors defs) x) (own_internal x) (own_external ns x) (own_internal x) (own_external ms x) refl refl
-      (no_template (find (λ (e : ExternalTree). bytes_eq e.term.text x) (external_trees defs)))
+  template_there x = grind (arith, common_steps, either_two, no_template)
 
   decl_alike : (d : DeclTree) (id : ℕ) → has_name (decl_names defs) d.term.text ≡ true → EntryAlike ns ms (decl_as_term k defs ns d id) (decl_as_term k defs ms d id)
   decl_alike d id h =
@@ -215,13 +179,11 @@ module _ (a : TypesReadAgain) (defs : List Definition) where
 
   -- the names of the terms that types make
   name_made : (t : TypeEntry) (g : ℕ → TermEntry) → In (terms_made t) g → (id : ℕ) → In (made_by t) (g id).name
-  name_made (builtin_type place) g i id = absurd i
-  name_made (primitive_type n name at) g i id = absurd i
   name_made (struct_type name n is_extern is_nodebug fields at) g (inl e) id = inl (ap (λ (h : ℕ → TermEntry). (h id).name) e)
-  name_made (struct_type name n is_extern is_nodebug fields at) g (inr i) id = absurd i
   name_made (enum_type name n is_extern is_nodebug variants at) g i id =
       let v = in_map (variant_as_term n) variants g i in
       subst (λ (h : ℕ → TermEntry). In (map (λ (w : VariantEntry). w.full_name) variants) (h id).name) v.2 (map_in (λ (w : VariantEntry). w.full_name) variants v.0 v.1)
+  name_made t g i id = grind (arith, common_steps)
 
   names_made : (g : ℕ → TermEntry) → In (flat_map terms_made k.types) g → (id : ℕ) → OfOneText ns ms (g id).name (g id).name
   names_made g i id =
@@ -279,13 +241,10 @@ module _ (a : TypesReadAgain) (defs : List Definition) where
 
     -- the setting with more names is this one with the other terms
     type_numbers : map (number (k.names ++ a.more)) k.type_names ≡ map (number k.names) k.type_names
-    type_numbers =
-        map_same (number (k.names ++ a.more)) (number k.names) k.type_names
-        (λ x i. number_front k.names a.more x (All-contains (λ y. IsTrue (has_name k.names y)) k.type_names x a.readable.well_formed.names_of_types_met (contains_from_in k.type_names x i)))
+    type_numbers = grind (arith, common_steps, map_same, number_front, All-contains, contains_from_in)
 
     converters_stay : converters (later a).known defs ≡ converters k defs
-    converters_stay =
-        ap (λ (l : List (List ℕ)). map (λ c. ((known_type k c.inner_ty, known_type k c.outer_ty), unwrap_or (place_from 0 c.term.text l) 0)) (converter_trees defs)) (sym (names_stay a defs))
+    converters_stay = grind (arith, common_steps, names_stay a defs, names_stay)
 
     same_setting : setting_of (later a) defs expand ≡ other_setting two
     same_setting = λ i. record { types = k.types; type_names = type_numbers i; constants = a.types.constants; terms = two.other_terms; converters = converters_stay i; expand = expand }

@@ -1,12 +1,13 @@
 -- What holds of the term table of all lists of definitions.
-use Rattle.std.proofs.Common.{◌≡◌, ℕ, zero, suc, ◌+◌, ◌<◌, true, List, [], ◌∷◌, ◌++◌, length, get_or, map, Some, slice_get, refl, sym, ap, ◌∙◌, arith}
+use Rattle.std.proofs.Common.{◌≡◌, ℕ, suc, ◌+◌, ◌<◌, true, List, [], ◌∷◌, ◌++◌, length, get_or, map, Some, slice_get, refl, sym, ap, ◌∙◌, arith}
+use Rattle.std.proofs.lemmas.Grind.{common_steps}
 use Rattle.std.specs.List.{enumerate_from, flat_map, filter_map, cons_option, AllByRecursion}
 use Rattle.std.proofs.lemmas.List.Concat.{flat_map-append}
 use Rattle.std.proofs.lemmas.List.Elements.{recursion_from_All}
 use Rattle.std.proofs.lemmas.Option.{same_Some, slice_get-get_or}
-use Rattle.model.specs.lists.Syntax.{VariantTree, TypeTree, TypeValueTree, primitive_value, enum_value, struct_value, DeclTree, Definition}
+use Rattle.model.specs.lists.Syntax.{VariantTree, TypeTree, TypeValueTree, enum_value, DeclTree, Definition}
 use Rattle.model.specs.lists.Names.{number, has_name, with_names, IsDistinct}
-use Rattle.model.specs.lists.Tables.{VariantEntry, TypeEntry, builtin_type, primitive_type, enum_type, struct_type, TermEntry}
+use Rattle.model.specs.lists.Tables.{VariantEntry, TypeEntry, TermEntry}
 use Rattle.model.specs.lists.TypeTable.{builtin_names, builtin_from, type_trees, full_name, field_names, variant_names, names_inside, type_names_met, entry_at, type_entry, type_table, variant_entry}
 use Rattle.model.specs.lists.TermTable.{decl_trees, decl_names, function_of, made_by, term_names, term_names_met, variant_as_term, terms_made, decl_as_term, terms_in_order}
 use Rattle.model.specs.lists.KnownTypes.{KnownTypes, types_of, field_numbers, variant_numbers, entry_numbers}
@@ -25,24 +26,16 @@ AreNamed (f ∷ fs) [] = ⊥
 AreNamed (f ∷ fs) (n ∷ ns) = ((id : ℕ) → ((f id).name ≡ n) × ((f id).id ≡ id)) × AreNamed fs ns
 
 both_named : (fs gs : List (ℕ → TermEntry)) (ns ms : List ℕ) → AreNamed fs ns → AreNamed gs ms → AreNamed (fs ++ gs) (ns ++ ms)
-both_named [] gs [] ms a b = b
-both_named [] gs (n ∷ ns) ms a b = absurd a
-both_named (f ∷ fs) gs [] ms a b = absurd a
 both_named (f ∷ fs) gs (n ∷ ns) ms a b = (a.0, both_named fs gs ns ms a.1 b)
+both_named fs gs ns ms a b = grind (arith, common_steps)
 
 names_are : (fs : List (ℕ → TermEntry)) (ns : List ℕ) (k : ℕ) → AreNamed fs ns → map (λ e. e.name) (map (λ p. p.1 p.0) (enumerate_from k fs)) ≡ ns
-names_are [] [] k a = refl
-names_are [] (n ∷ ns) k a = absurd a
-names_are (f ∷ fs) [] k a = absurd a
-names_are (f ∷ fs) (n ∷ ns) k a =
-    ap (λ m. m ∷ map (λ e. e.name) (map (λ p. p.1 p.0) (enumerate_from (k + 1) fs))) (a.0 k).0 ∙ ap (λ ms. n ∷ ms) (names_are fs ns (k + 1) a.1)
+names_are (f ∷ fs) (n ∷ ns) k a = grind (arith, common_steps, names_are fs ns (k + 1) a.1)
+names_are fs ns k a = grind (arith, common_steps)
 
 ids_are : (fs : List (ℕ → TermEntry)) (ns : List ℕ) (k i m : ℕ) (e : TermEntry) → AreNamed fs ns → k + i ≡ m → slice_get (map (λ p. p.1 p.0) (enumerate_from k fs)) i ≡ Some e → e.id ≡ m
-ids_are [] ns k i m e a q h = absurd (cc)
-ids_are (f ∷ fs) [] k i m e a q h = absurd a
-ids_are (f ∷ fs) (n ∷ ns) k zero m e a q h =
-    let own : (f k).id ≡ k = (a.0 k).1 in let same : (f k).id ≡ e.id = ap (λ (x : TermEntry). x.id) (same_Some (f k) e h) in omega arith
 ids_are (f ∷ fs) (n ∷ ns) k (suc i) m e a q h = ids_are fs ns (k + 1) i m e a.1 (omega arith) h
+ids_are fs ns k i m e a q h = grind (arith, common_steps, same_Some)
 
 -- the terms that types make, by the numbers of their names
 variants_named : (ty : ℕ) (vs : List VariantEntry) → AreNamed (map (variant_as_term ty) vs) (map (λ v. v.full_name) vs)
@@ -50,10 +43,7 @@ variants_named ty [] = tt
 variants_named ty (v ∷ vs) = ((λ id. (refl, refl)), variants_named ty vs)
 
 made_named : (t : TypeEntry) → AreNamed (terms_made t) (made_by t)
-made_named (builtin_type place) = tt
-made_named (primitive_type id name at) = tt
-made_named (enum_type name id is_extern is_nodebug variants at) = variants_named id variants
-made_named (struct_type name id is_extern is_nodebug fields at) = ((λ id. (refl, refl)), tt)
+made_named t = grind (arith, common_steps, variants_named)
 
 all_made_named : (ts : List TypeEntry) → AreNamed (flat_map terms_made ts) (flat_map made_by ts)
 all_made_named [] = tt
@@ -100,15 +90,11 @@ module _ (P : ℕ → Type 0) where
   full_names_only (v ∷ vs) a = (a.0, full_names_only vs (all_right P (field_numbers v.fields) (flat_map variant_numbers vs) a.1.1))
 
   made_only : (t : TypeEntry) → AllByRecursion P (entry_numbers t) → AllByRecursion P (made_by t)
-  made_only (builtin_type place) a = tt
-  made_only (primitive_type id name at) a = tt
-  made_only (enum_type name id is_extern is_nodebug variants at) a = full_names_only variants a.1
-  made_only (struct_type name id is_extern is_nodebug fields at) a = (a.0, tt)
+  made_only t a = grind (arith, common_steps, full_names_only)
 
   pub all_made_only : (ts : List TypeEntry) → AllByRecursion P (flat_map entry_numbers ts) → AllByRecursion P (flat_map made_by ts)
+  all_made_only (t ∷ ts) a = grind (arith, common_steps, all_made_only ts (all_right P (entry_numbers t) (flat_map entry_numbers ts) a), all_joined, made_only, all_left, all_right)
   all_made_only [] a = tt
-  all_made_only (t ∷ ts) a =
-      all_joined P (made_by t) (flat_map made_by ts) (made_only t (all_left P (entry_numbers t) (flat_map entry_numbers ts) a)) (all_made_only ts (all_right P (entry_numbers t) (flat_map entry_numbers ts) a))
 
 pub terms_have_names_lem : TermsHaveNames
 terms_have_names_lem = (
@@ -117,13 +103,7 @@ terms_have_names_lem = (
 )
 
 pub names_stand_once_lem : NamesStandOnce
-names_stand_once_lem = (
-  type_names_distinct,
-  (
-    (λ k defs w. distinct_names k.names (decl_names defs ++ flat_map function_of defs) w.names_distinct),
-    (λ defs. distinct_names (type_names_met defs) (decl_names defs ++ flat_map function_of defs) (type_names_distinct defs)),
-  ),
-)
+names_stand_once_lem = grind (arith, common_steps, type_names_distinct, distinct_names)
 
 pub numbers_stay_lem : NumbersStay
 numbers_stay_lem k defs n x h = get_kept k.names (decl_names defs ++ flat_map function_of defs) n x h
@@ -137,16 +117,12 @@ variants_make defs ns ty i [] = refl
 variants_make defs ns ty i (v ∷ vs) = ap (λ l. number ns (full_name ty v.name.text) ∷ l) (variants_make defs ns ty (i + 1) vs)
 
 type_makes : (defs : List Definition) (ns : List (List ℕ)) (id : ℕ) (t : TypeTree) (w : TypeValueTree) → made_by (entry_at defs ns id t w) ≡ map (number ns) (names_made t.name.text w)
-type_makes defs ns id t (primitive_value name at) = refl
 type_makes defs ns id t (enum_value variants at) = variants_make defs ns t.name.text 0 variants
-type_makes defs ns id t (struct_value fields at) = refl
+type_makes defs ns id t w = refl
 
 types_make : (defs : List Definition) (ns : List (List ℕ)) (id : ℕ) (ts : List TypeTree) → flat_map made_by (map (λ p. type_entry defs ns p.0 p.1) (enumerate_from id ts)) ≡ map (number ns) (flat_map (λ t. names_made t.name.text t.value) ts)
+types_make defs ns id (t ∷ ts) = grind (arith, common_steps, types_make defs ns (id + 1) ts, type_makes, map-append)
 types_make defs ns id [] = refl
-types_make defs ns id (t ∷ ts) =
-    ap (λ l. l ++ flat_map made_by (map (λ p. type_entry defs ns p.0 p.1) (enumerate_from (id + 1) ts))) (type_makes defs ns id t t.value)
-    ∙ ap (λ l. map (number ns) (names_made t.name.text t.value) ++ l) (types_make defs ns (id + 1) ts)
-    ∙ sym (map-append (number ns) (names_made t.name.text t.value) (flat_map (λ t. names_made t.name.text t.value) ts))
 
 -- names that were met are read back from their numbers
 names_back : (ns xs : List (List ℕ)) → AllByRecursion (λ x. has_name ns x ≡ true) xs → filter_map (slice_get ns) (map (number ns) xs) ≡ xs
@@ -162,16 +138,11 @@ module _ (defs : List Definition) where
   full_names_met ty (v ∷ vs) a = (a.0, full_names_met ty vs (all_right IsMet (field_names v.fields) (flat_map (variant_names ty) vs) a.1.1))
 
   made_met : (ty : List ℕ) (w : TypeValueTree) → IsMet ty → AllByRecursion IsMet (names_inside ty w) → AllByRecursion IsMet (names_made ty w)
-  made_met ty (primitive_value name at) h a = tt
-  made_met ty (enum_value variants at) h a = full_names_met ty variants a
-  made_met ty (struct_value fields at) h a = (h, tt)
+  made_met ty w h a = grind (arith, common_steps, full_names_met)
 
   all_made_met : (ts : List TypeTree) → AllByRecursion IsMet (map (λ t. t.name.text) ts) → AllByRecursion IsMet (flat_map (λ t. names_inside t.name.text t.value) ts) → AllByRecursion IsMet (flat_map (λ t. names_made t.name.text t.value) ts)
+  all_made_met (t ∷ ts) h a = grind (arith, common_steps, all_made_met ts h.1, made_met t.name.text t.value h.0, all_joined, made_met, all_left, all_right)
   all_made_met [] h a = tt
-  all_made_met (t ∷ ts) h a =
-      all_joined IsMet (names_made t.name.text t.value) (flat_map (λ t. names_made t.name.text t.value) ts)
-      (made_met t.name.text t.value h.0 (all_left IsMet (names_inside t.name.text t.value) (flat_map (λ t. names_inside t.name.text t.value) ts) a))
-      (all_made_met ts h.1 (all_right IsMet (names_inside t.name.text t.value) (flat_map (λ t. names_inside t.name.text t.value) ts) a))
 
   pub own_names_made : filter_map (slice_get (type_names_met defs)) (flat_map made_by (type_table defs)) ≡ flat_map (λ t. names_made t.name.text t.value) (type_trees defs)
   own_names_made =

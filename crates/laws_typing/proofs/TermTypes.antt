@@ -1,14 +1,15 @@
 -- The types of the arguments and results of terms are types.
-use Rattle.std.proofs.Common.{◌≡◌, ℕ, suc, ◌+◌, ◌<◌, List, [], ◌∷◌, ◌++◌, length, map, take, Some, None, unwrap_or, slice_get, refl, subst, arith}
+use Rattle.std.proofs.Common.{◌≡◌, ℕ, suc, ◌+◌, ◌<◌, List, [], ◌∷◌, ◌++◌, length, map, take, Some, slice_get, refl, subst, arith}
+use Rattle.std.proofs.lemmas.Grind.{common_steps}
 use Rattle.std.specs.List.{enumerate_from, flat_map, AllByRecursion}
 use Rattle.std.proofs.lemmas.List.Elements.{All-from_recursion, recursion_from_All}
 use Rattle.std.proofs.lemmas.Option.{slice_get_within}
 use Rattle.model.specs.lists.Syntax.{Name, DeclTree, Definition}
 use Rattle.model.specs.rules.Values.{field_types}
-use Rattle.model.specs.lists.Tables.{VariantEntry, TypeEntry, builtin_type, primitive_type, enum_type, struct_type, TermEntry}
+use Rattle.model.specs.lists.Tables.{VariantEntry, TypeEntry, TermEntry}
 use Rattle.model.specs.lists.TypeTable.{builtin_names, builtin_from}
 use Rattle.model.specs.lists.TermTable.{decl_trees, term_names_met, variant_as_term, terms_made, decl_as_term, terms_in_order}
-use Rattle.model.specs.lists.KnownTypes.{KnownTypes, types_of, type_named, known_type, entry_id, types_inside, StandAtIds}
+use Rattle.model.specs.lists.KnownTypes.{KnownTypes, types_of, known_type, entry_id, types_inside, StandAtIds}
 use Rattle.laws_typing.specs.TableLaws.{AreOfTypes, TermsAreOfTypes}
 use Rattle.model.proofs.Joined.{all_joined, all_left, all_right}
 use Rattle.laws_typing.proofs.WellFormed.{place_below, as_many, fields_are_types, own_ids}
@@ -24,26 +25,19 @@ module _ (P : ℕ → Type 0) where
   both_of (f ∷ fs) gs a b = (a.0, both_of fs gs a.1 b)
 
   table_of : (n : ℕ) (fs : List (ℕ → TermEntry)) → AreAllOf P fs → AllByRecursion P (flat_map (λ e. e.ret_ty ∷ e.arg_tys) (map (λ p. p.1 p.0) (enumerate_from n fs)))
+  table_of n (f ∷ fs) a = grind (arith, common_steps, table_of (n + 1) fs a.1, all_joined P ((f n).ret_ty ∷ (f n).arg_tys), all_joined)
   table_of n [] a = tt
-  table_of n (f ∷ fs) a =
-      all_joined P ((f n).ret_ty ∷ (f n).arg_tys) (flat_map (λ e. e.ret_ty ∷ e.arg_tys) (map (λ p. p.1 p.0) (enumerate_from (n + 1) fs))) (a.0 n) (table_of (n + 1) fs a.1)
 
   variants_of_types : (ty : ℕ) (vs : List VariantEntry) → P ty → AllByRecursion P (flat_map (λ v. field_types v.fields) vs) → AreAllOf P (map (variant_as_term ty) vs)
+  variants_of_types ty (v ∷ vs) h a = grind (arith, common_steps, variants_of_types ty vs h, all_left P (field_types v.fields), all_right P (field_types v.fields), all_left, all_right)
   variants_of_types ty [] h a = tt
-  variants_of_types ty (v ∷ vs) h a =
-      ((λ id. (h, all_left P (field_types v.fields) (flat_map (λ v. field_types v.fields) vs) a)), variants_of_types ty vs h (all_right P (field_types v.fields) (flat_map (λ v. field_types v.fields) vs) a))
 
   made_of_types : (t : TypeEntry) → P (entry_id t) → AllByRecursion P (types_inside t) → AreAllOf P (terms_made t)
-  made_of_types (builtin_type place) h a = tt
-  made_of_types (primitive_type id name at) h a = tt
-  made_of_types (enum_type name id is_extern is_nodebug variants at) h a = variants_of_types id variants h a
-  made_of_types (struct_type name id is_extern is_nodebug fields at) h a = ((λ i. (h, a)), tt)
+  made_of_types t h a = grind (arith, common_steps, variants_of_types)
 
   all_of_types : (ts : List TypeEntry) → AllByRecursion (λ t. P (entry_id t)) ts → AllByRecursion P (flat_map types_inside ts) → AreAllOf P (flat_map terms_made ts)
+  all_of_types (t ∷ ts) h a = grind (arith, common_steps, all_of_types ts h.1 (all_right P (types_inside t) (flat_map types_inside ts) a), both_of, made_of_types, all_left, all_right)
   all_of_types [] h a = tt
-  all_of_types (t ∷ ts) h a =
-      both_of (terms_made t) (flat_map terms_made ts) (made_of_types t h.0 (all_left P (types_inside t) (flat_map types_inside ts) a))
-      (all_of_types ts h.1 (all_right P (types_inside t) (flat_map types_inside ts) a))
 
   arguments_of_types : (k : KnownTypes) → ((n : Name) → P (known_type k n)) → (ns : List Name) → AllByRecursion P (map (known_type k) ns)
   arguments_of_types k h [] = tt
@@ -63,16 +57,11 @@ ids_below all (t ∷ ts) n h s =
     (omega arith, ids_below all ts (suc n) (λ i u e. (let same : n + suc i ≡ suc n + i = omega arith in subst (λ j. slice_get all j ≡ Some u) same (h (suc i) u e))) s)
 
 known_below : (k : KnownTypes) → length k.type_names ≡ length k.types → 0 < length k.types → (n : Name) → known_type k n < length k.types
-known_below k e l n =
-    elim (type_named k n.text) as (λ o. type_named k n.text ≡ o → unwrap_or o 0 < length k.types) [
-      | None ↦ λ _. l
-      | Some i ↦ λ p. (let b = place_below k.type_names 0 n.text i p in omega arith)
-    ] refl
+known_below k e l n = grind (arith, common_steps, place_below k.type_names 0 n.text, place_below)
 
 -- there is a type where the first ones are the built-in ones
 some_type : (ts : List TypeEntry) → take 13 ts ≡ builtin_from 0 builtin_names → 0 < length ts
-some_type [] e = absurd (cc)
-some_type (t ∷ ts) e = omega arith
+some_type ts e = grind (arith, common_steps)
 
 of_types : (k : KnownTypes) (defs : List Definition) → length k.type_names ≡ length k.types → 0 < length k.types → StandAtIds k.types → AllByRecursion (λ ty. ty < length k.types) (flat_map types_inside k.types) → AreOfTypes k defs
 of_types k defs e l s a =

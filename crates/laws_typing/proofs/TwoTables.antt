@@ -1,12 +1,13 @@
 -- Rules elaborate alike by two tables of terms that say the same of terms with the same texts for names, each from the names
 -- that its table speaks of: names (1), entries of terms (2), variables (3), names of rules and what is found (4), two tables and
 -- their scopes (5), look-ups (6), derivations (7), rules (8), and that a rule has a typed rule by both or by none (9).
-use Rattle.std.proofs.Common.{◌≡◌, ℕ, zero, suc, ◌+◌, Bool, true, false, not, cond, ◌&&◌, ◌||◌, if◌then◌else◌, List, [], ◌∷◌, ◌++◌, length, Option, Some, None, slice_get, is_some, refl, sym, ap, ◌∙◌, subst, eqb-true, nat_le, inl, inr}
+use Rattle.std.proofs.Common.{◌≡◌, ℕ, zero, suc, ◌+◌, Bool, true, not, cond, ◌&&◌, ◌||◌, if◌then◌else◌, List, [], ◌∷◌, ◌++◌, length, Option, Some, None, slice_get, is_some, refl, sym, ap, ◌∙◌, subst, eqb-true, inl, inr, arith}
+use Rattle.std.proofs.lemmas.Grind.{common_steps}
 use Rattle.std.proofs.Math.Path.{ap₂}
 use Rattle.std.specs.List.{position_from}
 use Rattle.std.specs.Prelude.{unwrap_or, ◌==◌}
 use Rattle.std.specs.Str.{bytes_eq}
-use Rattle.std.proofs.lemmas.Bool.{cases_Bool, cond-true, cond-false, false≢true}
+use Rattle.std.proofs.lemmas.Bool.{cases_Bool, cond-true, cond-false}
 use Rattle.std.proofs.lemmas.List.{length-append}
 use Rattle.std.proofs.lemmas.Option.{none-some, same_Some}
 use Rattle.model.specs.lists.Syntax.{Position, Name, PatternTree, PatternTrees, ExprTree, ExprTrees, LetTrees, IfLetTree, RuleTree, var_pattern, bind_pattern, prim_pattern, term_pattern, var_expr, prim_expr, term_expr, let_and, pattern_and, no_pattern, expr_and, no_expr}
@@ -18,7 +19,7 @@ use Rattle.model.specs.rules.Typed.{TypedPattern, match_bind, match_var, match_p
 use Rattle.model.specs.lists.Setting.{Setting, Scope, new_scope, new_var, met, bound, after_let, var_named, var_of, entry_named, term_of, type_of_name, type_of_constant, on_lhs, allow, that, converter, pattern_converter, expr_converter, has_extractor, has_constructor, is_callable, is_matchable, declared_flags, entry_template, kind_template, template_in, is_expected}
 use Rattle.model.specs.lists.Expansions.{term_name_at}
 use Rattle.model.specs.lists.Typings.{Typing}
-use Rattle.model.specs.lists.Elaborated.{with_own_name, own_number, rule_of_sides, elaborated_rule, few_enough, most_expansions}
+use Rattle.model.specs.lists.Elaborated.{with_own_name, own_number, rule_of_sides, elaborated_rule, few_enough}
 use Rattle.model.specs.lists.Elaborates.{ElaboratesPattern, ElaboratesParts, ElaboratesEach, new_name, bound_name, binding, a_truth, an_integer, a_constant, a_term, a_template, a_conversion, anything, all_of, no_part, part, no_more, one_more, ElaboratesExpr, ElaboratesArgs, ElaboratesLets, a_call, converted_call, a_variable, converted_variable, truth_expr, integer_expr, constant_expr, let_in, no_arg, an_arg, no_def, a_def, ElaboratesIfLets, no_iflet, an_iflet, ElaboratesRule, a_rule, ElaboratesRules, no_rule, one_rule}
 use Rattle.model.proofs.Names.{found, has_at, same_test, has_new, get_kept, distinct_names}
 use Rattle.laws_typing.specs.FurtherNames.{AreThereAlike}
@@ -90,10 +91,8 @@ VarsAlike names names' (v ∷ vs) (w ∷ ws) = VarAlike names names' v w × Vars
 VarsAlike names names' _ _ = ⊥
 
 vars_kept : (a a' b b' : List (List ℕ)) → AreKept a b → AreKept a' b' → (vs ws : List TypedVar) → VarsAlike a a' vs ws → VarsAlike b b' vs ws
-vars_kept a a' b b' k l [] [] h = tt
-vars_kept a a' b b' k l (v ∷ vs) (w ∷ ws) h = ((h.0.0, h.0.1, (h.0.2.0, k v.name h.0.2.0 h.0.2.1, l w.name h.0.2.0 h.0.2.2)), vars_kept a a' b b' k l vs ws h.1)
-vars_kept a a' b b' k l [] (w ∷ ws) h = absurd h
-vars_kept a a' b b' k l (v ∷ vs) [] h = absurd h
+vars_kept a a' b b' k l (v ∷ vs) (w ∷ ws) h = grind (arith, common_steps, vars_kept a a' b b' k l vs ws h.1)
+vars_kept a a' b b' k l h i j = grind (arith, common_steps)
 
 -- 4. names of rules
 -- two numbers of names, or none
@@ -113,10 +112,7 @@ RulesAlike names names' (q ∷ qs) (r ∷ rs) = RuleAlike names names' q r × Ru
 RulesAlike names names' _ _ = ⊥
 
 pub numbers_kept : (a a' b b' : List (List ℕ)) → AreKept a b → AreKept a' b' → (o p : Option ℕ) → NumbersAlike a a' o p → NumbersAlike b b' o p
-numbers_kept a a' b b' k l None None h = tt
-numbers_kept a a' b b' k l None (Some y) h = absurd h
-numbers_kept a a' b b' k l (Some x) None h = absurd h
-numbers_kept a a' b b' k l (Some x) (Some y) h = (h.0, k x h.0 h.1, l y h.0 h.2)
+numbers_kept a a' b b' k l h i j = grind (arith, common_steps)
 
 -- what is found of two names
 abbrev FoundAlike : Option TypedVar → Option TypedVar → Type 0
@@ -125,20 +121,13 @@ FoundAlike (Some v) (Some w) = (w.id ≡ v.id) × (w.ty ≡ v.ty)
 FoundAlike _ _ = ⊥
 
 found_step : (a b : Bool) (v w : TypedVar) (o p : Option TypedVar) → a ≡ b → (w.id ≡ v.id) × (w.ty ≡ v.ty) → FoundAlike o p → FoundAlike (cond a (Some v) o) (cond b (Some w) p)
-found_step true true v w o p e h g = h
-found_step false false v w o p e h g = g
-found_step true false v w o p e h g = absurd (false≢true (sym e))
-found_step false true v w o p e h g = absurd (false≢true e)
+found_step a b v w o p e h g = grind (arith, common_steps)
 
 found_none : (o p : Option TypedVar) → FoundAlike o p → o ≡ None → p ≡ None
-found_none None None f h = refl
-found_none None (Some w) f h = absurd f
-found_none (Some v) p f h = absurd (none-some v (sym h))
+found_none o p f h = grind (arith, common_steps, none-some)
 
 found_some : (o p : Option TypedVar) (v : TypedVar) → FoundAlike o p → o ≡ Some v → (w : TypedVar) × (p ≡ Some w) × (w.id ≡ v.id) × (w.ty ≡ v.ty)
-found_some None p v f h = absurd (none-some v h)
-found_some (Some u) None v f h = absurd f
-found_some (Some u) (Some w) v f h = (let e = same_Some u v h in (w, refl, f.0 ∙ ap (λ (x : TypedVar). x.id) e, f.1 ∙ ap (λ (x : TypedVar). x.ty) e))
+found_some o p v f h = grind (arith, common_steps, none-some, same_Some)
 
 -- a term with another number for its name, and another kind, is found
 record TermFound (ns ms : List (List ℕ)) (t : TermEntry) (o : Option TermEntry) : Type 0 where
@@ -332,8 +321,6 @@ module _ (two : TwoTables) where
     same_at k l x y = number_test s.names a.once k x y.0 (a.kept k y.0 y.1) ∙ sym (number_test s'.names a.once' l x y.0 (a.kept' l y.0 y.2))
 
     entry_found : (x : List ℕ) (ts us : List TermEntry) → EntriesAlike ns ms ts us → (t : TermEntry) → entry_named (number s.names x) ts ≡ Some t → TermFound ns ms t (entry_named (number s'.names x) us)
-    entry_found x [] us h t g = absurd (none-some t g)
-    entry_found x (v ∷ ts) [] h t g = absurd h
     entry_found x (v ∷ ts) (w ∷ us) h t g =
         let test : (v.name == number s.names x) ≡ (w.name == number s'.names x) = same_at v.name h.0.name x h.0.named ∙ ap (λ (z : TermEntry). z.name == number s'.names x) (sym h.0.same) in
         elim (cases_Bool (v.name == number s.names x)) [
@@ -356,6 +343,7 @@ module _ (two : TwoTables) where
                 kinds = r.kinds;
               }
         ]
+    entry_found x ts us h t g = grind (arith, common_steps, none-some)
 
     term_found : (x : List ℕ) (t : TermEntry) → term_of e s x ≡ Some t → TermFound ns ms t (term_of f s' x)
     term_found x t h = entry_found x e.terms f.terms two.terms t h
@@ -384,12 +372,10 @@ module _ (two : TwoTables) where
         ]
 
     vars_alike : (x : List ℕ) (vs ws : List TypedVar) → VarsAlike s.names s'.names vs ws → FoundAlike (var_named (number s.names x) vs) (var_named (number s'.names x) ws)
-    vars_alike x [] [] h = tt
     vars_alike x (v ∷ vs) (w ∷ ws) h =
         found_step (v.name == number s.names x) (w.name == number s'.names x) v w (var_named (number s.names x) vs) (var_named (number s'.names x) ws)
         (number_test s.names a.once v.name x h.0.2.0 h.0.2.1 ∙ sym (number_test s'.names a.once' w.name x h.0.2.0 h.0.2.2)) (h.0.0, h.0.1) (vars_alike x vs ws h.1)
-    vars_alike x [] (w ∷ ws) h = absurd h
-    vars_alike x (v ∷ vs) [] h = absurd h
+    vars_alike x vs ws h = grind (arith, common_steps)
 
     no_var : (x : List ℕ) → var_of s x ≡ None → var_of s' x ≡ None
     no_var x h = found_none (var_of s x) (var_of s' x) (vars_alike x s.visible s'.visible a.visible) h
@@ -607,29 +593,18 @@ module _ (two : TwoTables) where
   -- 9. a rule has a typed rule by both tables, or by none
   typing_found : (d id : ℕ) (r : RuleTree) (names names' : List (List ℕ)) → Alike (new_scope names) (new_scope names') → (q : Typing TypedRule) → elaborated_rule e d id r names ≡ Some q
       → (b : Typing TypedRule) × (elaborated_rule f d id r names' ≡ Some b) × (q.expansions ≡ b.expansions)
-  typing_found d id r names names' a q h =
-      let g = rule_found d id r names names' q.made q.scope q.expansions a ((rules_agree e d id r names q.made q.scope q.expansions).1 h) in
-      (_, (rules_agree f d id r names' g.rule g.scope q.expansions).0 g.made, refl)
+  typing_found d id r names names' a q h = grind (arith, common_steps, rule_found d id r names names' q.made q.scope q.expansions a, rule_found, rules_agree)
 
 -- from one another
 there_alike : (o p : Option (Typing TypedRule)) → ((a : Typing TypedRule) → o ≡ Some a → (b : Typing TypedRule) × (p ≡ Some b) × (a.expansions ≡ b.expansions))
     → ((b : Typing TypedRule) → p ≡ Some b → (a : Typing TypedRule) × (o ≡ Some a) × (b.expansions ≡ a.expansions)) → AreThereAlike o p
-there_alike None None f g = tt
-there_alike None (Some b) f g = (let h = g b refl in absurd (none-some h.0 h.1))
-there_alike (Some a) None f g = (let h = f a refl in absurd (none-some h.0 h.1))
-there_alike (Some a) (Some b) f g = (let h = f a refl in h.2 ∙ ap (λ (x : Typing TypedRule). x.expansions) (sym (same_Some b h.0 h.1)))
+there_alike o p f g = grind (arith, common_steps, none-some, same_Some)
 
 few_step : (a b : Typing TypedRule) (x y : Bool) → x ≡ y → a.expansions ≡ b.expansions → AreThereAlike (cond x (Some a) None) (cond y (Some b) None)
-few_step a b true true e h = h
-few_step a b false false e h = tt
-few_step a b true false e h = absurd (false≢true (sym e))
-few_step a b false true e h = absurd (false≢true e)
+few_step a b x y e h = grind (arith, common_steps)
 
 pub few_alike : (o p : Option (Typing TypedRule)) → AreThereAlike o p → AreThereAlike (few_enough o) (few_enough p)
-few_alike None None h = tt
-few_alike None (Some b) h = absurd h
-few_alike (Some a) None h = absurd h
-few_alike (Some a) (Some b) h = few_step a b (nat_le a.expansions most_expansions) (nat_le b.expansions most_expansions) (ap (λ n. nat_le n most_expansions) h) h
+few_alike o p h = grind (arith, common_steps, few_step)
 
 pub typings_alike : (two : TwoTables) (names names' : List (List ℕ)) → Alike two (new_scope names) (new_scope names') → (d id : ℕ) (r : RuleTree)
     → AreThereAlike (elaborated_rule two.setting d id r names) (elaborated_rule (other_setting two) d id r names')

@@ -1,5 +1,6 @@
 -- What holds of the type table of all lists of definitions.
-use Rattle.std.proofs.Common.{◌≡◌, ℕ, zero, suc, ◌+◌, ◌==◌, ◌||◌, Bool, true, false, cond, List, [], ◌∷◌, ◌++◌, length, map, reverse, Some, None, option_map, slice_get, find, refl, sym, ap, ◌∙◌, subst, inl, inr, arith}
+use Rattle.std.proofs.Common.{◌≡◌, ℕ, suc, ◌+◌, ◌==◌, ◌||◌, Bool, true, false, cond, List, [], ◌∷◌, ◌++◌, length, map, reverse, Some, None, option_map, slice_get, find, refl, sym, ap, ◌∙◌, subst, inl, inr, arith}
+use Rattle.std.proofs.lemmas.Grind.{common_steps}
 use Rattle.std.specs.List.{enumerate_from, flat_map}
 use Rattle.std.specs.Option.{option_or}
 use Rattle.std.specs.Str.{bytes_eq}
@@ -27,27 +28,21 @@ type_names_distinct defs = distinct_names builtin_names (names_later defs) built
 
 -- past a first list, the second one
 get_past : {A : Type 0} (xs ys : List A) (n i : ℕ) → n ≡ length xs + i → slice_get (xs ++ ys) n ≡ slice_get ys i
-get_past [] ys n i e = let same : n ≡ i = omega arith in ap (slice_get ys) same
-get_past (x ∷ xs) ys zero i e = absurd (omega arith)
 get_past (x ∷ xs) ys (suc n) i e = get_past xs ys n i (omega arith)
+get_past xs ys n i e = grind (arith, common_steps)
 
 get_numbered : {X Y : Type 0} (f : ℕ × X → Y) (xs : List X) (n i m : ℕ) (x : X) → n + i ≡ m → slice_get xs i ≡ Some x → slice_get (map f (enumerate_from n xs)) i ≡ Some (f (m, x))
-get_numbered f [] n i m x e h = absurd (cc)
-get_numbered f (y ∷ ys) n zero m x e h = let same : n ≡ m = omega arith in let at : y ≡ x = same_Some y x h in rw (same, at) refl
 get_numbered f (y ∷ ys) n (suc i) m x e h = get_numbered f ys (n + 1) i m x (omega arith) h
+get_numbered f xs n i m x e h = grind (arith, common_steps, same_Some)
 
 -- where no name stands twice, a name is found where it stands
 pub place_at : (xs : List (List ℕ)) (n k m : ℕ) (x : List ℕ) → IsDistinct xs → n + k ≡ m → slice_get xs k ≡ Some x → place_from n x xs ≡ Some m
-place_at [] n k m x d e h = absurd (cc)
-place_at (y ∷ ys) n zero m x d e h =
-    let at : y ≡ x = same_Some y x h in
-    let same : n ≡ m = omega arith in
-    subst (λ z. cond (bytes_eq y z) (Some n) (place_from (suc n) z ys) ≡ Some m) at (rw (same_self y) (ap Some same))
 place_at (y ∷ ys) n (suc k) m x d e h =
     elim (bytes_eq y x) as (λ b. bytes_eq y x ≡ b → cond b (Some n) (place_from (suc n) x ys) ≡ Some m) [
       | true ↦ λ t. (let z = d 0 (suc k) x (ap Some (same_bytes y x t)) h in absurd (omega arith))
       | false ↦ λ _. place_at ys (suc n) k m x (λ i j z p q. (let s = d (suc i) (suc j) z p q in omega arith)) (omega arith) h
     ] refl
+place_at xs n k m x d e h = grind (arith, common_steps, same_Some, same_self)
 
 pub types_stand_at_ids_lem : TypesStandAtIds
 types_stand_at_ids_lem defs i t h = (
@@ -80,15 +75,8 @@ is_named x c = bytes_eq c.name.text x
 
 -- a name has a last definition exactly where it has one
 none_last : (cs : List ConstantTree) (x : List ℕ) → has_name (texts cs) x ≡ false → find (is_named x) (last_definitions cs) ≡ None
+none_last (c ∷ cs) x h = grind (arith, common_steps, none_last cs x)
 none_last [] x h = refl
-none_last (c ∷ cs) x h =
-    elim (bytes_eq c.name.text x) as (λ b. bytes_eq c.name.text x ≡ b → b || has_name (texts cs) x ≡ false → find (is_named x) (last_definitions (c ∷ cs)) ≡ None) [
-      | true ↦ λ _ e. absurd (false≢true (sym e))
-      | false ↦ λ other none. elim (has_name (texts cs) c.name.text) as (λ b. find (is_named x) (cond b (last_definitions cs) (c ∷ last_definitions cs)) ≡ None) [
-        | true ↦ none_last cs x none
-        | false ↦ rw other (none_last cs x none)
-      ]
-    ] refl h
 
 one_last : (cs : List ConstantTree) (x : List ℕ) → has_name (texts cs) x ≡ true → (c : ConstantTree) × (find (is_named x) (last_definitions cs) ≡ Some c)
 one_last [] x h = absurd (false≢true h)
@@ -114,59 +102,21 @@ reverse_first c cs t = ap (find t) (reverse-append (c ∷ []) cs) ∙ find-appen
 
 -- the last definition of a name
 last_is : (cs : List ConstantTree) (x : List ℕ) → find (is_named x) (last_definitions cs) ≡ find (is_named x) (reverse cs)
+last_is (c ∷ cs) x = grind (arith, common_steps, last_is cs x, one_last cs x, reverse_first c cs, same_bytes c.name.text x, none_last cs x, one_last, reverse_first, same_bytes, none_last)
 last_is [] x = refl
-last_is (c ∷ cs) x =
-    elim (cases_Bool (has_name (texts cs) x)) [
-      | inl there ↦
-          let r = one_last cs x there in
-          let late : find (is_named x) (reverse (c ∷ cs)) ≡ Some r.0 =
-          reverse_first c cs (is_named x) ∙ ap (λ o. option_or o (cond (bytes_eq c.name.text x) (Some c) None)) (sym (last_is cs x) ∙ r.1) in
-          let early : find (is_named x) (last_definitions (c ∷ cs)) ≡ Some r.0 =
-          elim (has_name (texts cs) c.name.text) as (λ b. has_name (texts cs) c.name.text ≡ b → find (is_named x) (cond b (last_definitions cs) (c ∷ last_definitions cs)) ≡ Some r.0) [
-            | true ↦ λ _. r.1
-            | false ↦ λ first. elim (bytes_eq c.name.text x) as (λ b. bytes_eq c.name.text x ≡ b → cond b (Some c) (find (is_named x) (last_definitions cs)) ≡ Some r.0) [
-              | true ↦ λ same. absurd (false≢true (sym first ∙ subst (λ z. has_name (texts cs) z ≡ true) (sym (same_bytes c.name.text x same)) there))
-              | false ↦ λ _. r.1
-            ] refl
-          ] refl in
-          early ∙ sym late
-      | inr none ↦
-          let late : find (is_named x) (reverse (c ∷ cs)) ≡ cond (bytes_eq c.name.text x) (Some c) None =
-          reverse_first c cs (is_named x) ∙ ap (λ o. option_or o (cond (bytes_eq c.name.text x) (Some c) None)) (sym (last_is cs x) ∙ none_last cs x none) in
-          let early : find (is_named x) (last_definitions (c ∷ cs)) ≡ cond (bytes_eq c.name.text x) (Some c) None =
-          elim (has_name (texts cs) c.name.text) as (λ b. has_name (texts cs) c.name.text ≡ b → find (is_named x) (cond b (last_definitions cs) (c ∷ last_definitions cs)) ≡ cond (bytes_eq c.name.text x) (Some c) None) [
-            | true ↦ λ again. elim (bytes_eq c.name.text x) as (λ b. bytes_eq c.name.text x ≡ b → find (is_named x) (last_definitions cs) ≡ cond b (Some c) None) [
-              | true ↦ λ same. absurd (false≢true (sym (subst (λ z. has_name (texts cs) z ≡ false) (sym (same_bytes c.name.text x same)) none) ∙ again))
-              | false ↦ λ _. none_last cs x none
-            ] refl
-            | false ↦ λ _. ap (cond (bytes_eq c.name.text x) (Some c)) (none_last cs x none)
-          ] refl in
-          early ∙ sym late
-    ]
 
 -- the definitions kept are some of the definitions
 kept_among : (cs : List ConstantTree) (x : List ℕ) → has_name (texts (last_definitions cs)) x ≡ true → has_name (texts cs) x ≡ true
+kept_among (c ∷ cs) x h = grind (arith, common_steps, kept_among cs x)
 kept_among [] x h = h
-kept_among (c ∷ cs) x h =
-    elim (has_name (texts cs) c.name.text) as (λ b. has_name (texts (cond b (last_definitions cs) (c ∷ last_definitions cs))) x ≡ true → bytes_eq c.name.text x || has_name (texts cs) x ≡ true) [
-      | true ↦ λ e. elim (bytes_eq c.name.text x) as (λ b. b || has_name (texts cs) x ≡ true) [ true ↦ refl | false ↦ kept_among cs x e ]
-      | false ↦ λ e. elim (bytes_eq c.name.text x) as (λ b. b || has_name (texts (last_definitions cs)) x ≡ true → b || has_name (texts cs) x ≡ true) [
-        | true ↦ λ _. refl
-        | false ↦ λ r. kept_among cs x r
-      ] e
-    ] h
 
 -- looking up a number is looking up its name
 look_is : (ns : List (List ℕ)) (ty : ConstantTree → ℕ) (cs : List ConstantTree) (x : List ℕ) → ((y : List ℕ) → has_name (texts cs) y ≡ true → has_name ns y ≡ true) → look (λ k. k == number ns x) (map (λ c. (number ns c.name.text, ty c)) cs) ≡ option_map ty (find (is_named x) cs)
+look_is ns ty (c ∷ cs) x h = grind (arith, common_steps, look_is ns ty cs x, same_test ns c.name.text x, same_self c.name.text, has_right (c.name.text ∷ []), same_test, same_self, has_right)
 look_is ns ty [] x h = refl
-look_is ns ty (c ∷ cs) x h =
-    ap (λ b. cond b (Some (ty c)) (look (λ k. k == number ns x) (map (λ c. (number ns c.name.text, ty c)) cs))) (same_test ns c.name.text x (h c.name.text (ap (λ b. b || has_name (texts cs) c.name.text) (same_self c.name.text))))
-    ∙ ap (cond (bytes_eq c.name.text x) (Some (ty c))) (look_is ns ty cs x (λ y e. h y (has_right (c.name.text ∷ []) (texts cs) y e)))
-    ∙ (elim (bytes_eq c.name.text x) as (λ b. cond b (Some (ty c)) (option_map ty (find (is_named x) cs)) ≡ option_map ty (cond b (Some c) (find (is_named x) cs))) [ true ↦ refl | false ↦ refl ])
 
 constants_met : (defs : List Definition) (y : List ℕ) → has_name (texts (constant_trees defs)) y ≡ true → has_name (type_names_met defs) y ≡ true
-constants_met defs y h =
-    has_met builtin_names (names_later defs) y (has_right (type_names defs ++ flat_map (λ t. names_inside t.name.text t.value) (type_trees defs)) (texts (constant_trees defs)) y h)
+constants_met defs y h = grind (arith, common_steps, has_met builtin_names, has_met, has_right)
 
 pub last_definition_counts_lem : LastDefinitionCounts
 last_definition_counts_lem defs x =

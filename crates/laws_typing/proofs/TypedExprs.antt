@@ -1,5 +1,6 @@
 -- Expressions: the rules of typing and the function say the same.
 use Rattle.std.proofs.Common.{◌≡◌, ℕ, zero, suc, ◌+◌, List, [], ◌∷◌, length, Option, Some, None, subst, ⊎_elim, refl, sym, ap, ◌∙◌, arith}
+use Rattle.std.proofs.lemmas.Grind.{common_steps}
 use Rattle.std.proofs.lemmas.Option.{same_Some}
 use Rattle.model.specs.lists.Syntax.{Position, Name, ExprTree, term_expr, var_expr, bool_expr, int_expr, prim_expr, let_expr, ExprTrees, no_expr, expr_and, LetTrees, no_let, let_and}
 use Rattle.model.specs.lists.Tables.{Flags}
@@ -14,8 +15,7 @@ use Rattle.laws_typing.proofs.Typings.{ne-eqb, then_gives, made_gives, scoped_gi
 
 bound_gives : (x : List ℕ) (ty : ℕ) (o : Option (Typing TypedExpr)) {r : Typing (TypedLets → TypedLets)}
     → bound_let x ty o ≡ Some r → (a : Typing TypedExpr) × (o ≡ Some a) × (typing (typed_let_and (length a.scope.vars) ty a.made) (bound a.scope x ty) a.expansions ≡ r)
-bound_gives x ty None h = absurd (cc)
-bound_gives x ty (Some a) h = (a, refl, same_Some _ _ h)
+bound_gives x ty o h = grind (arith, common_steps, same_Some)
 
 module _ (e : Setting) (flags : Flags) where
   mutual
@@ -112,12 +112,8 @@ module _ (e : Setting) (flags : Flags) where
           (an_arg (sound_with x (Some ty) s m.0 m.2) (sound_args rest tys m.0.scope m.1 m.3))
 
       sound_lets : (ls : LetTrees) (s : Scope) (r : Typing TypedLets) → lets_with e flags (deeper_expr e flags d) ls s ≡ Some r → ElaboratesLets e flags d ls s r.made r.scope r.expansions
+      sound_lets (let_and name ty value at rest) s r h = grind (arith, common_steps, sound_with value, sound_lets rest, then_gives, followed_gives, bound_gives, def_before)
       sound_lets no_let s r h = subst (λ (v : Typing TypedLets). ElaboratesLets e flags d no_let s v.made v.scope v.expansions) (same_Some _ _ h) no_def
-      sound_lets (let_and name ty value at rest) s r h =
-          let m = then_gives (type_of_name e s ty.text) _ h in
-          let f = followed_gives _ (bound_let name.text m.0 (elaborated_expr e flags d value (Some m.0) (met s name.text))) (λ a. lets_with e flags (deeper_expr e flags d) rest a.scope) m.2 in
-          let b = bound_gives name.text m.0 (elaborated_expr e flags d value (Some m.0) (met s name.text)) f.2 in
-          def_before name ty value at rest s m.0 m.1 b.0 f.0 f.1 r b.2 f.4 (sound_with value (Some m.0) (met s name.text) b.0 b.1) (sound_lets rest f.0.scope f.1 f.3)
 
   is_deeper : (d : ℕ) → IsDeeper d
   is_deeper zero x ty s r h = absurd (cc)

@@ -1,5 +1,6 @@
 -- What elaboration does to a scope, and of what type it makes patterns and expressions.
-use Rattle.std.proofs.Common.{◌≡◌, ℕ, Bool, true, false, cond, List, [], ◌∷◌, ◌++◌, Option, Some, None, slice_get, refl, sym, ap, ◌∙◌, ⊎_elim}
+use Rattle.std.proofs.Common.{◌≡◌, ℕ, Bool, true, false, cond, List, [], ◌∷◌, ◌++◌, Option, Some, slice_get, refl, sym, ap, ◌∙◌, ⊎_elim, arith}
+use Rattle.std.proofs.lemmas.Grind.{common_steps}
 use Rattle.std.proofs.lemmas.Bool.Decides.{Decides-eqb}
 use Rattle.std.proofs.lemmas.Option.{same_Some, none-some}
 use Rattle.model.specs.lists.Syntax.{RuleTree, Name, PatternTree, PatternTrees, ExprTree, ExprTrees, LetTrees, IfLetTree}
@@ -7,8 +8,8 @@ use Rattle.model.specs.lists.Names.{has_name, with_name, IsDistinct}
 use Rattle.model.specs.lists.Tables.{Flags}
 use Rattle.model.specs.rules.Typed.{TypedRule, TypedPattern, TypedPatterns, TypedExpr, TypedExprs, TypedLets, TypedVar, TypedIfLet}
 use Rattle.model.specs.lists.Setting.{Setting, Scope, met, bound, after_let, expr_type, on_lhs, is_expected, bool_type}
-use Rattle.model.specs.lists.Elaborated.{most_nested, with_own_name}
-use Rattle.model.specs.lists.Elaborates.{ElaboratesRules, no_rule, one_rule, ElaboratesPattern, ElaboratesParts, ElaboratesEach, new_name, bound_name, binding, a_truth, an_integer, a_constant, a_term, a_template, a_conversion, anything, all_of, no_part, part, no_more, one_more, ElaboratesExpr, ElaboratesArgs, ElaboratesLets, a_call, converted_call, a_variable, converted_variable, truth_expr, integer_expr, constant_expr, let_in, no_arg, an_arg, no_def, a_def, ElaboratesIfLets, no_iflet, an_iflet, a_rule}
+use Rattle.model.specs.lists.Elaborated.{with_own_name}
+use Rattle.model.specs.lists.Elaborates.{ElaboratesRules, no_rule, one_rule, ElaboratesPattern, ElaboratesParts, ElaboratesEach, binding, a_term, a_template, a_conversion, all_of, no_part, part, no_more, one_more, ElaboratesExpr, ElaboratesArgs, ElaboratesLets, a_call, converted_call, a_variable, converted_variable, truth_expr, integer_expr, constant_expr, let_in, no_arg, an_arg, no_def, a_def, ElaboratesIfLets, no_iflet, an_iflet, a_rule}
 use Rattle.model.specs.lists.Formed.{pattern_type}
 use Rattle.laws_typing.specs.TypingResults.{TypesAreExpected, VariablesAtPlaces, NamesStay, NamesStayInLists}
 use Rattle.std.proofs.lemmas.List.{append-nil, append_assoc}
@@ -31,17 +32,12 @@ on a (then_closed before b) = then_closed before (on a b)
 module _ (e : Setting) (multi : Bool) where
   mutual
     pattern_reaches : {d ty n : ℕ} {p : PatternTree} {s t : Scope} {q : TypedPattern} → ElaboratesPattern e multi d p ty s q t n → Reaches s t
-    pattern_reaches (new_name {ty = ty} {name = name} h) = then_bound name.text ty stays
-    pattern_reaches (bound_name h i) = stays
     pattern_reaches (binding {ty = ty} {name = name} g h) = then_bound name.text ty (pattern_reaches g)
-    pattern_reaches (a_truth h) = stays
-    pattern_reaches (an_integer h) = stays
-    pattern_reaches (a_constant h) = stays
     pattern_reaches (a_term h i j k g) = parts_reach g
     pattern_reaches (a_template h i j k g) = pattern_reaches g
     pattern_reaches (a_conversion h i j g) = pattern_reaches g
-    pattern_reaches anything = stays
     pattern_reaches (all_of g) = each_reaches g
+    pattern_reaches h = grind (arith, common_steps, then_bound, stays)
 
     parts_reach : {d n : ℕ} {tys : List ℕ} {ps : PatternTrees} {s t : Scope} {qs : TypedPatterns} → ElaboratesParts e multi d ps tys s qs t n → Reaches s t
     parts_reach no_part = stays
@@ -52,29 +48,18 @@ module _ (e : Setting) (multi : Bool) where
     each_reaches (one_more g h) = on (pattern_reaches g) (each_reaches h)
 
   pub pattern_at_type : {d ty n : ℕ} {p : PatternTree} {s t : Scope} {q : TypedPattern} → ElaboratesPattern e multi d p ty s q t n → pattern_type q ≡ ty
-  pattern_at_type (new_name h) = refl
-  pattern_at_type (bound_name h i) = refl
-  pattern_at_type (binding g h) = refl
-  pattern_at_type (a_truth h) = refl
-  pattern_at_type (an_integer h) = refl
-  pattern_at_type (a_constant h) = refl
-  pattern_at_type (a_term h i j k g) = refl
   pattern_at_type (a_template h i j k g) = pattern_at_type g
   pattern_at_type (a_conversion h i j g) = pattern_at_type g
-  pattern_at_type anything = refl
-  pattern_at_type (all_of g) = refl
+  pattern_at_type h = grind (arith, common_steps)
 
 module _ (e : Setting) (flags : Flags) where
   mutual
     expr_reaches : {d n : ℕ} {ty : Option ℕ} {x : ExprTree} {s t : Scope} {q : TypedExpr} → ElaboratesExpr e flags d x ty s q t n → Reaches s t
     expr_reaches (a_call h i j g) = args_reach g
     expr_reaches (converted_call h i j g) = expr_reaches g
-    expr_reaches (a_variable h i) = stays
     expr_reaches (converted_variable h i j g) = expr_reaches g
-    expr_reaches (truth_expr h) = stays
-    expr_reaches (integer_expr h) = stays
-    expr_reaches (constant_expr h i) = stays
     expr_reaches (let_in {s = s} g h) = then_closed s (on (lets_reach g) (expr_reaches h))
+    expr_reaches h = grind (arith, common_steps, stays)
 
     args_reach : {d n : ℕ} {tys : List ℕ} {xs : ExprTrees} {s t : Scope} {qs : TypedExprs} → ElaboratesArgs e flags d xs tys s qs t n → Reaches s t
     args_reach no_arg = stays
@@ -133,21 +118,18 @@ names_follow {s} (then_bound {t = t} x ty g) = both_follow s.names t.names (with
 names_follow (then_closed before g) = names_follow g
 
 own_reaches : (name : Option Name) {s t : Scope} → Reaches s t → Reaches s (with_own_name name t)
-own_reaches None g = g
-own_reaches (Some n) g = then_met n.text g
+own_reaches name g = grind (arith, common_steps, then_met)
 
 pub variables_at_places : VariablesAtPlaces
-variables_at_places e d id r names q t n (a_rule {flags = flags} h i j k f g x) =
-    at_places (on (parts_reach e flags.multi f) (on (iflets_reach e flags g) (expr_reaches e flags x))) (λ k v h. absurd (none-some v h))
+variables_at_places e d id r names q t n (a_rule {flags = flags} h i j k f g x) = grind (arith, common_steps, at_places, on, parts_reach, iflets_reach, expr_reaches, none-some)
 
 pub names_stay : NamesStay
 names_stay e d id r names q t n (a_rule {flags = flags} h i j k f g x) =
     names_follow (own_reaches r.name (on (parts_reach e flags.multi f) (on (iflets_reach e flags g) (expr_reaches e flags x))))
 
 lists_follow : (e : Setting) {id : ℕ} {rs : List RuleTree} {names after : List (List ℕ)} {qs : List TypedRule} → ElaboratesRules e id rs names qs after → Follows names after
+lists_follow e (one_rule {id = id} {n = n} {r = r} {names = names} {after = after} {q = q} {t = t} g h i) = grind (arith, common_steps, lists_follow e i, both_follow, names_stay)
 lists_follow e (no_rule {names = names}) = (([], sym (append-nil names)), λ d. d)
-lists_follow e (one_rule {id = id} {n = n} {r = r} {names = names} {after = after} {q = q} {t = t} g h i) =
-    both_follow names t.names after (names_stay e most_nested id r names q t n g) (lists_follow e i)
 
 pub names_stay_in_lists : NamesStayInLists
 names_stay_in_lists e id rs names qs after g = lists_follow e g

@@ -1,5 +1,6 @@
 -- If-lets and rules: the rules of typing and the function say the same.
 use Rattle.std.proofs.Common.{true, ◌≡◌, ℕ, zero, suc, ◌+◌, ◌-◌, ◌≤◌, List, [], ◌∷◌, Option, Some, None, subst, refl, sym, ap, ◌∙◌, arith, nat_le}
+use Rattle.std.proofs.lemmas.Grind.{common_steps}
 use Rattle.std.proofs.lemmas.Option.{same_Some}
 use Rattle.std.proofs.lemmas.Bool.{le-leb, leb-true}
 use Rattle.model.specs.lists.Syntax.{Name, IfLetTree, RuleTree}
@@ -18,8 +19,7 @@ use Rattle.laws_typing.proofs.TypedExprs as exprs
 finished_gives : (id : ℕ) (r : RuleTree) (entry : TermEntry) (o : Option (Typing Sides)) {q : Typing TypedRule}
     → finished_rule id r entry o ≡ Some q
     → (a : Typing Sides) × (o ≡ Some a) × (typing (rule_of_sides id r entry a.made a.scope) (with_own_name r.name a.scope) a.expansions ≡ q)
-finished_gives id r entry None h = absurd (cc)
-finished_gives id r entry (Some a) h = (a, refl, same_Some _ _ h)
+finished_gives id r entry o h = grind (arith, common_steps, same_Some)
 
 module _ (e : Setting) (flags : Flags) where
   complete_iflets : {d n : ℕ} {is : List IfLetTree} {s t : Scope} {qs : List TypedIfLet} → ElaboratesIfLets e flags d is s qs t n → elaborated_iflets e flags d is s ≡ Some (typing qs t n)
@@ -126,8 +126,7 @@ typed_within_limits e id r names q t n =
     (λ g. rw (complete e g.0, le-leb n most_expansions g.1) refl, λ h. let f = few_gives (elaborated_rule e most_nested id r names) h in (sound e most_nested id r names (typing q t n) f.0, f.1))
 
 with_gives : (q : TypedRule) (o : Option TypedRules) {l : TypedRules} → with_typed q o ≡ Some l → (m : TypedRules) × (o ≡ Some m) × (◌≡◌ {A = TypedRules} (record { rules = q ∷ m.rules; names = m.names }) l)
-with_gives q None h = absurd (cc)
-with_gives q (Some m) h = (m, refl, same_Some _ _ h)
+with_gives q o h = grind (arith, common_steps, same_Some)
 
 lists_complete : (e : Setting) {id : ℕ} {rs : List RuleTree} {names after : List (List ℕ)} {qs : List TypedRule} → ElaboratesRules e id rs names qs after → typed_rules e id rs names ≡ Some (record { rules = qs; names = after })
 lists_complete e no_rule = refl

@@ -1,12 +1,11 @@
 -- More names leave the numbers of the names of types, and so the look-ups of types.
-use Rattle.std.proofs.Common.{◌≡◌, ◌==◌, ℕ, suc, ◌+◌, true, false, cond, ◌||◌, List, [], ◌∷◌, ◌++◌, map, Contains, IsTrue, refl, sym, ap, ◌∙◌}
+use Rattle.std.proofs.Common.{◌≡◌, ℕ, ◌+◌, true, List, [], ◌∷◌, ◌++◌, map, Contains, refl, arith}
+use Rattle.std.proofs.lemmas.Grind.{common_steps}
 use Rattle.std.proofs.Math.Path.{ap₂}
 use Rattle.std.specs.List.{enumerate_from}
-use Rattle.std.specs.Str.{bytes_eq}
 use Rattle.std.proofs.lemmas.Bool.{false≢true}
 use Rattle.std.proofs.lemmas.List.Elements.{All-contains}
 use Rattle.model.specs.lists.Names.{number, has_name}
-use Rattle.model.specs.rules.Meaning.{look}
 use Rattle.laws_typing.specs.ReadEnvironments.{TypesAreShown, TypesStay}
 use Rattle.model.proofs.Members.{in_head, in_tail}
 use Rattle.model.proofs.NumbersOf.{environments_are_read}
@@ -16,12 +15,8 @@ types_are_shown_lem e r = environments_are_read e r.well_formed.names_distinct
 
 -- a name that is there keeps its number
 pub number_front : (ns more : List (List ℕ)) (x : List ℕ) → has_name ns x ≡ true → number (ns ++ more) x ≡ number ns x
+number_front (z ∷ zs) more x h = grind (arith, common_steps, number_front zs more x)
 number_front [] more x h = absurd (false≢true h)
-number_front (z ∷ zs) more x h =
-    elim (bytes_eq z x) as (λ b. b || has_name zs x ≡ true → cond b 0 (suc (number (zs ++ more) x)) ≡ cond b 0 (suc (number zs x))) [
-      | true ↦ λ _. refl
-      | false ↦ λ g. ap suc (number_front zs more x g)
-    ] h
 
 abbrev with_number : List (List ℕ) → ℕ × List ℕ → ℕ × ℕ
 with_number ns p = (number ns p.1, p.0)
@@ -36,10 +31,4 @@ numbered_from ns more i (x ∷ xs) h =
     ap₂ (with_first i) (number_front ns more x (h x (in_head x xs))) (numbered_from ns more (i + 1) xs (λ y c. h y (in_tail x y xs c)))
 
 pub types_stay_lem : TypesStay
-types_stay_lem e before after more r b a =
-    let same = numbered_from e.known.names more 0 e.known.type_names (λ x c. All-contains (λ y. IsTrue (has_name e.known.names y)) e.known.type_names x r.well_formed.names_of_types_met c) in (
-      a.types ∙ sym b.types,
-      (λ k. a.look_ups k ∙ ap (look (λ n. n == k)) same ∙ sym (b.look_ups k)),
-      (λ k. a.constants k ∙ sym (b.constants k)),
-      a.no_errors ∙ sym b.no_errors,
-    )
+types_stay_lem e before after more r b a = grind (arith, common_steps, numbered_from e.known.names more 0 e.known.type_names, numbered_from, All-contains)

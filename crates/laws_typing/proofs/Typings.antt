@@ -1,5 +1,6 @@
 -- What an answer says of the steps that led to it.
-use Rattle.std.proofs.Common.{◌≡◌, ℕ, suc, ◌+◌, Bool, true, false, cond, eqb, Option, Some, None, ◌⊎◌, inl, inr, ⊎_elim, refl}
+use Rattle.std.proofs.Common.{◌≡◌, ℕ, suc, ◌+◌, Bool, true, false, cond, eqb, Option, Some, None, ◌⊎◌, refl, arith}
+use Rattle.std.proofs.lemmas.Grind.{common_steps}
 use Rattle.std.proofs.lemmas.Bool.Decides.{Decides-eqb}
 use Rattle.std.proofs.lemmas.Option.{same_Some}
 use Rattle.model.specs.lists.Tables.{TermEntry}
@@ -43,28 +44,19 @@ followed_gives f None next h = absurd (cc)
 followed_gives f (Some a) next h = let b = joined_gives f a (next a) h in (a, b.0, refl, b.1, b.2)
 
 pub cond_gives : {X : Type 0} (b : Bool) (x y : Option X) {r : X} → cond b x y ≡ Some r → ((b ≡ true) × (x ≡ Some r)) ⊎ ((b ≡ false) × (y ≡ Some r))
-cond_gives true x y h = inl (refl, h)
-cond_gives false x y h = inr (refl, h)
+cond_gives b x y h = grind (arith, common_steps)
 
 pub if_gives : {X : Type 0} (b : Bool) (x : Option X) {r : X} → cond b x None ≡ Some r → (b ≡ true) × (x ≡ Some r)
-if_gives true x h = (refl, h)
-if_gives false x h = absurd (cc)
+if_gives b x h = grind (arith, common_steps)
 
 pub template_gives : {X : Type 0} (o : Option PatternTree) (f : PatternTree → Option X) (x : Option X) {r : X}
     → or_expanded o f x ≡ Some r → ((o ≡ None) × (x ≡ Some r)) ⊎ ((p : PatternTree) × (o ≡ Some p) × (f p ≡ Some r))
-template_gives None f x h = inl (refl, h)
-template_gives (Some p) f x h = inr (p, refl, h)
+template_gives o f x h = grind (arith, common_steps)
 
 pub expected_itself : {X : Type 0} (e : Setting) (own : ℕ) (ty : Option ℕ) (x : Option X) (f : TermEntry → Option X) → is_expected ty own ≡ true → as_expected e own ty x f ≡ x
-expected_itself e own None x f h = refl
-expected_itself e own (Some t) x f h = rw h refl
+expected_itself e own ty x f h = grind (arith, common_steps)
 
 pub expected_gives : {X : Type 0} (e : Setting) (own : ℕ) (ty : Option ℕ) (x : Option X) (f : TermEntry → Option X) {r : X}
     → as_expected e own ty x f ≡ Some r
     → ((is_expected ty own ≡ true) × (x ≡ Some r)) ⊎ ((t : ℕ) × (by : TermEntry) × (ty ≡ Some t) × (own ≡ t → ⊥) × (expr_converter e own t ≡ Some by) × (f by ≡ Some r))
-expected_gives e own None x f h = inl (refl, h)
-expected_gives e own (Some t) x f h =
-    ⊎_elim
-    (λ c. inl (c.0, c.1))
-    (λ c. let m = then_gives (expr_converter e own t) f c.1 in inr (t, m.0, refl, eqb-ne own t c.0, m.1, m.2))
-    (cond_gives (eqb own t) _ _ h)
+expected_gives e own ty x f h = grind (arith, common_steps, then_gives, eqb-ne, cond_gives)

@@ -1,5 +1,6 @@
 -- The search for terms that come back to themselves through internal extractors finds all of them, and no other.
-use Rattle.std.proofs.Common.{◌≡◌, ◌⊎◌, ℕ, Bool, true, false, not, cond, List, [], ◌∷◌, ◌++◌, map, Contains, Decides, refl, sym, ap, ◌∙◌, subst, inl, inr, ⊎_elim}
+use Rattle.std.proofs.Common.{◌≡◌, ◌⊎◌, ℕ, Bool, true, false, not, cond, List, [], ◌∷◌, map, Contains, Decides, refl, sym, ap, ◌∙◌, subst, inl, inr, arith}
+use Rattle.std.proofs.lemmas.Grind.{common_steps}
 use Rattle.std.specs.Str.{bytes_eq}
 use Rattle.std.proofs.lemmas.Bool.{cond-true}
 use Rattle.std.proofs.lemmas.Bool.Decides.{Decides-not}
@@ -15,11 +16,7 @@ use Rattle.laws_typing.proofs.DistinctLists.{has_name_decides}
 
 -- names with further ones
 from_with_name : (ns : List (List ℕ)) (y x : List ℕ) → Contains (with_name ns y) x → Contains ns x ⊎ (y ≡ x)
-from_with_name ns y x =
-    elim (has_name ns y) as (λ b. Contains (cond b ns (ns ++ y ∷ [])) x → Contains ns x ⊎ (y ≡ x)) [
-      | true ↦ λ c. inl c
-      | false ↦ λ c. Contains-push_cases ns y x c
-    ]
+from_with_name ns y x = grind (arith, common_steps, Contains-push_cases ns y x, Contains-push_cases)
 
 from_with_names : (ns ys : List (List ℕ)) (x : List ℕ) → Contains (with_names ns ys) x → Contains ns x ⊎ Contains ys x
 from_with_names ns [] x c = inl c
@@ -30,15 +27,10 @@ from_with_names ns (y ∷ ys) x c =
     ]
 
 kept_with_name : (ns : List (List ℕ)) (y x : List ℕ) → Contains ns x → Contains (with_name ns y) x
-kept_with_name ns y x c =
-    elim (has_name ns y) as (λ b. Contains (cond b ns (ns ++ y ∷ [])) x) [ true ↦ c | false ↦ Contains-append_left ns (y ∷ []) x c ]
+kept_with_name ns y x c = grind (arith, common_steps, Contains-append_left ns (y ∷ []) x c, Contains-append_left)
 
 new_with_name : (ns : List (List ℕ)) (y : List ℕ) → Contains (with_name ns y) y
-new_with_name ns y =
-    elim (has_name ns y) as (λ b. has_name ns y ≡ b → Contains (cond b ns (ns ++ y ∷ [])) y) [
-      | true ↦ λ h. (has_name_decides ns y).0 h
-      | false ↦ λ _. Contains-push ns y
-    ] refl
+new_with_name ns y = grind (arith, common_steps, has_name_decides ns y, Contains-push ns y, has_name_decides, Contains-push)
 
 kept_with_names : (ns ys : List (List ℕ)) (x : List ℕ) → Contains ns x → Contains (with_names ns ys) x
 kept_with_names ns [] x c = c
@@ -57,11 +49,7 @@ abbrev said : List ℕ → TermUses → List (List ℕ)
 said a u = cond (bytes_eq u.term a) u.comes_to []
 
 from_said : (a b : List ℕ) (u : TermUses) → Contains (said a u) b → (u.term ≡ a) × Contains u.comes_to b
-from_said a b u =
-    elim (bytes_eq u.term a) as (λ t. bytes_eq u.term a ≡ t → Contains (cond t u.comes_to []) b → (u.term ≡ a) × Contains u.comes_to b) [
-      | true ↦ λ h c. ((bytes_eq-Decides u.term a).0 h, c)
-      | false ↦ λ _ c. absurd (nothing_in b c)
-    ] refl
+from_said a b u = grind (arith, common_steps, bytes_eq-Decides u.term a, nothing_in b, bytes_eq-Decides, nothing_in)
 
 to_said : (a b : List ℕ) (u : TermUses) → u.term ≡ a → Contains u.comes_to b → Contains (said a u) b
 to_said a b u e c = subst (λ l. Contains l b) (sym (cond-true (bytes_eq u.term a) u.comes_to [] ((bytes_eq-Decides u.term a).1 e))) c
@@ -90,17 +78,10 @@ module _ (x : List ℕ) (uses : List TermUses) where
       ]
 
   entry_term : (u : TermUses) → (with_uses_of x uses u).term ≡ u.term
-  entry_term u =
-      elim (has_name u.comes_to x) as (λ t. (cond t (record { term = u.term; comes_to = with_names u.comes_to (uses_of uses x) }) u).term ≡ u.term) [
-        | true ↦ refl
-        | false ↦ refl
-      ]
+  entry_term u = grind (arith, common_steps)
 
   entry_goes_on : (u : TermUses) (b : List ℕ) → Contains u.comes_to x → Comes uses x b → Contains (with_uses_of x uses u).comes_to b
-  entry_goes_on u b c d =
-      let t = (has_name_decides u.comes_to x).1 c in
-      subst (λ v. Contains v.comes_to b) (sym (cond-true (has_name u.comes_to x) (record { term = u.term; comes_to = with_names u.comes_to (uses_of uses x) }) u t))
-      (new_with_names u.comes_to (uses_of uses x) b d)
+  entry_goes_on u b c d = grind (arith, common_steps, has_name_decides u.comes_to x, new_with_names u.comes_to (uses_of uses x) b d, has_name_decides, new_with_names)
 
   entry_says : (u : TermUses) (b : List ℕ) → Contains (with_uses_of x uses u).comes_to b → Contains u.comes_to b ⊎ (Contains u.comes_to x × Comes uses x b)
   entry_says u b =
@@ -135,10 +116,7 @@ abbrev GoesThrough : List TermUses → List ℕ → Type 0
 GoesThrough uses k = (a b : List ℕ) → Comes uses a k → Comes uses k b → Comes uses a b
 
 goes_through : (x : List ℕ) (uses : List TermUses) → GoesThrough (through_term x uses) x
-goes_through x uses a b c d =
-    let first : Comes uses a x = ⊎_elim (λ f. f) (λ f. f.0) (step_says x uses a x c) in
-    let last : Comes uses x b = ⊎_elim (λ f. f) (λ f. f.1) (step_says x uses x b d) in
-    step_goes_on x uses a b first last
+goes_through x uses a b c d = grind (arith, common_steps, step_says x uses a x c, step_says x uses x b d, step_goes_on x uses a b, step_says, step_goes_on)
 
 still_goes_through : (x : List ℕ) (uses : List TermUses) (k : List ℕ) → GoesThrough uses k → GoesThrough (through_term x uses) k
 still_goes_through x uses k g a b c d =

@@ -1,12 +1,13 @@
 -- Each variant of a well-formed type has its term in the table of a valid list, and the look-up of its full name finds it.
-use Rattle.std.proofs.Common.{◌≡◌, ◌==◌, false, ℕ, zero, suc, ◌+◌, ◌<◌, List, [], ◌∷◌, ◌++◌, length, map, Some, slice_get, refl, sym, ap, ◌∙◌, subst, inl, inr, arith, eq-eqb, eqb-true}
+use Rattle.std.proofs.Common.{◌≡◌, ◌==◌, false, ℕ, suc, ◌+◌, ◌<◌, List, [], ◌∷◌, ◌++◌, length, map, Some, slice_get, refl, sym, ap, ◌∙◌, subst, inl, inr, arith, eq-eqb, eqb-true}
+use Rattle.std.proofs.lemmas.Grind.{common_steps}
 use Rattle.std.proofs.lemmas.Bool.{cases_Bool, cond-true, cond-false, false≢true}
 use Rattle.std.proofs.lemmas.List.Elements.{All-contains}
 use Rattle.std.proofs.lemmas.Option.{same_Some, none-some}
 use Rattle.std.specs.List.{enumerate_from, flat_map}
 use Rattle.model.specs.lists.Syntax.{Definition}
 use Rattle.model.specs.lists.Names.{number}
-use Rattle.model.specs.lists.Tables.{VariantEntry, TypeEntry, builtin_type, primitive_type, enum_type, struct_type, variant_term, TermEntry}
+use Rattle.model.specs.lists.Tables.{VariantEntry, TypeEntry, enum_type, variant_term, TermEntry}
 use Rattle.model.specs.lists.TermTable.{decl_trees, decl_names, function_of, term_names, term_names_met, IsValidTerms, variant_as_term, terms_made, decl_as_term, terms_in_order, term_table}
 use Rattle.model.specs.lists.KnownTypes.{KnownTypes, entry_id, variant_numbers, entry_numbers}
 use Rattle.model.specs.rules.Meaning.{look}
@@ -39,9 +40,8 @@ looked_up (e ∷ es) k v i f =
 
 -- each entry takes the id of its place
 at_place : (fs : List (ℕ → TermEntry)) (k i m : ℕ) (f : ℕ → TermEntry) → k + i ≡ m → slice_get fs i ≡ Some f → slice_get (map (λ p. p.1 p.0) (enumerate_from k fs)) i ≡ Some (f m)
-at_place [] k i m f z e = absurd (cc)
-at_place (g ∷ fs) k zero m f z e = (let q : k ≡ m = omega arith in ap Some (λ j. same_Some g f e j (q j)))
 at_place (g ∷ fs) k (suc i) m f z e = at_place fs (k + 1) i m f (omega arith) e
+at_place fs k i m f z e = grind (arith, common_steps, same_Some)
 
 -- 2. the variant
 -- a variant of one of these types, with its type and its place there
@@ -64,9 +64,6 @@ record IsMadeIn (t : TypeEntry) (ty variant : ℕ) (v : VariantEntry) : Type 0 w
   at_id : v.id ≡ variant
 
 made_in : (t : TypeEntry) (ty variant : ℕ) (v : VariantEntry) → entry_id t ≡ ty → HasVariantsAtIds t → slice_get (variants_in t) variant ≡ Some v → IsMadeIn t ty variant v
-made_in (builtin_type place) ty variant v i a l = absurd (none-some v l)
-made_in (primitive_type id name at) ty variant v i a l = absurd (none-some v l)
-made_in (struct_type name id is_extern is_nodebug fields at) ty variant v i a l = absurd (none-some v l)
 made_in (enum_type name id is_extern is_nodebug variants at) ty variant v i a l =
     let there = in_slice variants variant v l in
     record {
@@ -74,6 +71,7 @@ made_in (enum_type name id is_extern is_nodebug variants at) ty variant v i a l 
       listed = inr (in_flat_map variant_numbers variants v v.full_name there (inl refl));
       at_id = a variant v l;
     }
+made_in t h i v j a l = grind (arith, common_steps, none-some)
 
 -- 3. its term
 -- a list of definitions whose terms are valid by types that can be read

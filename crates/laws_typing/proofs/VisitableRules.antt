@@ -1,5 +1,6 @@
 -- Rules that hang together can be visited: terms have as many parts as arguments, and variables are bound before their use.
-use Rattle.std.proofs.Common.{◌≡◌, ℕ, suc, ◌==◌, Bool, true, false, cond, not, ◌&&◌, ◌||◌, if◌then◌else◌, List, [], ◌∷◌, length, Option, Some, None, is_some, is_none, slice_get, refl, sym, ap, subst, ◌∙◌, inl, inr, eq-eqb, eqb-true}
+use Rattle.std.proofs.Common.{◌≡◌, ℕ, suc, ◌==◌, Bool, true, false, cond, not, ◌&&◌, ◌||◌, if◌then◌else◌, List, [], ◌∷◌, length, Option, Some, None, is_some, is_none, slice_get, refl, sym, ap, subst, ◌∙◌, inl, inr, eq-eqb, eqb-true, arith}
+use Rattle.std.proofs.lemmas.Grind.{common_steps}
 use Rattle.std.proofs.lemmas.Bool.{and_parts, and_from, cases_Bool, false≢true, or_from}
 use Rattle.std.proofs.lemmas.Option.{cond_some, none-some, same_Some}
 use Rattle.model.specs.rules.Outcome.{then_option}
@@ -8,8 +9,8 @@ use Rattle.model.specs.lists.Ranges.{is_literal_of}
 use Rattle.model.specs.rules.Program.{Program}
 use Rattle.model.specs.visits.Demands.{pattern_count}
 use Rattle.model.specs.sites.Serves.{constant_type}
-use Rattle.model.specs.rules.Typed.{TypedPattern, match_bind, match_var, match_bool, match_int, match_prim, match_term, match_any, match_and, TypedPatterns, no_typed_pattern, typed_pattern_and, TypedExpr, make_term, make_var, make_bool, make_int, make_prim, make_let, TypedExprs, no_typed_expr, typed_expr_and, TypedLets, no_typed_let, typed_let_and, TypedIfLet}
-use Rattle.model.specs.lists.Setting.{bool_type, expr_type, has_constructor, has_extractor}
+use Rattle.model.specs.rules.Typed.{TypedPattern, match_bind, match_var, match_bool, match_int, match_prim, match_term, match_any, match_and, TypedPatterns, no_typed_pattern, typed_pattern_and, TypedExpr, make_term, make_let, TypedExprs, typed_expr_and, TypedLets, no_typed_let, typed_let_and, TypedIfLet}
+use Rattle.model.specs.lists.Setting.{bool_type, expr_type, has_extractor}
 use Rattle.model.specs.lists.Formed.{pattern_type, var_type, is_type, with_new, of_entry, where_bound, formed_pattern, formed_parts, formed_each, is_formed_expr, are_formed_args, formed_lets, formed_list, formed_iflets}
 use Rattle.model.specs.lists.Visitable.{expr_count, bound_after, bound_after_parts, is_visitable_pattern, are_visitable_parts, bound_after_lets, is_visitable_expr, are_visitable_args, are_visitable_lets, bound_after_list, are_visitable_list, bound_after_iflets, are_visitable_iflets}
 use Rattle.model.specs.trees.Places.{is_in}
@@ -23,8 +24,7 @@ abbrev has : List (ℕ × ℕ) → ℕ → Bool
 has vars y = is_some (var_type vars y)
 
 some_or : (b : Bool) (ty : ℕ) (o : Option ℕ) → is_some (cond b (Some ty) o) ≡ (b || is_some o)
-some_or true ty o = refl
-some_or false ty o = refl
+some_or b ty o = grind (arith, common_steps)
 
 has_with : (x ty : ℕ) (vars : List (ℕ × ℕ)) (y : ℕ) → has ((x, ty) ∷ vars) y ≡ ((x == y) || has vars y)
 has_with x ty vars y = some_or (x == y) ty (var_type vars y)
@@ -34,8 +34,7 @@ abbrev Holds : List (ℕ × ℕ) → List ℕ → Type 0
 Holds vars ks = (y : ℕ) → has vars y ≡ true → is_in y ks ≡ true
 
 holds_with : (x ty : ℕ) (vars : List (ℕ × ℕ)) (ks : List ℕ) → Holds vars ks → Holds ((x, ty) ∷ vars) (x ∷ ks)
-holds_with x ty vars ks h y e =
-    elim (or_split (x == y) (has vars y) (sym (has_with x ty vars y) ∙ e)) [ inl a ↦ or_left (x == y) (is_in y ks) a | inr b ↦ or_right (x == y) (is_in y ks) (h y b) ]
+holds_with x ty vars ks h y e = grind (arith, common_steps, or_split, has_with, or_left, or_right)
 
 -- and what comes isn't bound yet
 record IsReady (vars more : List (ℕ × ℕ)) (ks : List ℕ) : Type 0 where
@@ -66,20 +65,13 @@ record Visits (vars more : List (ℕ × ℕ)) (a : PartVisit) : Type 0 where
   binds : (ks : List ℕ) → IsReady vars more ks → (y : ℕ) → is_in y (a.after ks) ≡ (is_in y ks || has more y)
 
 among : (a b : Bool) → (b ≡ true → a ≡ true) → a ≡ (a || b)
-among true b h = refl
-among false true h = h refl
-among false false h = refl
+among a b h = grind (arith, common_steps)
 
 absorbed : (a b c : Bool) → (b ≡ true → c ≡ true) → ((a || b) || c) ≡ (a || c)
-absorbed true b c h = refl
-absorbed false true c h = sym (h refl)
-absorbed false false c h = refl
+absorbed a b c h = grind (arith, common_steps)
 
 exchanged : (a b c : Bool) → ((a || b) || c) ≡ (b || (a || c))
-exchanged true true c = refl
-exchanged true false c = refl
-exchanged false true c = refl
-exchanged false false c = refl
+exchanged a b c = grind (arith, common_steps)
 
 -- where nothing is bound
 unbound : (vars more : List (ℕ × ℕ)) (can_visit : List ℕ → Bool) → Some vars ≡ Some more → ((ks : List ℕ) → Holds vars ks → can_visit ks ≡ true) → Visits vars more (binds_nothing can_visit)
@@ -155,10 +147,7 @@ module _ (p : Program) where
   -- a pattern at its type, and more after it
   then_rest : (q : TypedPattern) (b : Bool) (rest : List (ℕ × ℕ) → Option (List (ℕ × ℕ))) (vars more : List (ℕ × ℕ)) → (if b then then_option (formed_pattern p q vars) rest else None) ≡ Some more
       → (b ≡ true) × (mid : List (ℕ × ℕ)) × (formed_pattern p q vars ≡ Some mid) × (rest mid ≡ Some more)
-  then_rest q b rest vars more f =
-      let a = from_if b (then_option (formed_pattern p q vars) rest) more f in
-      let c = then_some (formed_pattern p q vars) rest more a.1 in
-      (a.0, c.0, c.1, c.2)
+  then_rest q b rest vars more f = grind (arith, common_steps, from_if, then_some)
 
   mutual
     pattern_visits : (q : TypedPattern) (vars more : List (ℕ × ℕ)) → formed_pattern p q vars ≡ Some more → Visits vars more (pattern_walk q)
@@ -185,13 +174,11 @@ module _ (p : Program) where
 
     parts_visit : (qs : TypedPatterns) (tys : List ℕ) (vars more : List (ℕ × ℕ)) → formed_parts p qs tys vars ≡ Some more
         → (length tys ≡ pattern_count qs) × Visits vars more (parts_walk qs)
-    parts_visit no_typed_pattern [] vars more f = (refl, unbound vars more (λ ks. true) f (λ ks h. refl))
-    parts_visit no_typed_pattern (ty ∷ tys) vars more f = absurd (none-some more f)
-    parts_visit (typed_pattern_and q rest) [] vars more f = absurd (none-some more f)
     parts_visit (typed_pattern_and q rest) (ty ∷ tys) vars more f =
         let a = then_rest q (pattern_type q == ty) (λ mid. formed_parts p rest tys mid) vars more f in
         let r = parts_visit rest tys a.1 more a.3 in
         (ap suc r.0, then_visits (pattern_visits q vars a.1 a.2) r.1)
+    parts_visit qs tys vars more f = grind (arith, common_steps, unbound, none-some)
 
     each_visit : (qs : TypedPatterns) (ty : ℕ) (vars more : List (ℕ × ℕ)) → formed_each p qs ty vars ≡ Some more → Visits vars more (parts_walk qs)
     each_visit no_typed_pattern ty vars more f = unbound vars more (λ ks. true) f (λ ks h. refl)
@@ -201,33 +188,21 @@ module _ (p : Program) where
 
   mutual
     expr_visits : (e : TypedExpr) (vars : List (ℕ × ℕ)) (ks : List ℕ) → is_formed_expr p e vars ≡ true → Holds vars ks → is_visitable_expr p.terms e ks ≡ true
-    expr_visits (make_term ty term args) vars ks f h =
-        let a = from_entry (slice_get p.terms term) (λ (t : TermEntry). (t.ret_ty == ty) && (has_constructor t.kind && are_formed_args p args t.arg_tys vars)) f in
-        let b = and_parts (has_constructor a.0.kind) (are_formed_args p args a.0.arg_tys vars) (and_parts (a.0.ret_ty == ty) (has_constructor a.0.kind && are_formed_args p args a.0.arg_tys vars) a.2).1 in
-        let r = args_visit args a.0.arg_tys vars ks b.1 h in
-        and_from _ (are_visitable_args p.terms args ks)
-        (ap (λ o. of_entry o (λ e. has_constructor e.kind && (length e.arg_tys == expr_count args))) a.1
-        ∙ and_from (has_constructor a.0.kind) (length a.0.arg_tys == expr_count args) b.0 (eq-eqb (length a.0.arg_tys) (expr_count args) r.0))
-        r.1
-    expr_visits (make_var ty x) vars ks f h = h x (has_type (var_type vars x) ty f)
-    expr_visits (make_bool ty b) vars ks f h = refl
-    expr_visits (make_int ty z) vars ks f h = refl
-    expr_visits (make_prim ty name) vars ks f h = refl
+    expr_visits (make_term ty term args) vars ks f h = grind (arith, common_steps, args_visit args, from_entry (slice_get p.terms term), from_entry, and_parts, and_from, eq-eqb)
     expr_visits (make_let ty defs body) vars ks f h =
         let a = from_vars (formed_lets p defs vars) (λ more. (expr_type body == ty) && is_formed_expr p body more) f in
         let r = lets_visit defs vars a.0 ks a.1 h in
         and_from (are_visitable_lets p.terms defs ks) (is_visitable_expr p.terms body (bound_after_lets defs ks)) r.0
         (expr_visits body a.0 (bound_after_lets defs ks) (and_parts (expr_type body == ty) (is_formed_expr p body a.0) a.2).1 r.1)
+    expr_visits e vars ks f h = grind (arith, common_steps, has_type)
 
     args_visit : (es : TypedExprs) (tys : List ℕ) (vars : List (ℕ × ℕ)) (ks : List ℕ) → are_formed_args p es tys vars ≡ true → Holds vars ks
         → (length tys ≡ expr_count es) × (are_visitable_args p.terms es ks ≡ true)
-    args_visit no_typed_expr [] vars ks f h = (refl, refl)
-    args_visit no_typed_expr (ty ∷ tys) vars ks f h = absurd (false≢true f)
-    args_visit (typed_expr_and e rest) [] vars ks f h = absurd (false≢true f)
     args_visit (typed_expr_and e rest) (ty ∷ tys) vars ks f h =
         let a = and_parts (is_formed_expr p e vars) (are_formed_args p rest tys vars) (and_parts (expr_type e == ty) (is_formed_expr p e vars && are_formed_args p rest tys vars) f).1 in
         let r = args_visit rest tys vars ks a.1 h in
         (ap suc r.0, and_from (is_visitable_expr p.terms e ks) (are_visitable_args p.terms rest ks) (expr_visits e vars ks a.0 h) r.1)
+    args_visit es tys vars ks f h = grind (arith, common_steps)
 
     lets_visit : (ds : TypedLets) (vars more : List (ℕ × ℕ)) (ks : List ℕ) → formed_lets p ds vars ≡ Some more → Holds vars ks
         → (are_visitable_lets p.terms ds ks ≡ true) × Holds more (bound_after_lets ds ks)
@@ -241,13 +216,11 @@ module _ (p : Program) where
 
   list_visits : (qs : List TypedPattern) (tys : List ℕ) (vars more : List (ℕ × ℕ)) → formed_list p qs tys vars ≡ Some more
       → (length tys ≡ length qs) × Visits vars more (list_walk qs)
-  list_visits [] [] vars more f = (refl, unbound vars more (λ ks. true) f (λ ks h. refl))
-  list_visits [] (ty ∷ tys) vars more f = absurd (none-some more f)
-  list_visits (q ∷ qs) [] vars more f = absurd (none-some more f)
   list_visits (q ∷ qs) (ty ∷ tys) vars more f =
       let a = then_rest q (pattern_type q == ty) (λ mid. formed_list p qs tys mid) vars more f in
       let r = list_visits qs tys a.1 more a.3 in
       (ap suc r.0, then_visits (pattern_visits q vars a.1 a.2) r.1)
+  list_visits qs tys vars more f = grind (arith, common_steps, unbound, none-some)
 
   -- an if-let's expression is visited with what is bound before its pattern
   abbrev value_first : TypedExpr → PartVisit → PartVisit

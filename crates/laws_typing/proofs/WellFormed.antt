@@ -1,5 +1,6 @@
 -- The types of a list of definitions with valid types are well formed.
-use Rattle.std.proofs.Common.{◌≡◌, ℕ, zero, suc, ◌+◌, ◌<◌, ◌||◌, true, false, cond, List, [], ◌∷◌, ◌++◌, length, map, Some, None, unwrap_or, slice_get, refl, sym, ap, ◌∙◌, subst, arith}
+use Rattle.std.proofs.Common.{◌≡◌, ℕ, zero, suc, ◌+◌, ◌<◌, ◌||◌, true, false, cond, List, [], ◌∷◌, ◌++◌, length, map, Some, slice_get, refl, sym, ap, ◌∙◌, subst, arith}
+use Rattle.std.proofs.lemmas.Grind.{common_steps}
 use Rattle.std.specs.List.{enumerate_from, flat_map, AllByRecursion}
 use Rattle.std.specs.Str.{bytes_eq}
 use Rattle.std.proofs.lemmas.List.{length-append, length-map}
@@ -7,11 +8,11 @@ use Rattle.std.proofs.lemmas.List.Concat.{flat_map-append}
 use Rattle.std.proofs.lemmas.List.Elements.{All-from_recursion}
 use Rattle.std.proofs.lemmas.List.FromFn.{length-enumerate_from}
 use Rattle.std.proofs.lemmas.Option.{same_Some}
-use Rattle.model.specs.lists.Syntax.{Name, FieldTree, TupleFieldTree, FieldTrees, unit_fields, struct_fields, tuple_fields, VariantTree, TypeTree, TypeValueTree, primitive_value, enum_value, struct_value, Definition}
+use Rattle.model.specs.lists.Syntax.{Name, FieldTree, TupleFieldTree, FieldTrees, struct_fields, VariantTree, TypeTree, TypeValueTree, primitive_value, enum_value, struct_value, Definition}
 use Rattle.model.specs.lists.Names.{has_name}
 use Rattle.model.specs.rules.Values.{field_types}
 use Rattle.model.specs.lists.Tables.{TypeEntry}
-use Rattle.model.specs.lists.TypeTable.{builtin_names, builtin_from, place_from, type_id, type_trees, type_names, full_name, field_names, variant_names, names_inside, all_type_names, type_names_met, field_entry, tuple_field_entry, field_entries, variant_entry, entry_at, type_entry, type_table, type_or_first}
+use Rattle.model.specs.lists.TypeTable.{builtin_names, builtin_from, place_from, type_trees, type_names, field_names, variant_names, names_inside, all_type_names, type_names_met, field_entry, tuple_field_entry, field_entries, variant_entry, entry_at, type_entry, type_table, type_or_first}
 use Rattle.model.specs.lists.KnownTypes.{entry_id, types_inside, field_numbers, variant_numbers, entry_numbers, StandAtIds}
 use Rattle.laws_typing.specs.TableLaws.{OwnTypesAreWellFormed, TypesAreFound}
 use Rattle.model.proofs.Joined.{all_joined, all_left, all_right}
@@ -42,14 +43,11 @@ builtins_count n [] ts c = (let e : n + 0 ≡ n = omega arith in subst (λ m. Co
 builtins_count n (x ∷ xs) ts c = (refl, builtins_count (suc n) xs ts (let e : n + suc (length xs) ≡ suc n + length xs = omega arith in subst (λ m. CountUp m ts) e c))
 
 own_id : (defs : List Definition) (ns : List (List ℕ)) (id : ℕ) (t : TypeTree) (w : TypeValueTree) → entry_id (entry_at defs ns id t w) ≡ id
-own_id defs ns id t (primitive_value name at) = refl
-own_id defs ns id t (enum_value variants at) = refl
-own_id defs ns id t (struct_value fields at) = refl
+own_id defs ns id t w = grind (arith, common_steps)
 
 entries_count : (defs : List Definition) (ns : List (List ℕ)) (n : ℕ) (ts : List TypeTree) → CountUp n (map (λ p. type_entry defs ns p.0 p.1) (enumerate_from n ts))
+entries_count defs ns n (t ∷ ts) = grind (arith, common_steps, entries_count defs ns (n + 1) ts, own_id defs ns n t t.value, own_id)
 entries_count defs ns n [] = tt
-entries_count defs ns n (t ∷ ts) =
-    (own_id defs ns n t t.value, (let e : n + 1 ≡ suc n = omega arith in subst (λ m. CountUp m (map (λ p. type_entry defs ns p.0 p.1) (enumerate_from (n + 1) ts))) e (entries_count defs ns (n + 1) ts)))
 
 -- a place among names is below their count
 pub place_below : (xs : List (List ℕ)) (n : ℕ) (x : List ℕ) (k : ℕ) → place_from n x xs ≡ Some k → k < n + length xs
@@ -72,10 +70,7 @@ module _ (defs : List Definition) where
 
   -- there are as many names of types as types
   pub as_many : length (all_type_names defs) ≡ length (type_table defs)
-  as_many =
-      length-append builtin_names (type_names defs)
-      ∙ ap (λ n. 13 + n) (length-map (type_trees defs) (λ t. t.name.text) ∙ sym (length-map (enumerate_from 13 (type_trees defs)) (λ p. type_entry defs (type_names_met defs) p.0 p.1) ∙ length-enumerate_from 13 (type_trees defs)))
-      ∙ sym (length-append (builtin_from 0 builtin_names) (map (λ p. type_entry defs (type_names_met defs) p.0 p.1) (enumerate_from 13 (type_trees defs))))
+  as_many = grind (arith, common_steps, length-append, length-map, length-enumerate_from)
 
   -- a type that is named is one of the types
   abbrev IsOneOfTypes : ℕ → Type 0
@@ -85,12 +80,7 @@ module _ (defs : List Definition) where
   first_type = omega arith
 
   named_type : (n : Name) → IsOneOfTypes (type_or_first defs n)
-  named_type n =
-      subst (λ m. type_or_first defs n < m) as_many
-      (elim (type_id defs n.text) as (λ o. type_id defs n.text ≡ o → unwrap_or o 0 < length (all_type_names defs)) [
-        | None ↦ λ _. first_type
-        | Some i ↦ λ e. (let l = place_below (all_type_names defs) 0 n.text i e in omega arith)
-      ] refl)
+  named_type n = grind (arith, common_steps, place_below (all_type_names defs) 0 n.text, as_many, first_type, place_below)
 
   fields_named : (ns : List (List ℕ)) (i : ℕ) (fs : List FieldTree) → AllByRecursion IsOneOfTypes (map (λ f. f.ty) (map (λ p. field_entry defs ns p.0 p.1) (enumerate_from i fs)))
   fields_named ns i [] = tt
@@ -101,14 +91,11 @@ module _ (defs : List Definition) where
   parts_named i (f ∷ fs) = (named_type f.ty, parts_named (i + 1) fs)
 
   list_named : (ns : List (List ℕ)) (fields : FieldTrees) → AllByRecursion IsOneOfTypes (field_types (field_entries defs ns fields))
-  list_named ns unit_fields = tt
-  list_named ns (struct_fields fields) = fields_named ns 0 fields
-  list_named ns (tuple_fields fields) = parts_named 0 fields
+  list_named ns fields = grind (arith, common_steps, fields_named, parts_named)
 
   variants_fields : (ns : List (List ℕ)) (ty : List ℕ) (i : ℕ) (vs : List VariantTree) → AllByRecursion IsOneOfTypes (flat_map (λ v. field_types v.fields) (map (λ p. variant_entry defs ns ty p.0 p.1) (enumerate_from i vs)))
+  variants_fields ns ty i (v ∷ vs) = grind (arith, common_steps, variants_fields ns ty (i + 1) vs, list_named ns v.fields, all_joined, list_named)
   variants_fields ns ty i [] = tt
-  variants_fields ns ty i (v ∷ vs) =
-      all_joined IsOneOfTypes (field_types (field_entries defs ns v.fields)) (flat_map (λ v. field_types v.fields) (map (λ p. variant_entry defs ns ty p.0 p.1) (enumerate_from (i + 1) vs))) (list_named ns v.fields) (variants_fields ns ty (i + 1) vs)
 
   type_fields : (ns : List (List ℕ)) (id : ℕ) (t : TypeTree) (w : TypeValueTree) → AllByRecursion IsOneOfTypes (types_inside (entry_at defs ns id t w))
   type_fields ns id t (primitive_value name at) = tt
@@ -116,9 +103,8 @@ module _ (defs : List Definition) where
   type_fields ns id t (struct_value fields at) = list_named ns fields
 
   types_fields : (ns : List (List ℕ)) (id : ℕ) (ts : List TypeTree) → AllByRecursion IsOneOfTypes (flat_map types_inside (map (λ p. type_entry defs ns p.0 p.1) (enumerate_from id ts)))
+  types_fields ns id (t ∷ ts) = grind (arith, common_steps, types_fields ns (id + 1) ts, type_fields ns id t t.value, all_joined, type_fields)
   types_fields ns id [] = tt
-  types_fields ns id (t ∷ ts) =
-      all_joined IsOneOfTypes (types_inside (type_entry defs ns id t)) (flat_map types_inside (map (λ p. type_entry defs ns p.0 p.1) (enumerate_from (id + 1) ts))) (type_fields ns id t t.value) (types_fields ns (id + 1) ts)
 
   -- the numbers of names that were met are below their count
   abbrev IsMet : List ℕ → Type 0
@@ -132,20 +118,12 @@ module _ (defs : List Definition) where
   fields_below i (f ∷ fs) a = (number_below (type_names_met defs) f.name.text a.0, fields_below (i + 1) fs a.1)
 
   list_below : (fields : FieldTrees) → AllByRecursion IsMet (field_names fields) → AllByRecursion IsBelow (field_numbers (field_entries defs (type_names_met defs) fields))
-  list_below unit_fields a = tt
   list_below (struct_fields fields) a = fields_below 0 fields a
-  list_below (tuple_fields fields) a = tt
+  list_below fields a = tt
 
   variants_below : (ty : List ℕ) (i : ℕ) (vs : List VariantTree) → AllByRecursion IsMet (flat_map (variant_names ty) vs) → AllByRecursion IsBelow (flat_map variant_numbers (map (λ p. variant_entry defs (type_names_met defs) ty p.0 p.1) (enumerate_from i vs)))
+  variants_below ty i (v ∷ vs) a = grind (arith, common_steps, variants_below ty (i + 1) vs, number_below, all_joined, list_below, all_left, all_right)
   variants_below ty i [] a = tt
-  variants_below ty i (v ∷ vs) a = (
-    number_below (type_names_met defs) (full_name ty v.name.text) a.0,
-    (
-      number_below (type_names_met defs) v.name.text a.1.0,
-      all_joined IsBelow (field_numbers (field_entries defs (type_names_met defs) v.fields)) (flat_map variant_numbers (map (λ p. variant_entry defs (type_names_met defs) ty p.0 p.1) (enumerate_from (i + 1) vs)))
-          (list_below v.fields (all_left IsMet (field_names v.fields) (flat_map (variant_names ty) vs) a.1.1)) (variants_below ty (i + 1) vs (all_right IsMet (field_names v.fields) (flat_map (variant_names ty) vs) a.1.1)),
-    ),
-  )
 
   type_below : (id : ℕ) (t : TypeTree) (w : TypeValueTree) → IsMet t.name.text → AllByRecursion IsMet (names_inside t.name.text w) → AllByRecursion IsBelow (entry_numbers (entry_at defs (type_names_met defs) id t w))
   type_below id t (primitive_value name at) h a = (number_below (type_names_met defs) name.text a.0, tt)
@@ -154,16 +132,11 @@ module _ (defs : List Definition) where
 
   types_below : (id : ℕ) (ts : List TypeTree) → AllByRecursion IsMet (map (λ t. t.name.text) ts) → AllByRecursion IsMet (flat_map (λ t. names_inside t.name.text t.value) ts)
       → AllByRecursion IsBelow (flat_map entry_numbers (map (λ p. type_entry defs (type_names_met defs) p.0 p.1) (enumerate_from id ts)))
+  types_below id (t ∷ ts) h a = grind (arith, common_steps, types_below (id + 1) ts h.1, type_below id t t.value h.0, all_joined, type_below, all_left, all_right)
   types_below id [] h a = tt
-  types_below id (t ∷ ts) h a =
-      all_joined IsBelow (entry_numbers (type_entry defs (type_names_met defs) id t)) (flat_map entry_numbers (map (λ p. type_entry defs (type_names_met defs) p.0 p.1) (enumerate_from (id + 1) ts)))
-      (type_below id t t.value h.0 (all_left IsMet (names_inside t.name.text t.value) (flat_map (λ t. names_inside t.name.text t.value) ts) a))
-      (types_below (id + 1) ts h.1 (all_right IsMet (names_inside t.name.text t.value) (flat_map (λ t. names_inside t.name.text t.value) ts) a))
 
   pub numbers_below : AllByRecursion (λ n. n < length (type_names_met defs)) (flat_map entry_numbers (type_table defs))
-  numbers_below =
-      subst (AllByRecursion IsBelow) (sym (flat_map-append entry_numbers (builtin_from 0 builtin_names) (map (λ p. type_entry defs (type_names_met defs) p.0 p.1) (enumerate_from 13 (type_trees defs)))))
-      (types_below 13 (type_trees defs) names_of_types_met names_inside_met)
+  numbers_below = grind (arith, common_steps, flat_map-append, types_below, names_of_types_met, names_inside_met)
 
   pub fields_are_types : AllByRecursion IsOneOfTypes (flat_map types_inside (type_table defs))
   fields_are_types =

@@ -1,6 +1,7 @@
 -- What follows of well-typed programs: what terms of variants and structs give and take, and what rules call, flag by flag.
-use Rattle.std.proofs.Common.{◌≡◌, ℕ, Bool, true, false, not, ◌&&◌, ◌||◌, List, [], ◌∷◌, Some, slice_get, IsTrue, refl, sym, ap, subst, inl, inr}
-use Rattle.std.proofs.lemmas.Bool.{cases_Bool, and_parts, false≢true}
+use Rattle.std.proofs.Common.{◌≡◌, ℕ, Bool, true, false, not, ◌||◌, List, [], ◌∷◌, Some, slice_get, IsTrue, refl, arith}
+use Rattle.std.proofs.lemmas.Grind.{common_steps}
+use Rattle.std.proofs.lemmas.Bool.{and_parts}
 use Rattle.model.specs.lists.Tables.{Flags, TermEntry, TermKindEntry, variant_term, struct_term, declared_term}
 use Rattle.model.specs.lists.Setting.{on_lhs, allow}
 use Rattle.model.specs.rules.CalledTerms.{CallsAlone}
@@ -22,25 +23,19 @@ kind_by ret k = elim k as (λ _. Kind) [
 ]
 
 of_variant_term : (ret : ℕ) (k : TermKindEntry) (ty i : ℕ) → kind_by ret k ≡ a_variant ty i → (ret ≡ ty) × (k ≡ variant_term i)
-of_variant_term ret (variant_term n) ty i e = let a : ret ≡ ty = cc in let b : n ≡ i = cc in (a, ap variant_term b)
-of_variant_term ret struct_term ty i e = absurd (cc)
-of_variant_term ret (declared_term flags c x) ty i e = absurd (cc)
+of_variant_term ret k ty i e = grind (arith, common_steps)
 
 of_struct_term : (ret : ℕ) (k : TermKindEntry) (ty : ℕ) → kind_by ret k ≡ a_struct ty → (ret ≡ ty) × (k ≡ struct_term)
-of_struct_term ret (variant_term n) ty e = absurd (cc)
-of_struct_term ret struct_term ty e = let a : ret ≡ ty = cc in (a, refl)
-of_struct_term ret (declared_term flags c x) ty e = absurd (cc)
+of_struct_term ret k ty e = grind (arith, common_steps)
 
 -- a term of a variant or of a struct gives its type, and takes its fields
 pub variant_takes : (p : Program) → HasTypedParts p → (t : ℕ) (e : TermEntry) → slice_get p.terms t ≡ Some e → (ty i : ℕ) → kind_of e ≡ a_variant ty i
     → (e.ret_ty ≡ ty) × (variant_types (slice_get p.types ty) i ≡ Some e.arg_tys)
-variant_takes p h t e there ty i q =
-    let k = of_variant_term e.ret_ty e.kind ty i q in (k.0, subst (λ n. variant_types (slice_get p.types n) i ≡ Some e.arg_tys) k.0 (h.variants t e there i k.1))
+variant_takes p h t e there ty i q = grind (arith, common_steps, of_variant_term e.ret_ty e.kind ty i q, of_variant_term)
 
 pub struct_takes : (p : Program) → HasTypedParts p → (t : ℕ) (e : TermEntry) → slice_get p.terms t ≡ Some e → (ty : ℕ) → kind_of e ≡ a_struct ty
     → (e.ret_ty ≡ ty) × (struct_types (slice_get p.types ty) ≡ Some e.arg_tys)
-struct_takes p h t e there ty q =
-    let k = of_struct_term e.ret_ty e.kind ty q in (k.0, subst (λ n. struct_types (slice_get p.types n) ≡ Some e.arg_tys) k.0 (h.structs t e there k.1))
+struct_takes p h t e there ty q = grind (arith, common_steps, of_struct_term e.ret_ty e.kind ty q, of_struct_term)
 
 -- 2. flags
 -- what some flags allow: what is pure alone where they are pure, nothing multi where they aren't multi, and nothing partial
@@ -51,19 +46,10 @@ record Allows (flags own : Flags) : Type 0 where
   partial : flags.partial ≡ false → own.partial ≡ false
 
 pub none_allowed : (b own : Bool) → (b || not own) ≡ true → b ≡ false → own ≡ false
-none_allowed true own h e = absurd (false≢true (sym e))
-none_allowed false true h e = absurd (false≢true h)
-none_allowed false false h e = refl
+none_allowed b own h e = grind (arith, common_steps)
 
 allows : (flags own : Flags) → allow flags own ≡ true → Allows flags own
-allows flags own h =
-    let a = and_parts (not flags.pure || own.pure) ((flags.multi || not own.multi) && (flags.partial || not own.partial)) h in
-    let b = and_parts (flags.multi || not own.multi) (flags.partial || not own.partial) a.1 in
-    record {
-      pure = λ q. subst (λ b. (not b || own.pure) ≡ true) q a.0;
-      multi = none_allowed flags.multi own.multi b.0;
-      partial = none_allowed flags.partial own.partial b.1;
-    }
+allows flags own h = grind (arith, common_steps, and_parts, none_allowed)
 
 -- 3. rules
 module _ (p : Program) (flags : Flags) where
@@ -93,12 +79,8 @@ pure_iflets {p = p} {r = r} h = iflets_pure p (flags_of (kind p r.root_term)) r.
 
 -- where a rule's term isn't multi, no part of it calls a multi term
 pub without_multi : {p : Program} {r : TypedRule} → IsWellTypedRule p r → is_multi p r.root_term ≡ false → CallsNoMulti p r
-without_multi {p = p} {r = r} h m =
-    let flags = flags_of (kind p r.root_term) in
-    record { patterns = h.patterns m; conditions = iflets_single p flags m r.iflets h.conditions; right = single_calls p flags m r.rhs h.right }
+without_multi {p = p} {r = r} h m = grind (arith, common_steps, iflets_single p, single_calls p, iflets_single, single_calls)
 
 -- where it is multi, the right side calls no partial term
 pub without_partial : {p : Program} {r : TypedRule} → HasNoPartialMulti p → IsWellTypedRule p r → is_multi p r.root_term ≡ true → CallsAlone (λ t. is_partial p t ≡ false) r.rhs
-without_partial {p = p} {r = r} neither h m =
-    let total : is_partial p r.root_term ≡ false = elim (cases_Bool (is_partial p r.root_term)) [ inl b ↦ absurd (neither r.root_term m b) | inr n ↦ n ] in
-    total_calls p (flags_of (kind p r.root_term)) total r.rhs h.right
+without_partial {p = p} {r = r} neither h m = grind (arith, common_steps, total_calls p (flags_of (kind p r.root_term)), total_calls)

@@ -1,19 +1,20 @@
 -- Rules that elaborate are well typed: they hang together, and call what the flags of their terms allow.
-use Rattle.std.proofs.Common.{◌≡◌, ℕ, ℤ, pos, unwrap_or, Bool, true, false, not, ◌&&◌, ◌||◌, List, [], ◌∷◌, take, map, Option, Some, None, option_map, is_some, slice_get, IsTrue, refl, sym, ap, subst, inl, inr, ◌∙◌}
-use Rattle.std.proofs.lemmas.Bool.{and_parts, false≢true}
+use Rattle.std.proofs.Common.{◌≡◌, ℕ, pos, unwrap_or, Bool, true, false, not, List, [], ◌∷◌, take, map, Option, Some, None, option_map, slice_get, IsTrue, refl, sym, ap, subst, inl, inr, ◌∙◌, arith}
+use Rattle.std.proofs.lemmas.Grind.{common_steps}
+use Rattle.std.proofs.lemmas.Bool.{and_parts}
 use Rattle.std.proofs.Math.Bool.{or-true}
 use Rattle.std.proofs.lemmas.Option.{none-some, same_Some}
 use Rattle.model.specs.lists.Syntax.{Definition, PatternTree, PatternTrees, ExprTree, IfLetTree, RuleTree}
-use Rattle.model.specs.lists.Tables.{Flags, TypeEntry, builtin_type, TermEntry, TermKindEntry, variant_term, struct_term, declared_term}
+use Rattle.model.specs.lists.Tables.{Flags, TypeEntry, builtin_type, TermEntry}
 use Rattle.model.specs.lists.TermTable.{term_names_met, rule_trees}
 use Rattle.model.specs.lists.TypeTable.{builtin_names, builtin_from}
 use Rattle.model.specs.lists.Setting.{Setting, Scope, entry_named, is_callable, is_matchable, on_lhs, allow, declared_flags}
 use Rattle.model.specs.lists.Elaborated.{named_rule, TypedRules, may_have_priority, typed_rules, named, typed_list}
-use Rattle.model.specs.lists.Elaborates.{ElaboratesPattern, ElaboratesParts, ElaboratesEach, new_name, bound_name, binding, a_truth, an_integer, a_constant, a_term, a_template, a_conversion, anything, all_of, no_part, part, no_more, one_more, ElaboratesExpr, ElaboratesIfLets, no_iflet, an_iflet, ElaboratesRule, a_rule, ElaboratesRules, no_rule, one_rule}
+use Rattle.model.specs.lists.Elaborates.{ElaboratesPattern, ElaboratesParts, ElaboratesEach, binding, a_term, a_template, a_conversion, all_of, no_part, part, no_more, one_more, ElaboratesExpr, ElaboratesIfLets, no_iflet, an_iflet, ElaboratesRule, a_rule, ElaboratesRules, no_rule, one_rule}
 use Rattle.model.specs.lists.Formed.{is_formed_rule, program_in}
 use Rattle.model.specs.rules.CalledTerms.{CallsAlone}
 use Rattle.model.specs.rules.CallsNoMulti.{WhereKnown, PatternCallsNoMulti, PatternsCallNoMulti, ArgsCallNoMulti}
-use Rattle.model.specs.rules.Program.{Program, Kind, a_variant, a_struct, a_call, unknown, kind_of, kind, flags_of}
+use Rattle.model.specs.rules.Program.{Program, Kind, unknown, kind_of, kind, flags_of}
 use Rattle.model.specs.rules.Typed.{TypedPattern, TypedPatterns, no_typed_pattern, typed_pattern_and, TypedExpr, TypedIfLet, TypedRule}
 use Rattle.model.specs.claims.Environments.{types_read, setting_of, IsRead}
 use Rattle.model.specs.claims.Layers.{own_program}
@@ -23,7 +24,7 @@ use Rattle.laws_typing.proofs.ElaboratedCalls.{expr_calls}
 use Rattle.laws_typing.proofs.FormedRules.{TermsAtIds, at_id, rules_are_formed}
 use Rattle.laws_typing.proofs.TermLaws.{terms_stand_at_ids_lem}
 use Rattle.laws_typing.proofs.TypedRules.{lists_agree}
-use Rattle.laws_typing.proofs.WellTypedPrograms.{kind_by, none_allowed}
+use Rattle.laws_typing.proofs.WellTypedPrograms.{none_allowed}
 use Rattle.laws_typing.proofs.WellTypedTerms.{none_is_both, has_typed_parts}
 
 -- 1. flags
@@ -32,43 +33,21 @@ made_allowed : (flags : Flags) → allow flags (record { pure = true; multi = fa
 made_allowed flags = rw (or-true (not flags.pure), or-true flags.multi, or-true flags.partial) refl
 
 callable_allowed : (flags : Flags) (t : TermEntry) → is_callable flags t.kind ≡ true → allow flags (flags_of (kind_of t)) ≡ true
-callable_allowed flags t c = by t.kind c
-  where
-    by : (k : TermKindEntry) → is_callable flags k ≡ true → allow flags (flags_of (kind_by t.ret_ty k)) ≡ true
-    by (variant_term i) q = made_allowed flags
-    by struct_term q = made_allowed flags
-    by (declared_term own k x) q = (and_parts (is_some k) (allow flags own) q).1
+callable_allowed flags t c = grind (arith, common_steps, made_allowed flags, made_allowed, and_parts)
 
 matchable_single : (multi : Bool) → multi ≡ false → (t : TermEntry) → is_matchable multi t.kind ≡ true → (flags_of (kind_of t)).multi ≡ false
-matchable_single multi m t c = by t.kind c
-  where
-    by : (k : TermKindEntry) → is_matchable multi k ≡ true → (flags_of (kind_by t.ret_ty k)).multi ≡ false
-    by (variant_term i) q = refl
-    by struct_term q = refl
-    by (declared_term own k x) q = none_allowed multi own.multi (and_parts (is_some x) (multi || not own.multi) q).1 m
+matchable_single multi m t c = grind (arith, common_steps, none_allowed multi, none_allowed, and_parts)
 
 -- the flags of a declared term are those of its declaration
 declared_are : (flags : Flags) (t : TermEntry) → declared_flags t.kind ≡ Some flags → flags_of (kind_of t) ≡ flags
-declared_are flags t h = by t.kind h
-  where
-    by : (k : TermKindEntry) → declared_flags k ≡ Some flags → flags_of (kind_by t.ret_ty k) ≡ flags
-    by (variant_term i) q = absurd (none-some flags q)
-    by struct_term q = absurd (none-some flags q)
-    by (declared_term own k x) q = same_Some own flags q
+declared_are flags t h = grind (arith, common_steps, none-some flags, none-some, same_Some)
 
 priority_of_multi : (flags : Flags) (r : RuleTree) → flags.multi ≡ true → may_have_priority flags r ≡ true → unwrap_or r.prio (pos 0) ≡ pos 0
-priority_of_multi flags r h l = by r.prio (subst (λ b. not (b && is_some r.prio) ≡ true) h l)
-  where
-    by : (o : Option ℤ) → not (is_some o) ≡ true → unwrap_or o (pos 0) ≡ pos 0
-    by None q = refl
-    by (Some z) q = absurd (false≢true q)
+priority_of_multi flags r h l = grind (arith, common_steps)
 
 -- what is known of a term's parts, whatever it is
 known_from : (k : Kind) (P : Type 0) → P → WhereKnown k P
-known_from (a_variant ty variant) P x = x
-known_from (a_struct ty) P x = x
-known_from (a_call flags infallible) P x = x
-known_from unknown P x = tt
+known_from k P x = grind (arith, common_steps)
 
 args_from : (p : Program) (qs : TypedPatterns) → PatternsCallNoMulti p qs → ArgsCallNoMulti p (typed_list qs)
 args_from p no_typed_pattern h = tt
@@ -88,18 +67,13 @@ module _ (e : Setting) (rules : List TypedRule) (at_ids : TermsAtIds e.terms) wh
   module _ (multi : Bool) (m : multi ≡ false) where
     mutual
       pattern_single : {d ty n : ℕ} {x : PatternTree} {s t : Scope} {q : TypedPattern} → ElaboratesPattern e multi d x ty s q t n → PatternCallsNoMulti p q
-      pattern_single (new_name i) = tt
-      pattern_single (bound_name i j) = tt
       pattern_single (binding g i) = pattern_single g
-      pattern_single (a_truth i) = tt
-      pattern_single (an_integer i) = tt
-      pattern_single (a_constant i) = tt
       pattern_single (a_term {entry = entry} {qs = qs} i j k c g) =
           (ap (λ k. (flags_of k).multi) (kind_named _ entry i) ∙ matchable_single multi m entry c, known_from (kind p entry.id) (PatternsCallNoMulti p qs) (parts_single g))
       pattern_single (a_template i j k l g) = pattern_single g
       pattern_single (a_conversion i j k g) = pattern_single g
-      pattern_single anything = tt
       pattern_single (all_of g) = each_single g
+      pattern_single h = grind (arith, common_steps)
 
       parts_single : {d n : ℕ} {tys : List ℕ} {xs : PatternTrees} {s t : Scope} {qs : TypedPatterns} → ElaboratesParts e multi d xs tys s qs t n → PatternsCallNoMulti p qs
       parts_single no_part = tt
@@ -132,13 +106,7 @@ module _ (e : Setting) (rules : List TypedRule) (at_ids : TermsAtIds e.terms) wh
 
   -- a name changes nothing of it
   named_typed : (r : TypedRule) (name : Option ℕ) → IsWellTypedRule p r → IsWellTypedRule p (record r { name = name })
-  named_typed r name h = record {
-    formed = h.formed;
-    patterns = h.patterns;
-    conditions = h.conditions;
-    right = h.right;
-    no_priority = h.no_priority;
-  }
+  named_typed r name h = grind (arith, common_steps)
 
   all_typed : (trees : List RuleTree) (names : List (List ℕ)) (o : Option TypedRules) (l : TypedRules) → typed_rules e 0 trees names ≡ o → option_map (named e) o ≡ Some l
       → (q : TypedRule) → In l.rules q → IsWellTypedRule p q

@@ -1,11 +1,12 @@
 -- The terms of a table: none is multi and partial at once, and those of variants and structs take their fields, at the types of
 -- these.
-use Rattle.std.proofs.Common.{◌≡◌, ℕ, ◌+◌, Bool, true, not, List, [], ◌∷◌, map, Option, Some, None, slice_get, flat_map, refl, sym, ap, subst, inl, inr, ◌∙◌}
+use Rattle.std.proofs.Common.{◌≡◌, ℕ, ◌+◌, Bool, true, not, List, [], ◌∷◌, map, Option, Some, None, slice_get, flat_map, refl, sym, ap, subst, inl, inr, ◌∙◌, arith}
+use Rattle.std.proofs.lemmas.Grind.{common_steps}
 use Rattle.std.proofs.lemmas.Bool.{and_from, false≢true}
 use Rattle.std.proofs.lemmas.List.Elements.{All-contains}
 use Rattle.std.specs.List.{enumerate_from}
 use Rattle.model.specs.lists.Syntax.{Definition, DeclTree}
-use Rattle.model.specs.lists.Tables.{VariantEntry, TypeEntry, builtin_type, primitive_type, enum_type, struct_type, TermEntry, TermKindEntry, variant_term, struct_term, declared_term}
+use Rattle.model.specs.lists.Tables.{VariantEntry, TypeEntry, enum_type, struct_type, TermEntry, TermKindEntry, variant_term, struct_term, declared_term}
 use Rattle.model.specs.lists.TermTable.{decl_trees, term_names_met, IsNotBothMultiAndPartial, variant_as_term, terms_made, decl_as_term, terms_in_order, term_table}
 use Rattle.model.specs.lists.KnownTypes.{KnownTypes, StandAtIds}
 use Rattle.model.specs.lists.Elaborated.{TypedRules}
@@ -43,12 +44,7 @@ abbrev IsNotBoth : TermEntry → Type 0
 IsNotBoth e = (flags_of (kind_of e)).multi ≡ true → (flags_of (kind_of e)).partial ≡ true → ⊥
 
 made_not_both : (t : TypeEntry) (f : ℕ → TermEntry) → In (terms_made t) f → Each IsNotBoth f
-made_not_both (builtin_type place) f i = absurd i
-made_not_both (primitive_type id name at) f i = absurd i
-made_not_both (enum_type name id is_extern is_nodebug variants at) f i =
-    let m = in_map (variant_as_term id) variants f i in subst (Each IsNotBoth) m.2 (λ n h q. false≢true h)
-made_not_both (struct_type name id is_extern is_nodebug fields at) f i =
-    elim i [ inl e ↦ subst (Each IsNotBoth) e (λ n h q. false≢true h) | inr n ↦ absurd n ]
+made_not_both t f i = grind (arith, common_steps, in_map)
 
 pub none_is_both : (e : TypesRead) (defs : List Definition) (expand : Bool) (rules : TypedRules) → IsElaborated e defs expand rules → HasNoPartialMulti (program_of e defs rules.rules)
 none_is_both e defs expand rules h t = by (slice_get (term_table e.known defs) t) refl
@@ -72,8 +68,6 @@ TakesFields types e = Takes types e.ret_ty e.arg_tys e.kind
 
 made_take : (types : List TypeEntry) → StandAtIds types → ((t : TypeEntry) → In types t → HasVariantsAtIds t)
     → (t : TypeEntry) → In types t → (f : ℕ → TermEntry) → In (terms_made t) f → Each (TakesFields types) f
-made_take types ids at (builtin_type place) i f j = absurd j
-made_take types ids at (primitive_type id name pos) i f j = absurd j
 made_take types ids at (enum_type name id is_extern is_nodebug variants pos) i f j =
     let t = enum_type name id is_extern is_nodebug variants pos in
     let m = in_map (variant_as_term id) variants f j in
@@ -88,6 +82,7 @@ made_take types ids at (struct_type name id is_extern is_nodebug fields pos) i f
     let s = slice_in types t i in
     let here : slice_get types id ≡ Some t = subst (λ n. slice_get types n ≡ Some t) (sym (ids s.0 t s.1)) s.1 in
     elim j [ inl e ↦ subst (Each (TakesFields types)) e (λ n. ap struct_types here) | inr n ↦ absurd n ]
+made_take h ids at f i j k = grind (arith, common_steps)
 
 pub has_typed_parts : (e : TypesRead) (defs : List Definition) (expand : Bool) (rules : TypedRules) → IsElaborated e defs expand rules → HasTypedParts (program_of e defs rules.rules)
 has_typed_parts e defs expand rules h = record {
