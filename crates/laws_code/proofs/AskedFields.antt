@@ -1,12 +1,13 @@
 -- A pattern that hangs together asks variants and structs for all their fields.
-use Rattle.std.proofs.Common.{◌≡◌, ℕ, Bool, true, false, List, [], ◌∷◌, length, Some, slice_get, refl, subst, inl, inr}
+use Rattle.std.proofs.Common.{◌≡◌, ℕ, Bool, true, List, [], ◌∷◌, length, Some, slice_get, refl, subst, arith}
+use Rattle.std.proofs.lemmas.Grind.{common_steps}
 use Rattle.model.specs.lists.Tables.{TermEntry}
 use Rattle.model.specs.lists.Formed.{is_formed_rule}
 use Rattle.model.specs.rules.Values.{variant_types, struct_types}
-use Rattle.model.specs.rules.Program.{Program, Kind, a_variant, a_struct, a_call, unknown, kind, kind_of}
+use Rattle.model.specs.rules.Program.{Program, Kind, a_call, kind, kind_of}
 use Rattle.model.specs.rules.Typed.{TypedPatterns, TypedRule}
-use Rattle.model.specs.sites.Sites.{Constraint, is_variant, is_struct, is_bool, is_int, is_prim, is_present, SiteTerm, extractor_call, pick_of, some_part, variant_field, struct_field}
-use Rattle.model.specs.visits.Demands.{Demands, demands_of, Visit, making, asking, pattern_count, open_call, open_term, asking_all}
+use Rattle.model.specs.sites.Sites.{Constraint, is_variant, is_struct, is_bool, is_int, is_prim, is_present, SiteTerm, extractor_call}
+use Rattle.model.specs.visits.Demands.{Demands, demands_of, Visit, asking, open_call, open_term, asking_all}
 use Rattle.model.proofs.Elements.{In, in_either}
 use Rattle.laws_typing.specs.WellTypedPrograms.{HasTypedParts}
 use Rattle.laws_typing.proofs.WellTypedPrograms.{variant_takes, struct_takes}
@@ -28,11 +29,7 @@ AskAllFields p d = (x : SiteTerm × Constraint) → In d.constraints x → HasAl
 
 module _ (p : Program) where
   asked_too : (s : SiteTerm) (c : Constraint) (v : Visit) → HasAllFields p c → AskAllFields p v.demands → AskAllFields p (asking s c v).demands
-  asked_too s c v f a x i =
-      elim (in_either v.demands.constraints ((s, c) ∷ []) x i) [
-        | inl j ↦ a x j
-        | inr j ↦ elim j [ inl e ↦ subst (λ (y : SiteTerm × Constraint). HasAllFields p y.1) e f | inr n ↦ absurd n ]
-      ]
+  asked_too s c v f a x i = grind (arith, common_steps, in_either v.demands.constraints ((s, c) ∷ []) x i, in_either)
 
   all_asked_too : (ss : List SiteTerm) (v : Visit) → AskAllFields p v.demands → AskAllFields p (asking_all ss v).demands
   all_asked_too [] v a = a
@@ -45,24 +42,13 @@ module _ (p : Program) where
   call_opened : (pure multi partial rec infallible : Bool) (c : SiteTerm) (args : TypedPatterns) (tys : List ℕ) (v : Visit) → AsMany args tys → AskAllFields p v.demands
       → AskAllFields p (open_call (record { pure = pure; multi = multi; partial = partial; rec = rec }) infallible c args v).visit.demands
       × AtEachTyped asked (open_call (record { pure = pure; multi = multi; partial = partial; rec = rec }) infallible c args v).inputs tys
-  call_opened pure true partial rec infallible c args tys v n h = (h, outputs_each asked (pick_of c) args tys n (λ ty e. tt) (λ a b rest e j ty x. tt))
-  call_opened pure false partial rec true c args tys v n h = (h, outputs_each asked c args tys n (λ ty e. tt) (λ a b rest e j ty x. tt))
-  call_opened pure false partial rec false c args tys v n h =
-      (asked_too c is_present (making (c ∷ (some_part c ∷ [])) v) tt h, outputs_each asked (some_part c) args tys n (λ ty e. tt) (λ a b rest e j ty x. tt))
+  call_opened pure multi partial rec infallible c args tys v n h = grind (arith, common_steps, outputs_each, asked_too)
 
   module _ (fields : HasTypedParts p) where
     term_opened : (t : ℕ) (e : TermEntry) → slice_get p.terms t ≡ Some e → (k : Kind) → kind p t ≡ k → kind_of e ≡ k → (s : SiteTerm) (args : TypedPatterns) → AsMany args e.arg_tys → (v : Visit) → AskAllFields p v.demands
         → AskAllFields p (open_term k t s args v).visit.demands × AtEachTyped asked (open_term k t s args v).inputs e.arg_tys
-    term_opened t e there (a_variant ty i) w q s args n v h = (
-      asked_too s (is_variant ty i (pattern_count args)) v (e.arg_tys, (variant_takes p fields t e there ty i q).1, as_many_types args e.arg_tys n) h,
-      all_fields_each asked (variant_field s i) args e.arg_tys n (λ j u x. tt),
-    )
-    term_opened t e there (a_struct ty) w q s args n v h = (
-      asked_too s (is_struct ty (pattern_count args)) v (e.arg_tys, (struct_takes p fields t e there ty q).1, as_many_types args e.arg_tys n) h,
-      all_fields_each asked (struct_field s) args e.arg_tys n (λ j u x. tt),
-    )
     term_opened t e there (a_call flags infallible) w q s args n v h = call_opened flags.pure flags.multi flags.partial flags.rec infallible (extractor_call t s) args e.arg_tys v n h
-    term_opened t e there unknown w q s args n v h = absurd (term_known p t e there w)
+    term_opened t e there s w q h args n v i = grind (arith, common_steps, asked_too, variant_takes, as_many_types, all_fields_each, struct_takes, term_known)
 
     kept : KeptWithTypes asked p
     kept = record {

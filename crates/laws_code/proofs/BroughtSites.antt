@@ -1,5 +1,6 @@
 -- The sites that an arm brings: fields of its source, which wait for it.
-use Rattle.std.proofs.Common.{◌≡◌, ℕ, zero, suc, Bool, true, List, [], ◌∷◌, Option, Some, None, slice_get, Contains, refl, ap, ◌∙◌, inl, inr}
+use Rattle.std.proofs.Common.{◌≡◌, ℕ, zero, suc, Bool, true, List, [], ◌∷◌, Option, Some, None, slice_get, Contains, refl, ap, ◌∙◌, arith}
+use Rattle.std.proofs.lemmas.Grind.{common_steps}
 use Rattle.model.specs.sites.Sites.{Site, match_variant_site, extract_struct_site, match_some_site, Constraint, is_variant, is_struct, is_bool, is_int, is_prim, is_present, sources_at}
 use Rattle.model.specs.trees.Places.{waits, is_variant_field, is_struct_field, is_part_of, site_from, each_field, fields_of, field_sites}
 use Rattle.model.proofs.Members.{nothing_in, in_cases, in_alone}
@@ -15,13 +16,8 @@ IsBrought sites s c x = ⊥
 
 -- what is listed of a constraint's fields stands where one of them is found
 listed_from : (sites : List Site) (p : ℕ → Site → Bool) (i n x : ℕ) → Contains (field_sites (each_field p sites i n)) x → (f : ℕ) × (site_from 0 (p f) sites ≡ Some x)
+listed_from sites p i (suc n) x c = grind (arith, common_steps, listed_from sites p (suc i) n x, in_cases)
 listed_from sites p i zero x c = absurd (nothing_in x c)
-listed_from sites p i (suc n) x c = by (site_from 0 (p i) sites) refl (listed_from sites p (suc i) n x) c
-  where
-    by : (o : Option ℕ) → site_from 0 (p i) sites ≡ o → (Contains (field_sites (each_field p sites (suc i) n)) x → (f : ℕ) × (site_from 0 (p f) sites ≡ Some x))
-        → Contains (field_sites (o ∷ each_field p sites (suc i) n)) x → (f : ℕ) × (site_from 0 (p f) sites ≡ Some x)
-    by None e later k = later k
-    by (Some y) e later k = elim (in_cases y x (field_sites (each_field p sites (suc i) n)) k) [ inl same ↦ (i, e ∙ ap Some same) | inr d ↦ later d ]
 
 pub is_brought : (sites : List Site) (s : ℕ) (c : Constraint) (x : ℕ) → Contains (field_sites (fields_of sites s c)) x → IsBrought sites s c x
 is_brought sites s (is_variant ty v n) x c =
@@ -43,17 +39,7 @@ is_brought sites s (is_prim name) x c = nothing_in x c
 
 -- it waits for the source, and is made of nothing else
 pub brought_waits : (sites : List Site) (s : ℕ) (c : Constraint) (x : ℕ) → IsBrought sites s c x → waits (slice_get sites x) ≡ true
-brought_waits sites s (is_variant ty v n) x b = ap waits b.1
-brought_waits sites s (is_struct ty n) x b = ap waits b.1
-brought_waits sites s is_present x b = ap waits b
-brought_waits sites s (is_bool v ty) x b = absurd b
-brought_waits sites s (is_int z ty) x b = absurd b
-brought_waits sites s (is_prim name) x b = absurd b
+brought_waits sites s c x b = grind (arith, common_steps)
 
 pub brought_source : (sites : List Site) (s : ℕ) (c : Constraint) (x : ℕ) → IsBrought sites s c x → sources_at sites x ≡ s ∷ []
-brought_source sites s (is_variant ty v n) x b = ap sources_in b.1
-brought_source sites s (is_struct ty n) x b = ap sources_in b.1
-brought_source sites s is_present x b = ap sources_in b
-brought_source sites s (is_bool v ty) x b = absurd b
-brought_source sites s (is_int z ty) x b = absurd b
-brought_source sites s (is_prim name) x b = absurd b
+brought_source sites s c x b = grind (arith, common_steps, sources_in)

@@ -1,10 +1,11 @@
 -- Each call in the code of accepted definitions is impure as its function is.
-use Rattle.std.proofs.Common.{◌≡◌, ◌&&◌, ◌⊎◌, ℕ, zero, suc, Bool, true, false, not, List, [], ◌∷◌, ◌++◌, flat_map, Option, Some, slice_get, Contains, refl, ap, ◌∙◌, subst, inl, inr}
+use Rattle.std.proofs.Common.{◌≡◌, ◌&&◌, ℕ, zero, suc, Bool, true, false, not, List, [], ◌∷◌, ◌++◌, flat_map, Option, Some, slice_get, Contains, refl, ap, ◌∙◌, inl, inr, arith}
+use Rattle.std.proofs.lemmas.Grind.{common_steps}
 use Rattle.std.proofs.lemmas.Bool.{and_parts, and_from}
 use Rattle.std.proofs.lemmas.Option.{slice_get_within}
 use Rattle.model.specs.rules.Program.{Program, arg_types, is_multi, rules_of}
 use Rattle.model.specs.rules.Typed.{TypedRule}
-use Rattle.model.specs.sites.Sites.{Site, extractor_site, constructor_site, iterator_site, Constraint, SiteTerm, bool_term, int_term, prim_term, argument, extractor_call, constructor_call, pick_of, variant_made, variant_field, struct_made, struct_field, some_made, some_part, tuple_part, no_site, layer, unfold_site}
+use Rattle.model.specs.sites.Sites.{Site, extractor_site, constructor_site, Constraint, SiteTerm, extractor_call, constructor_call, layer, unfold_site}
 use Rattle.model.specs.sites.Serves.{asked, asked_by, constant_site}
 use Rattle.model.specs.visits.Demands.{demands_of}
 use Rattle.model.specs.trees.Trees.{Tree, no_step, step, Check, match_at, equal_at, loop_at, return_at, Arms, no_arm, arm}
@@ -20,7 +21,7 @@ use Rattle.laws_trees.proofs.taken.Fits.{IsField}
 use Rattle.laws_trees.proofs.taken.BuiltSites.{sites_stand}
 use Rattle.laws_trees.proofs.total.Shaped.{Uses, Shaped, shaped_extractor, shaped_pure, shaped_impure, HasShape}
 use Rattle.laws_trees.proofs.total.ShapedSites.{AreShaped, rule_shaped}
-use Rattle.model_code.specs.Code.{Place, PlaceUse, Expr, truth_written, read, extraction, call, variant_of, struct_of, some_of, Block, no_statement, statement, Statement, bind, bind_some, no_way, match_on, if_equal, for_each_of, give, labelled, unless_let, unless_equal, CodeArms, no_code_arm, code_arm}
+use Rattle.model_code.specs.Code.{Place, PlaceUse, Expr, read, Block, no_statement, statement, Statement, match_on, if_equal, for_each_of, labelled, CodeArms, no_code_arm, code_arm}
 use Rattle.model_code.specs.TreeCode.{Passes, bind_code, binds_code, loop_code, tree_code, check_code, arms_code}
 use Rattle.model_code.specs.Flat.{within, flat, flat_at, flat_arms, leaving, leaving_last, leaving_match}
 use Rattle.model_code.specs.Modes.{Types, passes_of}
@@ -34,28 +35,19 @@ use Rattle.laws_code.specs.CalledAlike.{AreCalledAlike, TreesCallAlike, CodeCall
 -- 1. labels and moves keep the calls
 module _ (p : Notation) (is_impure : ℕ → Bool) where
   within_calls : (x : Bool) (a b : Block) → calls_as p is_impure a ≡ true → calls_as p is_impure b ≡ true → calls_as p is_impure (within x a b) ≡ true
-  within_calls true a b h k = and_from _ _ h refl
-  within_calls false a b h k = k
+  within_calls x a b h k = grind (arith, common_steps, and_from)
 
   module _ (deep : ℕ → Bool) where
     mutual
       flat_calls : (b : Block) (n : ℕ) → calls_as p is_impure b ≡ true → calls_as p is_impure (flat b deep n) ≡ true
+      flat_calls (statement s rest) n h = grind (arith, common_steps, flat_calls_at s n, flat_calls rest n, and_parts, and_from)
       flat_calls no_statement n h = refl
-      flat_calls (statement s rest) n h =
-          let hs = and_parts (calls_as_at p is_impure s) (calls_as p is_impure rest) h in
-          and_from _ _ (flat_calls_at s n hs.0) (flat_calls rest n hs.1)
 
       flat_calls_at : (s : Statement) (n : ℕ) → calls_as_at p is_impure s ≡ true → calls_as_at p is_impure (flat_at s deep n) ≡ true
       flat_calls_at (match_on u arms) n h = flat_calls_arms arms n h
       flat_calls_at (if_equal a b body) n h = within_calls (deep n) (leaving body deep (suc n)) (flat body deep (suc n)) (leaving_calls body (suc n) h) (flat_calls body (suc n) h)
       flat_calls_at (for_each_of v from body) n h = within_calls (deep n) (leaving body deep (suc n)) (flat body deep (suc n)) (leaving_calls body (suc n) h) (flat_calls body (suc n) h)
-      flat_calls_at (bind v e) n h = h
-      flat_calls_at (bind_some v u) n h = refl
-      flat_calls_at no_way n h = refl
-      flat_calls_at (give at u) n h = refl
-      flat_calls_at (labelled body) n h = h
-      flat_calls_at (unless_let u pattern fields) n h = refl
-      flat_calls_at (unless_equal a b) n h = refl
+      flat_calls_at s n h = grind (arith, common_steps)
 
       flat_calls_arms : (arms : CodeArms) (n : ℕ) → arms_call_as p is_impure arms ≡ true → arms_call_as p is_impure (flat_arms arms deep n) ≡ true
       flat_calls_arms no_code_arm n h = refl
@@ -74,13 +66,7 @@ module _ (p : Notation) (is_impure : ℕ → Bool) where
       leaving_last_calls (match_on u arms) n h = leaving_match_calls u arms n h
       leaving_last_calls (if_equal a b body) n h = leaving_calls body n h
       leaving_last_calls (for_each_of v from body) n h = and_from _ _ (within_calls (deep n) (leaving body deep (suc n)) (flat body deep (suc n)) (leaving_calls body (suc n) h) (flat_calls body (suc n) h)) refl
-      leaving_last_calls (bind v e) n h = and_from _ _ h refl
-      leaving_last_calls (bind_some v u) n h = refl
-      leaving_last_calls no_way n h = refl
-      leaving_last_calls (give at u) n h = refl
-      leaving_last_calls (labelled body) n h = and_from _ _ h refl
-      leaving_last_calls (unless_let u pattern fields) n h = refl
-      leaving_last_calls (unless_equal a b) n h = refl
+      leaving_last_calls s n h = grind (arith, common_steps, and_from)
 
       leaving_match_calls : (u : PlaceUse) (arms : CodeArms) (n : ℕ) → arms_call_as p is_impure arms ≡ true → calls_as p is_impure (leaving_match u arms deep n) ≡ true
       leaving_match_calls u no_code_arm n h = refl
@@ -94,13 +80,7 @@ module _ (p : Notation) (is_impure : ℕ → Bool) where
 
   module _ (types : Types) where
     expr_same : (inside : List ℕ) (later : Place → Bool) (e : Expr) → expr_calls_as p is_impure (saved_expr types inside later e) ≡ expr_calls_as p is_impure e
-    expr_same inside later (truth_written b ty) = refl
-    expr_same inside later (read u) = refl
-    expr_same inside later (extraction term u) = refl
-    expr_same inside later (call term us instance) = refl
-    expr_same inside later (variant_of ty variant us) = refl
-    expr_same inside later (struct_of ty us) = refl
-    expr_same inside later (some_of u) = refl
+    expr_same inside later e = grind (arith, common_steps)
 
     mutual
       saved_calls : (b : Block) (inside : List ℕ) (after : Place → Bool) → calls_as p is_impure (saved types inside after b) ≡ calls_as p is_impure b
@@ -108,16 +88,11 @@ module _ (p : Notation) (is_impure : ℕ → Bool) where
       saved_calls (statement s rest) inside after = λ i. saved_calls_at s inside (behind s rest after) i && saved_calls rest (movable_after inside s) after i
 
       saved_calls_at : (s : Statement) (inside : List ℕ) (later : Place → Bool) → calls_as_at p is_impure (saved_at types inside later s) ≡ calls_as_at p is_impure s
-      saved_calls_at (bind v e) inside later = expr_same inside later e
       saved_calls_at (match_on u arms) inside later = saved_calls_arms arms (unlooked inside u.place) later
       saved_calls_at (if_equal a b body) inside later = saved_calls body inside later
       saved_calls_at (for_each_of v from body) inside later = saved_calls body (v ∷ []) read_no_more
       saved_calls_at (labelled body) inside later = saved_calls body inside later
-      saved_calls_at (bind_some v u) inside later = refl
-      saved_calls_at no_way inside later = refl
-      saved_calls_at (give at u) inside later = refl
-      saved_calls_at (unless_let u pattern fields) inside later = refl
-      saved_calls_at (unless_equal a b) inside later = refl
+      saved_calls_at s inside later = grind (arith, common_steps, expr_same)
 
       saved_calls_arms : (arms : CodeArms) (inside : List ℕ) (later : Place → Bool) → arms_call_as p is_impure (saved_arms types inside later arms) ≡ arms_call_as p is_impure arms
       saved_calls_arms no_code_arm inside later = refl
@@ -134,19 +109,7 @@ module _ (p : Program) (n : Notation) (is_impure : ℕ → Bool) (alike : AreCal
   call_alike uses (extractor_call t s) (shaped_extractor e flags infallible used there can k h) = alike.extractors t e there can
   call_alike uses (constructor_call t ss zero) (shaped_pure e flags infallible used there can k pure h) = ap not (alike.constructors t e flags infallible there can k ∙ ap not pure)
   call_alike uses (constructor_call t ss (suc before)) (shaped_impure e flags infallible used there can k pure h) = alike.constructors t e flags infallible there can k ∙ ap not pure
-  call_alike uses (bool_term b ty) h = tt
-  call_alike uses (int_term z ty) h = tt
-  call_alike uses (prim_term name) h = tt
-  call_alike uses (argument i) h = tt
-  call_alike uses (pick_of s) h = tt
-  call_alike uses (variant_made ty variant ss) h = tt
-  call_alike uses (variant_field s variant i) h = tt
-  call_alike uses (struct_made ty ss) h = tt
-  call_alike uses (struct_field s i) h = tt
-  call_alike uses (some_made s) h = tt
-  call_alike uses (some_part s) h = tt
-  call_alike uses (tuple_part s i) h = tt
-  call_alike uses no_site h = tt
+  call_alike uses s h = tt
 
   shape_alike : (uses : Uses) (u : SiteTerm) → HasShape p uses u → IsAlike u
   shape_alike uses u found = call_alike {multi = found.multi} {optional = found.optional} {tys = found.tys} uses u found.shaped
@@ -177,12 +140,7 @@ module _ (b : BuiltSet) (h : IsWellTypedProgram b.program) (n : Notation) (is_im
       shape_alike p n is_impure alike uses u found
 
   site_alike : (s : ℕ) (x : Site) → slice_get sites s ≡ Some x → (IsField (layer (unfold_site sites) x) → ⊥) → Alike (layer (unfold_site sites) x)
-  site_alike s x at no_field =
-      let same = unfolded_layer sites b.built.sources s x at in
-      elim (subst (λ u. Contains (asked p rs) u ⊎ IsField u) same (sites_stand b h s (slice_get_within sites s x at)).asks) [
-        | inl c ↦ asked_alike (layer (unfold_site sites) x) c
-        | inr f ↦ absurd (no_field f)
-      ]
+  site_alike s x at no_field = grind (arith, common_steps, sites_stand b h s, unfolded_layer, sites_stand, slice_get_within, asked_alike)
 
   bind_calls : (s : ℕ) (o : Option Site) → slice_get sites s ≡ o → calls_as_at n is_impure (bind_code sites passes s o) ≡ true
   bind_calls s (Some (extractor_site t source)) at = ap not (site_alike s (extractor_site t source) at (λ f. f))
@@ -194,8 +152,7 @@ module _ (b : BuiltSet) (h : IsWellTypedProgram b.program) (n : Notation) (is_im
   binds_calls (s ∷ ss) rest w = and_from _ _ (bind_calls s (slice_get sites s) refl) (binds_calls ss rest w)
 
   loop_calls : (o : Option Site) (s : ℕ) (body : Block) → calls_as n is_impure body ≡ true → calls_as_at n is_impure (loop_code o s body) ≡ true
-  loop_calls (Some (iterator_site source)) s body w = w
-  loop_calls o s body w = refl
+  loop_calls o s body w = grind (arith, common_steps)
 
   mutual
     tree_calls : (tree : Tree) → calls_as n is_impure (tree_code tree sites passes) ≡ true

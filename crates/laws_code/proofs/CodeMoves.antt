@@ -1,11 +1,12 @@
 -- A call that a loop goes over is emitted only around that loop's body, so bind orders list it before each loop.
-use Rattle.std.proofs.Common.{◌≡◌, ◌⊎◌, inl, inr, ℕ, zero, suc, ◌<◌, ◌&&◌, ◌||◌, Bool, true, false, not, if◌then◌else◌, List, [], ◌∷◌, ◌++◌, length, Option, Some, None, slice_get, Contains, flat_map, refl, sym, ap, subst, ◌∙◌, eqb-true, ltb-true}
+use Rattle.std.proofs.Common.{◌≡◌, ◌⊎◌, inl, inr, ℕ, zero, suc, ◌<◌, ◌&&◌, ◌||◌, Bool, true, false, not, if◌then◌else◌, List, [], ◌∷◌, ◌++◌, length, Option, Some, None, slice_get, Contains, flat_map, refl, sym, ap, subst, ◌∙◌, eqb-true, ltb-true, arith}
+use Rattle.std.proofs.lemmas.Grind.{common_steps}
 use Rattle.std.specs.List.{list_all}
 use Rattle.std.proofs.lemmas.Bool.{cases_Bool, and_parts, and_from, false≢true, true≢false}
 use Rattle.std.proofs.lemmas.List.Elements.{All-contains, Contains-append_left, Contains-append_right, Contains-append_cases}
-use Rattle.model.specs.sites.Sites.{Site, bool_site, int_site, prim_site, argument_site, extractor_site, constructor_site, iterator_site, make_variant_site, match_variant_site, make_struct_site, extract_struct_site, make_some_site, match_some_site, match_tuple_site, Constraint, SetRule, SiteSet, sources_of, sources_at}
+use Rattle.model.specs.sites.Sites.{Site, bool_site, extractor_site, constructor_site, iterator_site, make_variant_site, match_variant_site, make_struct_site, extract_struct_site, make_some_site, match_some_site, match_tuple_site, Constraint, SetRule, SiteSet, sources_of, sources_at}
 use Rattle.model.specs.trees.Trees.{Marked, m_no_step, m_step, MarkedCheck, m_match, m_equal, m_loop, m_return, MarkedArms, m_no_arm, m_arm, plain, plain_check, plain_arms, return_of, marks, marks_arms}
-use Rattle.model.specs.trees.Places.{Around, nothing_around, is_in, is_in_place, waits, is_available, available, below, all_below, uses, emits, each_after, listed_below, bind_order, field_sites, joins_in, constraint_at, in_arm, in_equal, in_loop, after_step}
+use Rattle.model.specs.trees.Places.{Around, nothing_around, is_in, is_in_place, waits, is_available, available, below, all_below, each_after, listed_below, bind_order, field_sites, constraint_at, in_arm, in_equal, in_loop, after_step}
 use Rattle.model.specs.trees.Tests.{Test, match_test, equal_test, needs, is_needed, needs_at, is_lower, is_covered, IsOpen, sources_around, is_at_hand}
 use Rattle.model.specs.trees.Best.{IsMade, BestSteps, BestArms}
 use Rattle.model.proofs.Elements.{or_split}
@@ -35,14 +36,10 @@ picks _ = false
 
 -- 1. the calls of a set
 called_by : (c : ℕ) (b : Site) → goes_over c b ≡ true → b ≡ iterator_site c
-called_by c (iterator_site source) h = ap iterator_site (eqb-true source c h)
-called_by c _ h = absurd (false≢true h)
+called_by c b h = grind (arith, common_steps, eqb-true)
 
 called_from : (sites : List Site) (c : ℕ) → is_called sites c ≡ true → HasLoopOver sites c
-called_from sites c h =
-    let b = one_passes (goes_over c) sites h in
-    let i = get_from_member sites b.0 b.1 in
-    (i.0, i.1 ∙ ap Some (called_by c b.0 b.2))
+called_from sites c h = grind (arith, common_steps, one_passes (goes_over c) sites h, get_from_member sites, called_by c, one_passes, get_from_member, called_by)
 
 called_is : (sites : List Site) (c : ℕ) → HasLoopOver sites c → is_called sites c ≡ true
 called_is sites c k = passes_any (goes_over c) sites (iterator_site c) (member_from_get sites k.0 (iterator_site c) k.1) (number_same c)
@@ -51,13 +48,11 @@ free_is : (sites : List Site) (c : ℕ) → (HasLoopOver sites c → ⊥) → is
 free_is sites c n = elim (cases_Bool (is_called sites c)) [ inl t ↦ absurd (n (called_from sites c t)) | inr f ↦ f ]
 
 not_false : (b : Bool) → b ≡ false → not b ≡ true
-not_false true h = absurd (true≢false h)
-not_false false h = refl
+not_false b h = grind (arith, common_steps)
 
 -- 2. a made test is needed by a rule
 needed_by : (rules : List SetRule) (t : Test) (i : ℕ) (o : Option SetRule) → slice_get rules i ≡ o → is_needed t o ≡ true → (r : SetRule) × Contains rules r × (needs t r ≡ true)
-needed_by rules t i None at h = absurd (false≢true h)
-needed_by rules t i (Some r) at h = (r, member_from_get rules i r at, h)
+needed_by rules t i o at h = grind (arith, common_steps, member_from_get)
 
 made_is_needed : (set : SiteSet) (ar : Around) (held later : List ℕ) (t : Test) → IsMade set ar held later t → (r : SetRule) × Contains set.rules r × (needs t r ≡ true)
 made_is_needed set ar held later t made =
@@ -235,9 +230,7 @@ module _ (set : SiteSet) (p : Passes) (calls : CallsAreGoneOver set) (over : Loo
 
   -- 4. what is read
   open_site : (ar : Around) (s : ℕ) → IsOpen set ar (match_test s) → (available sites ar s ≡ true) × (is_in s (sources_around ar) ≡ false)
-  open_site ar s h =
-      let a = and_parts (is_at_hand set ar s) (not (is_in s (sources_around ar))) h in
-      ((and_parts _ (available sites ar s) a.0).1, (not_exact (is_in s (sources_around ar))).0 a.1)
+  open_site ar s h = grind (arith, common_steps, and_parts (is_at_hand set ar s) (not (is_in s (sources_around ar))) h, not_exact (is_in s (sources_around ar)), and_parts, not_exact)
 
   -- what another site than a pick is made of isn't taken
   free_source : (t c : ℕ) (o : Option Site) → slice_get sites t ≡ o → picks o ≡ false → Contains (made_of o) c → taken c ≡ false
@@ -246,21 +239,17 @@ module _ (set : SiteSet) (p : Passes) (calls : CallsAreGoneOver set) (over : Loo
   other_at : (s : ℕ) (o : Option Site) → slice_get sites s ≡ o → taken s ≡ false → other taken (place_of o s) ≡ true
   other_at s None at f = not_false (taken s) f
   other_at s (Some (bool_site b ty)) at f = not_false (taken s) f
-  other_at s (Some (int_site z ty)) at f = refl
-  other_at s (Some (prim_site name)) at f = refl
-  other_at s (Some (argument_site i)) at f = refl
   other_at s (Some (extractor_site term source)) at f = not_false (taken s) f
   other_at s (Some (constructor_site term sources instance)) at f = not_false (taken s) f
   other_at s (Some (iterator_site source)) at f = not_false (taken s) f
-  other_at s (Some (make_variant_site ty variant [])) at f = refl
   other_at s (Some (make_variant_site ty variant (x ∷ xs))) at f = not_false (taken s) f
   other_at s (Some (match_variant_site source variant field)) at f = not_false (taken s) f
-  other_at s (Some (make_struct_site ty [])) at f = refl
   other_at s (Some (make_struct_site ty (x ∷ xs))) at f = not_false (taken s) f
   other_at s (Some (extract_struct_site source field)) at f = not_false (taken s) f
   other_at s (Some (make_some_site source)) at f = not_false (taken s) f
   other_at s (Some (match_some_site source)) at f = not_false (taken s) f
   other_at s (Some (match_tuple_site source field)) at f = not_false (taken source) (free_source s source (Some (match_tuple_site source field)) at refl (in_head source []))
+  other_at s o at f = refl
 
   other_is : (s : ℕ) → taken s ≡ false → other taken (place_of (slice_get sites s) s) ≡ true
   other_is s f = other_at s (slice_get sites s) refl f
@@ -277,22 +266,15 @@ module _ (set : SiteSet) (p : Passes) (calls : CallsAreGoneOver set) (over : Loo
   fields_other (s ∷ ss) h = and_from _ _ (other_is s (h s (in_head s ss))) (fields_other ss (λ x c. h x (in_tail s x ss c)))
 
   bind_takes : (s : ℕ) (o : Option Site) (rest : Block) (fresh : List ℕ) → slice_get sites s ≡ o → block_takes taken (s ∷ fresh) rest ≡ true → block_takes taken fresh (statement (bind_code sites p s o) rest) ≡ true
-  bind_takes s None rest fresh at h = refl
   bind_takes s (Some (bool_site b ty)) rest fresh at h = h
-  bind_takes s (Some (int_site z ty)) rest fresh at h = refl
-  bind_takes s (Some (prim_site name)) rest fresh at h = refl
-  bind_takes s (Some (argument_site i)) rest fresh at h = refl
   bind_takes s (Some (extractor_site term source)) rest fresh at h = and_from _ _ (other_is source (free_source s source (Some (extractor_site term source)) at refl (in_head source []))) h
   bind_takes s (Some (constructor_site term sources instance)) rest fresh at h =
       and_from _ _ (arguments_other term 0 sources (λ x c. free_source s x (Some (constructor_site term sources instance)) at refl c)) h
-  bind_takes s (Some (iterator_site source)) rest fresh at h = refl
   bind_takes s (Some (make_variant_site ty variant fields)) rest fresh at h = and_from _ _ (fields_other fields (λ x c. free_source s x (Some (make_variant_site ty variant fields)) at refl c)) h
-  bind_takes s (Some (match_variant_site source variant field)) rest fresh at h = refl
   bind_takes s (Some (make_struct_site ty fields)) rest fresh at h = and_from _ _ (fields_other fields (λ x c. free_source s x (Some (make_struct_site ty fields)) at refl c)) h
-  bind_takes s (Some (extract_struct_site source field)) rest fresh at h = refl
   bind_takes s (Some (make_some_site source)) rest fresh at h = and_from _ _ (other_is source (free_source s source (Some (make_some_site source)) at refl (in_head source []))) h
   bind_takes s (Some (match_some_site source)) rest fresh at h = and_from _ _ (other_is source (free_source s source (Some (match_some_site source)) at refl (in_head source []))) h
-  bind_takes s (Some (match_tuple_site source field)) rest fresh at h = refl
+  bind_takes s o rest fresh at h = refl
 
   binds_take : (ss done : List ℕ) (rest : Block) (fresh : List ℕ) → ((x : ℕ) → Contains done x → Contains fresh x)
       → ((fresh' : List ℕ) → ((x : ℕ) → Contains ss x ⊎ Contains done x → Contains fresh' x) → block_takes taken fresh' rest ≡ true)
@@ -309,38 +291,20 @@ module _ (set : SiteSet) (p : Passes) (calls : CallsAreGoneOver set) (over : Loo
 
   loop_takes : (result source : ℕ) (o : Option Site) (body : Block) (fresh : List ℕ) → o ≡ Some (iterator_site source) → taken source ≡ true → Contains fresh source → block_takes taken [] body ≡ true
       → statement_takes taken fresh (loop_code o result body) ≡ true
-  loop_takes result source o body fresh at t i h =
-      subst (λ q. statement_takes taken fresh (loop_code q result body) ≡ true) (sym at) (and_from _ _ (and_from _ _ t (member_is_in source fresh i)) h)
+  loop_takes result source o body fresh at t i h = grind (arith, common_steps, member_is_in source fresh i, and_from, member_is_in)
 
   loop_fresh : (o : Option Site) (result : ℕ) (body : Block) (fresh : List ℕ) → fresh_after fresh (loop_code o result body) ≡ []
-  loop_fresh None result body fresh = refl
-  loop_fresh (Some (bool_site b ty)) result body fresh = refl
-  loop_fresh (Some (int_site z ty)) result body fresh = refl
-  loop_fresh (Some (prim_site name)) result body fresh = refl
-  loop_fresh (Some (argument_site i)) result body fresh = refl
-  loop_fresh (Some (extractor_site term source)) result body fresh = refl
-  loop_fresh (Some (constructor_site term sources instance)) result body fresh = refl
-  loop_fresh (Some (iterator_site source)) result body fresh = refl
-  loop_fresh (Some (make_variant_site ty variant fields)) result body fresh = refl
-  loop_fresh (Some (match_variant_site source variant field)) result body fresh = refl
-  loop_fresh (Some (make_struct_site ty fields)) result body fresh = refl
-  loop_fresh (Some (extract_struct_site source field)) result body fresh = refl
-  loop_fresh (Some (make_some_site source)) result body fresh = refl
-  loop_fresh (Some (match_some_site source)) result body fresh = refl
-  loop_fresh (Some (match_tuple_site source field)) result body fresh = refl
+  loop_fresh o result body fresh = grind (arith, common_steps)
 
   return_takes : (o : Option SetRule) (r : SetRule) (fresh : List ℕ) → o ≡ Some r → taken r.result ≡ false → statement_takes taken fresh (check_code (return_of o) sites p) ≡ true
   return_takes o r fresh e f = subst (λ q. statement_takes taken fresh (check_code (return_of q) sites p) ≡ true) (sym e) (other_is r.result f)
 
   return_fresh : (o : Option SetRule) (fresh : List ℕ) → fresh_after fresh (check_code (return_of o) sites p) ≡ []
-  return_fresh None fresh = refl
-  return_fresh (Some r) fresh = refl
+  return_fresh o fresh = grind (arith, common_steps)
 
   check_fresh : (check : MarkedCheck) (fresh : List ℕ) → fresh_after fresh (check_code (plain_check set.rules check) sites p) ≡ []
   check_fresh (m_match source arms) fresh = refl
-  check_fresh (m_equal a b body) fresh = refl
-  check_fresh (m_loop result body) fresh = loop_fresh (slice_get sites result) result (tree_code (plain set.rules body) sites p) fresh
-  check_fresh (m_return rule) fresh = return_fresh (slice_get set.rules rule) fresh
+  check_fresh check fresh = grind (arith, common_steps, loop_fresh, return_fresh)
 
   -- 5. by induction on the marked tree
   abbrev AreOfRules : List ℕ → Type 0

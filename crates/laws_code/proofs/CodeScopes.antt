@@ -1,9 +1,10 @@
 -- Loops go over calls, and code is in scope.
-use Rattle.std.proofs.Common.{◌≡◌, ℕ, Bool, true, false, [], length, Option, Some, None, slice_get, refl, ap, subst}
+use Rattle.std.proofs.Common.{◌≡◌, ℕ, Bool, true, false, length, Option, Some, None, slice_get, refl, ap, subst, arith}
+use Rattle.std.proofs.lemmas.Grind.{common_steps}
 use Rattle.std.proofs.lemmas.Bool.{true≢false}
 use Rattle.std.proofs.lemmas.Option.{slice_get_within}
 use Rattle.model.specs.rules.Program.{Program, arg_types}
-use Rattle.model.specs.sites.Sites.{Site, int_site, prim_site, argument_site, iterator_site, make_variant_site, make_struct_site, match_tuple_site, SiteSet, SiteTerm, layer, unfold_site}
+use Rattle.model.specs.sites.Sites.{Site, iterator_site, SiteSet, SiteTerm, layer, unfold_site}
 use Rattle.model.specs.trees.Places.{is_in_place}
 use Rattle.model.specs.claims.Layers.{own_program}
 use Rattle.laws_typing.specs.WellTypedPrograms.{IsWellTypedProgram}
@@ -21,13 +22,7 @@ one_answer optional k e = true≢false (ap (λ (q : Form). q.multi) e)
 
 -- what has several answers isn't written in place
 several_bound : (p : Program) (n : ℕ) (f : ℕ → SiteTerm) (b : Site) (optional : Bool) (k : ℕ) → IsOfForm p n (layer f b) (form true optional k) → is_in_place (Some b) ≡ false
-several_bound p n f (int_site z ty) optional k g = absurd (one_answer optional k g.1)
-several_bound p n f (prim_site name) optional k g = absurd (one_answer optional k g)
-several_bound p n f (argument_site i) optional k g = absurd (one_answer optional k g.1)
-several_bound p n f (match_tuple_site source field) optional k g = absurd (one_answer optional k g.3)
-several_bound p n f (make_variant_site ty variant []) optional k g = absurd (one_answer optional k g.4)
-several_bound p n f (make_struct_site ty []) optional k g = absurd (one_answer optional k g.4)
-several_bound p n f _ optional k g = refl
+several_bound p n f b optional k g = grind (arith, common_steps, one_answer)
 
 module _ (b : BuiltSet) (h : IsWellTypedProgram b.program) where
   abbrev p : Program

@@ -1,21 +1,22 @@
 -- A rule that hangs together constrains sites by their types: to variants and structs of the site's type, and to constants of it. So
 -- built sets do.
-use Rattle.std.proofs.Common.{◌≡◌, ◌⊎◌, ◌&&◌, ℕ, ℤ, zero, suc, ◌+◌, ◌==◌, Bool, true, false, not, List, [], ◌∷◌, Option, Some, None, is_some, slice_get, Contains, refl, sym, ap, subst, ◌∙◌, inl, inr, eqb-true, eq-eqb, arith}
+use Rattle.std.proofs.Common.{◌≡◌, ◌⊎◌, ℕ, ℤ, suc, ◌+◌, ◌==◌, Bool, true, false, not, List, [], ◌∷◌, Option, Some, None, is_some, slice_get, Contains, refl, sym, ap, subst, ◌∙◌, inl, inr, eqb-true, eq-eqb, arith}
+use Rattle.std.proofs.lemmas.Grind.{common_steps}
 use Rattle.std.proofs.lemmas.Bool.{and_parts, cases_Bool, cond-true, cond-false, false≢true}
-use Rattle.model.specs.lists.Tables.{TypeEntry, builtin_type, primitive_type, enum_type, struct_type, TermEntry}
+use Rattle.model.specs.lists.Tables.{TypeEntry, TermEntry}
 use Rattle.model.specs.lists.Ranges.{is_literal_of}
 use Rattle.model.specs.lists.Setting.{bool_type, expr_type}
 use Rattle.model.specs.lists.Formed.{pattern_type, var_type, is_type, formed_pattern, formed_parts, formed_each, is_formed_expr, formed_lets, formed_list, formed_iflets, is_formed_rule}
 use Rattle.model.specs.rules.Meaning.{look}
 use Rattle.model.specs.rules.Program.{Program, Kind, a_variant, a_struct, a_call, unknown, kind, kind_of, arg_types, rules_of}
-use Rattle.model.specs.rules.Typed.{TypedPattern, match_bind, match_var, match_bool, match_int, match_prim, match_term, match_any, match_and, TypedPatterns, no_typed_pattern, typed_pattern_and, TypedExpr, make_term, make_var, make_bool, make_int, make_prim, make_let, TypedLets, no_typed_let, typed_let_and, TypedIfLet, TypedRule}
+use Rattle.model.specs.rules.Typed.{TypedPattern, match_bind, match_var, match_bool, match_int, match_prim, match_term, match_any, match_and, TypedPatterns, no_typed_pattern, typed_pattern_and, TypedExpr, make_let, TypedLets, no_typed_let, typed_let_and, TypedIfLet, TypedRule}
 use Rattle.model.specs.rules.Values.{is_atom_type, is_composed_type, variant_types, struct_types}
 use Rattle.model.specs.sites.Closure.{Joined, given, itself, turned, chained, at_field}
 use Rattle.model.specs.sites.Serves.{constant_type, term_args, term_results}
-use Rattle.model.specs.sites.Sites.{Constraint, is_variant, is_struct, is_bool, is_int, is_prim, is_present, SiteTerm, argument, extractor_call, constructor_call, pick_of, variant_field, struct_field, some_part, SiteTerms, fields_from, field_terms, unfold_site}
+use Rattle.model.specs.sites.Sites.{Constraint, is_variant, is_struct, is_bool, is_int, is_prim, is_present, SiteTerm, argument, extractor_call, variant_field, struct_field, SiteTerms, fields_from, field_terms, unfold_site}
 use Rattle.model.specs.sites.Overlap.{BuiltRule, built_rule}
 use Rattle.model.specs.sites.RuleSets.{IsRuleOf}
-use Rattle.model.specs.visits.Demands.{Demands, demands_of, Visit, visit_start, asking, equating, binding, or_no_site, var_site, pattern_count, output_sites, open_call, open_term, visit_pattern, visit_each, visit_all, ValuedAll, call_result, visit_call, visit_term, visit_expr, visit_exprs, visit_lets, unwraps, asking_all, taking_argument, visit_args, visit_iflets}
+use Rattle.model.specs.visits.Demands.{Demands, demands_of, Visit, visit_start, asking, equating, binding, or_no_site, var_site, pattern_count, output_sites, open_call, open_term, visit_pattern, visit_each, visit_all, ValuedAll, call_result, visit_call, visit_term, visit_expr, visit_lets, unwraps, asking_all, taking_argument, visit_args, visit_iflets}
 use Rattle.model.proofs.Elements.{In, in_either, in_from_contains, contains_from_in, some_is, none_some}
 use Rattle.laws_typing.specs.WellTypedPrograms.{IsWellTypedProgram}
 use Rattle.laws_typing.proofs.FormedParts.{from_if, type_is}
@@ -32,32 +33,20 @@ use Rattle.laws_sites.proofs.Closing.{closing_is_sound_lem}
 use Rattle.laws_sites.proofs.built.BuiltGates.{set_rule, WasBuilt, was_built}
 use Rattle.laws_sites.proofs.built.BuiltSets.{BuiltSet, RuleOfSet, of_term}
 use Rattle.model_code.specs.Modes.{pattern_typed}
-use Rattle.model_code.specs.SiteTypes.{one_type, field_type, types_at, is_composed, are_copied}
+use Rattle.model_code.specs.SiteTypes.{one_type, types_at, is_composed, are_copied}
 use Rattle.laws_code.specs.TypedTrees.{ConstrainsByTypes, BuiltSetsConstrainByTypes}
 use Rattle.laws_code.proofs.TypedSets.{field_of_type, shaped_types, uses_of, demands_shaped}
 
 -- 1. enums and structs
 has_variants : (o : Option TypeEntry) (i : ℕ) (tys : List ℕ) → variant_types o i ≡ Some tys → is_composed_type o ≡ true
-has_variants (Some (enum_type name id a b vs at)) i tys e = refl
-has_variants (Some (builtin_type n)) i tys e = absurd (none_some tys e)
-has_variants (Some (primitive_type id name at)) i tys e = absurd (none_some tys e)
-has_variants (Some (struct_type name id a b fs at)) i tys e = absurd (none_some tys e)
-has_variants None i tys e = absurd (none_some tys e)
+has_variants o i tys e = grind (arith, common_steps, none_some)
 
 has_fields : (o : Option TypeEntry) (tys : List ℕ) → struct_types o ≡ Some tys → is_composed_type o ≡ true
-has_fields (Some (struct_type name id a b fs at)) tys e = refl
-has_fields (Some (builtin_type n)) tys e = absurd (none_some tys e)
-has_fields (Some (primitive_type id name at)) tys e = absurd (none_some tys e)
-has_fields (Some (enum_type name id a b vs at)) tys e = absurd (none_some tys e)
-has_fields None tys e = absurd (none_some tys e)
+has_fields o tys e = grind (arith, common_steps, none_some)
 
 -- a type of literals is neither
 literals_plain : (o : Option TypeEntry) → is_atom_type o ≡ true → is_composed_type o ≡ false
-literals_plain None h = refl
-literals_plain (Some (builtin_type n)) h = refl
-literals_plain (Some (primitive_type id name at)) h = refl
-literals_plain (Some (enum_type name id a b vs at)) h = absurd (false≢true h)
-literals_plain (Some (struct_type name id a b fs at)) h = absurd (false≢true h)
+literals_plain o h = grind (arith, common_steps)
 
 literal_plain : (o : Option TypeEntry) (z : ℤ) → is_literal_of o z ≡ true → is_composed_type o ≡ false
 literal_plain o z h = literals_plain o (and_parts (is_atom_type o) _ h).0
@@ -89,11 +78,7 @@ module _ (p : Program) (args : List ℕ) (well : IsWellTypedProgram p) where
   of_same s a b e h = h ∙ ap (λ ty. ty ∷ []) e
 
   asked_fits : (s : SiteTerm) (c : Constraint) (v : Visit) → Fits s c → Fit v.demands → Fit (asking s c v).demands
-  asked_fits s c v f g x i =
-      elim (in_either v.demands.constraints ((s, c) ∷ []) x i) [
-        | inl j ↦ g x j
-        | inr j ↦ elim j [ inl e ↦ subst (λ (y : SiteTerm × Constraint). Fits y.0 y.1) e f | inr n ↦ absurd n ]
-      ]
+  asked_fits s c v f g x i = grind (arith, common_steps, in_either v.demands.constraints ((s, c) ∷ []) x i, in_either)
 
   all_asked_fit : (ss : List SiteTerm) (v : Visit) → Fit v.demands → Fit (asking_all ss v).demands
   all_asked_fit [] v g = g
@@ -109,9 +94,7 @@ module _ (p : Program) (args : List ℕ) (well : IsWellTypedProgram p) where
   call_typed_parts : (pure multi partial rec infallible : Bool) (call : SiteTerm) (qs : TypedPatterns) (tys : List ℕ) (v : Visit) → AsMany qs tys → T call ≡ tys → Fit v.demands
       → Fit (open_call (record { pure = pure; multi = multi; partial = partial; rec = rec }) infallible call qs v).visit.demands
       × AtEachTyped by_type (open_call (record { pure = pure; multi = multi; partial = partial; rec = rec }) infallible call qs v).inputs tys
-  call_typed_parts pure true partial rec infallible call qs tys v n e g = (g, outputs_typed (pick_of call) qs tys n e)
-  call_typed_parts pure false partial rec true call qs tys v n e g = (g, outputs_typed call qs tys n e)
-  call_typed_parts pure false partial rec false call qs tys v n e g = (asked_fits call is_present v tt g, outputs_typed (some_part call) qs tys n e)
+  call_typed_parts pure multi partial rec infallible call qs tys v n e g = grind (arith, common_steps, outputs_typed, asked_fits)
 
   term_typed_parts : (t : ℕ) (e : TermEntry) → slice_get p.terms t ≡ Some e → (k : Kind) → kind p t ≡ k → kind_of e ≡ k → (s : SiteTerm) → OfType s e.ret_ty → (qs : TypedPatterns) → AsMany qs e.arg_tys
       → (v : Visit) → Fit v.demands → Opens e k t s qs v
@@ -139,11 +122,7 @@ module _ (p : Program) (args : List ℕ) (well : IsWellTypedProgram p) where
   alike_types vars v w s d x ty i = subst (λ u. OfType u ty) (sym (s x (ap is_some i))) (d x ty i)
 
   one_more : (x ty : ℕ) (vars : List (ℕ × ℕ)) (v : Visit) → OfType (var_site v x) ty → OfTypes vars v → OfTypes ((x, ty) ∷ vars) v
-  one_more x ty vars v h d y t i =
-      elim (cases_Bool (x == y)) [
-        | inl k ↦ subst (λ z. OfType (var_site v z) t) (eqb-true x y k) (of_same (var_site v x) ty t (some_is ty t (sym (cond-true (x == y) (Some ty) (var_type vars y) k) ∙ i)) h)
-        | inr n ↦ d y t (sym (cond-false (x == y) (Some ty) (var_type vars y) n) ∙ i)
-      ]
+  one_more x ty vars v h d y t i = grind (arith, common_steps, eqb-true x y, of_same (var_site v x) ty t, some_is ty t, eqb-true, of_same, some_is)
 
   bound_typed : (x ty : ℕ) (s : SiteTerm) (v : Visit) → OfType s ty → OfType (var_site (binding x s v) x) ty
   bound_typed x ty s v h = ap (λ o. T (or_no_site o)) (cond-true (x == x) (Some s) (look (λ z. z == x) v.vars) (eq-eqb x x refl)) ∙ h
@@ -231,30 +210,19 @@ module _ (p : Program) (args : List ℕ) (well : IsWellTypedProgram p) where
 
   -- 5. expressions: what a call's result is made of says its type
   result_typed : (pure multi partial rec : Bool) (call : SiteTerm) → T (call_result (record { pure = pure; multi = multi; partial = partial; rec = rec }) call) ≡ T call
-  result_typed pure multi true rec call = refl
-  result_typed pure true false rec call = refl
-  result_typed pure false false rec call = refl
+  result_typed pure multi partial rec call = grind (arith, common_steps)
 
   call_typed_result : (pure multi partial rec : Bool) (t : ℕ) (ss : SiteTerms) (v : Visit) → T (visit_call (record { pure = pure; multi = multi; partial = partial; rec = rec }) t ss v).site ≡ term_results (slice_get p.terms t)
-  call_typed_result true multi partial rec t ss v = result_typed true multi partial rec (constructor_call t ss 0)
-  call_typed_result false multi partial rec t ss v = result_typed false multi partial rec (constructor_call t ss (suc v.impure_calls))
+  call_typed_result pure multi partial rec t ss v = grind (arith, common_steps, result_typed)
 
   term_typed_value : (t : ℕ) (e : TermEntry) → slice_get p.terms t ≡ Some e → (k : Kind) → kind p t ≡ k → kind_of e ≡ k → (a : ValuedAll) → OfType (visit_term k t a).site e.ret_ty
-  term_typed_value t e there (a_variant ty i) w q a = ap (λ y. y ∷ []) (sym (variant_takes p well.parts t e there ty i q).0)
-  term_typed_value t e there (a_struct ty) w q a = ap (λ y. y ∷ []) (sym (struct_takes p well.parts t e there ty q).0)
-  term_typed_value t e there (a_call flags infallible) w q a = call_typed_result flags.pure flags.multi flags.partial flags.rec t a.sites a.visit ∙ ap term_results there
-  term_typed_value t e there unknown w q a = absurd (term_known p t e there w)
+  term_typed_value t e there a h q i = grind (arith, common_steps, variant_takes, struct_takes, call_typed_result, term_known)
 
   mutual
     expr_typed : (x : TypedExpr) (v : Visit) (vars : List (ℕ × ℕ)) → is_formed_expr p x vars ≡ true → OfTypes vars v → OfType (visit_expr p x v).site (expr_type x)
-    expr_typed (make_term ty t xs) v vars e d =
-        let a = from_term p ty t xs vars e in of_same (visit_term (kind p t) t (visit_exprs p xs v)).site a.entry.ret_ty ty a.ret (term_typed_value t a.entry a.there (kind p t) refl (its_kind p t a.entry a.there) (visit_exprs p xs v))
-    expr_typed (make_var ty x) v vars e d = d x ty (type_is (var_type vars x) ty e)
-    expr_typed (make_bool ty b) v vars e d = refl
-    expr_typed (make_int ty z) v vars e d = refl
-    expr_typed (make_prim ty name) v vars e d = ap one_type (type_is (constant_type p name) ty e)
     expr_typed (make_let ty ds body) v vars e d =
         let a = from_body p ty ds body vars e in of_same (visit_expr p body (visit_lets p ds v)).site (expr_type body) ty a.2 (expr_typed body (visit_lets p ds v) a.0 a.3 (lets_typed ds v vars a.0 a.1 d))
+    expr_typed x v h e d = grind (arith, common_steps, from_term, of_same, term_typed_value, its_kind, type_is)
 
     lets_typed : (ds : TypedLets) (v : Visit) (vars more : List (ℕ × ℕ)) → formed_lets p ds vars ≡ Some more → OfTypes vars v → OfTypes more (visit_lets p ds v)
     lets_typed no_typed_let v vars more e d = subst (λ vs. OfTypes vs v) (some_is vars more e) d
@@ -269,9 +237,6 @@ module _ (p : Program) (args : List ℕ) (well : IsWellTypedProgram p) where
   -- 6. rules
   args_after : (i : ℕ) (qs : List TypedPattern) (tys : List ℕ) (v : Visit) (vars more : List (ℕ × ℕ)) → formed_list p qs tys vars ≡ Some more → ((j ty : ℕ) → slice_get tys j ≡ Some ty → OfType (argument (i + j)) ty)
       → Fit v.demands → OfTypes vars v → Fit (visit_args p i qs v).demands × OfTypes more (visit_args p i qs v)
-  args_after i [] [] v vars more e c g d = (g, subst (λ vs. OfTypes vs v) (some_is vars more e) d)
-  args_after i [] (ty ∷ tys) v vars more e c g d = absurd (none_some more e)
-  args_after i (q ∷ qs) [] v vars more e c g d = absurd (none_some more e)
   args_after i (q ∷ qs) (ty ∷ tys) v vars more e c g d =
       let a = from_part p q ty vars more (λ mid. formed_list p qs tys mid) e in
       let same : i + 0 ≡ i = omega arith in
@@ -279,6 +244,7 @@ module _ (p : Program) (args : List ℕ) (well : IsWellTypedProgram p) where
       let r = pattern_after q (argument i) (taking_argument i v) vars a.0 a.2 (of_same (argument i) ty (pattern_type q) (sym a.1) own) g d in
       args_after (suc i) qs tys (visit_pattern p q (argument i) (taking_argument i v)) a.0 more a.3
       (λ j u l. let next : i + suc j ≡ suc i + j = omega arith in subst (λ n. OfType (argument n) u) next (c (suc j) u l)) r.fit r.vars
+  args_after i qs tys v h more e c g d = grind (arith, common_steps, some_is, none_some)
 
   iflets_after : (is : List TypedIfLet) (v : Visit) (vars more : List (ℕ × ℕ)) → formed_iflets p is vars ≡ Some more → Fit v.demands → OfTypes vars v → Fit (visit_iflets p is v).demands
   iflets_after [] v vars more e g d = g
@@ -306,18 +272,11 @@ module _ (p : Program) (args : List ℕ) (well : IsWellTypedProgram p) where
 
   -- 7. sites that must be equal are of the same types, where equated ones are
   fields_alike : (f g : ℕ → SiteTerm) → ((j : ℕ) → T (f j) ≡ T (g j)) → (j n i : ℕ) (x y : SiteTerm) → slice_get (fields_from f j n) i ≡ Some x → slice_get (fields_from g j n) i ≡ Some y → T x ≡ T y
-  fields_alike f g h j zero i x y a b = absurd (none_some x a)
-  fields_alike f g h j (suc n) zero x y a b = ap T (sym (some_is (f j) x a)) ∙ h j ∙ ap T (some_is (g j) y b)
   fields_alike f g h j (suc n) (suc i) x y a b = fields_alike f g h (suc j) n i x y a b
+  fields_alike f g h j n i x y a b = grind (arith, common_steps, none_some, some_is)
 
   field_alike : (a b : SiteTerm) (c : Constraint) (i : ℕ) (x y : SiteTerm) → T a ≡ T b → slice_get (field_terms c a) i ≡ Some x → slice_get (field_terms c b) i ≡ Some y → T x ≡ T y
-  field_alike a b (is_variant ty k n) i x y e g h =
-      fields_alike (variant_field a k) (variant_field b k) (λ j. ap (λ l. field_type (λ u. variant_types (slice_get p.types u) k) l j) e) 0 n i x y g h
-  field_alike a b (is_struct ty n) i x y e g h = fields_alike (struct_field a) (struct_field b) (λ j. ap (λ l. field_type (λ u. struct_types (slice_get p.types u)) l j) e) 0 n i x y g h
-  field_alike a b (is_bool v ty) i x y e g h = absurd (none_some x g)
-  field_alike a b (is_int z ty) i x y e g h = absurd (none_some x g)
-  field_alike a b (is_prim name) i x y e g h = absurd (none_some x g)
-  field_alike a b is_present i x y e g h = absurd (none_some x g)
+  field_alike a b c i x y e g h = grind (arith, common_steps, fields_alike, none_some)
 
   joined_alike : (d : Demands) → ((x : SiteTerm × SiteTerm) → In d.equalities x → T x.0 ≡ T x.1) → {a b : SiteTerm} → Joined d a b → T a ≡ T b
   joined_alike d h (given {a = a} {b = b} i) = h (a, b) (in_from_contains d.equalities (a, b) i)
@@ -328,19 +287,10 @@ module _ (p : Program) (args : List ℕ) (well : IsWellTypedProgram p) where
 
   -- 8. so a constraint that fits is one by types
   copied_of : (s : SiteTerm) (ty : ℕ) (c : Bool) → OfType s ty → is_composed p ty ≡ c → are_copied p (T s) ≡ not c
-  copied_of s ty c h e = ap (are_copied p) h ∙ ap (λ b. not b && true) e ∙ last c
-    where
-      last : (c : Bool) → (not c && true) ≡ not c
-      last true = refl
-      last false = refl
+  copied_of s ty c h e = grind (arith, common_steps)
 
   fits_by_type : (s : SiteTerm) (c : Constraint) → Fits s c → pattern_typed c (are_copied p (T s)) ≡ true
-  fits_by_type s (is_variant ty i n) f = ap not (copied_of s ty true f.0 f.1)
-  fits_by_type s (is_struct ty n) f = ap not (copied_of s ty true f.0 f.1)
-  fits_by_type s (is_bool b ty) f = copied_of s ty false f.0 f.1
-  fits_by_type s (is_int z ty) f = copied_of s ty false f.0 f.1
-  fits_by_type s (is_prim name) f = refl
-  fits_by_type s is_present f = refl
+  fits_by_type s c f = grind (arith, common_steps, copied_of)
 
 -- 9. sets
 module _ (b : BuiltSet) (h : IsWellTypedProgram b.program) where

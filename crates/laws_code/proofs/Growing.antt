@@ -1,11 +1,12 @@
 -- The impure calls of a run are those that were made before, and others after them, whatever bound of results there is.
-use Rattle.std.proofs.Common.{◌≡◌, ℕ, Bool, true, false, if◌then◌else◌, List, [], ◌∷◌, ◌++◌, length, Option, Some, None, refl, ◌∙◌}
+use Rattle.std.proofs.Common.{◌≡◌, ℕ, Bool, true, false, if◌then◌else◌, List, [], ◌∷◌, Option, Some, None, ◌∙◌, arith}
+use Rattle.std.proofs.lemmas.Grind.{common_steps}
 use Rattle.model.specs.rules.Values.{Value, value_eq}
-use Rattle.model.specs.rules.Meaning.{Content, one, parts, nothing, just, many, contents}
+use Rattle.model.specs.rules.Meaning.{Content, parts}
 use Rattle.model.specs.rules.Outcome.{Call}
-use Rattle.model.specs.trees.Run.{World, Env, bound_to, Bound, all_bound, unwrap_failed, no_content_there, unwrapped, Trace, content_fields, bind_fields}
-use Rattle.model_code.specs.Code.{Block, no_statement, statement, Statement, bind, bind_some, no_way, match_on, if_equal, for_each_of, give, labelled, unless_let, unless_equal, CodeArms, no_code_arm, code_arm}
-use Rattle.model_code.specs.CodeRuns.{held, held_value, bind_expr, Flow, goes_on, leaves, returns, fails, sticks, then_flow, in_braces, in_label, flow_of_bound, is_full, with_result, give_content, with_bindings, where_met, on_content, where_equal, each_flow, on_answers, run_block, run_statement, run_code_arms}
+use Rattle.model.specs.trees.Run.{World, Env, bound_to, Bound, Trace, bind_fields}
+use Rattle.model_code.specs.Code.{Block, no_statement, statement, Statement, match_on, if_equal, for_each_of, labelled, CodeArms, no_code_arm, code_arm}
+use Rattle.model_code.specs.CodeRuns.{held, held_value, Flow, goes_on, leaves, returns, fails, sticks, then_flow, in_braces, in_label, flow_of_bound, give_content, with_bindings, where_met, on_content, where_equal, each_flow, on_answers, run_block, run_statement, run_code_arms}
 use Rattle.model_code.specs.CodeLaws.{IsBeginning}
 use Rattle.model_code.proofs.CodeCut.{beginning_self, beginning_over, calls_of, unwrapped_calls, expr_calls}
 
@@ -21,32 +22,19 @@ Grows t f = IsBeginning t.calls (calls_in f)
 
 pub then_grows : (f : Flow) (go : Env → Trace → Flow) → ((env : Env) (t : Trace) → Grows t (go env t)) → IsBeginning (calls_in f) (calls_in (then_flow f go))
 then_grows (goes_on env t) go h = h env t
-then_grows (leaves t) go h = beginning_self t.calls
-then_grows (returns t) go h = beginning_self t.calls
-then_grows (fails t) go h = beginning_self t.calls
-then_grows (sticks t) go h = beginning_self t.calls
+then_grows f go h = grind (arith, common_steps, beginning_self)
 
 pub braces_calls : (env : Env) (f : Flow) → calls_in (in_braces env f) ≡ calls_in f
-braces_calls env (goes_on env' t) = refl
-braces_calls env (leaves t) = refl
-braces_calls env (returns t) = refl
-braces_calls env (fails t) = refl
-braces_calls env (sticks t) = refl
+braces_calls env f = grind (arith, common_steps)
 
 pub braces_grow : (t : Trace) (env : Env) (f : Flow) → Grows t f → Grows t (in_braces env f)
 braces_grow t env f g = (g.0, braces_calls env f ∙ g.1)
 
 pub label_grows : (t : Trace) (env : Env) (f : Flow) → Grows t f → Grows t (in_label env f)
-label_grows t env (goes_on env' u) g = g
-label_grows t env (leaves u) g = g
-label_grows t env (returns u) g = g
-label_grows t env (fails u) g = g
-label_grows t env (sticks u) g = g
+label_grows t env f g = grind (arith, common_steps)
 
 pub bound_grows : (b : Bound) (t : Trace) → IsBeginning t.calls (calls_of b) → Grows t (flow_of_bound b t)
-bound_grows (all_bound env calls) t h = h
-bound_grows (unwrap_failed calls) t h = h
-bound_grows (no_content_there calls) t h = h
+bound_grows b t h = grind (arith, common_steps)
 
 pub content_grows : (o : Option Content) (t : Trace) (go : Content → Flow) → ((c : Content) → Grows t (go c)) → Grows t (on_content o t go)
 content_grows None t go h = beginning_self t.calls
@@ -66,9 +54,8 @@ if_grows true t f g h k = h
 if_grows false t f g h k = k
 
 pub equal_grows : (a b : Option Value) (t : Trace) (f g : Flow) → Grows t f → Grows t g → Grows t (where_equal a b t f g)
-equal_grows None b t f g h k = beginning_self t.calls
-equal_grows (Some v) None t f g h k = beginning_self t.calls
 equal_grows (Some v) (Some u) t f g h k = if_grows (value_eq v u) t f g h k
+equal_grows a b t f g h k = grind (arith, common_steps, beginning_self)
 
 pub each_grows : (cs : List Content) (go : Content → Trace → Flow) (env : Env) → ((c : Content) (t : Trace) → Grows t (go c t)) → (t : Trace) → Grows t (each_flow cs go env t)
 each_grows [] go env h t = beginning_self t.calls
@@ -77,17 +64,11 @@ each_grows (c ∷ cs) go env h t =
     (braces_grow t env (go c t) (h c t)) (then_grows (in_braces env (go c t)) (λ env' t'. each_flow cs go env t') (λ env' t'. each_grows cs go env h t'))
 
 pub answers_grow : (o : Option Content) (go : Content → Trace → Flow) (env : Env) (t : Trace) → ((c : Content) (t : Trace) → Grows t (go c t)) → Grows t (on_answers o go env t)
-answers_grow None go env t h = beginning_self t.calls
-answers_grow (Some (one v)) go env t h = beginning_self t.calls
 answers_grow (Some (parts vs)) go env t h = beginning_self t.calls
-answers_grow (Some nothing) go env t h = beginning_self t.calls
-answers_grow (Some (just c)) go env t h = beginning_self t.calls
-answers_grow (Some (many cs)) go env t h = each_grows (contents cs) go env h t
+answers_grow o go env t h = grind (arith, common_steps, beginning_self, each_grows)
 
 pub give_grows : (o : Option Content) (multi : Bool) (most : Option ℕ) (env : Env) (t : Trace) → Grows t (give_content o multi most env t)
-give_grows None multi most env t = beginning_self t.calls
-give_grows (Some c) true most env t = if_grows (is_full most (length (t.results ++ c ∷ []))) t (returns (with_result t c)) (goes_on env (with_result t c)) (beginning_self t.calls) (beginning_self t.calls)
-give_grows (Some c) false most env t = beginning_self t.calls
+give_grows o multi most env t = grind (arith, common_steps, beginning_self, if_grows)
 
 module _ (w : World) (most : Option ℕ) where
   mutual
@@ -98,22 +79,15 @@ module _ (w : World) (most : Option ℕ) where
         (statement_grows s env t) (then_grows (run_statement s w most env t) (run_block rest w most) (block_grows rest))
 
     pub statement_grows : (s : Statement) (env : Env) (t : Trace) → Grows t (run_statement s w most env t)
-    statement_grows (bind v e) env t = bound_grows (bind_expr w env t.calls v e) t (expr_calls w env t.calls v e)
-    statement_grows (bind_some v u) env t = bound_grows (unwrapped env t.calls v (held w env u.place)) t (unwrapped_calls env t.calls v (held w env u.place))
-    statement_grows no_way env t = beginning_self t.calls
     statement_grows (match_on u arms) env t =
         braces_grow t env (on_content (held w env u.place) t (λ c. run_code_arms arms w most c env t)) (content_grows (held w env u.place) t (λ c. run_code_arms arms w most c env t) (λ c. arms_grow arms c env t))
     statement_grows (if_equal a b body) env t =
         braces_grow t env (where_equal (held_value w env a) (held_value w env b) t (run_block body w most env t) (goes_on env t))
         (equal_grows (held_value w env a) (held_value w env b) t (run_block body w most env t) (goes_on env t) (block_grows body env t) (beginning_self t.calls))
     statement_grows (for_each_of v from body) env t = answers_grow (bound_to env from) (λ c t'. run_block body w most ((v, c) ∷ env) t') env t (λ c t'. block_grows body ((v, c) ∷ env) t')
-    statement_grows (give at u) env t = give_grows (held w env u.place) w.multi most env t
     statement_grows (labelled body) env t = label_grows t env (run_block body w most env t) (block_grows body env t)
-    statement_grows (unless_let u pattern fields) env t =
-        content_grows (held w env u.place) t (λ c. where_met (content_fields w.meaning pattern c) fields env t (λ env'. goes_on env' t) (leaves t)) (λ c. met_grows (content_fields w.meaning pattern c) fields env t (λ env'. goes_on env' t) (leaves t) (λ env'. beginning_self t.calls) (beginning_self t.calls))
-    statement_grows (unless_equal a b) env t = equal_grows (held_value w env a) (held_value w env b) t (goes_on env t) (leaves t) (beginning_self t.calls) (beginning_self t.calls)
+    statement_grows s env t = grind (arith, common_steps, bound_grows, expr_calls, unwrapped_calls, beginning_self, give_grows, content_grows, met_grows, equal_grows)
 
     pub arms_grow : (arms : CodeArms) (c : Content) (env : Env) (t : Trace) → Grows t (run_code_arms arms w most c env t)
+    arms_grow (code_arm pattern fields body rest) c env t = grind (arith, common_steps, block_grows body, arms_grow rest c env t, met_grows)
     arms_grow no_code_arm c env t = beginning_self t.calls
-    arms_grow (code_arm pattern fields body rest) c env t =
-        met_grows (content_fields w.meaning pattern c) fields env t (λ env'. run_block body w most env' t) (run_code_arms rest w most c env t) (λ env'. block_grows body env' t) (arms_grow rest c env t)

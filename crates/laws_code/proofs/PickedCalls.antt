@@ -1,10 +1,11 @@
 -- What a pick is made of is a multi call: picks alone are made of multi calls, and no rule constrains, equates or returns one.
 use Rattle.std.proofs.Common.{◌≡◌, ◌⊎◌, ◌<◌, ℕ, suc, Bool, true, false, List, [], ◌∷◌, length, Option, Some, None, slice_get, Contains, refl, sym, ap, subst, ◌∙◌, inl, inr, arith}
+use Rattle.std.proofs.lemmas.Grind.{common_steps}
 use Rattle.std.proofs.lemmas.Bool.{false≢true}
 use Rattle.std.proofs.lemmas.Option.{slice_get_within}
 use Rattle.model.specs.rules.Program.{Program, Kind, a_call, kind, flags_of, is_multi, arg_types, rules_of}
 use Rattle.model.specs.rules.Typed.{TypedRule}
-use Rattle.model.specs.sites.Sites.{Site, extractor_site, constructor_site, iterator_site, make_variant_site, match_variant_site, make_struct_site, extract_struct_site, make_some_site, match_some_site, match_tuple_site, Constraint, SetRule, SiteTerm, bool_term, int_term, prim_term, argument, extractor_call, constructor_call, pick_of, variant_made, variant_field, struct_made, struct_field, some_made, some_part, tuple_part, no_site, each_term, layer, layer_at, unfolded, unfold_site, sources_of, field_terms}
+use Rattle.model.specs.sites.Sites.{Site, extractor_site, constructor_site, iterator_site, make_variant_site, match_variant_site, make_struct_site, extract_struct_site, make_some_site, match_some_site, match_tuple_site, Constraint, SetRule, SiteTerm, each_term, layer, unfold_site, sources_of, field_terms}
 use Rattle.model.specs.sites.Closure.{Joined, given, itself, turned, chained, at_field}
 use Rattle.model.specs.sites.DemandedGates.{IsMultiCall, HasNoPartialMulti}
 use Rattle.model.specs.sites.Overlap.{BuiltRule, built_rule}
@@ -41,26 +42,10 @@ module _ (p : Program) (n : ℕ) where
   one_answer q r e f m = false≢true (sym f ∙ sym (ap multi_of e) ∙ m)
 
   multi_call : (u : SiteTerm) (q : Form) → IsOfForm p n u q → q.multi ≡ true → IsMultiCall p u
-  multi_call (bool_term b ty) q f m = one_answer q _ f refl m
-  multi_call (int_term z ty) q f m = one_answer q _ f.1 refl m
-  multi_call (prim_term name) q f m = one_answer q _ f refl m
-  multi_call (argument i) q f m = one_answer q _ f.1 refl m
-  multi_call (extractor_call t s) q f m = its_multi t f.0 ∙ sym (ap multi_of f.2) ∙ m
-  multi_call (constructor_call t ss i) q f m = its_multi t f.0 ∙ sym (ap multi_of f.2) ∙ m
-  multi_call (pick_of s) q f m = one_answer q _ f.3 refl m
-  multi_call (variant_made ty i ss) q f m = one_answer q _ f.4 refl m
-  multi_call (variant_field s i j) q f m = one_answer q _ f.1 refl m
-  multi_call (struct_made ty ss) q f m = one_answer q _ f.4 refl m
-  multi_call (struct_field s j) q f m = one_answer q _ f.1 refl m
-  multi_call (some_made s) q f m = one_answer q _ f.2 refl m
-  multi_call (some_part s) q f m = one_answer q _ f.2 refl m
-  multi_call (tuple_part s j) q f m = one_answer q _ f.3 refl m
-  multi_call no_site q f m = absurd f
+  multi_call u q f m = grind (arith, common_steps, one_answer, its_multi)
 
   single : (u : SiteTerm) (q : Form) → IsOfForm p n u q → q.multi ≡ false → IsOther p u
-  single (extractor_call t s) q f e m = false≢true (sym e ∙ ap multi_of f.2 ∙ sym (its_multi t f.0) ∙ m)
-  single (constructor_call t ss i) q f e m = false≢true (sym e ∙ ap multi_of f.2 ∙ sym (its_multi t f.0) ∙ m)
-  single _ q f e m = absurd m
+  single u q f e m = grind (arith, common_steps, its_multi)
 
   values_at : (f : ℕ → SiteTerm) (ss : List ℕ) (c : ℕ) → AreValues p n (each_term f ss) → Contains ss c → IsOfForm p n (f c) a_value
   values_at f [] c v i = absurd (nothing_in c i)
@@ -147,15 +132,7 @@ module _ (b : BuiltSet) (h : IsWellTypedProgram b.program) where
   called_is_multi c k = let f = form_there k.0 (iterator_site c) k.1 in multi_call p n (U c) (form true f.1.0 f.1.1) f.1.2 refl
 
   waits_not : (c : ℕ) (o : Option Site) → slice_get sites c ≡ o → IsMultiCall p (U c) → waits o ≡ false
-  waits_not c None at m = absurd (subst (λ o. IsMultiCall p (layer_at (unfolded c sites) o)) at m)
-  waits_not c (Some x) at m = by x (subst (IsMultiCall p) (unfolded_layer sites b.built.sources c x at) m)
-    where
-      by : (x : Site) → IsMultiCall p (layer U x) → waits (Some x) ≡ false
-      by (iterator_site source) m = absurd m
-      by (match_variant_site source variant field) m = absurd m
-      by (extract_struct_site source field) m = absurd m
-      by (match_some_site source) m = absurd m
-      by _ m = refl
+  waits_not c o at m = grind (arith, common_steps, unfolded_layer)
 
   -- what a site is made of has one answer, but for a pick's
   from_one : (c source : ℕ) (q : Form) → IsMultiCall p (U c) → Contains (source ∷ []) c → IsOfForm p n (U source) q → q.multi ≡ false → ⊥

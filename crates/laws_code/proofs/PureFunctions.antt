@@ -1,5 +1,6 @@
 -- Functions are impure as their terms are, where what is one function from outside is pure alike.
-use Rattle.std.proofs.Common.{◌≡◌, ◌∙◌, ◌+◌, ℕ, Bool, true, false, not, Option, Some, None, slice_get, refl, sym, ap, inl, inr, arith}
+use Rattle.std.proofs.Common.{◌≡◌, ◌∙◌, ◌+◌, ℕ, true, false, not, Option, Some, slice_get, refl, ap, inl, inr, arith}
+use Rattle.std.proofs.lemmas.Grind.{common_steps}
 use Rattle.std.proofs.lemmas.Bool.{eqb-true}
 use Rattle.model.specs.lists.Tables.{TermEntry}
 use Rattle.model.specs.rules.Program.{Program, flags_of}
@@ -12,10 +13,7 @@ use Rattle.laws_code.specs.CalledAlike.{PureFunctionsCallAlike}
 
 module _ (p : Program) (alike : ArePureAlike p) (f : Callee) (e : TermEntry) (there : slice_get p.terms (term_of f) ≡ Some e) where
   by_outside : (g : Callee) (m n : Option ℕ) → outside_of p f ≡ m → outside_of p g ≡ n → same_names m n (is_same_callee f g) ≡ true → is_impure_callee p g ≡ is_impure_callee p f
-  by_outside g (Some a) (Some b) o q h = alike g f a (q ∙ ap Some (sym (eqb-true a b h))) o
-  by_outside g (Some a) None o q h = absurd (cc)
-  by_outside g None (Some b) o q h = absurd (cc)
-  by_outside g None None o q h = ap (is_impure_callee p) (sym (callee_same f g h))
+  by_outside g m n o q h = grind (arith, common_steps, eqb-true, callee_same)
 
   by_first : First (is_same_function p f) (callees p) → is_impure_number p (function_number p f) ≡ is_impure_callee p f
   by_first (inl w) = ap (impure_or_none p) w.1 ∙ by_outside w.0 (outside_of p f) (outside_of p w.0) refl refl w.2

@@ -1,11 +1,12 @@
 -- Code by types is written, and read back.
-use Rattle.std.proofs.Common.{◌≡◌, Bool, true, false, refl, ◌∙◌}
+use Rattle.std.proofs.Common.{◌≡◌, Bool, true, false, ◌∙◌, arith}
+use Rattle.std.proofs.lemmas.Grind.{common_steps}
 use Rattle.model.specs.rules.Program.{is_multi, arg_types}
 use Rattle.model.specs.claims.Layers.{own_program}
 use Rattle.laws_typing.proofs.WellTypedRules.{read_programs_are_well_typed}
 use Rattle.model_code.specs.TreeCode.{tree_code}
 use Rattle.model_code.specs.Flat.{flat}
-use Rattle.model_code.specs.Modes.{BindingMode, a_value, a_reference, Types, mode_at, lend, passes_of, place_in}
+use Rattle.model_code.specs.Modes.{BindingMode, Types, mode_at, lend, passes_of, place_in}
 use Rattle.model_code.specs.SiteTypes.{types_of}
 use Rattle.model_code.proofs.PrintedCode.{tree_unlabelled}
 use Rattle.model_code.specs.ProgramNotation.{notation_of}
@@ -15,9 +16,7 @@ use Rattle.laws_code.specs.TypedTrees.{code_by_types}
 use Rattle.laws_code.specs.WritableCode.{LooksAtMatched, CodeOfBuiltSetsIsWritable, CodeOfAcceptedIsWritable, TextOfAcceptedIsReadBack}
 
 lent_is_looked_at : (mode : BindingMode) (copy : Bool) → is_looked_at (lend mode copy) ≡ true
-lent_is_looked_at a_reference copy = refl
-lent_is_looked_at a_value true = refl
-lent_is_looked_at a_value false = refl
+lent_is_looked_at mode copy = grind (arith, common_steps)
 
 pub code_of_accepted_is_writable_lem : CodeOfBuiltSetsIsWritable → FlatKeepsWritable → MovesKeepWritable → CodeOfAcceptedIsWritable
 code_of_accepted_is_writable_lem trees labels moves defs expand rules l accepted built best kind is_logged deep n =

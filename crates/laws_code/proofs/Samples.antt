@@ -1,9 +1,10 @@
 -- Runs of shown code are judged.
-use Rattle.std.proofs.Common.{◌≡◌, ℕ, zero, suc, Bool, true, false, not, Some, slice_get, refl, sym, ap, ◌∙◌, subst}
-use Rattle.std.proofs.lemmas.Bool.{true≢false, false≢true}
+use Rattle.std.proofs.Common.{◌≡◌, ℕ, Bool, true, false, not, Some, slice_get, refl, sym, ◌∙◌, arith}
+use Rattle.std.proofs.lemmas.Grind.{common_steps}
+use Rattle.std.proofs.lemmas.Bool.{true≢false}
 use Rattle.std.proofs.lemmas.Option.{same_Some, none-some}
 use Rattle.model.specs.lists.Tables.{Flags, TermEntry}
-use Rattle.model.specs.rules.Program.{a_call, flags_of, kind}
+use Rattle.model.specs.rules.Program.{a_call, kind}
 use Rattle.model_code.specs.TypeSamples.{program, constructor_of as constructor_entry}
 use Rattle.laws_trees.specs.TotalLaws.{can_be_matched}
 use Rattle.model_code.specs.Code.{name_written, variant_written}
@@ -16,14 +17,10 @@ abbrev impure_flags : Bool → Flags
 impure_flags multi = record { pure = false; multi = multi; partial = false; rec = false }
 
 no_extractor : (t : ℕ) (e : TermEntry) → slice_get program.terms t ≡ Some e → can_be_matched e.kind ≡ true → ⊥
-no_extractor zero e there h = false≢true (subst (λ x. can_be_matched x.kind ≡ true) (sym (same_Some (constructor_entry 0 false) e there)) h)
-no_extractor (suc zero) e there h = false≢true (subst (λ x. can_be_matched x.kind ≡ true) (sym (same_Some (constructor_entry 1 true) e there)) h)
-no_extractor (suc (suc t)) e there h = none-some e there
+no_extractor t e there h = grind (arith, common_steps, same_Some, none-some)
 
 all_impure : (t : ℕ) (e : TermEntry) (flags : Flags) (infallible : Bool) → slice_get program.terms t ≡ Some e → kind program t ≡ a_call flags infallible → true ≡ not flags.pure
-all_impure zero e flags infallible there k = ap (λ x. not (flags_of x).pure) k
-all_impure (suc zero) e flags infallible there k = ap (λ x. not (flags_of x).pure) k
-all_impure (suc (suc t)) e flags infallible there k = absurd (none-some e there)
+all_impure t e flags infallible there k = grind (arith, common_steps, none-some)
 
 pub shown_runs_are_judged_lem : ShownRunsAreJudged
 shown_runs_are_judged_lem = record {

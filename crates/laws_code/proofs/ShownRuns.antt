@@ -1,20 +1,21 @@
 -- What a text shows of code runs as the code.
-use Rattle.std.proofs.Common.{◌≡◌, ◌≢◌, ◌&&◌, ℕ, zero, suc, Bool, true, false, not, if◌then◌else◌, List, [], ◌∷◌, ◌++◌, length, map, Option, Some, None, refl, sym, ap, ◌∙◌, subst, arith, eqb-true}
-use Rattle.std.proofs.lemmas.Bool.{and_parts, and_from, true≢false, not-true}
+use Rattle.std.proofs.Common.{◌≡◌, ◌≢◌, ◌&&◌, ℕ, Bool, true, false, not, if◌then◌else◌, List, [], ◌∷◌, ◌++◌, length, map, Option, Some, None, refl, sym, ap, ◌∙◌, subst, arith, eqb-true}
+use Rattle.std.proofs.lemmas.Grind.{common_steps}
+use Rattle.std.proofs.lemmas.Bool.{and_parts, and_from, not-true}
 use Rattle.std.proofs.lemmas.List.{append_assoc, append-nil, map-append}
 use Rattle.std.proofs.lemmas.Option.{same_Some, none-some}
-use Rattle.model.specs.rules.Values.{Value, truth, atom, of_variant, of_struct, Values, no_value, value_and, value_eq}
-use Rattle.model.specs.rules.Meaning.{Content, one, parts, nothing, just, many, contents, int_literal, literal_value, constant_value, extractor_answer, pure_answer, impure_answer}
+use Rattle.model.specs.rules.Values.{Value, of_variant, of_struct, Values, no_value, value_and, value_eq}
+use Rattle.model.specs.rules.Meaning.{Content, one, extractor_answer, impure_answer}
 use Rattle.model.specs.rules.Outcome.{Call, stuck, then_option}
-use Rattle.model.specs.sites.Sites.{Constraint, is_variant, is_struct, is_bool, is_int, is_prim, is_present}
-use Rattle.model.specs.trees.Run.{World, Env, bound_to, as_value, from_value, Bound, all_bound, unwrap_failed, no_content_there, now_bound, constructed, Trace, value_fields, where_constant, content_fields, bind_fields, at_start}
+use Rattle.model.specs.sites.Sites.{Constraint}
+use Rattle.model.specs.trees.Run.{World, Env, bound_to, as_value, from_value, Bound, all_bound, unwrap_failed, no_content_there, now_bound, constructed, Trace, value_fields, where_constant, content_fields, at_start}
 use Rattle.model.specs.trees.Run.{unwrapped as taken_out}
 use Rattle.model.proofs.ValuesEqual.{eq_means, eq_same}
-use Rattle.model_code.specs.Code.{Place, variable, parameter, part_of, int_written, name_written, variant_written, struct_written, Pass, as_it_is, lent, cloned, seen_through, PlaceUse, Expr, truth_written, read, extraction, call, variant_of, struct_of, some_of, Block, no_statement, statement, Statement, bind, bind_some, no_way, match_on, if_equal, for_each_of, give, labelled, unless_let, unless_equal, CodeArms, no_code_arm, code_arm}
-use Rattle.model_code.specs.CodeRuns.{held, held_value, held_values, bind_expr, Flow, goes_on, leaves, returns, fails, sticks, then_flow, in_braces, in_label, flow_of_bound, is_full, with_result, give_content, with_bindings, where_met, on_content, where_equal, each_flow, on_answers, run_block, run_statement, run_code_arms, outcome_of, code_run}
+use Rattle.model_code.specs.Code.{Place, name_written, Pass, PlaceUse, Expr, Block, no_statement, statement, Statement, bind, bind_some, no_way, match_on, if_equal, for_each_of, give, labelled, unless_let, unless_equal, CodeArms, no_code_arm, code_arm}
+use Rattle.model_code.specs.CodeRuns.{held, held_value, held_values, bind_expr, Flow, goes_on, leaves, returns, fails, sticks, then_flow, in_braces, in_label, flow_of_bound, give_content, where_met, on_content, where_equal, each_flow, on_answers, run_block, run_statement, run_code_arms, outcome_of, code_run}
 use Rattle.model_code.specs.CodeLaws.{IsBeginning}
 use Rattle.model_code.specs.Tokens.{variant_owner, struct_owner}
-use Rattle.model_code.specs.Notation.{Notation, Shape, no_fields, named_fields, unnamed_fields, extractor_of, constructor_of}
+use Rattle.model_code.specs.Notation.{Notation, Shape, extractor_of, constructor_of}
 use Rattle.model_code.specs.Pieces.{result_ends, is_end, unless_end}
 use Rattle.model_code.specs.Shown.{shown_place, shown_use, shown_uses, shown_made, shown_expr, shown_constraint, named_test, test_at, equal_or_match, unless_either, shown, shown_at, shown_arms}
 use Rattle.model_code.specs.Written.{is_bare, unwrapped, written, written_at, written_arms}
@@ -30,17 +31,12 @@ use Rattle.laws_code.proofs.WrittenRuns.{ends_there, written_runs}
 -- 1. the code that is written calls as the code does
 module _ (p : Notation) (is_impure : ℕ → Bool) where
   unwrapped_call : (bare : Bool) (b : Block) → calls_as p is_impure b ≡ true → calls_as p is_impure (unwrapped bare b) ≡ true
-  unwrapped_call true (statement (labelled body) later) h = (and_parts (calls_as p is_impure body) (calls_as p is_impure later) h).0
-  unwrapped_call true no_statement h = h
-  unwrapped_call true (statement s later) h = h
-  unwrapped_call false b h = h
+  unwrapped_call bare b h = grind (arith, common_steps, and_parts)
 
   mutual
     written_call : (b : Block) → calls_as p is_impure b ≡ true → calls_as p is_impure (written p b) ≡ true
+    written_call (statement s later) h = grind (arith, common_steps, written_call_at s, written_call later, and_parts, and_from)
     written_call no_statement h = refl
-    written_call (statement s later) h =
-        let hs = and_parts (calls_as_at p is_impure s) (calls_as p is_impure later) h in
-        and_from _ _ (written_call_at s hs.0) (written_call later hs.1)
 
     written_call_at : (s : Statement) → calls_as_at p is_impure s ≡ true → calls_as_at p is_impure (written_at p s) ≡ true
     written_call_at (match_on u arms) h = written_arms_call arms h
@@ -50,18 +46,15 @@ module _ (p : Notation) (is_impure : ℕ → Bool) where
     written_call_at s h = h
 
     written_arms_call : (arms : CodeArms) → arms_call_as p is_impure arms ≡ true → arms_call_as p is_impure (written_arms p arms) ≡ true
+    written_arms_call (code_arm pattern fields body rest) h = grind (arith, common_steps, written_call body, written_arms_call rest, and_parts, and_from, unwrapped_call)
     written_arms_call no_code_arm h = refl
-    written_arms_call (code_arm pattern fields body rest) h =
-        let hs = and_parts (calls_as p is_impure body) (arms_call_as p is_impure rest) h in
-        and_from _ _ (unwrapped_call (is_bare p body) (written p body) (written_call body hs.0)) (written_arms_call rest hs.1)
 
 abbrev is_stuck : Flow → Bool
 is_stuck (sticks t) = true
 is_stuck f = false
 
 value_back : (o : Option Value) → then_option (from_value o) as_value ≡ o
-value_back None = refl
-value_back (Some v) = refl
+value_back o = grind (arith, common_steps)
 
 turned : (u v : Value) → value_eq u v ≡ value_eq v u
 turned u v = by (value_eq u v) (value_eq v u) refl refl
@@ -96,71 +89,37 @@ module _ (p : Notation) (w : World) (around : ShownExterns) (most : Option ℕ) 
   -- 2. how flows are made
   then_fine : (f : Flow) (go : Env → Trace → Flow) → ((env : Env) (t : Trace) → Grows t (go env t)) → Fine (then_flow f go) → Fine f
   then_fine (goes_on env t) go grow h = (beginning_over t.calls (calls_in (go env t)) all (grow env t) h.0, refl)
-  then_fine (leaves t) go grow h = h
-  then_fine (returns t) go grow h = h
-  then_fine (fails t) go grow h = h
-  then_fine (sticks t) go grow h = h
+  then_fine f go grow h = grind (arith, common_steps)
 
   then_shown : (f f' : Flow) (go go' : Env → Trace → Flow) → f' ≡ numbered_flow f → Fine (then_flow f go) → ((env : Env) (t : Trace) → Fine (go env t) → go' env (numbered t) ≡ numbered_flow (go env t))
       → then_flow f' go' ≡ numbered_flow (then_flow f go)
-  then_shown f f' go go' e fine h = ap (λ x. then_flow x go') e ∙ on f fine
-    where
-      on : (x : Flow) → Fine (then_flow x go) → then_flow (numbered_flow x) go' ≡ numbered_flow (then_flow x go)
-      on (goes_on env t) k = h env t k
-      on (leaves t) k = refl
-      on (returns t) k = refl
-      on (fails t) k = refl
-      on (sticks t) k = refl
+  then_shown f f' go go' e fine h = grind (arith, common_steps)
 
   braces_fine : (env : Env) (f : Flow) → Fine (in_braces env f) → Fine f
-  braces_fine env (goes_on env' t) h = h
-  braces_fine env (leaves t) h = h
-  braces_fine env (returns t) h = h
-  braces_fine env (fails t) h = h
-  braces_fine env (sticks t) h = h
+  braces_fine env f h = grind (arith, common_steps)
 
   label_fine : (env : Env) (f : Flow) → Fine (in_label env f) → Fine f
-  label_fine env (goes_on env' t) h = h
-  label_fine env (leaves t) h = h
-  label_fine env (returns t) h = h
-  label_fine env (fails t) h = h
-  label_fine env (sticks t) h = h
+  label_fine env f h = grind (arith, common_steps)
 
   braces_numbered : (env : Env) (f : Flow) → in_braces env (numbered_flow f) ≡ numbered_flow (in_braces env f)
-  braces_numbered env (goes_on env' t) = refl
-  braces_numbered env (leaves t) = refl
-  braces_numbered env (returns t) = refl
-  braces_numbered env (fails t) = refl
-  braces_numbered env (sticks t) = refl
+  braces_numbered env f = grind (arith, common_steps)
 
   label_numbered : (env : Env) (f : Flow) → in_label env (numbered_flow f) ≡ numbered_flow (in_label env f)
-  label_numbered env (goes_on env' t) = refl
-  label_numbered env (leaves t) = refl
-  label_numbered env (returns t) = refl
-  label_numbered env (fails t) = refl
-  label_numbered env (sticks t) = refl
+  label_numbered env f = grind (arith, common_steps)
 
   content_shown : (o : Option Content) (t : Trace) (f f' : Content → Flow) → Fine (on_content o t f) → ((c : Content) → Fine (f c) → f' c ≡ numbered_flow (f c)) → on_content o (numbered t) f' ≡ numbered_flow (on_content o t f)
-  content_shown None t f f' fine h = refl
-  content_shown (Some c) t f f' fine h = h c fine
+  content_shown o t f f' fine h = grind (arith, common_steps)
 
   met_shown : (o : Option (List Content)) (fields : List (Option ℕ)) (env : Env) (t : Trace) (go go' : Env → Flow) (other other' : Flow) → Fine (where_met o fields env t go other)
       → ((env' : Env) → Fine (go env') → go' env' ≡ numbered_flow (go env')) → (Fine other → other' ≡ numbered_flow other) → where_met o fields env (numbered t) go' other' ≡ numbered_flow (where_met o fields env t go other)
-  met_shown None fields env t go go' other other' fine h k = k fine
-  met_shown (Some cs) fields env t go go' other other' fine h k = on (bind_fields fields cs env) fine
-    where
-      on : (b : Option Env) → Fine (with_bindings b t go) → with_bindings b (numbered t) go' ≡ numbered_flow (with_bindings b t go)
-      on None fine = refl
-      on (Some env') fine = h env' fine
+  met_shown o fields env t go go' h other' fine i k = grind (arith, common_steps)
 
   if_shown : (b : Bool) (f f' g g' : Flow) → Fine (if b then f else g) → (Fine f → f' ≡ numbered_flow f) → (Fine g → g' ≡ numbered_flow g) → (if b then f' else g') ≡ numbered_flow (if b then f else g)
-  if_shown true f f' g g' fine h k = h fine
-  if_shown false f f' g g' fine h k = k fine
+  if_shown b f f' g g' fine h k = grind (arith, common_steps)
 
   equal_shown : (x y : Option Value) (t : Trace) (f f' g g' : Flow) → Fine (where_equal x y t f g) → (Fine f → f' ≡ numbered_flow f) → (Fine g → g' ≡ numbered_flow g) → where_equal x y (numbered t) f' g' ≡ numbered_flow (where_equal x y t f g)
-  equal_shown None y t f f' g g' fine h k = refl
-  equal_shown (Some v) None t f f' g g' fine h k = refl
   equal_shown (Some v) (Some u) t f f' g g' fine h k = if_shown (value_eq v u) f f' g g' fine h k
+  equal_shown x y t f f' g g' fine h k = refl
 
   each_shown : (cs : List Content) (go go' : Content → Trace → Flow) (env : Env) → ((c : Content) (t : Trace) → Grows t (go c t)) → ((c : Content) (t : Trace) → Fine (go c t) → go' c (numbered t) ≡ numbered_flow (go c t))
       → (t : Trace) → Fine (each_flow cs go env t) → each_flow cs go' env (numbered t) ≡ numbered_flow (each_flow cs go env t)
@@ -172,31 +131,17 @@ module _ (p : Notation) (w : World) (around : ShownExterns) (most : Option ℕ) 
 
   answers_shown : (o : Option Content) (go go' : Content → Trace → Flow) (env : Env) (t : Trace) → ((c : Content) (t : Trace) → Grows t (go c t)) → ((c : Content) (t : Trace) → Fine (go c t) → go' c (numbered t) ≡ numbered_flow (go c t))
       → Fine (on_answers o go env t) → on_answers o go' env (numbered t) ≡ numbered_flow (on_answers o go env t)
-  answers_shown None go go' env t grow h fine = refl
-  answers_shown (Some (one v)) go go' env t grow h fine = refl
-  answers_shown (Some (parts vs)) go go' env t grow h fine = refl
-  answers_shown (Some nothing) go go' env t grow h fine = refl
-  answers_shown (Some (just c)) go go' env t grow h fine = refl
-  answers_shown (Some (many cs)) go go' env t grow h fine = each_shown (contents cs) go go' env grow h t fine
+  answers_shown o go go' env t grow h fine = grind (arith, common_steps, each_shown)
 
   if_numbered : (b : Bool) (f g : Flow) → (if b then numbered_flow f else numbered_flow g) ≡ numbered_flow (if b then f else g)
-  if_numbered true f g = refl
-  if_numbered false f g = refl
+  if_numbered b f g = grind (arith, common_steps)
 
   give_numbered : (o : Option Content) (multi : Bool) (env : Env) (t : Trace) → give_content o multi most env (numbered t) ≡ numbered_flow (give_content o multi most env t)
-  give_numbered None multi env t = refl
-  give_numbered (Some c) true env t = if_numbered (is_full most (length (t.results ++ c ∷ []))) (returns (with_result t c)) (goes_on env (with_result t c))
-  give_numbered (Some c) false env t = refl
+  give_numbered o multi env t = grind (arith, common_steps, if_numbered)
 
   -- 3. what is read
   held_shown : (env : Env) (place : Place) → held ws env (shown_place p place) ≡ held w env place
-  held_shown env (variable v) = refl
-  held_shown env (parameter i) = refl
-  held_shown env (part_of v i) = refl
-  held_shown env (int_written z ty) = ap from_value (sym (says.integers z ty))
-  held_shown env (name_written name) = ap from_value (sym (says.constants name))
-  held_shown env (variant_written ty variant) = refl
-  held_shown env (struct_written ty) = refl
+  held_shown env place = grind (arith, common_steps)
 
   value_shown : (env : Env) (u : PlaceUse) → held_value ws env (shown_use p u) ≡ held_value w env u
   value_shown env u = ap (λ o. then_option o as_value) (held_shown env u.place)
@@ -211,26 +156,17 @@ module _ (p : Notation) (w : World) (around : ShownExterns) (most : Option ℕ) 
   numbered_bound (no_content_there calls) = no_content_there (map (by_number p) calls)
 
   now_numbered : (env : Env) (calls : List Call) (v : ℕ) (o : Option Content) → now_bound env (map (by_number p) calls) v o ≡ numbered_bound (now_bound env calls v o)
-  now_numbered env calls v None = refl
-  now_numbered env calls v (Some c) = refl
+  now_numbered env calls v o = grind (arith, common_steps)
 
   bound_numbered : (b : Bound) (t : Trace) → flow_of_bound (numbered_bound b) (numbered t) ≡ numbered_flow (flow_of_bound b t)
-  bound_numbered (all_bound env calls) t = refl
-  bound_numbered (unwrap_failed calls) t = refl
-  bound_numbered (no_content_there calls) t = refl
+  bound_numbered b t = grind (arith, common_steps)
 
   taken_out_numbered : (env : Env) (t : Trace) (v : ℕ) (o : Option Content) → flow_of_bound (taken_out env (map (by_number p) t.calls) v o) (numbered t) ≡ numbered_flow (flow_of_bound (taken_out env t.calls v o) t)
-  taken_out_numbered env t v None = refl
-  taken_out_numbered env t v (Some (one x)) = refl
-  taken_out_numbered env t v (Some (parts xs)) = refl
-  taken_out_numbered env t v (Some nothing) = refl
-  taken_out_numbered env t v (Some (just c)) = refl
-  taken_out_numbered env t v (Some (many cs)) = refl
+  taken_out_numbered env t v o = grind (arith, common_steps)
 
   -- 4. calls
   made_calls : (env : Env) (t : Trace) (calls : List Call) (v : ℕ) (o : Option Content) → calls_in (flow_of_bound (now_bound env calls v o) t) ≡ calls
-  made_calls env t calls v None = refl
-  made_calls env t calls v (Some c) = refl
+  made_calls env t calls v o = grind (arith, common_steps)
 
   -- the answer that surroundings give to a call which the whole run makes
   answer_there : (calls : List Call) (c : Call) → IsBeginning (calls ++ c ∷ []) all → impure_answer w.meaning c.term (length calls) ≡ around.impures (map (by_number p) calls) (by_number p c)
@@ -242,26 +178,15 @@ module _ (p : Notation) (w : World) (around : ShownExterns) (most : Option ℕ) 
 
   impure_shown : (env : Env) (t : Trace) (v : ℕ) (c : Call) → around.is_impure (by_number p c).term ≡ true → Fine (flow_of_bound (now_bound env (t.calls ++ c ∷ []) v (impure_answer w.meaning c.term (length t.calls))) t)
       → answered (around.is_impure (by_number p c).term) around env (map (by_number p) t.calls) v (by_number p c) ≡ numbered_bound (now_bound env (t.calls ++ c ∷ []) v (impure_answer w.meaning c.term (length t.calls)))
-  impure_shown env t v c h fine =
-      let o = impure_answer w.meaning c.term (length t.calls) in
-      let there = answer_there t.calls c (subst (λ l. IsBeginning l all) (made_calls env t (t.calls ++ c ∷ []) v o) fine.0) in
-      (λ i. answered (h i) around env (map (by_number p) t.calls) v (by_number p c))
-      ∙ (λ i. now_bound env (sym (map-append (by_number p) t.calls (c ∷ [])) i) v (sym there i))
-      ∙ now_numbered env (t.calls ++ c ∷ []) v o
+  impure_shown env t v c h fine = grind (arith, common_steps, answer_there, made_calls, map-append, now_numbered)
 
   constructed_shown : (env : Env) (t : Trace) (v term instance : ℕ) (o : Option Values) → impure_call instance (around.is_impure (p.function (constructor_of term))) ≡ true → Fine (flow_of_bound (constructed w env t.calls v term instance o) t)
       → called around env (map (by_number p) t.calls) v (p.function (constructor_of term)) o ≡ numbered_bound (constructed w env t.calls v term instance o)
-  constructed_shown env t v term instance None h fine = refl
-  constructed_shown env t v term zero (Some vs) h fine =
-      let pure = not-true (around.is_impure (p.function (constructor_of term))) h in
-      pure_shown env t.calls v (record { term = p.function (constructor_of term); args = vs }) (pure_answer w.meaning term vs) pure (says.pures term vs pure)
-  constructed_shown env t v term (suc n) (Some vs) h fine = impure_shown env t v (record { term = term; args = vs }) h fine
+  constructed_shown env t v term instance o h fine = grind (arith, common_steps, not-true, pure_shown, impure_shown)
 
   extracted_shown : (env : Env) (t : Trace) (v term : ℕ) (o : Option Value) → around.is_impure (p.function (extractor_of term)) ≡ false
       → called around env (map (by_number p) t.calls) v (p.function (extractor_of term)) (then_option o (λ x. Some (value_and x no_value))) ≡ numbered_bound (now_bound env t.calls v (then_option o (extractor_answer w.meaning term)))
-  extracted_shown env t v term None h = refl
-  extracted_shown env t v term (Some x) h =
-      pure_shown env t.calls v (record { term = p.function (extractor_of term); args = value_and x no_value }) (extractor_answer w.meaning term x) h (says.extractors term x h)
+  extracted_shown env t v term o h = grind (arith, common_steps, pure_shown)
 
   -- 5. what is bound
   now_shown : (env : Env) (t : Trace) (v : ℕ) (o o' : Option Content) → o' ≡ o → now_bound env (map (by_number p) t.calls) v o' ≡ numbered_bound (now_bound env t.calls v o)
@@ -269,68 +194,22 @@ module _ (p : Notation) (w : World) (around : ShownExterns) (most : Option ℕ) 
 
   variant_shown : (env : Env) (t : Trace) (v ty variant : ℕ) (shape : Shape) (us : List PlaceUse) → takes shape (length us) ≡ true
       → bind_shown sw env (map (by_number p) t.calls) v (shown_made (variant_owner ty variant) shape (shown_uses p us)) ≡ numbered_bound (now_bound env t.calls v (then_option (held_values w env us) (λ vs. Some (one (of_variant ty variant vs)))))
-  variant_shown env t v ty variant no_fields [] h = refl
-  variant_shown env t v ty variant no_fields (u ∷ us) h = absurd (let e = eqb-true (length (u ∷ us)) 0 h in omega (arith, e))
-  variant_shown env t v ty variant (named_fields n) us h = now_shown env t v _ _ (ap (λ o. then_option o (λ vs. Some (one (of_variant ty variant vs)))) (values_shown env us))
-  variant_shown env t v ty variant (unnamed_fields n) us h = now_shown env t v _ _ (ap (λ o. then_option o (λ vs. Some (one (of_variant ty variant vs)))) (values_shown env us))
+  variant_shown env t v ty variant shape us h = grind (arith, common_steps, eqb-true, now_shown, values_shown)
 
   struct_shown : (env : Env) (t : Trace) (v ty : ℕ) (shape : Shape) (us : List PlaceUse) → takes shape (length us) ≡ true
       → bind_shown sw env (map (by_number p) t.calls) v (shown_made (struct_owner ty) shape (shown_uses p us)) ≡ numbered_bound (now_bound env t.calls v (then_option (held_values w env us) (λ vs. Some (one (of_struct ty vs)))))
-  struct_shown env t v ty no_fields [] h = refl
-  struct_shown env t v ty no_fields (u ∷ us) h = absurd (let e = eqb-true (length (u ∷ us)) 0 h in omega (arith, e))
-  struct_shown env t v ty (named_fields n) us h = now_shown env t v _ _ (ap (λ o. then_option o (λ vs. Some (one (of_struct ty vs)))) (values_shown env us))
-  struct_shown env t v ty (unnamed_fields n) us h = now_shown env t v _ _ (ap (λ o. then_option o (λ vs. Some (one (of_struct ty vs)))) (values_shown env us))
+  struct_shown env t v ty shape us h = grind (arith, common_steps, eqb-true, now_shown, values_shown)
 
   expr_shown : (env : Env) (t : Trace) (v : ℕ) (e : Expr) → expr_writable p e ≡ true → expr_calls_as p around.is_impure e ≡ true → Fine (flow_of_bound (bind_expr w env t.calls v e) t)
       → bind_shown sw env (map (by_number p) t.calls) v (shown_expr p e) ≡ numbered_bound (bind_expr w env t.calls v e)
-  expr_shown env t v (truth_written b ty) wr ca fine = now_shown env t v _ _ (ap from_value (sym (says.truths b ty)))
-  expr_shown env t v (read u) wr ca fine = now_shown env t v _ _ (held_shown env u.place)
-  expr_shown env t v (extraction term u) wr ca fine =
-      ap (λ o. called around env (map (by_number p) t.calls) v (p.function (extractor_of term)) (then_option o (λ x. Some (value_and x no_value)))) (value_shown env u)
-      ∙ extracted_shown env t v term (held_value w env u) (not-true (around.is_impure (p.function (extractor_of term))) ca)
-  expr_shown env t v (call term us instance) wr ca fine =
-      ap (called around env (map (by_number p) t.calls) v (p.function (constructor_of term))) (values_shown env us) ∙ constructed_shown env t v term instance (held_values w env us) ca fine
-  expr_shown env t v (variant_of ty variant us) wr ca fine = variant_shown env t v ty variant (p.shape (variant_owner ty variant)) us wr
-  expr_shown env t v (struct_of ty us) wr ca fine = struct_shown env t v ty (p.shape (struct_owner ty)) us wr
-  expr_shown env t v (some_of u) wr ca fine = now_shown env t v _ _ (ap (λ o. then_option o (λ c. Some (just c))) (held_shown env u.place))
+  expr_shown env t v e wr ca fine = grind (arith, common_steps, now_shown, held_shown, value_shown, extracted_shown, not-true, values_shown, constructed_shown, variant_shown, struct_shown)
 
   -- 6. patterns
   value_met : (c : Constraint) (v : Value) → value_fields ws.meaning (shown_constraint p c) v ≡ value_fields w.meaning c v
-  value_met (is_bool b ty) v = ap (λ o. where_constant o v) (sym (says.truths b ty))
-  value_met (is_int z ty) v = ap (λ o. where_constant o v) (sym (says.integers z ty))
-  value_met (is_prim name) v = ap (λ o. where_constant o v) (sym (says.constants name))
-  value_met (is_variant ty variant n) (truth b) = refl
-  value_met (is_variant ty variant n) (atom ty' z) = refl
-  value_met (is_variant ty variant n) (of_variant ty' variant' vs) = refl
-  value_met (is_variant ty variant n) (of_struct ty' vs) = refl
-  value_met (is_struct ty n) (truth b) = refl
-  value_met (is_struct ty n) (atom ty' z) = refl
-  value_met (is_struct ty n) (of_variant ty' variant' vs) = refl
-  value_met (is_struct ty n) (of_struct ty' vs) = refl
-  value_met is_present v = refl
+  value_met c v = grind (arith, common_steps)
 
   fields_met : (c : Constraint) (x : Content) → content_fields ws.meaning (shown_constraint p c) x ≡ content_fields w.meaning c x
-  fields_met (is_bool b ty) (one v) = value_met (is_bool b ty) v
-  fields_met (is_int z ty) (one v) = value_met (is_int z ty) v
-  fields_met (is_prim name) (one v) = value_met (is_prim name) v
-  fields_met (is_variant ty variant n) (one v) = value_met (is_variant ty variant n) v
-  fields_met (is_struct ty n) (one v) = value_met (is_struct ty n) v
-  fields_met is_present (one v) = refl
-  fields_met c (parts vs) = other c (parts vs)
-    where
-      other : (c : Constraint) (x : Content) → content_fields ws.meaning (shown_constraint p c) (parts vs) ≡ content_fields w.meaning c (parts vs)
-      other (is_bool b ty) x = refl
-      other (is_int z ty) x = refl
-      other (is_prim name) x = refl
-      other (is_variant ty variant n) x = refl
-      other (is_struct ty n) x = refl
-      other is_present x = refl
-  fields_met (is_bool b ty) x = refl
-  fields_met (is_int z ty) x = refl
-  fields_met (is_prim name) x = refl
-  fields_met (is_variant ty variant n) x = refl
-  fields_met (is_struct ty n) x = refl
-  fields_met is_present x = refl
+  fields_met c x = grind (arith, common_steps, value_met)
 
   -- 7. a comparison that is shown as a match
   abbrev IsTest : Env → PlaceUse → Place → (PlaceUse × Constraint) → Type 0
@@ -338,45 +217,21 @@ module _ (p : Notation) (w : World) (around : ShownExterns) (most : Option ℕ) 
 
   named_is : (env : Env) (composed : Bool) (place : Place) (pass : Pass) (name : ℕ) (test : PlaceUse × Constraint) → named_test composed pass (record { place = place; pass = pass }) name ≡ Some test
       → IsTest env (record { place = place; pass = pass }) (name_written name) test
-  named_is env false place pass name test e =
-      subst (IsTest env (record { place = place; pass = pass }) (name_written name)) (same_Some (record { place = place; pass = pass }, is_prim name) test e) (refl, λ v. ap (λ o. where_constant o v) (sym (value_back (constant_value ws.meaning name))))
-  named_is env true place seen_through name test e =
-      subst (IsTest env (record { place = place; pass = seen_through }) (name_written name)) (same_Some (record { place = place; pass = as_it_is }, is_prim name) test e) (refl, λ v. ap (λ o. where_constant o v) (sym (value_back (constant_value ws.meaning name))))
-  named_is env true place as_it_is name test e = absurd (none-some test e)
-  named_is env true place lent name test e = absurd (none-some test e)
-  named_is env true place cloned name test e = absurd (none-some test e)
+  named_is env composed place pass name test e = grind (arith, common_steps, same_Some, value_back, none-some)
 
   test_is : (env : Env) (a : PlaceUse) (place : Place) (pass : Pass) (test : PlaceUse × Constraint) → test_at p a place pass ≡ Some test → IsTest env a place test
-  test_is env a (int_written z ending) as_it_is test e =
-      subst (IsTest env a (int_written z ending)) (same_Some (a, is_int z ending) test e) (refl, λ v. ap (λ o. where_constant o v) (sym (value_back (literal_value ws.meaning (int_literal z ending)))))
-  test_is env a (name_written name) as_it_is test e = named_is env (p.is_constant_composed name) a.place a.pass name test e
-  test_is env a (int_written z ending) lent test e = absurd (none-some test e)
-  test_is env a (int_written z ending) cloned test e = absurd (none-some test e)
-  test_is env a (int_written z ending) seen_through test e = absurd (none-some test e)
-  test_is env a (name_written name) lent test e = absurd (none-some test e)
-  test_is env a (name_written name) cloned test e = absurd (none-some test e)
-  test_is env a (name_written name) seen_through test e = absurd (none-some test e)
-  test_is env a (variable v) pass test e = absurd (none-some test e)
-  test_is env a (parameter i) pass test e = absurd (none-some test e)
-  test_is env a (part_of v i) pass test e = absurd (none-some test e)
-  test_is env a (variant_written ty variant) pass test e = absurd (none-some test e)
-  test_is env a (struct_written ty) pass test e = absurd (none-some test e)
+  test_is env a place pass test e = grind (arith, common_steps, same_Some, value_back, named_is, none-some)
 
   compared : (x : Option Content) (y : Option Value) (env : Env) (t : Trace) (k : Constraint) (go : Env → Flow) (body other other' : Flow) → ((v : Value) → content_fields ws.meaning k (one v) ≡ where_constant y v)
       → Fine (where_equal (then_option x as_value) y t body other) → (Fine body → go env ≡ numbered_flow body) → (Fine other → other' ≡ numbered_flow other)
       → on_content x (numbered t) (λ c. where_met (content_fields ws.meaning k c) [] env (numbered t) go other') ≡ numbered_flow (where_equal (then_option x as_value) y t body other)
-  compared None y env t k go body other other' m fine f g = refl
-  compared (Some (one v)) None env t k go body other other' m fine f g = absurd (true≢false fine.1)
   compared (Some (one v)) (Some u) env t k go body other other' m fine f g =
       ap (λ o. where_met o [] env (numbered t) go other') (m v) ∙ (λ i. where_met (if turned u v i then Some [] else None) [] env (numbered t) go other') ∙ on (value_eq v u) fine
     where
       on : (b : Bool) → Fine (if b then body else other) → where_met (if b then Some [] else None) [] env (numbered t) go other' ≡ numbered_flow (if b then body else other)
       on true fine = f fine
       on false fine = g fine
-  compared (Some (parts vs)) y env t k go body other other' m fine f g = absurd (true≢false fine.1)
-  compared (Some nothing) y env t k go body other other' m fine f g = absurd (true≢false fine.1)
-  compared (Some (just c)) y env t k go body other other' m fine f g = absurd (true≢false fine.1)
-  compared (Some (many cs)) y env t k go body other other' m fine f g = absurd (true≢false fine.1)
+  compared x y env t k go body h other' m fine f g = grind (arith, common_steps)
 
   tested : (test : PlaceUse × Constraint) (a b : PlaceUse) (env : Env) (t : Trace) (go : Env → Flow) (body other other' : Flow) → IsTest env (shown_use p a) (shown_place p b.place) test
       → Fine (where_equal (held_value w env a) (held_value w env b) t body other) → (Fine body → go env ≡ numbered_flow body) → (Fine other → other' ≡ numbered_flow other)
@@ -467,25 +322,13 @@ module _ (p : Notation) (w : World) (around : ShownExterns) (most : Option ℕ) 
         fine (λ env'. block_shown body label env' t ws'.0 cas.0) (arms_shown rest u label c env t ws'.1 cas.1)
 
   outcome_numbered : (f : Flow) → outcome_of (numbered_flow f) ≡ outcome_by_number p (outcome_of f)
-  outcome_numbered (goes_on env t) = refl
-  outcome_numbered (leaves t) = refl
-  outcome_numbered (returns t) = refl
-  outcome_numbered (fails t) = refl
-  outcome_numbered (sticks t) = refl
+  outcome_numbered f = grind (arith, common_steps)
 
 pub calls_made : (f : Flow) → (outcome_of f).calls ≡ calls_in f
-calls_made (goes_on env t) = refl
-calls_made (leaves t) = refl
-calls_made (returns t) = refl
-calls_made (fails t) = refl
-calls_made (sticks t) = refl
+calls_made f = grind (arith, common_steps)
 
 not_stuck : (f : Flow) → (outcome_of f).ending ≢ stuck → is_stuck f ≡ false
-not_stuck (goes_on env t) h = refl
-not_stuck (leaves t) h = refl
-not_stuck (returns t) h = refl
-not_stuck (fails t) h = refl
-not_stuck (sticks t) h = absurd (h refl)
+not_stuck f h = grind (arith, common_steps)
 
 pub shown_code_runs_as_code_lem : ShownCodeRunsAsCode
 shown_code_runs_as_code_lem p code w around most wr ca kind says unstuck =

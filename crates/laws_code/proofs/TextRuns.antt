@@ -1,5 +1,6 @@
 -- What is written of accepted definitions is read as code that does what the source rules mean.
-use Rattle.std.proofs.Common.{◌≡◌, ◌≢◌, inl, inr, ℕ, suc, Bool, true, false, not, if◌then◌else◌, List, [], length, map, Option, Some, None, Contains, refl, sym, ap, ◌∙◌, subst}
+use Rattle.std.proofs.Common.{◌≡◌, ◌≢◌, ℕ, suc, Bool, true, false, not, if◌then◌else◌, List, [], map, Option, Some, None, Contains, refl, sym, ap, ◌∙◌, subst, arith}
+use Rattle.std.proofs.lemmas.Grind.{common_steps}
 use Rattle.std.proofs.lemmas.Bool.{false≢true, cases_lt}
 use Rattle.std.proofs.lemmas.List.Elements.{All-contains}
 use Rattle.model.specs.lists.Signatures.{gives_one, gives_one_or_none, gives_any_number}
@@ -7,13 +8,13 @@ use Rattle.model.specs.lists.Syntax.{Definition}
 use Rattle.model.specs.lists.Elaborated.{TypedRules}
 use Rattle.model.specs.rules.Values.{Value}
 use Rattle.model.specs.rules.Meaning.{Content, Meaning}
-use Rattle.model.specs.rules.Outcome.{Ending, ended, failed, ran_through, stuck, Outcome}
-use Rattle.model.specs.rules.Program.{Program, flags_of, is_multi, is_partial, kind, rules_of, arg_types, terms_with_rules}
+use Rattle.model.specs.rules.Outcome.{Ending, ran_through, stuck, Outcome}
+use Rattle.model.specs.rules.Program.{Program, flags_of, is_multi, kind, rules_of, arg_types, terms_with_rules}
 use Rattle.model.specs.rules.Typed.{TypedRule}
-use Rattle.model.specs.rules.Matching.{Vars, matches}
+use Rattle.model.specs.rules.Matching.{Vars}
 use Rattle.model.specs.rules.Choice.{chosen, with_vars, outcome_of_rule, choice}
 use Rattle.model.specs.rules.Picks.{bag}
-use Rattle.model.specs.rules.RightSide.{Eval, ends, gives, eval, outcome_of}
+use Rattle.model.specs.rules.RightSide.{Eval, outcome_of}
 use Rattle.model.specs.trees.Run.{world_of, at_start}
 use Rattle.model.specs.trees.Collects.{Collects}
 use Rattle.model.specs.claims.Layers.{own_program, IsAccepted, LoweredTerm, IsLoweredTerm, AreLowered}
@@ -54,18 +55,14 @@ other_ending : (e f : Ending) → is_stuck f ≡ false → e ≡ f → e ≢ stu
 other_ending e f h q s = false≢true (sym h ∙ ap is_stuck (sym q ∙ s))
 
 evaluated : (partial : Bool) (e : Eval) → GoesOn (outcome_of partial e)
-evaluated partial (ends calls) = other_ending failed failed refl refl
-evaluated partial (gives None calls) = other_ending failed failed refl refl
-evaluated partial (gives (Some v) calls) = other_ending ended ended refl refl
+evaluated partial e = grind (arith, common_steps, other_ending)
 
 module _ (p : Program) (m : Meaning) (args : List Value) where
   taken_goes_on : (r : TypedRule) (o : Option Vars) → GoesOn (with_vars p m r o)
-  taken_goes_on r None = other_ending ran_through ran_through refl refl
-  taken_goes_on r (Some e) = evaluated (is_partial p r.root_term) (eval p m r.rhs e [])
+  taken_goes_on r o = grind (arith, common_steps, other_ending, evaluated)
 
   rule_goes_on : (o : Option TypedRule) → GoesOn (outcome_of_rule p m args o)
-  rule_goes_on None = other_ending ran_through ran_through refl refl
-  rule_goes_on (Some r) = taken_goes_on r (matches p m r args)
+  rule_goes_on o = grind (arith, common_steps, other_ending, taken_goes_on)
 
   choice_goes_on : (rs : List TypedRule) → GoesOn (choice p m rs args)
   choice_goes_on rs = rule_goes_on (chosen p m rs args)
@@ -74,23 +71,14 @@ collects_goes_on : (o : Outcome) (expected : List Content) → Collects o expect
 collects_goes_on o expected c = other_ending o.ending ran_through refl c.ending
 
 part_goes_on : (most : ℕ) (o : Outcome) (expected : List Content) → CollectsUpTo most o expected → GoesOn o
-part_goes_on most o expected c = elim (cases_lt (length expected) most) [
-  | inl l ↦ collects_goes_on o expected (c.all l)
-  | inr l ↦ other_ending o.ending ended refl (c.ending l)
-]
+part_goes_on most o expected c = grind (arith, common_steps, cases_lt, collects_goes_on, other_ending)
 
 -- 2. calls by numbers
 collects_by_number : (n : Notation) (o : Outcome) (expected : List Content) → Collects o expected → Collects (outcome_by_number n o) expected
 collects_by_number n o expected c = record { calls = ap (map (by_number n)) c.calls; ending = c.ending; same = c.same }
 
 part_by_number : (n : Notation) (most : ℕ) (o : Outcome) (expected : List Content) → CollectsUpTo most o expected → CollectsUpTo most (outcome_by_number n o) expected
-part_by_number n most o expected c = record {
-  calls = ap (map (by_number n)) c.calls;
-  part = c.part;
-  full = c.full;
-  ending = c.ending;
-  all = λ l. collects_by_number n o expected (c.all l);
-}
+part_by_number n most o expected c = grind (arith, common_steps, collects_by_number n o expected, collects_by_number)
 
 -- 3. shown code of a term means what the code does
 module _ (law : ShownCodeRunsAsCode) (p : Program) (l : LoweredTerm) (n : Notation) (code : Block) (kind : is_multi p l.term ≡ not (result_ends n)) (wr : writable n false code ≡ true)
@@ -159,9 +147,7 @@ lowered_there p terms t low known =
 
 -- results end the function of a term exactly if it isn't multi
 giving_ends : (multi partial : Bool) → multi ≡ not (ends_function (kind_of_giving (if multi then gives_any_number else (if partial then gives_one_or_none else gives_one))))
-giving_ends true partial = refl
-giving_ends false true = refl
-giving_ends false false = refl
+giving_ends multi partial = grind (arith, common_steps)
 
 pub each_term_has_its_text_lem : LawsOfText → EachTermHasItsText
 each_term_has_its_text_lem laws defs expand types terms rules lowered answers t known =

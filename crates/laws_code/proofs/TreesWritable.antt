@@ -1,11 +1,12 @@
 -- The code of best trees can be written.
-use Rattle.std.proofs.Common.{◌≡◌, ◌<◌, ◌∷◌, ◌||◌, [], ℕ, zero, suc, Bool, true, false, not, List, length, Option, Some, None, slice_get, Contains, refl, sym, ap, ◌∙◌, subst, eq-eqb}
+use Rattle.std.proofs.Common.{◌≡◌, ◌<◌, ◌∷◌, ◌||◌, [], ℕ, zero, suc, Bool, true, false, List, length, Option, Some, None, slice_get, Contains, refl, sym, ap, ◌∙◌, subst, eq-eqb, arith}
+use Rattle.std.proofs.lemmas.Grind.{common_steps}
 use Rattle.std.proofs.lemmas.Bool.{and_from}
 use Rattle.std.proofs.lemmas.List.{length-map}
 use Rattle.std.proofs.lemmas.List.Elements.{All-contains, Contains-append_left, Contains-append_right}
 use Rattle.std.proofs.lemmas.Option.{slice_get_within}
 use Rattle.model.specs.rules.Program.{Program, arg_types, rules_of}
-use Rattle.model.specs.sites.Sites.{Site, make_variant_site, make_struct_site, iterator_site, Constraint, is_variant, is_struct, is_bool, is_int, is_prim, is_present, SetRule, SiteSet, SiteTerm, each_term, layer, unfold_site}
+use Rattle.model.specs.sites.Sites.{Site, Constraint, SetRule, SiteSet, SiteTerm, each_term, layer, unfold_site}
 use Rattle.model.specs.sites.Overlap.{BuiltRule, built_rule}
 use Rattle.model.specs.sites.RuleSets.{IsRuleOf}
 use Rattle.model.specs.visits.Demands.{demands_of}
@@ -26,15 +27,14 @@ use Rattle.model_code.specs.TreeCode.{Passes, to_field, to_match, use_at, fields
 use Rattle.model_code.specs.Notation.{Notation, ReturnForm}
 use Rattle.model_code.specs.Pieces.{result_ends, is_end, unless_end}
 use Rattle.model_code.specs.ProgramNotation.{notation_of}
-use Rattle.model_code.specs.ReadsBack.{is_looked_at, pattern_writable, match_writable, writable, writable_at, writable_arms}
+use Rattle.model_code.specs.ReadsBack.{pattern_writable, match_writable, writable, writable_at, writable_arms}
 use Rattle.laws_code.specs.WritableCode.{LooksAtMatched, CodeOfBuiltSetsIsWritable}
 use Rattle.laws_code.proofs.AskedFields.{HasAllFields, rule_asks_all_fields}
 use Rattle.laws_code.proofs.TypeShapes.{variant_taken, struct_taken}
 
 -- 1. blocks
 ended_later : (ended : Bool) {x : Bool} → x ≡ true → unless_end ended true x ≡ true
-ended_later true h = refl
-ended_later false h = h
+ended_later ended h = grind (arith, common_steps)
 
 fields_counted : (f : ℕ → Site → Bool) (sites : List Site) (i n : ℕ) → length (each_field f sites i n) ≡ n
 fields_counted f sites i zero = refl
@@ -62,12 +62,10 @@ module _ (b : BuiltSet) (h : IsWellTypedProgram b.program) (passes : Passes) (lo
 
   -- what is matched can be compared with any constant
   either_looked : (composed looked : Bool) → looked ≡ true → (composed || looked) ≡ true
-  either_looked true looked e = refl
-  either_looked false looked e = e
+  either_looked composed looked e = grind (arith, common_steps)
 
   match_written : (s : ℕ) (c : Constraint) → match_writable N (use_at sites passes to_match s) c ≡ true
-  match_written s (is_prim name) = either_looked (not (N.is_constant_composed name)) (is_looked_at (passes s to_match)) (looks s)
-  match_written s c = refl
+  match_written s c = grind (arith, common_steps, either_looked)
 
   then_statement : (s : Statement) (rest : Block) → writable_at N false s ≡ true → writable N false rest ≡ true → writable N false (statement s rest) ≡ true
   then_statement s rest here later = and_from _ _ here (ended_later (is_end (result_ends N) s) later)
@@ -82,23 +80,17 @@ module _ (b : BuiltSet) (h : IsWellTypedProgram b.program) (passes : Passes) (lo
   as_many ss tys e = sym e ∙ sources_counted U ss ∙ sym (length-map ss (use_at sites passes to_field))
 
   bind_written : (s : ℕ) (o : Option Site) → slice_get sites s ≡ o → writable_at N false (bind_code sites passes s o) ≡ true
-  bind_written s (Some (make_variant_site ty variant fields)) at =
-      let f = (form_at s (make_variant_site ty variant fields) at).1 in variant_taken p ty variant f.0 (length (fields_used sites passes fields)) f.1 (as_many fields f.0 f.2)
-  bind_written s (Some (make_struct_site ty fields)) at =
-      let f = (form_at s (make_struct_site ty fields) at).1 in struct_taken p ty f.0 (length (fields_used sites passes fields)) f.1 (as_many fields f.0 f.2)
-  bind_written s o at = refl
+  bind_written s o at = grind (arith, common_steps, form_at, variant_taken, as_many, struct_taken)
 
   binds_written : (ss : List ℕ) (rest : Block) → writable N false rest ≡ true → writable N false (binds_code sites passes ss rest) ≡ true
   binds_written [] rest w = w
   binds_written (s ∷ ss) rest w = then_statement (bind_code sites passes s (slice_get sites s)) (binds_code sites passes ss rest) (bind_written s (slice_get sites s) refl) (binds_written ss rest w)
 
   loop_written : (o : Option Site) (s : ℕ) (body : Block) → writable N false body ≡ true → writable_at N false (loop_code o s body) ≡ true
-  loop_written (Some (iterator_site source)) s body w = w
-  loop_written o s body w = refl
+  loop_written o s body h = grind (arith, common_steps)
 
   return_written : (o : Option SetRule) → writable_at N false (check_code (return_of o) sites passes) ≡ true
-  return_written None = refl
-  return_written (Some r) = refl
+  return_written o = grind (arith, common_steps)
 
   -- 3. a rule of the set asks for all fields
   asked_whole : (r : SetRule) (s : ℕ) (c : Constraint) → Contains set.rules r → Contains r.constraints (s, c) → HasAllFields p c
@@ -119,12 +111,7 @@ module _ (b : BuiltSet) (h : IsWellTypedProgram b.program) (passes : Passes) (lo
       of = of_term p b.term w.rule (contains_from_in (rules_of p b.term) w.rule w.listed)
 
   pattern_written : (s : ℕ) (c : Constraint) → HasAllFields p c → pattern_writable N c (fields_of sites s c) ≡ true
-  pattern_written s (is_variant ty i n) f = and_from _ _ (variant_taken p ty i f.0 n f.1 f.2) (eq-eqb _ n (fields_counted _ sites 0 n))
-  pattern_written s (is_struct ty n) f = and_from _ _ (struct_taken p ty f.0 n f.1 f.2) (eq-eqb _ n (fields_counted _ sites 0 n))
-  pattern_written s is_present f = refl
-  pattern_written s (is_bool v ty) f = refl
-  pattern_written s (is_int z ty) f = refl
-  pattern_written s (is_prim name) f = refl
+  pattern_written s c f = grind (arith, common_steps, and_from, variant_taken, eq-eqb, fields_counted, struct_taken)
 
   -- 4. trees
   abbrev AreOfRules : List ℕ → Type 0

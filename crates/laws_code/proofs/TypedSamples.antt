@@ -1,5 +1,6 @@
 -- By computing.
-use Rattle.std.proofs.Common.{◌≡◌, ◌∷◌, [], ℕ, pos, Bool, true, false, Contains, refl, sym, ◌∙◌, subst, inl, inr}
+use Rattle.std.proofs.Common.{◌≡◌, ◌∷◌, [], ℕ, pos, Bool, true, false, Contains, refl, sym, ◌∙◌, subst, inl, inr, arith}
+use Rattle.std.proofs.lemmas.Grind.{common_steps}
 use Rattle.std.proofs.lemmas.Bool.{false≢true}
 use Rattle.model.specs.rules.Program.{arg_types}
 use Rattle.model.specs.sites.Sites.{Constraint, SetRule, is_int, unfold_site}
@@ -30,11 +31,4 @@ not_asked : (s : ℕ) (c : Constraint) → is_typed (s, c) ≡ false → Constra
 not_asked s c h k = false≢true (sym h ∙ k (a_rule s c) s c (in_head (a_rule s c) []) (in_head (s, c) []))
 
 pub constraints_are_judged_lem : ConstraintsAreJudged
-constraints_are_judged_lem = record {
-  a_variant = one_asked 0 _ refl;
-  a_literal = one_asked 1 _ refl;
-  a_named_number = one_asked 1 _ refl;
-  a_named_enum = one_asked 0 _ refl;
-  a_variant_of_numbers = not_asked 1 is_a refl;
-  a_literal_of_the_enum = not_asked 0 (is_int (pos 5) 2) refl;
-}
+constraints_are_judged_lem = grind (arith, common_steps, one_asked 0, one_asked 1, not_asked 1 is_a refl, not_asked 0 (is_int (pos 5) 2) refl, one_asked, not_asked)

@@ -1,9 +1,10 @@
 -- A set that is built of a well-typed program is typed, where its rules constrain by types.
-use Rattle.std.proofs.Common.{◌≡◌, ◌∷◌, ◌&&◌, ◌||◌, ◌+◌, [], ℕ, zero, suc, Bool, true, false, not, List, Option, Some, None, slice_get, Contains, flat_map, refl, sym, ap, ◌∙◌, subst, inl, inr, arith}
+use Rattle.std.proofs.Common.{◌≡◌, ◌∷◌, ◌&&◌, ◌||◌, ◌+◌, [], ℕ, zero, suc, Bool, true, false, not, List, Option, Some, slice_get, Contains, flat_map, refl, sym, ap, ◌∙◌, subst, inl, inr, arith}
+use Rattle.std.proofs.lemmas.Grind.{common_steps}
 use Rattle.std.proofs.lemmas.Bool.{and_from}
 use Rattle.std.proofs.lemmas.Option.{slice_get_within}
 use Rattle.model.specs.lists.Tables.{TermEntry}
-use Rattle.model.specs.rules.Program.{Program, is_multi, arg_types, rules_of}
+use Rattle.model.specs.rules.Program.{Program, arg_types, rules_of}
 use Rattle.model.specs.rules.Typed.{TypedRule}
 use Rattle.model.specs.rules.Values.{variant_types, struct_types}
 use Rattle.model.specs.sites.Serves.{term_args, term_results, asked, asked_by, constant_site}
@@ -67,58 +68,31 @@ both_shaped (shaped_and h hs) = (h, hs)
 -- 2. modes by types
 module _ (p : Program) (args : List ℕ) where
   one_typed : (tys : List ℕ) → copy_is_value (mode_of (is_one_composed p tys)) (are_copied p tys) ≡ true
-  one_typed [] = refl
-  one_typed (ty ∷ (u ∷ tys)) = refl
-  one_typed (ty ∷ []) = by (is_composed p ty)
-    where
-      by : (c : Bool) → copy_is_value (mode_of c) (not c && true) ≡ true
-      by true = refl
-      by false = refl
+  one_typed tys = grind (arith, common_steps)
 
   call_typed : (multi : Bool) (tys : List ℕ) → copy_is_value (mode_of (not multi && is_one_composed p tys)) (are_copied p tys) ≡ true
-  call_typed true tys = refl
-  call_typed false tys = one_typed tys
+  call_typed multi tys = grind (arith, common_steps, one_typed)
 
   part_typed : (c : Bool) → copy_is_value (mode_of (not c)) c ≡ true
-  part_typed true = refl
-  part_typed false = refl
+  part_typed c = grind (arith, common_steps)
 
   held_typed : (u : SiteTerm) → copy_is_value (mode_of (is_held_by_reference p args u)) (are_copied p (types_at p args u)) ≡ true
-  held_typed (argument i) = one_typed (types_at p args (argument i))
-  held_typed (extractor_call t s) = call_typed (is_multi p t) (types_at p args (extractor_call t s))
-  held_typed (constructor_call t ss i) = call_typed (is_multi p t) (types_at p args (constructor_call t ss i))
-  held_typed (variant_field s variant i) = one_typed (types_at p args (variant_field s variant i))
-  held_typed (struct_field s i) = one_typed (types_at p args (struct_field s i))
-  held_typed (some_part s) = part_typed (are_copied p (types_at p args s))
-  held_typed u = refl
+  held_typed u = grind (arith, common_steps, one_typed, call_typed, part_typed)
 
   -- a field is a reference, or Copy
   one_seen : (o : Option ℕ) → (not (is_value (mode_of (is_one_composed p (one_type o)))) || are_copied p (one_type o)) ≡ true
-  one_seen None = refl
-  one_seen (Some ty) = by (is_composed p ty)
-    where
-      by : (c : Bool) → (not (is_value (mode_of c)) || (not c && true)) ≡ true
-      by true = refl
-      by false = refl
+  one_seen o = grind (arith, common_steps)
 
   field_seen : (fields : ℕ → Option (List ℕ)) (ts : List ℕ) (i : ℕ) → (not (is_value (mode_of (is_one_composed p (field_type fields ts i)))) || are_copied p (field_type fields ts i)) ≡ true
-  field_seen fields [] i = refl
-  field_seen fields (ty ∷ []) i = one_seen (slice_get (or_no_types (fields ty)) i)
-  field_seen fields (ty ∷ (u ∷ ts)) i = refl
+  field_seen fields ts i = grind (arith, common_steps, one_seen)
 
   -- a multi call is a value
   multi_is_value : (u : SiteTerm) → IsMultiCall p u → is_value (mode_of (is_held_by_reference p args u)) ≡ true
-  multi_is_value (extractor_call t s) m = ap (λ b. is_value (mode_of (not b && is_one_composed p (types_at p args (extractor_call t s))))) m
-  multi_is_value (constructor_call t ss i) m = ap (λ b. is_value (mode_of (not b && is_one_composed p (types_at p args (constructor_call t ss i))))) m
-  multi_is_value u m = absurd m
+  multi_is_value u m = grind (arith, common_steps)
 
   -- a parameter of one type takes what is of that type
   takes_own : (ty : ℕ) → takes_what_is (is_composed p ty) (are_copied p (ty ∷ [])) ≡ true
-  takes_own ty = by (is_composed p ty)
-    where
-      by : (c : Bool) → takes_what_is c (not c && true) ≡ true
-      by true = refl
-      by false = refl
+  takes_own ty = grind (arith, common_steps)
 
 -- 3. the sites of a set
 module _ (b : BuiltSet) (h : IsWellTypedProgram b.program) (by_types : ConstrainsByTypes b.program b.term b.set) where
@@ -150,44 +124,31 @@ module _ (b : BuiltSet) (h : IsWellTypedProgram b.program) (by_types : Constrain
   place_copied s (Some (argument_site i)) at = sym (ap copied (unfolds s (argument_site i) at))
   place_copied s (Some (match_tuple_site source field)) at = sym (ap copied (unfolds s (match_tuple_site source field) at))
   place_copied s (Some (make_variant_site ty variant [])) at = sym (ap copied (unfolds s (make_variant_site ty variant []) at))
-  place_copied s (Some (make_variant_site ty variant (x ∷ xs))) at = refl
   place_copied s (Some (make_struct_site ty [])) at = sym (ap copied (unfolds s (make_struct_site ty []) at))
-  place_copied s (Some (make_struct_site ty (x ∷ xs))) at = refl
   place_copied s o at = refl
 
   is_copied : (s : ℕ) → types.is_copy (place_in sites s) ≡ copied (U s)
   is_copied s = place_copied s (slice_get sites s) refl
 
   place_typed : (s : ℕ) (o : Option Site) → is_typed_at types (place_of o s) ≡ true
-  place_typed s (Some (int_site z ty)) = refl
-  place_typed s (Some (prim_site name)) = refl
-  place_typed s (Some (argument_site i)) = held_typed p args (argument i)
-  place_typed s (Some (match_tuple_site source field)) = refl
-  place_typed s (Some (make_variant_site ty variant [])) = refl
-  place_typed s (Some (make_variant_site ty variant (x ∷ xs))) = held_typed p args (U s)
-  place_typed s (Some (make_struct_site ty [])) = refl
-  place_typed s (Some (make_struct_site ty (x ∷ xs))) = held_typed p args (U s)
-  place_typed s o = held_typed p args (U s)
+  place_typed s o = grind (arith, common_steps, held_typed)
 
   typed_at : (s : ℕ) → is_typed_at types (place_in sites s) ≡ true
   typed_at s = place_typed s (slice_get sites s)
 
   -- what a call takes is of its parameter's type
   argument_is : (takes : Bool) (ty s : ℕ) → takes ≡ is_composed p ty → types_at p args (U s) ≡ ty ∷ [] → argument_typed types takes (place_in sites s) ≡ true
-  argument_is takes ty s e t =
-      and_from _ _ (typed_at s)
-      (ap (λ c. takes_what_is takes c) (is_copied s ∙ ap (are_copied p) t) ∙ ap (λ c. takes_what_is c (are_copied p (ty ∷ []))) e ∙ takes_own p args ty)
+  argument_is takes ty s e t = grind (arith, common_steps, typed_at s, is_copied s, takes_own p args ty, and_from, typed_at, is_copied, takes_own)
 
   arguments_are : (uses : Uses) → uses.args ≡ args → (term i : ℕ) (ss tys : List ℕ) → ((j ty : ℕ) → slice_get tys j ≡ Some ty → types.takes_reference term (i + j) ≡ is_composed p ty)
       → ShapedAll p uses (each_term U ss) tys → arguments_typed types sites term i ss ≡ true
-  arguments_are uses own term i [] tys takes shaped = refl
-  arguments_are uses own term i (s ∷ ss) [] takes shaped = absurd (none_shaped shaped)
   arguments_are uses own term i (s ∷ ss) (ty ∷ tys) takes shaped =
       let parts = both_shaped shaped in
       let same : i + 0 ≡ i = omega arith in
       and_from _ _
       (argument_is (types.takes_reference term i) ty s (ap (types.takes_reference term) (sym same) ∙ takes 0 ty refl) (ap (λ l. types_at p l (U s)) (sym own) ∙ shaped_types p uses (U s) parts.0))
       (arguments_are uses own term (suc i) ss tys (λ j u e. let next : suc i + j ≡ i + suc j = omega arith in ap (types.takes_reference term) next ∙ takes (suc j) u e) parts.1)
+  arguments_are uses own term i tys j takes shaped = grind (arith, common_steps, none_shaped)
 
   -- the shape of what isn't a field
   shape_of : (u : SiteTerm) → Contains (asked p (rules_of p b.term)) u → (uses : Uses) × (uses.args ≡ args) × HasShape p uses u
@@ -211,10 +172,7 @@ module _ (b : BuiltSet) (h : IsWellTypedProgram b.program) (by_types : Constrain
       ]
 
   extractor_is : (s term source : ℕ) → slice_get sites s ≡ Some (extractor_site term source) → argument_typed types (types.extracts_reference term) (place_in sites source) ≡ true
-  extractor_is s term source at =
-      let a = asked_there s (extractor_site term source) at (λ f. f) in
-      let e = extractor_shape a.2.shaped in
-      argument_is (types.extracts_reference term) e.entry.ret_ty source (ap (λ o. is_one_composed p (term_results o)) e.there) (ap (λ l. types_at p l (U source)) (sym a.1) ∙ shaped_types p a.0 (U source) e.of)
+  extractor_is s term source at = grind (arith, common_steps, asked_there s (extractor_site term source) at, shaped_types p, asked_there, extractor_shape, argument_is, shaped_types)
 
   constructor_is : (s term instance : ℕ) (sources : List ℕ) → slice_get sites s ≡ Some (constructor_site term sources instance) → arguments_typed types sites term 0 sources ≡ true
   constructor_is s term instance sources at =
@@ -240,13 +198,9 @@ module _ (b : BuiltSet) (h : IsWellTypedProgram b.program) (by_types : Constrain
   seen_is s u e k = ap (λ y. not (is_value (mode_of (is_held_by_reference p args y))) || copied y) e ∙ k
 
   inside_is : (s : ℕ) (u : SiteTerm) → U s ≡ some_part u → (c : Bool) → c ≡ copied u → inside_typed types c s ≡ true
-  inside_is s u e true f =
-      ap (λ y. is_value (mode_of (is_held_by_reference p args y)) && copied y) e
-      ∙ ap (λ c. is_value (mode_of (not c)) && c) (sym f)
-  inside_is s u e false f = ap (λ y. not (is_value (mode_of (is_held_by_reference p args y)))) e ∙ ap (λ c. not (is_value (mode_of (not c)))) (sym f)
+  inside_is s u e h f = grind (arith, common_steps)
 
   site_is : (s : ℕ) (o : Option Site) → slice_get sites s ≡ o → site_typed types sites s o ≡ true
-  site_is s None at = refl
   site_is s (Some (bool_site v ty)) at = value_is s (bool_site v ty) at refl
   site_is s (Some (extractor_site term source)) at = extractor_is s term source at
   site_is s (Some (constructor_site term sources instance)) at = constructor_is s term instance sources at
@@ -260,10 +214,7 @@ module _ (b : BuiltSet) (h : IsWellTypedProgram b.program) (by_types : Constrain
       seen_is s (struct_field (U source) field) (unfolds s (extract_struct_site source field) at) (field_seen p args (λ ty. struct_types (slice_get p.types ty)) (types_at p args (U source)) field)
   site_is s (Some (match_some_site source)) at =
       and_from _ _ (typed_at source) (inside_is s (U source) (unfolds s (match_some_site source) at) (types.is_copy (place_in sites source)) (is_copied source))
-  site_is s (Some (int_site z ty)) at = refl
-  site_is s (Some (prim_site name)) at = refl
-  site_is s (Some (argument_site i)) at = refl
-  site_is s (Some (match_tuple_site source field)) at = refl
+  site_is s o at = refl
 
   pub set_is_typed : IsTypedSet types b.set
   set_is_typed = record {

@@ -1,14 +1,15 @@
 -- The best trees of a typed set are typed.
-use Rattle.std.proofs.Common.{◌≡◌, ◌<◌, ◌∷◌, [], ℕ, Bool, true, false, List, length, Option, Some, None, slice_get, Contains, refl, sym, ap, ◌∙◌, subst}
+use Rattle.std.proofs.Common.{◌≡◌, ◌<◌, ◌∷◌, [], ℕ, Bool, true, false, List, length, Option, Some, None, slice_get, Contains, refl, sym, ap, ◌∙◌, subst, arith}
+use Rattle.std.proofs.lemmas.Grind.{common_steps}
 use Rattle.std.proofs.lemmas.Bool.{and_parts, and_from}
 use Rattle.std.proofs.lemmas.List.Elements.{Contains-append_left, Contains-append_right}
-use Rattle.model.specs.sites.Sites.{Site, match_variant_site, extract_struct_site, match_some_site, Constraint, is_variant, is_struct, is_bool, is_int, is_prim, is_present, SetRule, SiteSet}
+use Rattle.model.specs.sites.Sites.{Site, Constraint, SetRule, SiteSet}
 use Rattle.model.specs.trees.Trees.{Marked, m_no_step, m_step, m_match, m_equal, m_loop, m_return, MarkedArms, m_no_arm, m_arm, plain, plain_arms, return_of, marks, marks_arms}
 use Rattle.model.specs.trees.Places.{Around, nothing_around, field_sites, in_arm, in_equal, in_loop, after_step}
 use Rattle.model.specs.trees.Best.{BestSteps, BestArms}
 use Rattle.model.proofs.Members.{in_head, in_tail, some_member, member_from_get, get_within, constraint_in}
 use Rattle.std.proofs.lemmas.List.Elements.{All-contains}
-use Rattle.model_code.specs.Modes.{Types, is_typed_at, inside_typed, field_typed, site_typed, binds_typed, brought_typed, tree_typed, check_typed, arms_typed, place_in, IsTypedSet}
+use Rattle.model_code.specs.Modes.{Types, field_typed, site_typed, binds_typed, brought_typed, tree_typed, check_typed, arms_typed, place_in, IsTypedSet}
 use Rattle.laws_code.specs.TypedTrees.{TypedSetsHaveTypedTrees}
 use Rattle.laws_code.proofs.BroughtSites.{IsBrought, is_brought}
 
@@ -28,12 +29,7 @@ module _ (types : Types) (set : SiteSet) (typed : IsTypedSet types set) where
 
   -- what an arm brings
   field_is : (s : ℕ) (c : Constraint) (x : ℕ) → IsBrought sites s c x → field_typed types c (copied s) x ≡ true
-  field_is s (is_variant ty v n) x b = site_is x (match_variant_site s v b.0) b.1
-  field_is s (is_struct ty n) x b = site_is x (extract_struct_site s b.0) b.1
-  field_is s is_present x b = (and_parts (is_typed_at types (place_in sites s)) (inside_typed types (copied s) x) (site_is x (match_some_site s) b)).1
-  field_is s (is_bool v ty) x b = absurd b
-  field_is s (is_int z ty) x b = absurd b
-  field_is s (is_prim name) x b = absurd b
+  field_is s c x b = grind (arith, common_steps, site_is, and_parts)
 
   fields_are : (c : Constraint) (copy : Bool) (fields : List (Option ℕ)) → ((x : ℕ) → Contains (field_sites fields) x → field_typed types c copy x ≡ true) → brought_typed types c copy fields ≡ true
   fields_are c copy [] h = refl
@@ -41,8 +37,7 @@ module _ (types : Types) (set : SiteSet) (typed : IsTypedSet types set) where
   fields_are c copy (Some x ∷ rest) h = and_from _ _ (h x (in_head x (field_sites rest))) (fields_are c copy rest (λ y i. h y (in_tail x y (field_sites rest) i)))
 
   return_is : (o : Option SetRule) → check_typed types sites (return_of o) ≡ true
-  return_is None = typed.places 0
-  return_is (Some r) = typed.places r.result
+  return_is o = grind (arith, common_steps)
 
   abbrev AreOfRules : List ℕ → Type 0
   AreOfRules ms = (i : ℕ) → Contains ms i → (r : SetRule) × (slice_get set.rules i ≡ Some r)

@@ -1,9 +1,8 @@
 -- The code of accepted definitions is well made: what code by types, and moves in place of clones, keep.
-use Rattle.std.proofs.Common.{◌≡◌, [], ℕ, suc, false, Option, Some, None, sym, ap, ◌∙◌, subst}
-use Rattle.model.specs.rules.Program.{Program, is_multi, arg_types, rules_of}
-use Rattle.model.specs.rules.Picks.{bag}
-use Rattle.model.specs.trees.Run.{World, world_of, at_start}
-use Rattle.model.specs.trees.Collects.{Collects}
+use Rattle.std.proofs.Common.{◌≡◌, [], ℕ, false, Option, sym, ap, ◌∙◌, arith}
+use Rattle.std.proofs.lemmas.Grind.{common_steps}
+use Rattle.model.specs.rules.Program.{Program, is_multi, arg_types}
+use Rattle.model.specs.trees.Run.{World, at_start}
 use Rattle.model.specs.claims.Layers.{own_program, LoweredTerm}
 use Rattle.laws_typing.proofs.WellTypedRules.{read_programs_are_well_typed}
 use Rattle.model_code.specs.Code.{Block}
@@ -14,22 +13,14 @@ use Rattle.model_code.specs.Modes.{passes_of, PassesByTypesFit}
 use Rattle.model_code.specs.MovedOnce.{FittingCodeMovesOnce}
 use Rattle.model_code.specs.Saving.{WithMovesSaysSame, WithMovesIsMadeWell}
 use Rattle.model_code.specs.SiteTypes.{types_of}
-use Rattle.laws_code.specs.CodeChoices.{CollectsUpTo, MeansItsSource, CodeChoosesAsSource}
+use Rattle.laws_code.specs.CodeChoices.{MeansItsSource, CodeChoosesAsSource}
 use Rattle.laws_code.specs.CodeScopes.{CodeOfAcceptedIsScoped}
 use Rattle.laws_code.specs.CodeMoves.{CodeOfAcceptedTakesOnce}
 use Rattle.laws_code.specs.TypedTrees.{TypedSetsHaveTypedTrees, BuiltSetsAreTyped, BuiltSetsConstrainByTypes, CodeOfAcceptedIsWellMade, CodeOfEachTermIsWellMade}
 
 -- what runs the same means the same
 pub means_same : (p : Program) (l : LoweredTerm) (a b : Block) → ((w : World) (most : Option ℕ) → code_run a w most ≡ code_run b w most) → MeansItsSource p l a → MeansItsSource p l b
-means_same p l a b same means = record {
-  chooses = λ single m args typed served apart.
-      let c = means.chooses single m args typed served apart in (sym (same (world_of p l.term l.set.sites m args) None) ∙ c.0, c.1);
-  collects = λ multi needed m args typed served apart.
-      let c = means.collects multi needed m args typed served apart in
-      let w = world_of p l.term l.set.sites m args in
-      let all = bag p m (rules_of p l.term) args in
-      (subst (λ o. Collects o all) (same w None) c.0, λ n. subst (λ o. CollectsUpTo (suc n) o all) (same w (Some (suc n))) (c.1 n));
-}
+means_same p l a b same means = grind (arith, common_steps)
 
 -- the laws that it rests on
 pub record LawsOfCode : Type 0 where

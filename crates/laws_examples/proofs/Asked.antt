@@ -3,11 +3,8 @@ use Rattle.std.proofs.Common.{◌≡◌, ◌-◌, ℕ, ℤ, zero, suc, Bool, tru
 use Rattle.std.proofs.lemmas.Grind.{common_steps}
 use Rattle.std.proofs.lemmas.Bool.{and_parts}
 use Rattle.std.proofs.lemmas.List.Elements.{All-nil, All-cons}
-use Rattle.model.specs.rules.Meaning.{Meaning}
 use Rattle.model.specs.rules.Outcome.{then_option}
-use Rattle.model.specs.rules.Values.{Value}
 use Rattle.model.specs.sites.Sites.{SetRule}
-use Rattle.model.specs.trees.Run.{run, world_of}
 use Rattle.model.specs.claims.Layers.{IsAccepted, AreLowered, LoweredTerm, IsLoweredTerm, BestTreesKeepTheHeadline}
 use Rattle.model.proofs.Elements.{In, in_from_contains, contains_from_in, some_is, none_some}
 use Rattle.model.proofs.SameSites.{number_same}
@@ -42,9 +39,6 @@ lowered law = record {
       All-cons (IsLoweredTerm two_terms) (lowered_of f_sample) (lowered_of g_sample ∷ []) (law two_defs true two_rules (lowered_of f_sample) accepted f_stages.built.0 f_stages.judged.best)
       (All-cons (IsLoweredTerm two_terms) (lowered_of g_sample) [] (law two_defs true two_rules (lowered_of g_sample) accepted g_stages.built.0 g_stages.judged.best) (All-nil (IsLoweredTerm two_terms)));
 }
-
-abbrev IsRunBy : LoweredTerm → Type 0
-IsRunBy l = (m : Meaning) (args : List Value) → both_run l.term m args ≡ run l.tree (world_of two_terms l.term l.set.sites m args)
 
 runs : RunTrees two_terms both_lowered both_run
 runs l i = grind (arith, common_steps, in_from_contains both_lowered l i, in_from_contains)

@@ -56,10 +56,6 @@ module _ (m : Meaning) (args : List Value) where
       → IsSomeAnd (pure_answer m u ws) (λ c. IsTrue (fits_constructor noting_program u (kind noting_program u) c))
   pure_served k u us ws h i = grind (arith, common_steps, same_pure, some_is, same_impure)
 
-  impure_served : (u b : ℕ) (us : SiteTerms) → IsServed m args (constructor_call u us (suc b))
-      → IsSomeAnd (impure_answer m u b) (λ c. IsTrue (fits_constructor noting_program u (kind noting_program u) c))
-  impure_served u b us h = grind (arith, common_steps, same_pure, same_impure)
-
   serves_by : (t : ℕ) → AllByRecursion (IsServed m args) (asked noting_program (rules_of noting_program t)) → Serves noting_program m args (rules_of noting_program t)
   serves_by t sites = grind (arith, common_steps)
 

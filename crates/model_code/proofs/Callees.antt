@@ -1,6 +1,6 @@
 -- The functions of terms, listed, and the first of a list that passes a test.
 use Rattle.std.proofs.Common.{◌≡◌, ℕ, zero, suc, ◌+◌, Bool, true, false, not, cond, List, [], ◌∷◌, Option, Some, None, slice_get, refl, sym, ap, ◌∙◌, ◌⊎◌, inl, inr, arith}
-use Rattle.std.specs.Prelude.{◌==◌}
+use Rattle.std.proofs.lemmas.Grind.{common_steps}
 use Rattle.std.specs.List.{position_or_len}
 use Rattle.std.proofs.lemmas.Bool.{eqb-true, eq-eqb}
 use Rattle.model.specs.lists.Tables.{TermEntry}
@@ -46,8 +46,7 @@ callee_self (constructor_of t) = eq-eqb t t refl
 pub callee_same : (f g : Callee) → is_same_callee f g ≡ true → f ≡ g
 callee_same (extractor_of t) (extractor_of u) e = ap extractor_of (eqb-true t u e)
 callee_same (constructor_of t) (constructor_of u) e = ap constructor_of (eqb-true t u e)
-callee_same (extractor_of t) (constructor_of u) e = absurd (cc)
-callee_same (constructor_of t) (extractor_of u) e = absurd (cc)
+callee_same f g e = grind (arith, common_steps)
 
 pub same_self : (o : Option ℕ) (f : Callee) → same_names o o (is_same_callee f f) ≡ true
 same_self (Some m) f = eq-eqb m m refl

@@ -326,17 +326,11 @@ module _ (w : World) (n : ℕ) where
 -- 3. outcomes
 results_of : (f : Flow) → (outcome_of f).results ≡ (trace_of f).results
 results_of (goes_on env t) = refl
-results_of (leaves t) = refl
-results_of (returns t) = refl
-results_of (fails t) = refl
-results_of (sticks t) = refl
+results_of f = refl
 
 calls_made : (f : Flow) → (outcome_of f).calls ≡ (trace_of f).calls
 calls_made (goes_on env t) = refl
-calls_made (leaves t) = refl
-calls_made (returns t) = refl
-calls_made (fails t) = refl
-calls_made (sticks t) = refl
+calls_made f = refl
 
 room : (n : ℕ) (f : Flow) → Under n f → length (trace_of f).results ≤ n
 room n (goes_on env t) u = below_at_most _ _ u
@@ -354,10 +348,9 @@ full_returns n (fails t) u h = absurd (omega (arith, u, h))
 full_returns n (sticks t) u h = absurd (omega (arith, u, h))
 
 all_taken : {X : Type 0} (n : ℕ) (xs : List X) → length xs ≤ n → xs ≡ take n xs
-all_taken zero [] h = refl
 all_taken zero (x ∷ xs) h = absurd (omega (arith, h))
-all_taken (suc n) [] h = refl
 all_taken (suc n) (x ∷ xs) h = ap (λ l. x ∷ l) (all_taken n xs (omega (arith, h)))
+all_taken n xs h = refl
 
 outcomes_cut : (n : ℕ) (f g : Flow) → Cut n f g → IsCut n (outcome_of f) (outcome_of g)
 outcomes_cut n f g (inl e) =

@@ -9,16 +9,8 @@ use Rattle.model_code.specs.Moves.{other, fresh_after, block_takes, statement_ta
 use Rattle.model_code.proofs.FlatScopes.{later_flat}
 
 fresh_flat : (s : Statement) (deep : ℕ → Bool) (n : ℕ) (fresh : List ℕ) → fresh_after fresh s ≡ fresh_after fresh (flat_at s deep n)
-fresh_flat (bind v e) deep n fresh = refl
-fresh_flat (bind_some v u) deep n fresh = refl
-fresh_flat no_way deep n fresh = refl
-fresh_flat (match_on u arms) deep n fresh = refl
-fresh_flat (if_equal a b body) deep n fresh = refl
-fresh_flat (for_each_of v from body) deep n fresh = refl
-fresh_flat (give at u) deep n fresh = refl
-fresh_flat (labelled body) deep n fresh = refl
 fresh_flat (unless_let u pattern fields) deep n fresh = refl
-fresh_flat (unless_equal a b) deep n fresh = refl
+fresh_flat s deep n fresh = refl
 
 module _ (taken : ℕ → Bool) where
   within_takes : (deep : Bool) (inner plain : Block) → block_takes taken [] inner ≡ true → block_takes taken [] plain ≡ true → block_takes taken [] (within deep inner plain) ≡ true

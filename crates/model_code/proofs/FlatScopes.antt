@@ -8,16 +8,8 @@ use Rattle.model_code.specs.Scopes.{knows, scope_after, unless_ended, block_scop
 
 -- what follows a statement, where it stays as it is but for labels within
 after_flat : (s : Statement) (deep : ℕ → Bool) (n : ℕ) (scope : List ℕ) → scope_after scope s ≡ scope_after scope (flat_at s deep n)
-after_flat (bind v e) deep n scope = refl
-after_flat (bind_some v u) deep n scope = refl
-after_flat no_way deep n scope = refl
-after_flat (match_on u arms) deep n scope = refl
-after_flat (if_equal a b body) deep n scope = refl
-after_flat (for_each_of v from body) deep n scope = refl
-after_flat (give at u) deep n scope = refl
-after_flat (labelled body) deep n scope = refl
 after_flat (unless_let u pattern fields) deep n scope = refl
-after_flat (unless_equal a b) deep n scope = refl
+after_flat s deep n scope = refl
 
 pub later_flat : (s : Statement) (deep : ℕ → Bool) (n : ℕ) (x y : Bool) → (x ≡ true → y ≡ true) → unless_ended s x ≡ true → unless_ended (flat_at s deep n) y ≡ true
 later_flat (bind v e) deep n x y h k = h k

@@ -1,7 +1,7 @@
 -- Code with labels can be written where the code without can.
 use Rattle.std.proofs.Common.{◌≡◌, ◌&&◌, ℕ, suc, Bool, true, false, refl, sym}
 use Rattle.std.proofs.lemmas.Bool.{and_parts, and_from, or_parts, false≢true}
-use Rattle.model_code.specs.Code.{PlaceUse, Block, no_statement, statement, Statement, bind, bind_some, no_way, match_on, if_equal, for_each_of, give, labelled, unless_let, unless_equal, CodeArms, no_code_arm, code_arm}
+use Rattle.model_code.specs.Code.{PlaceUse, Block, no_statement, statement, Statement, bind, match_on, if_equal, for_each_of, give, labelled, unless_let, unless_equal, CodeArms, no_code_arm, code_arm}
 use Rattle.model_code.specs.Flat.{unlabelled, unlabelled_at, unlabelled_arms, within, flat, flat_at, flat_arms, leaving, leaving_last, leaving_match}
 use Rattle.model_code.specs.Notation.{Notation}
 use Rattle.model_code.specs.Pieces.{is_left, leaves_at, leaves_arms, result_ends, is_end, unless_end}
@@ -31,9 +31,7 @@ module _ (p : Notation) where
     without_label_at (unless_let u pattern fields) l h = absurd (false≢true (sym l))
     without_label_at (unless_equal a b) l h = absurd (false≢true (sym l))
     without_label_at (bind v e) l h = h
-    without_label_at (bind_some v u) l h = refl
-    without_label_at no_way l h = refl
-    without_label_at (give place u) l h = refl
+    without_label_at s l h = refl
 
     without_label_arms : (arms : CodeArms) (u : PlaceUse) → leaves_arms (result_ends p) arms ≡ false → writable_arms p true u arms ≡ true → writable_arms p false u arms ≡ true
     without_label_arms no_code_arm u l h = refl
@@ -52,8 +50,6 @@ module _ (p : Notation) where
   within_writable false label inner plain h k = with_label p plain label k
 
   unlabelled_end : (s : Statement) (deep : ℕ → Bool) (n : ℕ) → is_end (result_ends p) (flat_at s deep n) ≡ is_end (result_ends p) s
-  unlabelled_end (match_on u arms) deep n = refl
-  unlabelled_end (if_equal a b body) deep n = refl
   unlabelled_end (for_each_of v from body) deep n = refl
   unlabelled_end s deep n = refl
 
@@ -81,15 +77,13 @@ module _ (p : Notation) where
 
       flat_back_at : (s : Statement) (n : ℕ) (label : Bool) → unlabelled_at s ≡ true → writable_at p false s ≡ true → writable_at p label (flat_at s deep n) ≡ true
       flat_back_at (bind v e) n label u h = h
-      flat_back_at (bind_some v x) n label u h = refl
-      flat_back_at no_way n label u h = refl
       flat_back_at (match_on x arms) n label u h = flat_back_arms arms n label x u h
       flat_back_at (if_equal a b body) n label u h = within_writable (deep n) label (leaving body deep (suc n)) (flat body deep (suc n)) (leaving_back body (suc n) u h) (flat_back body (suc n) false u h)
       flat_back_at (for_each_of v from body) n label u h = within_writable (deep n) label (leaving body deep (suc n)) (flat body deep (suc n)) (leaving_back body (suc n) u h) (flat_back body (suc n) false u h)
-      flat_back_at (give at x) n label u h = refl
       flat_back_at (labelled body) n label u h = absurd (false≢true u)
       flat_back_at (unless_let x pattern fields) n label u h = absurd (false≢true u)
       flat_back_at (unless_equal a b) n label u h = absurd (false≢true u)
+      flat_back_at s n label u h = refl
 
       flat_back_arms : (arms : CodeArms) (n : ℕ) (label : Bool) (x : PlaceUse) → unlabelled_arms arms ≡ true → writable_arms p false x arms ≡ true → writable_arms p label x (flat_arms arms deep n) ≡ true
       flat_back_arms no_code_arm n label x u h = refl
@@ -112,8 +106,6 @@ module _ (p : Notation) where
 
       leaving_last_back : (s : Statement) (n : ℕ) → unlabelled_at s ≡ true → writable_at p false s ≡ true → writable p true (leaving_last s deep n) ≡ true
       leaving_last_back (bind v e) n u h = and_from _ _ h refl
-      leaving_last_back (bind_some v x) n u h = refl
-      leaving_last_back no_way n u h = refl
       leaving_last_back (match_on x arms) n u h = leaving_match_back x arms n u h
       leaving_last_back (if_equal a b body) n u h = leaving_back body n u h
       leaving_last_back (for_each_of v from body) n u h =
@@ -122,6 +114,7 @@ module _ (p : Notation) where
       leaving_last_back (labelled body) n u h = absurd (false≢true u)
       leaving_last_back (unless_let x pattern fields) n u h = absurd (false≢true u)
       leaving_last_back (unless_equal a b) n u h = absurd (false≢true u)
+      leaving_last_back s n u h = refl
 
       leaving_match_back : (x : PlaceUse) (arms : CodeArms) (n : ℕ) → unlabelled_arms arms ≡ true → writable_arms p false x arms ≡ true → writable p true (leaving_match x arms deep n) ≡ true
       leaving_match_back x no_code_arm n u h = refl

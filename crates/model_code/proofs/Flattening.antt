@@ -2,10 +2,10 @@
 use Rattle.std.proofs.Common.{◌≡◌, ℕ, suc, Bool, true, false, if◌then◌else◌, List, [], ◌∷◌, length, Option, Some, None, refl, sym, ap, ◌∙◌}
 use Rattle.std.proofs.lemmas.Bool.{false≢true}
 use Rattle.model.specs.rules.Values.{Value, value_eq}
-use Rattle.model.specs.rules.Meaning.{Content, one, parts, nothing, just, many, contents}
-use Rattle.model.specs.trees.Run.{World, Env, bound_to, Bound, all_bound, unwrap_failed, no_content_there, unwrapped, Trace, content_fields, bind_fields}
+use Rattle.model.specs.rules.Meaning.{Content, many, contents}
+use Rattle.model.specs.trees.Run.{World, Env, bound_to, Bound, no_content_there, unwrapped, Trace, content_fields, bind_fields}
 use Rattle.model_code.specs.Code.{PlaceUse, Block, no_statement, statement, Statement, bind, bind_some, no_way, match_on, if_equal, for_each_of, give, labelled, unless_let, unless_equal, CodeArms, no_code_arm, code_arm}
-use Rattle.model_code.specs.CodeRuns.{held, held_value, bind_expr, Flow, goes_on, leaves, returns, fails, sticks, then_flow, in_braces, in_label, flow_of_bound, is_full, with_result, give_content, with_bindings, where_met, on_content, where_equal, each_flow, on_answers, run_block, run_statement, run_code_arms}
+use Rattle.model_code.specs.CodeRuns.{held, held_value, bind_expr, Flow, goes_on, leaves, returns, then_flow, in_braces, in_label, flow_of_bound, is_full, with_result, give_content, with_bindings, where_met, on_content, where_equal, each_flow, on_answers, run_block, run_statement, run_code_arms}
 use Rattle.model_code.specs.Flat.{unlabelled, unlabelled_at, unlabelled_arms, within, flat, flat_at, flat_arms, leaving, leaving_last, leaving_match, FlatRunsSame}
 use Rattle.model_code.proofs.Opening.{past_braces, alone, past_then, met_opens, content_opens, equal_opens}
 use Rattle.model_code.proofs.CodeRunning.{left_of, right_of}
@@ -18,21 +18,15 @@ Stays f = Unit {0}
 stays_then : (f : Flow) (go : Env → Trace → Flow) → Stays f → ((env : Env) (t : Trace) → Stays (go env t)) → Stays (then_flow f go)
 stays_then (goes_on env t) go s h = h env t
 stays_then (leaves t) go s h = absurd s
-stays_then (returns t) go s h = tt
-stays_then (fails t) go s h = tt
-stays_then (sticks t) go s h = tt
+stays_then f go s h = tt
 
 stays_in_braces : (env : Env) (f : Flow) → Stays f → Stays (in_braces env f)
-stays_in_braces env (goes_on env' t) s = tt
 stays_in_braces env (leaves t) s = absurd s
-stays_in_braces env (returns t) s = tt
-stays_in_braces env (fails t) s = tt
-stays_in_braces env (sticks t) s = tt
+stays_in_braces env f s = tt
 
 stays_bound : (b : Bound) (t : Trace) → Stays (flow_of_bound b t)
-stays_bound (all_bound env calls) t = tt
-stays_bound (unwrap_failed calls) t = tt
 stays_bound (no_content_there calls) t = tt
+stays_bound b t = tt
 
 stays_content : (o : Option Content) (t : Trace) (go : Content → Flow) → ((c : Content) → Stays (go c)) → Stays (on_content o t go)
 stays_content None t go h = tt
@@ -51,40 +45,28 @@ stays_if true f g h k = h
 stays_if false f g h k = k
 
 stays_equal : (a b : Option Value) (t : Trace) (f g : Flow) → Stays f → Stays g → Stays (where_equal a b t f g)
-stays_equal None b t f g h k = tt
-stays_equal (Some v) None t f g h k = tt
 stays_equal (Some v) (Some x) t f g h k = stays_if (value_eq v x) f g h k
+stays_equal a b t f g h k = tt
 
 stays_each : (cs : List Content) (go : Content → Trace → Flow) (env : Env) → ((c : Content) (t : Trace) → Stays (go c t)) → (t : Trace) → Stays (each_flow cs go env t)
 stays_each [] go env h t = tt
 stays_each (c ∷ cs) go env h t = stays_then (in_braces env (go c t)) (λ env' t'. each_flow cs go env t') (stays_in_braces env (go c t) (h c t)) (λ env' t'. stays_each cs go env h t')
 
 stays_answers : (o : Option Content) (go : Content → Trace → Flow) (env : Env) (t : Trace) → ((c : Content) (t : Trace) → Stays (go c t)) → Stays (on_answers o go env t)
-stays_answers None go env t h = tt
-stays_answers (Some (one v)) go env t h = tt
-stays_answers (Some (parts vs)) go env t h = tt
-stays_answers (Some nothing) go env t h = tt
-stays_answers (Some (just c)) go env t h = tt
 stays_answers (Some (many cs)) go env t h = stays_each (contents cs) go env h t
+stays_answers o go env t h = tt
 
 stays_give : (o : Option Content) (multi : Bool) (most : Option ℕ) (env : Env) (t : Trace) → Stays (give_content o multi most env t)
-stays_give None multi most env t = tt
-stays_give (Some c) false most env t = tt
 stays_give (Some c) true most env t = stays_if (is_full most (length (with_result t c).results)) (returns (with_result t c)) (goes_on env (with_result t c)) tt tt
+stays_give o multi most env t = tt
 
 label_is_braces : (env : Env) (f : Flow) → Stays f → in_label env f ≡ in_braces env f
-label_is_braces env (goes_on env' t) s = refl
 label_is_braces env (leaves t) s = absurd s
-label_is_braces env (returns t) s = refl
-label_is_braces env (fails t) s = refl
-label_is_braces env (sticks t) s = refl
+label_is_braces env f s = refl
 
 braces_over_braces : (e env : Env) (f : Flow) → in_braces e (in_braces env f) ≡ in_braces e f
 braces_over_braces e env (goes_on env' t) = refl
-braces_over_braces e env (leaves t) = refl
-braces_over_braces e env (returns t) = refl
-braces_over_braces e env (fails t) = refl
-braces_over_braces e env (sticks t) = refl
+braces_over_braces e env f = refl
 
 -- 2. the same in braces
 pub same_content : (e : Env) (o : Option Content) (t : Trace) (go ho : Content → Flow) → ((c : Content) → in_braces e (go c) ≡ in_braces e (ho c)) → in_braces e (on_content o t go) ≡ in_braces e (on_content o t ho)
@@ -105,16 +87,12 @@ same_if e true f g x h = h
 same_if e false f g x h = refl
 
 pub same_equal : (e : Env) (a b : Option Value) (t : Trace) (f g x : Flow) → in_braces e f ≡ in_braces e g → in_braces e (where_equal a b t f x) ≡ in_braces e (where_equal a b t g x)
-same_equal e None b t f g x h = refl
-same_equal e (Some v) None t f g x h = refl
 same_equal e (Some v) (Some y) t f g x h = same_if e (value_eq v y) f g x h
+same_equal e a b t f g x h = refl
 
 same_then : (f : Flow) (go ho : Env → Trace → Flow) → ((env : Env) (t : Trace) → go env t ≡ ho env t) → then_flow f go ≡ then_flow f ho
 same_then (goes_on env t) go ho h = h env t
-same_then (leaves t) go ho h = refl
-same_then (returns t) go ho h = refl
-same_then (fails t) go ho h = refl
-same_then (sticks t) go ho h = refl
+same_then f go ho h = refl
 
 same_each : (cs : List Content) (go ho : Content → Trace → Flow) (env : Env) → ((c : Content) (t : Trace) → in_braces env (go c t) ≡ in_braces env (ho c t)) → (t : Trace) → each_flow cs go env t ≡ each_flow cs ho env t
 same_each [] go ho env h t = refl
@@ -123,12 +101,8 @@ same_each (c ∷ cs) go ho env h t =
     ∙ same_then (in_braces env (ho c t)) (λ env' t'. each_flow cs go env t') (λ env' t'. each_flow cs ho env t') (λ env' t'. same_each cs go ho env h t')
 
 pub same_answers : (o : Option Content) (go ho : Content → Trace → Flow) (env : Env) (t : Trace) → ((c : Content) (t : Trace) → in_braces env (go c t) ≡ in_braces env (ho c t)) → on_answers o go env t ≡ on_answers o ho env t
-same_answers None go ho env t h = refl
-same_answers (Some (one v)) go ho env t h = refl
-same_answers (Some (parts vs)) go ho env t h = refl
-same_answers (Some nothing) go ho env t h = refl
-same_answers (Some (just c)) go ho env t h = refl
 same_answers (Some (many cs)) go ho env t h = same_each (contents cs) go ho env h t
+same_answers o go ho env t h = refl
 
 module _ (w : World) (most : Option ℕ) where
   mutual
@@ -172,9 +146,6 @@ module _ (w : World) (most : Option ℕ) where
           ∙ same_then (run_statement s w most env t) (run_block (flat rest deep n) w most) (run_block rest w most) (flat_same rest (right_of _ _ h) n)
 
       flat_at_same : (s : Statement) → unlabelled_at s ≡ true → (n : ℕ) (env : Env) (t : Trace) → run_statement (flat_at s deep n) w most env t ≡ run_statement s w most env t
-      flat_at_same (bind v x) h n env t = refl
-      flat_at_same (bind_some v u) h n env t = refl
-      flat_at_same no_way h n env t = refl
       flat_at_same (match_on u arms) h n env t =
           same_content env (held w env u.place) t (λ c. run_code_arms (flat_arms arms deep n) w most c env t) (λ c. run_code_arms arms w most c env t) (λ c. flat_arms_same arms h n env c env t)
       flat_at_same (if_equal a b body) h n env t =
@@ -183,10 +154,7 @@ module _ (w : World) (most : Option ℕ) where
       flat_at_same (for_each_of v from body) h n env t =
           same_answers (bound_to env from) (λ c t'. run_block (within (deep n) (leaving body deep (suc n)) (flat body deep (suc n))) w most ((v, c) ∷ env) t') (λ c t'. run_block body w most ((v, c) ∷ env) t') env t
           (λ c t'. body_same (deep n) env (leaving body deep (suc n)) (flat body deep (suc n)) body ((v, c) ∷ env) t' (stays body h ((v, c) ∷ env) t') (leaving_same body h (suc n) ((v, c) ∷ env) ((v, c) ∷ env) t') (flat_same body h (suc n) ((v, c) ∷ env) t'))
-      flat_at_same (give at u) h n env t = refl
-      flat_at_same (labelled body) h n env t = refl
-      flat_at_same (unless_let u pattern fields) h n env t = refl
-      flat_at_same (unless_equal a b) h n env t = refl
+      flat_at_same s h n env t = refl
 
       flat_arms_same : (arms : CodeArms) → unlabelled_arms arms ≡ true → (n : ℕ) (e : Env) (c : Content) (env : Env) (t : Trace)
           → in_braces e (run_code_arms (flat_arms arms deep n) w most c env t) ≡ in_braces e (run_code_arms arms w most c env t)

@@ -1,11 +1,12 @@
 -- The text of pieces has the words and marks of their tokens.
 use Rattle.std.proofs.Common.{◌≡◌, ◌≢◌, ◌<◌, ◌*◌, ◌/◌, ◌%◌, ◌++◌, ◌&&◌, ◌||◌, ◌==◌, ◌∷◌, [], ℕ, zero, suc, Bool, true, false, not, List, replicate, All, cond, refl, ap, ◌∙◌, sym, codes, decimal, eqb-true, arith}
+use Rattle.std.proofs.lemmas.Grind.{common_steps}
 use Rattle.std.specs.Prelude.{min}
 use Rattle.std.specs.Fmt.{digits, digits_onto, digit_glyph}
 use Rattle.std.proofs.lemmas.Bool.{and_parts, and_from, false≢true, not-true, ne_eqb}
 use Rattle.std.proofs.lemmas.List.{append_assoc, append-nil}
 use Rattle.std.proofs.lemmas.List.Elements.{All-nil, All-cons, All-head, All-tail, All-append}
-use Rattle.model_code.specs.Tokens.{Word, let_word, mut_word, ref_word, if_word, else_word, match_word, while_word, return_word, break_word, some_word, none_word, true_word, false_word, ctx_word, returns_word, extend_word, len_word, most_word, clone_word, iter_word, next_word, unreachable_word, opening, closing, opening_brace, closing_brace, comma, colon, semicolon, dot, two_dots, underscore, arrow, equals, equal_to, unlike, at_least, ampersand, star, Token, word, variable_name, parameter_name, part_name, number, constant_name, owner_name, field_name, function_name, list_name, label_name, no_match}
+use Rattle.model_code.specs.Tokens.{Word, let_word, mut_word, ref_word, if_word, else_word, match_word, while_word, return_word, break_word, some_word, none_word, true_word, false_word, ctx_word, returns_word, extend_word, len_word, most_word, clone_word, iter_word, next_word, unreachable_word, colon, dot, underscore, equals, Token, word, variable_name, parameter_name, part_name, number, constant_name, owner_name, field_name, function_name, list_name, label_name, no_match}
 use Rattle.model_code.specs.Pieces.{CodePiece, token, space, set_in, line_end, rule_comment, log_line}
 use Rattle.model_code.specs.Written.{function_body}
 use Rattle.model_code.specs.Spelling.{Names, word_text, token_text, spelled, deepest}
@@ -67,23 +68,8 @@ label_word ds h rest r = label_read ds rest h r ∙ ap (λ xs. xs ++ lexed rest)
 
 -- 2. numbers
 digit_letter : (d : ℕ) → d < 16 → is_letter (digit_glyph false d) ≡ true
-digit_letter zero h = refl
-digit_letter (suc zero) h = refl
-digit_letter (suc (suc zero)) h = refl
-digit_letter (suc (suc (suc zero))) h = refl
-digit_letter (suc (suc (suc (suc zero)))) h = refl
-digit_letter (suc (suc (suc (suc (suc zero))))) h = refl
-digit_letter (suc (suc (suc (suc (suc (suc zero)))))) h = refl
-digit_letter (suc (suc (suc (suc (suc (suc (suc zero))))))) h = refl
-digit_letter (suc (suc (suc (suc (suc (suc (suc (suc zero)))))))) h = refl
-digit_letter (suc (suc (suc (suc (suc (suc (suc (suc (suc zero))))))))) h = refl
-digit_letter (suc (suc (suc (suc (suc (suc (suc (suc (suc (suc zero)))))))))) h = refl
-digit_letter (suc (suc (suc (suc (suc (suc (suc (suc (suc (suc (suc zero))))))))))) h = refl
-digit_letter (suc (suc (suc (suc (suc (suc (suc (suc (suc (suc (suc (suc zero)))))))))))) h = refl
-digit_letter (suc (suc (suc (suc (suc (suc (suc (suc (suc (suc (suc (suc (suc zero))))))))))))) h = refl
-digit_letter (suc (suc (suc (suc (suc (suc (suc (suc (suc (suc (suc (suc (suc (suc zero)))))))))))))) h = refl
-digit_letter (suc (suc (suc (suc (suc (suc (suc (suc (suc (suc (suc (suc (suc (suc (suc zero))))))))))))))) h = refl
 digit_letter (suc (suc (suc (suc (suc (suc (suc (suc (suc (suc (suc (suc (suc (suc (suc (suc d)))))))))))))))) h = absurd (omega arith)
+digit_letter d h = refl
 
 either_letters : (b : Bool) (x y : List ℕ) → all_letters x ≡ true → all_letters y ≡ true → all_letters (cond b x y) ≡ true
 either_letters true x y h k = h
@@ -211,19 +197,7 @@ word_token equals rest r = open_mark 61 (λ rest. refl) rest r
 word_token dot rest r = open_mark 46 (λ rest. refl) rest r
 word_token colon rest r = open_mark 58 (λ rest. refl) rest r
 word_token unreachable_word rest r = ap (λ xs. codes "unreachable" ∷ xs) (mark_stops 33 rest r)
-word_token opening rest r = refl
-word_token closing rest r = refl
-word_token opening_brace rest r = refl
-word_token closing_brace rest r = refl
-word_token comma rest r = refl
-word_token semicolon rest r = refl
-word_token two_dots rest r = refl
-word_token arrow rest r = refl
-word_token equal_to rest r = refl
-word_token unlike rest r = refl
-word_token at_least rest r = refl
-word_token ampersand rest r = refl
-word_token star rest r = refl
+word_token w rest r = refl
 
 -- `.1`
 part_read : (ds rest : List ℕ) → begins_letter ds ≡ true → lexed (46 ∷ (ds ++ rest)) ≡ (46 ∷ []) ∷ lexed (ds ++ rest)
@@ -241,28 +215,20 @@ letter_apart a_field text rest h m = absurd (false≢true m)
 letter_apart an_open_mark text rest h m = letter_ends_mark text h rest
 
 end_apart : (behind : Behind) → goes_apart behind [] ≡ true
-end_apart nothing = refl
-end_apart a_name = refl
-end_apart a_field = refl
 end_apart an_open_mark = refl
+end_apart behind = refl
 
 blank_apart : (behind : Behind) (rest : List ℕ) → goes_apart behind (32 ∷ rest) ≡ true
-blank_apart nothing rest = refl
-blank_apart a_name rest = refl
-blank_apart a_field rest = refl
 blank_apart an_open_mark rest = refl
+blank_apart behind rest = refl
 
 line_apart : (behind : Behind) (rest : List ℕ) → goes_apart behind (10 ∷ rest) ≡ true
-line_apart nothing rest = refl
-line_apart a_name rest = refl
-line_apart a_field rest = refl
 line_apart an_open_mark rest = refl
+line_apart behind rest = refl
 
 slash_apart : (behind : Behind) (rest : List ℕ) → goes_apart behind (47 ∷ rest) ≡ true
-slash_apart nothing rest = refl
-slash_apart a_name rest = refl
-slash_apart a_field rest = refl
 slash_apart an_open_mark rest = refl
+slash_apart behind rest = refl
 
 log_apart : (behind : Behind) (rest : List ℕ) → is_nothing behind ≡ true → goes_apart behind rest ≡ true
 log_apart nothing rest h = refl
@@ -335,70 +301,7 @@ module _ (names : Names) (whole : AreWhole names) where
   mark_apart next_word rest behind m = letter_apart behind (word_text next_word) rest refl m
   mark_apart unreachable_word rest behind m = letter_apart behind (word_text unreachable_word) rest refl m
   mark_apart underscore rest behind m = letter_apart behind (word_text underscore) rest refl m
-  mark_apart dot rest nothing m = refl
-  mark_apart dot rest a_name m = refl
-  mark_apart dot rest a_field m = refl
-  mark_apart dot rest an_open_mark m = absurd (false≢true m)
-  mark_apart two_dots rest nothing m = refl
-  mark_apart two_dots rest a_name m = refl
-  mark_apart two_dots rest a_field m = refl
-  mark_apart two_dots rest an_open_mark m = absurd (false≢true m)
-  mark_apart colon rest nothing m = refl
-  mark_apart colon rest a_name m = absurd (false≢true m)
-  mark_apart colon rest a_field m = refl
-  mark_apart colon rest an_open_mark m = absurd (false≢true m)
-  mark_apart arrow rest nothing m = refl
-  mark_apart arrow rest a_name m = absurd (false≢true m)
-  mark_apart arrow rest a_field m = refl
-  mark_apart arrow rest an_open_mark m = absurd (false≢true m)
-  mark_apart equals rest nothing m = refl
-  mark_apart equals rest a_name m = absurd (false≢true m)
-  mark_apart equals rest a_field m = refl
-  mark_apart equals rest an_open_mark m = absurd (false≢true m)
-  mark_apart equal_to rest nothing m = refl
-  mark_apart equal_to rest a_name m = absurd (false≢true m)
-  mark_apart equal_to rest a_field m = refl
-  mark_apart equal_to rest an_open_mark m = absurd (false≢true m)
-  mark_apart at_least rest nothing m = refl
-  mark_apart at_least rest a_name m = absurd (false≢true m)
-  mark_apart at_least rest a_field m = refl
-  mark_apart at_least rest an_open_mark m = absurd (false≢true m)
-  mark_apart opening rest nothing m = refl
-  mark_apart opening rest a_name m = refl
-  mark_apart opening rest a_field m = refl
-  mark_apart opening rest an_open_mark m = refl
-  mark_apart closing rest nothing m = refl
-  mark_apart closing rest a_name m = refl
-  mark_apart closing rest a_field m = refl
-  mark_apart closing rest an_open_mark m = refl
-  mark_apart opening_brace rest nothing m = refl
-  mark_apart opening_brace rest a_name m = refl
-  mark_apart opening_brace rest a_field m = refl
-  mark_apart opening_brace rest an_open_mark m = refl
-  mark_apart closing_brace rest nothing m = refl
-  mark_apart closing_brace rest a_name m = refl
-  mark_apart closing_brace rest a_field m = refl
-  mark_apart closing_brace rest an_open_mark m = refl
-  mark_apart comma rest nothing m = refl
-  mark_apart comma rest a_name m = refl
-  mark_apart comma rest a_field m = refl
-  mark_apart comma rest an_open_mark m = refl
-  mark_apart semicolon rest nothing m = refl
-  mark_apart semicolon rest a_name m = refl
-  mark_apart semicolon rest a_field m = refl
-  mark_apart semicolon rest an_open_mark m = refl
-  mark_apart unlike rest nothing m = refl
-  mark_apart unlike rest a_name m = refl
-  mark_apart unlike rest a_field m = refl
-  mark_apart unlike rest an_open_mark m = refl
-  mark_apart ampersand rest nothing m = refl
-  mark_apart ampersand rest a_name m = refl
-  mark_apart ampersand rest a_field m = refl
-  mark_apart ampersand rest an_open_mark m = refl
-  mark_apart star rest nothing m = refl
-  mark_apart star rest a_name m = refl
-  mark_apart star rest a_field m = refl
-  mark_apart star rest an_open_mark m = refl
+  mark_apart w rest behind m = grind (arith, common_steps)
 
   any_apart : (behind : Behind) (text : List ℕ) → may_follow behind any_text ≡ true → goes_apart behind text ≡ true
   any_apart nothing text m = refl
@@ -407,10 +310,8 @@ module _ (names : Names) (whole : AreWhole names) where
   any_apart an_open_mark text m = absurd (false≢true m)
 
   dot_apart : (behind : Behind) (text : List ℕ) → may_follow behind a_dot ≡ true → goes_apart behind (46 ∷ text) ≡ true
-  dot_apart nothing text m = refl
-  dot_apart a_name text m = refl
-  dot_apart a_field text m = refl
   dot_apart an_open_mark text m = absurd (false≢true m)
+  dot_apart behind text m = refl
 
   token_apart : (t : Token) (rest : List ℕ) (behind : Behind) → may_follow behind (begins t) ≡ true → goes_apart behind (token_text names t ++ rest) ≡ true
   token_apart (word w) rest behind m = mark_apart w rest behind m
@@ -464,45 +365,8 @@ dot_and_word : (ds : List ℕ) → begins_letter ds ≡ true → all_letters ds 
 dot_and_word ds b h = ap (λ x. lexed (46 ∷ x)) (sym (append-nil ds)) ∙ (part_read ds [] b ∙ ap (λ x. (46 ∷ []) ∷ lexed x) (append-nil ds)) ∙ ap (λ xs. (46 ∷ []) ∷ xs) (one_word ds b h)
 
 own_word : (w : Word) → lexed (word_text w) ≡ words_of_word w
-own_word let_word = refl
-own_word mut_word = refl
-own_word ref_word = refl
-own_word if_word = refl
-own_word else_word = refl
-own_word match_word = refl
-own_word while_word = refl
-own_word return_word = refl
-own_word break_word = refl
-own_word some_word = refl
-own_word none_word = refl
-own_word true_word = refl
-own_word false_word = refl
-own_word ctx_word = refl
-own_word returns_word = refl
-own_word extend_word = refl
-own_word len_word = refl
-own_word most_word = refl
-own_word clone_word = refl
-own_word iter_word = refl
-own_word next_word = refl
 own_word unreachable_word = refl
-own_word opening = refl
-own_word closing = refl
-own_word opening_brace = refl
-own_word closing_brace = refl
-own_word comma = refl
-own_word colon = refl
-own_word semicolon = refl
-own_word dot = refl
-own_word two_dots = refl
-own_word underscore = refl
-own_word arrow = refl
-own_word equals = refl
-own_word equal_to = refl
-own_word unlike = refl
-own_word at_least = refl
-own_word ampersand = refl
-own_word star = refl
+own_word w = refl
 
 pub own_tokens_are_words_lem : OwnTokensAreWords
 own_tokens_are_words_lem = record {

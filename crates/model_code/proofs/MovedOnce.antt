@@ -1,11 +1,12 @@
 -- Code whose uses fit and whose loops take what was bound right before moves once.
-use Rattle.std.proofs.Common.{◌≡◌, ◌&&◌, ◌||◌, ◌++◌, ◌∷◌, ◌==◌, [], ℕ, suc, Bool, true, false, not, if◌then◌else◌, List, refl, sym, ap, ◌∙◌, inl, inr, eqb-true}
+use Rattle.std.proofs.Common.{◌≡◌, ◌&&◌, ◌||◌, ◌++◌, ◌∷◌, ◌==◌, [], ℕ, suc, Bool, true, false, not, if◌then◌else◌, List, refl, sym, ap, ◌∙◌, inl, inr, eqb-true, arith}
+use Rattle.std.proofs.lemmas.Grind.{common_steps}
 use Rattle.std.proofs.lemmas.Bool.{and_parts, and_from, cases_Bool, false≢true, not-true, true≢false}
 use Rattle.model.specs.sites.Sites.{Constraint, is_variant, is_struct, is_bool, is_int, is_prim, is_present}
 use Rattle.model.specs.trees.Places.{is_in, field_sites}
 use Rattle.model_code.specs.Code.{Place, variable, parameter, part_of, int_written, name_written, variant_written, struct_written, PlaceUse, Expr, truth_written, read, extraction, call, variant_of, struct_of, some_of, Block, no_statement, statement, Statement, bind, bind_some, no_way, match_on, if_equal, for_each_of, give, labelled, unless_let, unless_equal, CodeArms, no_code_arm, code_arm}
 use Rattle.model_code.specs.Scopes.{unless_ended}
-use Rattle.model_code.specs.Modes.{Types, Given, gives_reference, gives_value, gives_away, gives_sight, gives_nothing, given, is_value, fits_value, fits_parameter, fits_result, fits_equal, fits_pattern, fits_inside, fits_fields, fits_parameters, fit_values, expr_fits, block_fits, statement_fits, arms_fit}
+use Rattle.model_code.specs.Modes.{Types, Given, gives_away, given, is_value, fits_value, fits_parameter, fits_result, fits_equal, fits_pattern, fits_inside, fits_fields, fits_parameters, fit_values, expr_fits, block_fits, statement_fits, arms_fit}
 use Rattle.model_code.specs.Moves.{other, others, reads_other, fresh_after, block_takes, statement_takes, arms_take}
 use Rattle.model_code.specs.MovedOnce.{touches, any_touch, expr_reads, is_of, read_behind, block_reads, statement_reads, arms_read, is_away, may_move, moves_well, beside, all_move_well, expr_moves, without, unlooked, movable_after, behind, around_arms, read_no_more, block_moves, statement_moves, arms_move, FittingCodeMovesOnce}
 
@@ -19,45 +20,29 @@ and_false false b h = refl
 
 -- 1. what fits isn't given away
 kept_stays : (g : Given) → fits_value false g ≡ true → is_away g ≡ false
-kept_stays gives_reference h = refl
-kept_stays gives_value h = refl
 kept_stays gives_away h = absurd (false≢true h)
-kept_stays gives_sight h = refl
-kept_stays gives_nothing h = refl
+kept_stays g h = refl
 
 parameter_stays : (takes : Bool) (g : Given) → fits_parameter takes g ≡ true → is_away g ≡ false
-parameter_stays true gives_away h = absurd (false≢true h)
-parameter_stays true gives_reference h = refl
-parameter_stays true gives_value h = refl
-parameter_stays true gives_sight h = refl
-parameter_stays true gives_nothing h = refl
 parameter_stays false g h = kept_stays g h
+parameter_stays takes g h = grind (arith, common_steps)
 
 inside_stays : (types : Types) (g : Given) (v : ℕ) → fits_inside types g v ≡ true → is_away g ≡ false
-inside_stays types gives_reference v h = refl
-inside_stays types gives_value v h = refl
 inside_stays types gives_away v h = absurd (false≢true h)
-inside_stays types gives_sight v h = refl
-inside_stays types gives_nothing v h = refl
+inside_stays types g v h = refl
 
 pattern_stays : (c : Constraint) (g : Given) → fits_pattern c g ≡ true → is_away g ≡ false
-pattern_stays c gives_reference h = refl
-pattern_stays c gives_value h = refl
 pattern_stays (is_variant ty variant fields) gives_away h = absurd (false≢true h)
 pattern_stays (is_struct ty fields) gives_away h = absurd (false≢true h)
 pattern_stays (is_bool b ty) gives_away h = absurd (false≢true h)
 pattern_stays (is_int z ty) gives_away h = absurd (false≢true h)
 pattern_stays (is_prim name) gives_away h = absurd (false≢true h)
 pattern_stays is_present gives_away h = absurd (false≢true h)
-pattern_stays c gives_sight h = refl
-pattern_stays c gives_nothing h = refl
+pattern_stays c g h = refl
 
 result_stays : (g : Given) → fits_result true false g ≡ true → is_away g ≡ false
-result_stays gives_reference h = refl
-result_stays gives_value h = refl
 result_stays gives_away h = absurd (false≢true h)
-result_stays gives_sight h = refl
-result_stays gives_nothing h = refl
+result_stays g h = refl
 
 module _ (types : Types) where
   stays_well : (inside : List ℕ) (later : Place → Bool) (u : PlaceUse) → is_away (given types u) ≡ false → moves_well types inside later u ≡ true
@@ -92,11 +77,7 @@ module _ (taken : ℕ → Bool) (c : ℕ) (takes : taken c ≡ true) where
   untouched : (place : Place) → other taken place ≡ true → touches (variable c) place ≡ false
   untouched (variable v) h = apart v (not-true (taken v) h)
   untouched (part_of v i) h = apart v (not-true (taken v) h)
-  untouched (parameter i) h = refl
-  untouched (int_written z ty) h = refl
-  untouched (name_written name) h = refl
-  untouched (variant_written ty variant) h = refl
-  untouched (struct_written ty) h = refl
+  untouched place h = refl
 
   all_untouched : (us : List PlaceUse) → others taken us ≡ true → any_touch (variable c) us ≡ false
   all_untouched [] h = refl
@@ -236,7 +217,6 @@ module _ (types : Types) (multi : Bool) (taken : ℕ → Bool) where
         → unless_ended s (block_takes taken (fresh_after fresh s) rest) ≡ true → statement_moves types multi inside (behind s rest after) s ≡ true
     statement_well (bind v e) rest fresh inside after w n f h k = expr_well types inside (behind (bind v e) rest after) v e f
     statement_well (bind_some v u) rest fresh inside after w n f h k = stays_well types inside (behind (bind_some v u) rest after) u (inside_stays types (given types u) v f)
-    statement_well no_way rest fresh inside after w n f h k = refl
     statement_well (match_on u arms) rest fresh inside after w n f h k =
         arms_well arms (unlooked inside u.place) (behind (match_on u arms) rest after) (given types u) (moves_well types inside (around_arms arms (behind (match_on u arms) rest after)) u)
         (λ c t. or_false _ _ (quiet taken c t rest [] refl k) (n c t)) (stays_well types inside (around_arms arms (behind (match_on u arms) rest after)) u) f
@@ -262,7 +242,7 @@ module _ (types : Types) (multi : Bool) (taken : ℕ → Bool) where
     statement_well (unless_let u pattern fields) rest fresh inside after w n f h k =
         stays_well types inside (behind (unless_let u pattern fields) rest after) u
         (pattern_stays pattern (given types u) (and_parts (fits_pattern pattern (given types u)) (fits_fields types pattern (given types u) fields) f).0)
-    statement_well (unless_equal a b) rest fresh inside after w n f h k = refl
+    statement_well s rest fresh inside after w n f h k = refl
 
     arms_well : (arms : CodeArms) (inside : List ℕ) (later : Place → Bool) (g : Given) (well : Bool) → Unread later → (is_away g ≡ false → well ≡ true) → arms_fit types multi false g arms ≡ true → arms_take taken arms ≡ true
         → arms_move types multi inside later well arms ≡ true

@@ -2,7 +2,7 @@
 -- matched, and it ends no block.
 use Rattle.std.proofs.Common.{◌≡◌, ◌&&◌, ◌∷◌, ◌++◌, [], ℕ, suc, Bool, true, false, List, length, refl, ap, ◌∙◌}
 use Rattle.model.specs.trees.Places.{field_sites}
-use Rattle.model_code.specs.Code.{Place, PlaceUse, Expr, variant_of, struct_of, Block, no_statement, statement, Statement, bind, no_way, match_on, if_equal, for_each_of, give, labelled, CodeArms, no_code_arm, code_arm}
+use Rattle.model_code.specs.Code.{Place, PlaceUse, Expr, variant_of, struct_of, Block, no_statement, statement, Statement, bind, match_on, if_equal, for_each_of, give, labelled, CodeArms, no_code_arm, code_arm}
 use Rattle.model_code.specs.Modes.{Types}
 use Rattle.model_code.specs.MovedOnce.{unlooked, movable_after, behind, read_no_more}
 use Rattle.model_code.specs.Saving.{all_saved, saved_expr, saved, saved_at, saved_arms}
@@ -17,7 +17,6 @@ both e h = λ i. e i && h i
 module _ (types : Types) (p : Notation) where
   -- 1. statements end as before, and tests leave labels as before
   ends_same : (s : Statement) (ends : Bool) (inside : List ℕ) (later : Place → Bool) → is_end ends (saved_at types inside later s) ≡ is_end ends s
-  ends_same no_way ends inside later = refl
   ends_same (give at u) ends inside later = refl
   ends_same s ends inside later = refl
 

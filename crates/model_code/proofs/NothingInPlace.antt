@@ -3,7 +3,7 @@ use Rattle.std.proofs.Common.{◌≡◌, ◌⊎◌, inl, inr, ℕ, zero, suc, �
 use Rattle.std.specs.List.{filter}
 use Rattle.std.proofs.lemmas.Bool.{false≢true, cases_Bool, cond-true, cond-false, and_from}
 use Rattle.std.proofs.lemmas.Option.{none-some, same_Some}
-use Rattle.model.specs.sites.Sites.{Site, bool_site, int_site, prim_site, argument_site, extractor_site, constructor_site, iterator_site, make_variant_site, match_variant_site, make_struct_site, extract_struct_site, make_some_site, match_some_site, match_tuple_site, Constraint, is_variant, is_struct, is_bool, is_int, is_prim, is_present, SetRule, SiteSet}
+use Rattle.model.specs.sites.Sites.{Site, int_site, prim_site, argument_site, make_variant_site, make_struct_site, match_tuple_site, Constraint, is_variant, is_struct, is_present, SetRule, SiteSet}
 use Rattle.model.specs.trees.Trees.{Marked, m_no_step, m_step, MarkedCheck, m_match, m_equal, m_loop, m_return, MarkedArms, m_no_arm, m_arm, plain, plain_check, plain_arms, return_of}
 use Rattle.model.specs.trees.Places.{Around, nothing_around, is_in_place, each_after, listed_below, uses, is_variant_field, is_struct_field, is_part_of, site_from, each_field, fields_of, in_arm, in_equal, in_loop, after_step}
 use Rattle.model.specs.trees.Sound.{is_return}
@@ -30,58 +30,31 @@ module _ (p : Site → Bool) (out : (b : Site) → p b ≡ true → is_in_place 
       ap (λ b. if b then false else true) (ap (λ y. is_in_place (slice_get sites y)) same ∙ r.2)
 
 variant_outside : (s v i : ℕ) (b : Site) → is_variant_field s v i b ≡ true → is_in_place (Some b) ≡ false
-variant_outside s v i (bool_site b ty) h = refl
 variant_outside s v i (int_site z ty) h = absurd (false≢true h)
 variant_outside s v i (prim_site name) h = absurd (false≢true h)
 variant_outside s v i (argument_site i') h = absurd (false≢true h)
-variant_outside s v i (extractor_site term source) h = refl
-variant_outside s v i (constructor_site term sources instance) h = refl
-variant_outside s v i (iterator_site source) h = refl
 variant_outside s v i (make_variant_site ty variant []) h = absurd (false≢true h)
-variant_outside s v i (make_variant_site ty variant (g ∷ gs)) h = refl
-variant_outside s v i (match_variant_site source variant field) h = refl
 variant_outside s v i (make_struct_site ty []) h = absurd (false≢true h)
-variant_outside s v i (make_struct_site ty (g ∷ gs)) h = refl
-variant_outside s v i (extract_struct_site source field) h = refl
-variant_outside s v i (make_some_site source) h = refl
-variant_outside s v i (match_some_site source) h = refl
 variant_outside s v i (match_tuple_site source field) h = absurd (false≢true h)
+variant_outside s v i b h = refl
 
 struct_outside : (s i : ℕ) (b : Site) → is_struct_field s i b ≡ true → is_in_place (Some b) ≡ false
-struct_outside s i (bool_site b ty) h = refl
 struct_outside s i (int_site z ty) h = absurd (false≢true h)
 struct_outside s i (prim_site name) h = absurd (false≢true h)
 struct_outside s i (argument_site i') h = absurd (false≢true h)
-struct_outside s i (extractor_site term source) h = refl
-struct_outside s i (constructor_site term sources instance) h = refl
-struct_outside s i (iterator_site source) h = refl
 struct_outside s i (make_variant_site ty variant []) h = absurd (false≢true h)
-struct_outside s i (make_variant_site ty variant (g ∷ gs)) h = refl
-struct_outside s i (match_variant_site source variant field) h = refl
 struct_outside s i (make_struct_site ty []) h = absurd (false≢true h)
-struct_outside s i (make_struct_site ty (g ∷ gs)) h = refl
-struct_outside s i (extract_struct_site source field) h = refl
-struct_outside s i (make_some_site source) h = refl
-struct_outside s i (match_some_site source) h = refl
 struct_outside s i (match_tuple_site source field) h = absurd (false≢true h)
+struct_outside s i b h = refl
 
 part_outside : (s : ℕ) (b : Site) → is_part_of s b ≡ true → is_in_place (Some b) ≡ false
-part_outside s (bool_site b ty) h = refl
 part_outside s (int_site z ty) h = absurd (false≢true h)
 part_outside s (prim_site name) h = absurd (false≢true h)
 part_outside s (argument_site i') h = absurd (false≢true h)
-part_outside s (extractor_site term source) h = refl
-part_outside s (constructor_site term sources instance) h = refl
-part_outside s (iterator_site source) h = refl
 part_outside s (make_variant_site ty variant []) h = absurd (false≢true h)
-part_outside s (make_variant_site ty variant (g ∷ gs)) h = refl
-part_outside s (match_variant_site source variant field) h = refl
 part_outside s (make_struct_site ty []) h = absurd (false≢true h)
-part_outside s (make_struct_site ty (g ∷ gs)) h = refl
-part_outside s (extract_struct_site source field) h = refl
-part_outside s (make_some_site source) h = refl
-part_outside s (match_some_site source) h = refl
 part_outside s (match_tuple_site source field) h = absurd (false≢true h)
+part_outside s b h = refl
 
 field_outside : (sites : List Site) (o : Option ℕ) (rest : List (Option ℕ)) → ((x : ℕ) → o ≡ Some x → not_in_place sites x ≡ true) → no_field_in_place sites rest ≡ true → no_field_in_place sites (o ∷ rest) ≡ true
 field_outside sites None rest h k = k
@@ -94,10 +67,8 @@ each_outside p out sites i (suc n) = field_outside sites (site_from 0 (p i) site
 fields_outside : (sites : List Site) (s : ℕ) (c : Constraint) → no_field_in_place sites (fields_of sites s c) ≡ true
 fields_outside sites s (is_variant ty variant fields) = each_outside (is_variant_field s variant) (variant_outside s variant) sites 0 fields
 fields_outside sites s (is_struct ty fields) = each_outside (is_struct_field s) (struct_outside s) sites 0 fields
-fields_outside sites s (is_bool b ty) = refl
-fields_outside sites s (is_int z ty) = refl
-fields_outside sites s (is_prim name) = refl
 fields_outside sites s is_present = field_outside sites (site_from 0 (is_part_of s) sites) [] (site_outside (is_part_of s) (part_outside s) sites) refl
+fields_outside sites s c = refl
 
 -- 2. bind orders
 left_out : (sites : List Site) (xs : List ℕ) → none_in_place sites (filter (λ s. not (is_in_place (slice_get sites s))) xs) ≡ true

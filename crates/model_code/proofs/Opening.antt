@@ -9,10 +9,7 @@ use Rattle.model_code.specs.Labels.{opened, opened_last, opened_match, OpenedRun
 
 pub past_braces : (e env : Env) (f : Flow) → in_label e (in_braces env f) ≡ in_label e f
 past_braces e env (goes_on env' t) = refl
-past_braces e env (leaves t) = refl
-past_braces e env (returns t) = refl
-past_braces e env (fails t) = refl
-past_braces e env (sticks t) = refl
+past_braces e env f = refl
 
 -- a statement alone in a block
 pub alone : (f : Flow) → then_flow f goes_on ≡ f
@@ -24,10 +21,7 @@ alone (sticks t) = refl
 
 pub past_then : (e : Env) (f : Flow) (go ho : Env → Trace → Flow) → ((env : Env) (t : Trace) → in_label e (go env t) ≡ in_label e (ho env t)) → in_label e (then_flow f go) ≡ in_label e (then_flow f ho)
 past_then e (goes_on env t) go ho h = h env t
-past_then e (leaves t) go ho h = refl
-past_then e (returns t) go ho h = refl
-past_then e (fails t) go ho h = refl
-past_then e (sticks t) go ho h = refl
+past_then e f go ho h = refl
 
 pub met_opens : (e : Env) (o : Option (List Content)) (fields : List (Option ℕ)) (env : Env) (t : Trace) (go ho : Env → Trace → Flow)
     → ((env' : Env) (t' : Trace) → in_label e (go env' t') ≡ in_label e (ho env' t'))
@@ -51,9 +45,8 @@ if_opens e env t false go ho h = refl
 
 pub equal_opens : (e env : Env) (t : Trace) (a b : Option Value) (go ho : Env → Trace → Flow) → in_label e (go env t) ≡ in_label e (ho env t)
     → in_label e (then_flow (where_equal a b t (goes_on env t) (leaves t)) go) ≡ in_label e (where_equal a b t (ho env t) (goes_on env t))
-equal_opens e env t None b go ho h = refl
-equal_opens e env t (Some v) None go ho h = refl
 equal_opens e env t (Some v) (Some x) go ho h = if_opens e env t (value_eq v x) go ho h
+equal_opens e env t a b go ho h = refl
 
 module _ (w : World) (most : Option ℕ) (e : Env) where
   mutual

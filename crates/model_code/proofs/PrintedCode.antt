@@ -1,7 +1,7 @@
 -- The code that is printed: without labels where it is made, then flat; it runs as the tree.
 use Rattle.std.proofs.Common.{◌≡◌, ℕ, suc, true, List, [], ◌∷◌, Option, Some, None, slice_get, refl, ap, subst, ◌∙◌}
 use Rattle.std.proofs.lemmas.Bool.{and_from}
-use Rattle.model.specs.sites.Sites.{Site, bool_site, int_site, prim_site, argument_site, extractor_site, constructor_site, iterator_site, make_variant_site, match_variant_site, make_struct_site, extract_struct_site, make_some_site, match_some_site, match_tuple_site}
+use Rattle.model.specs.sites.Sites.{Site, iterator_site, match_variant_site}
 use Rattle.model.specs.trees.Trees.{Tree, no_step, step, Check, match_at, equal_at, loop_at, return_at, Arms, no_arm, arm}
 use Rattle.model.specs.trees.Run.{run, at_start}
 use Rattle.model_code.specs.Code.{Block}
@@ -16,42 +16,16 @@ use Rattle.model_code.proofs.Flattening.{flat_runs_same_lem}
 
 module _ (sites : List Site) (p : Passes) where
   bind_unlabelled : (s : ℕ) (o : Option Site) → unlabelled_at (bind_code sites p s o) ≡ true
-  bind_unlabelled s None = refl
-  bind_unlabelled s (Some (bool_site b ty)) = refl
-  bind_unlabelled s (Some (int_site z ty)) = refl
-  bind_unlabelled s (Some (prim_site name)) = refl
-  bind_unlabelled s (Some (argument_site i)) = refl
-  bind_unlabelled s (Some (extractor_site term source)) = refl
-  bind_unlabelled s (Some (constructor_site term sources instance)) = refl
-  bind_unlabelled s (Some (iterator_site source)) = refl
-  bind_unlabelled s (Some (make_variant_site ty variant fields)) = refl
   bind_unlabelled s (Some (match_variant_site source variant field)) = refl
-  bind_unlabelled s (Some (make_struct_site ty fields)) = refl
-  bind_unlabelled s (Some (extract_struct_site source field)) = refl
-  bind_unlabelled s (Some (make_some_site source)) = refl
-  bind_unlabelled s (Some (match_some_site source)) = refl
-  bind_unlabelled s (Some (match_tuple_site source field)) = refl
+  bind_unlabelled s o = refl
 
   binds_unlabelled : (ss : List ℕ) (rest : Block) → unlabelled rest ≡ true → unlabelled (binds_code sites p ss rest) ≡ true
   binds_unlabelled [] rest h = h
   binds_unlabelled (s ∷ ss) rest h = and_from _ _ (bind_unlabelled s (slice_get sites s)) (binds_unlabelled ss rest h)
 
   loop_unlabelled : (o : Option Site) (s : ℕ) (body : Block) → unlabelled body ≡ true → unlabelled_at (loop_code o s body) ≡ true
-  loop_unlabelled None s body h = refl
-  loop_unlabelled (Some (bool_site b ty)) s body h = refl
-  loop_unlabelled (Some (int_site z ty)) s body h = refl
-  loop_unlabelled (Some (prim_site name)) s body h = refl
-  loop_unlabelled (Some (argument_site i)) s body h = refl
-  loop_unlabelled (Some (extractor_site term source)) s body h = refl
-  loop_unlabelled (Some (constructor_site term sources instance)) s body h = refl
   loop_unlabelled (Some (iterator_site source)) s body h = h
-  loop_unlabelled (Some (make_variant_site ty variant fields)) s body h = refl
-  loop_unlabelled (Some (match_variant_site source variant field)) s body h = refl
-  loop_unlabelled (Some (make_struct_site ty fields)) s body h = refl
-  loop_unlabelled (Some (extract_struct_site source field)) s body h = refl
-  loop_unlabelled (Some (make_some_site source)) s body h = refl
-  loop_unlabelled (Some (match_some_site source)) s body h = refl
-  loop_unlabelled (Some (match_tuple_site source field)) s body h = refl
+  loop_unlabelled o s body h = refl
 
   mutual
     pub tree_unlabelled : (tree : Tree) → unlabelled (tree_code tree sites p) ≡ true

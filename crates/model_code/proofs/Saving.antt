@@ -50,13 +50,9 @@ module _ (types : Types) where
     values_run inside later env before (u ∷ us) = λ i. then_option (held_value w env u) (λ v. then_option (values_run inside later env (u ∷ before) us i) (λ vs. Some (value_and v vs)))
 
     expr_runs : (inside : List ℕ) (later : Place → Bool) (env : Env) (calls : List Call) (v : ℕ) (e : Expr) → bind_expr w env calls v (saved_expr types inside later e) ≡ bind_expr w env calls v e
-    expr_runs inside later env calls v (truth_written b ty) = refl
-    expr_runs inside later env calls v (read u) = refl
-    expr_runs inside later env calls v (extraction term u) = refl
-    expr_runs inside later env calls v (call term us instance) = refl
     expr_runs inside later env calls v (variant_of ty variant us) = λ i. now_bound env calls v (then_option (values_run inside later env [] us i) (λ vs. Some (one (of_variant ty variant vs))))
     expr_runs inside later env calls v (struct_of ty us) = λ i. now_bound env calls v (then_option (values_run inside later env [] us i) (λ vs. Some (one (of_struct ty vs))))
-    expr_runs inside later env calls v (some_of u) = refl
+    expr_runs inside later env calls v e = refl
 
     mutual
       block_runs : (b : Block) (inside : List ℕ) (after : Place → Bool) (env : Env) (t : Trace) → run_block (saved types inside after b) w most env t ≡ run_block b w most env t
@@ -65,15 +61,11 @@ module _ (types : Types) where
 
       statement_runs : (s : Statement) (inside : List ℕ) (later : Place → Bool) (env : Env) (t : Trace) → run_statement (saved_at types inside later s) w most env t ≡ run_statement s w most env t
       statement_runs (bind v e) inside later env t = λ i. flow_of_bound (expr_runs inside later env t.calls v e i) t
-      statement_runs (bind_some v u) inside later env t = refl
-      statement_runs no_way inside later env t = refl
       statement_runs (match_on u arms) inside later env t = λ i. in_braces env (on_content (held w env u.place) t (λ c. arms_run arms (unlooked inside u.place) later c env t i))
       statement_runs (if_equal a b body) inside later env t = λ i. in_braces env (where_equal (held_value w env a) (held_value w env b) t (block_runs body inside later env t i) (goes_on env t))
       statement_runs (for_each_of v from body) inside later env t = λ i. on_answers (bound_to env from) (λ c t'. block_runs body (v ∷ []) read_no_more ((v, c) ∷ env) t' i) env t
-      statement_runs (give at u) inside later env t = refl
       statement_runs (labelled body) inside later env t = λ i. in_label env (block_runs body inside later env t i)
-      statement_runs (unless_let u pattern fields) inside later env t = refl
-      statement_runs (unless_equal a b) inside later env t = refl
+      statement_runs s inside later env t = refl
 
       arms_run : (arms : CodeArms) (inside : List ℕ) (later : Place → Bool) (c : Content) (env : Env) (t : Trace) → run_code_arms (saved_arms types inside later arms) w most c env t ≡ run_code_arms arms w most c env t
       arms_run no_code_arm inside later c env t = refl
@@ -249,9 +241,8 @@ module _ (types : Types) where
       statement_well (give at u) inside later h = given_well inside later u multi h
       statement_well (labelled body) inside later h = block_well body inside later h
       statement_well (bind_some v u) inside later h = h
-      statement_well no_way inside later h = refl
       statement_well (unless_let u pattern fields) inside later h = h
-      statement_well (unless_equal a b) inside later h = refl
+      statement_well s inside later h = refl
 
       arms_well : (arms : CodeArms) (inside : List ℕ) (later : Place → Bool) (well : Bool) → arms_move types multi inside later well arms ≡ true → arms_move types multi inside later well (saved_arms types inside later arms) ≡ true
       arms_well no_code_arm inside later well h = refl
@@ -263,17 +254,15 @@ module _ (types : Types) where
   -- 7. uses fit
   kept_either : (g : Given) → fits_value false g ≡ true → fits_value true g ≡ true
   kept_either gives_reference h = h
-  kept_either gives_value h = refl
-  kept_either gives_away h = refl
   kept_either gives_sight h = h
   kept_either gives_nothing h = h
+  kept_either g h = refl
 
   result_either : (multi : Bool) (g : Given) → fits_result multi false g ≡ true → fits_result multi true g ≡ true
   result_either multi gives_reference h = h
-  result_either multi gives_value h = refl
-  result_either multi gives_away h = refl
   result_either multi gives_sight h = h
   result_either multi gives_nothing h = h
+  result_either multi g h = refl
 
   -- what may be saved gives a value, or is given away
   module _ (Fits : Bool → Given → Bool) (either : (g : Given) → Fits false g ≡ true → Fits true g ≡ true) (kept : Fits true gives_value ≡ true) (away : Fits true gives_away ≡ true) where

@@ -1,10 +1,11 @@
 -- The code of a tree that binds sites before it uses them reads what is in scope, by induction on the marked tree.
-use Rattle.std.proofs.Common.{◌≡◌, inl, inr, ℕ, suc, ◌<◌, ◌&&◌, ◌||◌, Bool, true, false, not, if◌then◌else◌, List, [], ◌∷◌, ◌++◌, length, Option, Some, None, slice_get, Contains, refl, sym, ap, subst, ◌∙◌}
+use Rattle.std.proofs.Common.{◌≡◌, inl, inr, ℕ, suc, ◌<◌, ◌&&◌, ◌||◌, Bool, true, false, not, if◌then◌else◌, List, [], ◌∷◌, ◌++◌, length, Option, Some, None, slice_get, Contains, refl, sym, ap, subst, ◌∙◌, arith}
+use Rattle.std.proofs.lemmas.Grind.{common_steps}
 use Rattle.std.specs.List.{list_all}
 use Rattle.std.proofs.lemmas.Bool.{and_parts, and_from, false≢true, true≢false}
 use Rattle.std.proofs.lemmas.Option.{none-some}
 use Rattle.std.proofs.lemmas.List.Elements.{All-contains, Contains-append_left, Contains-append_right, Contains-append_cases}
-use Rattle.model.specs.sites.Sites.{Site, bool_site, int_site, prim_site, argument_site, extractor_site, constructor_site, iterator_site, make_variant_site, match_variant_site, make_struct_site, extract_struct_site, make_some_site, match_some_site, match_tuple_site, SetRule, SiteSet, sources_of, sources_at}
+use Rattle.model.specs.sites.Sites.{Site, bool_site, extractor_site, constructor_site, iterator_site, make_variant_site, match_variant_site, make_struct_site, extract_struct_site, make_some_site, match_some_site, match_tuple_site, SetRule, SiteSet, sources_of, sources_at}
 use Rattle.model.specs.trees.Trees.{Marked, m_no_step, m_step, MarkedCheck, m_match, m_equal, m_loop, m_return, MarkedArms, m_no_arm, m_arm, plain, plain_check, plain_arms, return_of, marks, marks_check, marks_arms}
 use Rattle.model.specs.trees.Places.{is_in, is_in_place, return_uses, uses, field_sites}
 use Rattle.model.specs.trees.Sound.{is_return}
@@ -68,16 +69,11 @@ module _ (sites : List Site) (p : Passes) where
     known_at : (s : ℕ) (o : Option Site) → (is_in_place o ≡ true → Contains ts s → ⊥) → (is_in s ts || (is_in_place o && list_all (λ a. is_in a ts) (made_of o))) ≡ true → knows cs (place_of o s) ≡ true
     known_at s None n h = carried s (first_only (is_in s ts) h)
     known_at s (Some (bool_site b ty)) n h = carried s (first_only (is_in s ts) h)
-    known_at s (Some (int_site z ty)) n h = refl
-    known_at s (Some (prim_site name)) n h = refl
-    known_at s (Some (argument_site i)) n h = refl
     known_at s (Some (extractor_site term source)) n h = carried s (first_only (is_in s ts) h)
     known_at s (Some (constructor_site term sources instance)) n h = carried s (first_only (is_in s ts) h)
     known_at s (Some (iterator_site source)) n h = carried s (first_only (is_in s ts) h)
-    known_at s (Some (make_variant_site ty variant [])) n h = refl
     known_at s (Some (make_variant_site ty variant (f ∷ fs))) n h = carried s (first_only (is_in s ts) h)
     known_at s (Some (match_variant_site source variant field)) n h = carried s (first_only (is_in s ts) h)
-    known_at s (Some (make_struct_site ty [])) n h = refl
     known_at s (Some (make_struct_site ty (f ∷ fs))) n h = carried s (first_only (is_in s ts) h)
     known_at s (Some (extract_struct_site source field)) n h = carried s (first_only (is_in s ts) h)
     known_at s (Some (make_some_site source)) n h = carried s (first_only (is_in s ts) h)
@@ -87,6 +83,7 @@ module _ (sites : List Site) (p : Passes) where
           | inl e ↦ absurd (n refl (member_found s ts e))
           | inr e ↦ carried source (each_passes (λ a. is_in a ts) (source ∷ []) e source (in_head source []))
         ]
+    known_at s o n h = refl
 
     known : (s : ℕ) → can_be_used sites ts s ≡ true → knows cs (place_of (slice_get sites s) s) ≡ true
     known s h = known_at s (slice_get sites s) (λ i c. k.outside s c i) h
@@ -105,21 +102,14 @@ module _ (sites : List Site) (p : Passes) where
     -- 2. a site is bound
     bind_scoped : (s : ℕ) (o : Option Site) (rest : Block) → is_in_place o ≡ false → AllUsable (made_of o) → block_scoped false (s ∷ cs) rest ≡ true
         → block_scoped false cs (statement (bind_code sites p s o) rest) ≡ true
-    bind_scoped s None rest n u h = refl
     bind_scoped s (Some (bool_site b ty)) rest n u h = h
-    bind_scoped s (Some (int_site z ty)) rest n u h = absurd (true≢false n)
-    bind_scoped s (Some (prim_site name)) rest n u h = absurd (true≢false n)
-    bind_scoped s (Some (argument_site i)) rest n u h = absurd (true≢false n)
     bind_scoped s (Some (extractor_site term source)) rest n u h = and_from _ _ (known source (u source (in_head source []))) h
     bind_scoped s (Some (constructor_site term sources instance)) rest n u h = and_from _ _ (arguments_known term 0 sources u) h
-    bind_scoped s (Some (iterator_site source)) rest n u h = refl
     bind_scoped s (Some (make_variant_site ty variant fields)) rest n u h = and_from _ _ (fields_known fields u) h
-    bind_scoped s (Some (match_variant_site source variant field)) rest n u h = refl
     bind_scoped s (Some (make_struct_site ty fields)) rest n u h = and_from _ _ (fields_known fields u) h
-    bind_scoped s (Some (extract_struct_site source field)) rest n u h = refl
     bind_scoped s (Some (make_some_site source)) rest n u h = and_from _ _ (known source (u source (in_head source []))) h
     bind_scoped s (Some (match_some_site source)) rest n u h = and_from _ _ (known source (u source (in_head source []))) h
-    bind_scoped s (Some (match_tuple_site source field)) rest n u h = absurd (true≢false n)
+    bind_scoped s o rest n u h = grind (arith, common_steps)
 
   -- sites are bound in order, and what follows
   moved_back : (s : ℕ) (ss ts : List ℕ) (x : ℕ) → Contains (s ∷ (ss ++ ts)) x → Contains (ss ++ s ∷ ts) x
@@ -150,41 +140,15 @@ module _ (sites : List Site) (p : Passes) where
   -- 3. a loop, and a return
   loop_scoped : (over : LoopsAreOverBound sites) (result : ℕ) (o : Option Site) (body : Block) (ts cs : List ℕ) → slice_get sites result ≡ o → Kept ts cs
       → ((x : ℕ) → Contains (made_of o) x → can_be_used sites ts x ≡ true) → block_scoped false (result ∷ cs) body ≡ true → statement_scoped false cs (loop_code o result body) ≡ true
-  loop_scoped over result None body ts cs at k u h = refl
-  loop_scoped over result (Some (bool_site b ty)) body ts cs at k u h = refl
-  loop_scoped over result (Some (int_site z ty)) body ts cs at k u h = refl
-  loop_scoped over result (Some (prim_site name)) body ts cs at k u h = refl
-  loop_scoped over result (Some (argument_site i)) body ts cs at k u h = refl
-  loop_scoped over result (Some (extractor_site term source)) body ts cs at k u h = refl
-  loop_scoped over result (Some (constructor_site term sources instance)) body ts cs at k u h = refl
   loop_scoped over result (Some (iterator_site source)) body ts cs at k u h =
       and_from _ _
       (carried ts cs k source (first_only (is_in source ts)
       (ap (λ b. is_in source ts || (b && list_all (λ a. is_in a ts) (sources_at sites source))) (sym (over result source at)) ∙ u source (in_head source [])))) h
-  loop_scoped over result (Some (make_variant_site ty variant fields)) body ts cs at k u h = refl
-  loop_scoped over result (Some (match_variant_site source variant field)) body ts cs at k u h = refl
-  loop_scoped over result (Some (make_struct_site ty fields)) body ts cs at k u h = refl
-  loop_scoped over result (Some (extract_struct_site source field)) body ts cs at k u h = refl
-  loop_scoped over result (Some (make_some_site source)) body ts cs at k u h = refl
-  loop_scoped over result (Some (match_some_site source)) body ts cs at k u h = refl
-  loop_scoped over result (Some (match_tuple_site source field)) body ts cs at k u h = refl
+  loop_scoped over result o body ts cs at k u h = refl
 
   loop_after : (o : Option Site) (result : ℕ) (body : Block) (cs : List ℕ) → scope_after cs (loop_code o result body) ≡ cs
-  loop_after None result body cs = refl
-  loop_after (Some (bool_site b ty)) result body cs = refl
-  loop_after (Some (int_site z ty)) result body cs = refl
-  loop_after (Some (prim_site name)) result body cs = refl
-  loop_after (Some (argument_site i)) result body cs = refl
-  loop_after (Some (extractor_site term source)) result body cs = refl
-  loop_after (Some (constructor_site term sources instance)) result body cs = refl
-  loop_after (Some (iterator_site source)) result body cs = refl
-  loop_after (Some (make_variant_site ty variant fields)) result body cs = refl
   loop_after (Some (match_variant_site source variant field)) result body cs = refl
-  loop_after (Some (make_struct_site ty fields)) result body cs = refl
-  loop_after (Some (extract_struct_site source field)) result body cs = refl
-  loop_after (Some (make_some_site source)) result body cs = refl
-  loop_after (Some (match_some_site source)) result body cs = refl
-  loop_after (Some (match_tuple_site source field)) result body cs = refl
+  loop_after o result body cs = refl
 
   return_scoped : (o : Option SetRule) (r : SetRule) (ts cs : List ℕ) → o ≡ Some r → Kept ts cs → ((x : ℕ) → Contains (return_uses o) x → can_be_used sites ts x ≡ true)
       → statement_scoped false cs (check_code (return_of o) sites p) ≡ true
@@ -201,10 +165,9 @@ module _ (set : SiteSet) (p : Passes) (over : LoopsAreOverBound set.sites) where
   AreOfRules ms = (i : ℕ) → Contains ms i → i < length set.rules
 
   check_after : (check : MarkedCheck) (cs : List ℕ) → scope_after cs (check_code (plain_check set.rules check) set.sites p) ≡ cs
-  check_after (m_match source arms) cs = refl
-  check_after (m_equal a b body) cs = refl
   check_after (m_loop result body) cs = loop_after set.sites p (slice_get set.sites result) result (tree_code (plain set.rules body) set.sites p) cs
   check_after (m_return rule) cs = return_after set.sites p (slice_get set.rules rule) cs
+  check_after check cs = refl
 
   mutual
     steps_scoped : (m : Marked) (again ts cs : List ℕ) → binds_before_use set true again ts m ≡ true → binds_none_in_place (plain set.rules m) set.sites ≡ true → AreOfRules (marks m) → Kept set.sites p ts cs

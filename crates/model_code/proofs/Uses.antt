@@ -1,8 +1,8 @@
 -- Places and uses are read back, where what follows is no part of them.
-use Rattle.std.proofs.Common.{◌≡◌, ◌&&◌, ◌==◌, ◌∷◌, [], ℕ, Bool, true, false, List, Some, None, refl, ap, ◌∙◌}
+use Rattle.std.proofs.Common.{◌≡◌, ◌&&◌, ◌==◌, ◌∷◌, ℕ, Bool, true, false, List, Some, None, refl, ap, ◌∙◌}
 use Rattle.std.proofs.lemmas.Bool.{and_parts, and_from, false≢true}
 use Rattle.model.proofs.SameSites.{number_same}
-use Rattle.model_code.specs.Code.{Place, variable, parameter, part_of, int_written, name_written, variant_written, struct_written, Pass, as_it_is, lent, cloned, seen_through, PlaceUse}
+use Rattle.model_code.specs.Code.{Place, variable, Pass, as_it_is, lent, cloned, seen_through, PlaceUse}
 use Rattle.model_code.specs.Tokens.{dot, colon, Owner, variant_owner, struct_owner, Token, word, part_name, field_name, variable_name}
 use Rattle.model_code.specs.Notation.{Notation}
 use Rattle.model_code.specs.Pieces.{CodePiece, tokens_of, place_before, passed_before, use_before, clone_call, put_all}
@@ -22,23 +22,16 @@ abbrev pub follows : List Token → Bool
 follows tokens = not_part tokens && not_dot tokens
 
 variable_alone : (v : ℕ) (tokens : List Token) → not_part tokens ≡ true → of_variable v tokens ≡ Some (variable v, tokens)
-variable_alone v [] h = refl
 variable_alone v (part_name i ∷ rest) h = absurd (false≢true h)
-variable_alone v (_ ∷ rest) h = refl
+variable_alone v tokens h = refl
 
 no_clone : (tokens : List Token) → not_dot tokens ≡ true → expect_all clone_call tokens ≡ None
-no_clone [] h = refl
 no_clone (word dot ∷ rest) h = absurd (false≢true h)
-no_clone (_ ∷ rest) h = refl
+no_clone tokens h = refl
 
 place_back : (p : Notation) (place : Place) (rest : List CodePiece) → not_part (tokens_of rest) ≡ true → read_place (tokens_of (place_before p place rest)) ≡ Some (shown_place p place, tokens_of rest)
 place_back p (variable v) rest h = variable_alone v (tokens_of rest) h
-place_back p (parameter i) rest h = refl
-place_back p (part_of v i) rest h = refl
-place_back p (int_written z ty) rest h = refl
-place_back p (name_written name) rest h = refl
-place_back p (variant_written ty variant) rest h = refl
-place_back p (struct_written ty) rest h = refl
+place_back p place rest h = refl
 
 abbrev or_cloned : Place → List Token → TokenReading PlaceUse
 or_cloned place rest = cloned_or_not place rest (expect_all clone_call rest)

@@ -32,9 +32,7 @@ module _ (p : Notation) where
     with_label_at (unless_let u pattern fields) label h = absurd (false≢true h)
     with_label_at (unless_equal a b) label h = absurd (false≢true h)
     with_label_at (bind v e) label h = h
-    with_label_at (bind_some v u) label h = refl
-    with_label_at no_way label h = refl
-    with_label_at (give place u) label h = refl
+    with_label_at s label h = refl
 
     with_label_arms : (arms : CodeArms) (u : PlaceUse) (label : Bool) → writable_arms p false u arms ≡ true → writable_arms p label u arms ≡ true
     with_label_arms no_code_arm u label h = refl
@@ -45,10 +43,7 @@ module _ (p : Notation) where
 
   -- 2. labels are left as before
   pub end_written : (s : Statement) → is_end (result_ends p) (written_at p s) ≡ is_end (result_ends p) s
-  end_written (match_on u arms) = refl
-  end_written (if_equal a b body) = refl
   end_written (for_each_of v from body) = refl
-  end_written (labelled body) = refl
   end_written s = refl
 
   -- the inside of a body that is within a label
@@ -78,13 +73,7 @@ module _ (p : Notation) where
     leaves_written (match_on u arms) = arms_left arms
     leaves_written (if_equal a b body) = body_left body (left_written body) (inner_left body)
     leaves_written (for_each_of v from body) = body_left body (left_written body) (inner_left body)
-    leaves_written (labelled body) = refl
-    leaves_written (bind v e) = refl
-    leaves_written (bind_some v u) = refl
-    leaves_written no_way = refl
-    leaves_written (give place u) = refl
-    leaves_written (unless_let u pattern fields) = refl
-    leaves_written (unless_equal a b) = refl
+    leaves_written s = refl
 
     arms_left : (arms : CodeArms) → leaves_arms (result_ends p) (written_arms p arms) ≡ leaves_arms (result_ends p) arms
     arms_left no_code_arm = refl
@@ -92,9 +81,7 @@ module _ (p : Notation) where
 
     inner_left : (b : Block) → InnerLeft b
     inner_left (statement (labelled body) no_statement) = left_written body
-    inner_left no_statement = tt
-    inner_left (statement (labelled body) (statement s later)) = tt
-    inner_left (statement s later) = tt
+    inner_left b = tt
 
   -- 3. what can be written can be as it is written
   abbrev InnerWritable : Block → Type 0
@@ -144,9 +131,7 @@ module _ (p : Notation) where
 
     inner_writable : (b : Block) → InnerWritable b
     inner_writable (statement (labelled body) no_statement) = λ label h. is_writable body label h
-    inner_writable no_statement = tt
-    inner_writable (statement (labelled body) (statement s later)) = tt
-    inner_writable (statement s later) = tt
+    inner_writable b = tt
 
 pub written_writable : (p : Notation) (b : Block) (label : Bool) → writable p label b ≡ true → writable p label (written p b) ≡ true
 written_writable p b label h = is_writable p b label h
