@@ -22,8 +22,6 @@ use cranelift_isle::lower::{Lowered, lower};
 use cranelift_isle::syntax::{Def, Error, Fault, Files};
 use report_compare::departures;
 use report_errors::diagnosis::{MOST_ERRORS, amount_wanted, reports_of};
-use report_errors::explanation::explanation;
-use report_errors::term_sizes::stats;
 use report_json::documents::{
     DocumentPurpose, document_of_reports, document_of_sizes, document_of_warnings,
 };
@@ -32,6 +30,8 @@ use report_print::lines::{FileLines, file_name};
 use report_print::report::Report;
 use report_warnings::kinds::is_one_of;
 use report_warnings::lints::warnings;
+use report_ways::explanation::explanation;
+use report_ways::term_sizes::stats;
 use std::alloc::{AllocError, Global};
 use std::io::Write;
 

@@ -6,8 +6,8 @@ use cranelift_isle::lower::{Lowered, LoweredTerm};
 use cranelift_isle::serialize::{Block, ControlFlow, EvalStep, MatchArm};
 use cranelift_isle::syntax::Pos;
 use cranelift_isle::trie_again::{BindingId, Rule};
-use report_errors::names::NameTables;
-use report_errors::site_words::{push_head, site_texts, text_at};
+use report_names::names::NameTables;
+use report_names::site_words::{push_head, site_texts, text_at};
 use report_print::lines::{FileLines, file_name};
 use std::alloc::{AllocError, Global};
 

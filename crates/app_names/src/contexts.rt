@@ -1,7 +1,7 @@
 //! What a place in a text is in, also where the text can't be read: the lists that are open there, and the variables before it.
 
 use cranelift_isle::syntax::{Def, Ident};
-use report_errors::definitions::place_of_term;
+use report_names::definitions::place_of_term;
 use std::alloc::{AllocError, Global};
 use text_reader::chunks::{Chunk, chunks};
 use text_reader::errors::ReadFault;

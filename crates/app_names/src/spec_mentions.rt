@@ -1,7 +1,7 @@
 //! The names that stand in what is said for a verifier, each with what it stands for.
 
 use cranelift_isle::syntax::Ident;
-use report_errors::mentions::{Mention, MentionKind, plain_mention};
+use report_names::mentions::{Mention, MentionKind, plain_mention};
 use std::alloc::{AllocError, Global};
 use text_reader::syntax::{
     Model, ModelType, ModelValue, Signature, Spec, SpecExpr, VerificationForm,

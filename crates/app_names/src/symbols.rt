@@ -3,8 +3,8 @@
 use crate::spec_mentions::mentions_in_spec;
 use cranelift_isle::sema::BuiltinType;
 use cranelift_isle::syntax::{Def, Ident, Pos, Type};
-use report_errors::definitions::{declaration_of, struct_of, variant_with_type};
-use report_errors::mentions::{Mention, MentionKind, Mentions};
+use report_names::definitions::{declaration_of, struct_of, variant_with_type};
+use report_names::mentions::{Mention, MentionKind, Mentions};
 use std::alloc::{AllocError, Global};
 use text_reader::errors::ReadFault;
 use text_reader::syntax::VerificationForm;

@@ -1,32 +1,20 @@
 //! The definitions of texts, also of those that can't be read whole: a form that can't be read keeps its last good definitions.
 
-use crate::analysis::{Analysis, add_rest};
-use crate::sources::Sources;
+use crate::checking::add_rest;
+use app_answers::analysis::{Analysis, LostForms};
+use app_answers::sources::Sources;
 use app_messages::edits::shared_ends;
 use cranelift_isle::syntax::{Def, Pos};
-use report_errors::definitions::definition_around;
 use report_errors::diagnosis::MOST_OF_FILE;
-use report_errors::lost::{LostPart, add_lost, lost_report};
+use report_errors::lost::{add_lost, lost_report};
+use report_names::definitions::definition_around;
+use report_names::lost_part::LostPart;
 use report_print::lines::push_times;
 use report_print::report::Report;
 use std::alloc::{AllocError, Global};
 use text_reader::errors::{ReadFault, TextError};
 use text_reader::read;
 use text_reader::recovery::{Recovered, recover};
-
-/// Forms that can't be read.
-pub struct LostForms {
-    /// The part of a text that they are, up to where the next part begins.
-    pub part: LostPart,
-    /// Their text when it was last read without a mistake, or the empty text.
-    pub good: String,
-}
-
-impl Drop for LostForms {
-    fn drop(self) {
-        let LostForms { part: _, good: _ } = self;
-    }
-}
 
 /// What was read of the texts of files.
 pub struct Readings<'a> {

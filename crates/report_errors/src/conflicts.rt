@@ -1,7 +1,7 @@
 //! Why rules can't match, kept from one error of a rule to the next.
 
-use crate::names::rule_at;
 use cranelift_isle::syntax::{Def, Error, Pos, Rule};
+use report_names::names::rule_at;
 use report_witness::extractors::Extractors;
 use report_witness::templates::{Impossible, cause_in};
 use report_witness::witness::{Conflict, conflicts_in};

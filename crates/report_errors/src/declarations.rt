@@ -1,9 +1,9 @@
 //! The declaration of a term that isn't known, by what is known of it where it is used.
 
-use crate::definitions::{constant_of, definition_around, result_of, root_of};
-use crate::mentions::{LiteralValue, Mention, MentionKind, Need, type_needed};
 use crate::reports::Told;
 use core_syntax::syntax::{Def, Extern, Ident, Pos};
+use report_names::definitions::{constant_of, definition_around, result_of, root_of};
+use report_names::mentions::{LiteralValue, Mention, MentionKind, Need, type_needed};
 use report_print::report::{Place, Report};
 use std::alloc::AllocError;
 

@@ -1,25 +1,26 @@
 //! What is wrong with definitions, as reports.
 
-ghost use Rattle.std.specs.Prelude.{OnOk};
-ghost use Rattle.report_print.specs.Reports.{HasPlaceMore, SpeaksAlike};
-
 use crate::conflicts::{RuleConflicts, times_before};
-use crate::definitions::{constants_of, declaration_of, root_of, rule_around};
 use crate::error_order::{Order, place_of, words_of};
-use crate::meanings::meant_by;
-use crate::mentions::Mentions;
 use crate::named_forms::{named_forms, only_place};
-use crate::names::{name_of, priority_of, rule_at};
 use crate::reports::report_of as report_of_type_error;
 use crate::template_errors::{TemplateUse, add_use, use_at, uses_behind};
 use crate::terms_in_errors::is_of_multi;
 use crate::undefined_terms::add_uses;
 use crate::unmatched_templates::{Templates, report_of_template};
 use cranelift_isle::syntax::{Decl, Def, Error, Limit, Pos, Rule, Span};
+use report_names::definitions::{constants_of, declaration_of, root_of, rule_around};
+use report_names::meanings::meant_by;
+use report_names::mentions::Mentions;
+use report_names::names::rule_at;
+use report_names::rule_notes::{
+    ONE_OF_ALIKE, add_first, add_help, add_priority, add_rule, are_alike, are_one, left_side_at,
+    priority_above, push_rule,
+};
 use report_print::report::{Edit, Fix, Level, Place, Report, Word};
 use report_witness::extractors::Extractors;
 use report_witness::forms::{ValueForm, push_form};
-use report_witness::witness::{Conflict, left_side, witness};
+use report_witness::witness::{Conflict, witness};
 use std::alloc::{AllocError, Global};
 use std::slice;
 
@@ -563,19 +564,6 @@ fn add_overlapping(
     Ok(alike)
 }
 
-// The left side of the rule at a place; the empty text if there is none.
-fn left_side_at(alloc: Global, defs: &[Def], place: Pos) -> Result<String, AllocError> {
-    match rule_at(defs, place) {
-        Some(rule) => left_side(alloc, rule),
-        None => Ok(String::new(alloc)),
-    }
-}
-
-// Whether two left sides are known and the same.
-fn are_one(left: &str, right: &str) -> bool {
-    !left.is_empty() && left == right
-}
-
 // What stands before and behind the name of a rule of this number, where rules overlap.
 fn words_of_overlap(number: usize, is_alike: bool) -> (&'static str, &'static str) {
     if number == 0 {
@@ -613,50 +601,6 @@ fn add_way_out(
     Ok(())
 }
 
-/// Adds that the rule at a position is given a priority.
-pub fn add_priority(
-    alloc: Global,
-    report: &mut Report,
-    defs: &[Def],
-    pos: Pos,
-    priority: i64,
-) -> Result<(), AllocError>
-    ensures { OnOk result (SpeaksAlike report.old report.new) }
-{
-    let Some(rule) = rule_at(defs, pos) else {
-        return Ok(());
-    };
-    let place = match rule.prio {
-        Some(_) => Place::Between(rule.pos, rule.pattern.pos(), Word::Priority),
-        None => Place::Before(rule.pattern.pos()),
-    };
-    let name = match &rule.name {
-        Some(name) => name.0.clone()?,
-        None => left_side(alloc, rule)?,
-    };
-    let title = if name.is_empty() {
-        format!(in alloc; "Give this rule the priority {priority}")?
-    } else {
-        format!(in alloc; "Give the rule `{name}` the priority {priority}")?
-    };
-    report.add_fix(title, place, format!(in alloc; "{priority} ")?)
-}
-
-/// What to do about rules that have the same pattern.
-pub const ONE_OF_ALIKE: &str =
-    "of rules with the same pattern only one is ever taken: remove the others";
-
-/// Whether the rules at two places have the same left side, but for the names of variables that stand there once.
-///
-/// # Errors
-///
-/// If memory is refused.
-pub fn are_alike(alloc: Global, defs: &[Def], left: Pos, right: Pos) -> Result<bool, AllocError> {
-    let first = left_side_at(alloc, defs, left)?;
-    let second = left_side_at(alloc, defs, right)?;
-    Ok(are_one(&first, &second))
-}
-
 // Why more rules overlap if internal extractors aren't expanded.
 const NO_TEMPLATES: &str = "--no-expand hides what internal extractors demand: check without it";
 
@@ -667,14 +611,6 @@ fn add_rest(alloc: Global, report: &mut Report, count: usize) -> Result<(), Allo
     }
     let text = format!(in alloc; "it overlaps {count} more")?;
     report.add_counted("help", text)
-}
-
-/// A priority above that of the rule at a position, where there is one.
-pub fn priority_above(defs: &[Def], pos: Pos) -> i64 {
-    match rule_at(defs, pos) {
-        Some(rule) => priority_of(rule).saturating_add(1),
-        None => 1,
-    }
 }
 
 // A report of rules that another one shadows.
@@ -713,65 +649,8 @@ fn shadow(source: Source<'_>, shadowed: &[Span], mask: Span) -> Result<Report, A
     Ok(report)
 }
 
-/// Adds that the rule at a report's place is given a priority above that of another rule.
-pub fn add_first(
-    alloc: Global,
-    report: &mut Report,
-    defs: &[Def],
-    other: Pos,
-) -> Result<(), AllocError>
-    ensures { OnOk result (SpeaksAlike report.old report.new) }
-{
-    match report.labels.first() {
-        Some(label) => {
-            let pos = label.pos;
-            add_priority(alloc, report, defs, pos, priority_above(defs, other))
-        }
-        None => Ok(()),
-    }
-}
-
 // What to do about a rule that another one is taken before.
 const FIRST_TAKEN: &str = "give the rule that is never taken a greater priority, or remove it";
-
-/// Adds the place of a rule, with its name and priority between two texts.
-pub fn add_rule(
-    alloc: Global,
-    report: &mut Report,
-    defs: &[Def],
-    pos: Pos,
-    before: &str,
-    after: &str,
-) -> Result<(), AllocError>
-    ensures { OnOk result (HasPlaceMore pos report.old report.new) }
-{
-    let mut text = String::from_str(alloc, before)?;
-    push_rule(&mut text, defs, pos)?;
-    text.push_str(after)?;
-    report.add_label(pos, text)
-}
-
-// Adds a rule's name and priority.
-fn push_rule(text: &mut String, defs: &[Def], pos: Pos) -> Result<(), AllocError> {
-    let Some(rule) = rule_at(defs, pos) else {
-        return text.push_str("this rule");
-    };
-    let name = name_of(rule);
-    if name.is_empty() {
-        text.push_str("this rule")?;
-    } else {
-        write!(text, "rule `{name}`")?;
-    }
-    let priority = priority_of(rule);
-    write!(text, " (priority {priority})")
-}
-
-/// Adds a line that helps.
-pub fn add_help(alloc: Global, report: &mut Report, text: &str) -> Result<(), AllocError>
-    ensures { OnOk result (SpeaksAlike report.old report.new) }
-{
-    report.add_note("help", String::from_str(alloc, text)?)
-}
 
 // Adds what the first of some rules and each of the others match.
 fn add_values(source: Source<'_>, report: &mut Report, rules: &[Span]) -> Result<(), AllocError> {

@@ -1,11 +1,11 @@
 //! Which errors a person is shown, and which say no more than another one.
 
 use crate::codes::code_of;
-use crate::definitions::rule_around;
-use crate::mentions::{Mentions, Need};
 use crate::template_errors::{TemplateUse, first_like};
 use crate::terms_in_errors::{is_of_impure, path_in, undefined_in, unusable_in};
 use core_syntax::syntax::{Def, Error, Pos};
+use report_names::definitions::rule_around;
+use report_names::mentions::{Mentions, Need};
 use std::alloc::{AllocError, Global};
 use std::collections::BTreeMap;
 

@@ -1,6 +1,5 @@
 //! Errors, explained. What is behind a type error: the names that may be meant, the other places that it speaks of, and which errors
-//! say no more than another one. What is wrong with a text that can't be read. Why rules are refused, what a rule demands and when it
-//! is taken, and how large trees are.
+//! say no more than another one. What is wrong with a text that can't be read. Why rules are refused.
 #![tactic(auto)]
 
 ghost use Rattle.std.specs.Prelude.{◌≡◌, ◌++◌, ◌∷◌, [], IfOk, List, OnOk};
@@ -8,9 +7,9 @@ ghost use Rattle.core_syntax.specs.declared.syntax.Pos.{Pos};
 ghost use Rattle.report_errors.specs.Places.{AreAtError, IsAtError, begin_of};
 ghost use Rattle.report_print.specs.Reports.{places_of};
 
-use crate::extents::line_with_list;
 use crate::misspelled::add_question_at;
 use core_syntax::syntax::Pos;
+use report_names::extents::line_with_list;
 use report_print::report::{Label, Level, Place, Report};
 use std::alloc::{AllocError, Global};
 use text_reader::errors::{Mistake, Problem, TextError};
@@ -19,34 +18,21 @@ use text_reader::heads::nearest;
 mod codes;
 mod conflicts;
 mod declarations;
-pub mod definitions;
 pub mod diagnosis;
 pub mod error_order;
-pub mod explanation;
-pub mod extents;
-pub mod indented_lines;
 pub mod lost;
 pub mod lost_names;
-pub mod meanings;
-pub mod meant_rules;
-pub mod mentions;
 mod mismatches;
 pub mod misspelled;
 mod named_forms;
-pub mod names;
 mod nearest;
 mod repeats;
 pub mod reports;
-pub mod site_words;
 mod template_errors;
-pub mod term_sizes;
 mod terms_in_errors;
-pub mod tree_sizes;
 pub mod undefined_terms;
 mod unknown;
 mod unmatched_templates;
-pub mod way_text;
-pub mod ways;
 
 /// The report of what is wrong with a text: at its place, but of a list that isn't ended where that begins; and with the word that
 /// may be meant where one of a few is expected.

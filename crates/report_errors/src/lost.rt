@@ -4,13 +4,13 @@ ghost use Rattle.std.specs.Prelude.{IfOk};
 ghost use Rattle.core_syntax.specs.declared.syntax.Pos.{Pos};
 ghost use Rattle.report_errors.specs.Places.{BeginsAt, BeginsAtError};
 
-use crate::definitions::definition_around;
 use crate::error_order::place_of;
-use crate::extents::end_of_form;
 use crate::lost_names::{FormSeen, LostNames};
 use crate::syntax_report;
 use cranelift_isle::lower::lower;
 use cranelift_isle::syntax::{Def, Error, Fault, Files, Pos};
+use report_names::definitions::definition_around;
+use report_names::extents::end_of_form;
 use report_print::lines::file_text;
 use report_print::report::Report;
 use std::alloc::{AllocError, Global};
@@ -20,17 +20,6 @@ use text_reader::errors::{Problem, TextError};
 
 // How often definitions are taken away because of others that were.
 const MOST_ROUNDS: usize = 50;
-
-/// A part of the text of a file: a form that can't be read, or whose definition needs one that can't be read.
-#[derive(Clone, Copy)]
-pub struct LostPart {
-    /// The file.
-    pub file: usize,
-    /// Where the part begins.
-    pub begin: usize,
-    /// Where it ends.
-    pub end: usize,
-}
 
 /// The report of what is wrong with a form among others. Of a list that isn't ended its end is told only where the text ends
 /// there.
@@ -273,19 +262,4 @@ fn without(alloc: Global, errors: Vec<Error>, come: &[bool]) -> Result<Vec<Error
         }
     }
     Ok(kept)
-}
-
-impl LostPart {
-    /// Whether a position is in this part.
-    pub fn has(&self, pos: Pos) -> bool {
-        self.file == pos.file && self.begin <= pos.offset && pos.offset < self.end
-    }
-
-    // Where this part begins.
-    fn begin(&self) -> Pos {
-        Pos {
-            file: self.file,
-            offset: self.begin,
-        }
-    }
 }

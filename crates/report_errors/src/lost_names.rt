@@ -1,9 +1,9 @@
 //! The names that only parts of texts may define that can't be read, and the forms that have such a name.
 
-use crate::definitions::{definition_around, root_of};
-use crate::extents::{end_of_form, ends_word};
-use crate::lost::LostPart;
 use core_syntax::syntax::{Def, Extern, Pos, Type, TypeValue, Variant};
+use report_names::definitions::{definition_around, root_of};
+use report_names::extents::{end_of_form, ends_word};
+use report_names::lost_part::LostPart;
 use std::alloc::{AllocError, Global};
 use std::collections::BTreeSet;
 

@@ -1,9 +1,9 @@
 //! Where the two types of a mismatch come from.
 
-use crate::definitions::{place_of_constant, place_of_made};
-use crate::mentions::{Need, type_needed};
 use crate::reports::Told;
 use crate::terms_in_errors::between;
+use report_names::definitions::{place_of_constant, place_of_made};
+use report_names::mentions::{Need, type_needed};
 use report_print::report::Report;
 use std::alloc::{AllocError, Global};
 

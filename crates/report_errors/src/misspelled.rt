@@ -1,8 +1,8 @@
 //! Words that stand where only a few are known.
 
-use crate::extents::end_of_form;
 use crate::nearest::Nearest;
 use core_syntax::syntax::Pos;
+use report_names::extents::end_of_form;
 use report_print::report::Report;
 use std::alloc::{AllocError, Global};
 

@@ -1,10 +1,10 @@
 //! The library's words on rules that can't match, with names in the place of numbers.
 
-use crate::mentions::{LiteralValue, Mention, MentionKind, Mentions};
-use crate::names::NameTables;
 use cranelift_isle::environments::environments_of;
 use cranelift_isle::sema::{Sym, TypeId, VariantId};
 use cranelift_isle::syntax::{Def, Fault, Pos};
+use report_names::mentions::{LiteralValue, Mention, MentionKind, Mentions};
+use report_names::names::NameTables;
 use std::alloc::{AllocError, Global};
 
 // What the library says before the two constraints.

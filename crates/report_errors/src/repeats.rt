@@ -1,9 +1,9 @@
 //! The other places of what is defined more than once.
 
-use crate::definitions::{definition_around, is_struct, root_of, variant_in};
-use crate::mentions::MentionKind;
 use crate::reports::Told;
 use core_syntax::syntax::{Def, Extern, Pos, Rule};
+use report_names::definitions::{definition_around, is_struct, root_of, variant_in};
+use report_names::mentions::MentionKind;
 use std::alloc::AllocError;
 
 // How many other places are shown.

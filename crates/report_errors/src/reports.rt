@@ -2,16 +2,16 @@
 
 use crate::codes::code_of;
 use crate::declarations::add_declaration;
-use crate::definitions::{
-    constants_of, definition_around, place_of_template, place_of_term, subject_of,
-};
-use crate::meanings::meant_by;
-use crate::mentions::Mentions;
 use crate::mismatches::add_types;
 use crate::repeats::other_places;
 use crate::terms_in_errors::{is_put_in, path_in, term_in};
 use crate::unknown::{Kind, add_question, unknown_in};
 use core_syntax::syntax::{Def, Ident, Pos};
+use report_names::definitions::{
+    constants_of, definition_around, place_of_template, place_of_term, subject_of,
+};
+use report_names::meanings::meant_by;
+use report_names::mentions::Mentions;
 use report_print::report::{Level, Report};
 use std::alloc::{AllocError, Global};
 

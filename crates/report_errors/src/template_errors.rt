@@ -1,10 +1,10 @@
 //! Errors that stand in the template of an internal extractor: the rule that uses it, and so has the error.
 
-use crate::definitions::{definition_around, root_of};
 use crate::error_order::{place_of, words_of};
-use crate::mentions::{MentionKind, Mentions};
 use crate::terms_in_errors::is_of_multi;
 use core_syntax::syntax::{Def, Error, Extractor, Pos, Rule};
+use report_names::definitions::{definition_around, root_of};
+use report_names::mentions::{MentionKind, Mentions};
 use report_print::report::{Label, Report};
 use std::alloc::{AllocError, Global};
 use std::collections::BTreeMap;

@@ -1,8 +1,8 @@
 //! The terms that errors speak of, whose definition tells why.
 
-use crate::mentions::Mentions;
 use crate::reports::Told;
 use core_syntax::syntax::{Def, Pos};
+use report_names::mentions::Mentions;
 
 // How errors begin that are of a term, and what stands behind its name.
 const OF_TERMS: [(&str, &str); 11] = [

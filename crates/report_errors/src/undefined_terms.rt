@@ -1,10 +1,10 @@
 //! The uses of a term that isn't defined.
 
-use crate::definitions::definition_around;
 use crate::error_order::{Order, place_of, words_of};
-use crate::mentions::Mentions;
 use crate::terms_in_errors::{is_put_in, undefined_in};
 use core_syntax::syntax::{Def, Error, Pos};
+use report_names::definitions::definition_around;
+use report_names::mentions::Mentions;
 use report_print::report::Report;
 use std::alloc::{AllocError, Global};
 

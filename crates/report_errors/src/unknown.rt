@@ -1,10 +1,10 @@
 //! The names that errors say aren't known, and those that may be meant.
 
-use crate::mentions::{MentionKind, Mentions};
 use crate::nearest::Nearest;
 use crate::reports::Told;
 use core_syntax::syntax::{Def, Extern, Fields, Pos, Type, TypeValue, Variant};
 use core_types::BuiltinType;
+use report_names::mentions::{MentionKind, Mentions};
 use report_print::report::Report;
 use std::alloc::AllocError;
 

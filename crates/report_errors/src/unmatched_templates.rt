@@ -1,9 +1,10 @@
 //! Rules that can't match because no value matches an internal extractor that they use.
 
 use crate::conflicts::RuleConflicts;
-use crate::diagnosis::{add_form, add_help};
-use crate::names::rule_at;
+use crate::diagnosis::add_form;
 use cranelift_isle::syntax::{Def, Error, Rule};
+use report_names::names::rule_at;
+use report_names::rule_notes::add_help;
 use report_print::report::{Level, Report};
 use report_witness::extractors::Extractors;
 use report_witness::templates::{Impossible, cause_in, count_users, impossible_in};

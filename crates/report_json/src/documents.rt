@@ -13,7 +13,7 @@ use crate::types::{push_constants, push_types};
 use cranelift_isle::environments::{Environments, environments_of};
 use cranelift_isle::lower::{Lowered, LoweredTerm};
 use cranelift_isle::syntax::{Def, Fault, Files};
-use report_errors::names::NameTables;
+use report_names::names::NameTables;
 use report_print::report::Report;
 use std::alloc::{AllocError, Global};
 use text_json::Json;

@@ -3,7 +3,7 @@
 use crate::patterns::push_typed;
 use crate::sites::{push_bool, push_int, push_named};
 use cranelift_isle::sema::{Expr, TypeId, VarId};
-use report_errors::names::NameTables;
+use report_names::names::NameTables;
 use std::alloc::AllocError;
 use text_json::Json;
 

@@ -4,7 +4,7 @@ use crate::places::LinePlaces;
 use crate::site_types::word_of_answer;
 use crate::templates::push_template;
 use cranelift_isle::sema::{ExtractorKind, Term, TermFlags, TermKind, TypeId};
-use report_errors::names::NameTables;
+use report_names::names::NameTables;
 use std::alloc::{AllocError, Global};
 use text_json::Json;
 

@@ -2,7 +2,7 @@
 
 use crate::sites::{push_bool, push_int, push_named};
 use cranelift_isle::sema::{Pattern, TypeId};
-use report_errors::names::NameTables;
+use report_names::names::NameTables;
 use std::alloc::AllocError;
 use text_json::Json;
 

@@ -1,7 +1,7 @@
 //! Places in files: where they begin, and where what stands there ends.
 
 use cranelift_isle::syntax::{Files, Pos};
-use report_errors::extents::end_of_form;
+use report_names::extents::end_of_form;
 use report_print::lines::{FileLines, file_name, file_text};
 use std::alloc::{AllocError, Global};
 use text_json::Json;

@@ -1,7 +1,7 @@
 //! Reports of what is wrong.
 
 use crate::places::LinePlaces;
-use report_errors::extents::piece_of;
+use report_names::extents::piece_of;
 use report_print::lines::{file_name, file_text};
 use report_print::report::{Edit, Fix, Label, Note, Report};
 use std::alloc::AllocError;

@@ -3,7 +3,7 @@
 use crate::places::LinePlaces;
 use crate::sites::{push_constraint, push_ids};
 use cranelift_isle::trie_again::Rule;
-use report_errors::names::NameTables;
+use report_names::names::NameTables;
 use std::alloc::AllocError;
 use text_json::Json;
 

@@ -2,7 +2,7 @@
 
 use cranelift_isle::sema::{ExternalSig, Fields, ReturnKind, Type, TypeId, VariantId};
 use cranelift_isle::trie_again::{Binding, BindingId};
-use report_errors::names::NameTables;
+use report_names::names::NameTables;
 use std::alloc::{AllocError, Global};
 
 /// What the values of a site are.

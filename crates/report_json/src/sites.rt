@@ -4,7 +4,7 @@ use crate::heads::push_type_names;
 use crate::site_types::{SiteTypes, word_of_answer};
 use cranelift_isle::sema::TypeId;
 use cranelift_isle::trie_again::{Binding, BindingId, Constraint};
-use report_errors::names::NameTables;
+use report_names::names::NameTables;
 use report_queries::in_place::is_in_place;
 use std::alloc::AllocError;
 use text_json::Json;

@@ -1,8 +1,8 @@
 //! How large terms are.
 
 use cranelift_isle::lower::Lowered;
-use report_errors::names::NameTables;
-use report_errors::term_sizes::{TermSize, sizes};
+use report_names::names::NameTables;
+use report_ways::term_sizes::{TermSize, sizes};
 use std::alloc::{AllocError, Global};
 use text_json::Json;
 

@@ -11,9 +11,9 @@ use cranelift_isle::lower::LoweredTerm;
 use cranelift_isle::sema::TypeId;
 use cranelift_isle::serialize::{Block, ControlFlow};
 use cranelift_isle::trie_again::{BindingId, Rule, RuleSet};
-use report_errors::explanation::comes_first;
-use report_errors::names::NameTables;
+use report_names::names::NameTables;
 use report_queries::variable_sites::KnownSites;
+use report_ways::explanation::comes_first;
 use std::alloc::{AllocError, Global};
 use text_json::Json;
 

@@ -4,7 +4,7 @@ use crate::sites::{push_constraint, push_ids};
 use cranelift_isle::serialize::{Block, ControlFlow, EvalStep, MatchArm};
 use cranelift_isle::syntax::Pos;
 use cranelift_isle::trie_again::{BindingId, RuleSet};
-use report_errors::names::NameTables;
+use report_names::names::NameTables;
 use report_queries::rules::rule_behind;
 use std::alloc::AllocError;
 use text_json::Json;

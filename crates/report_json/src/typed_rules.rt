@@ -6,7 +6,7 @@ use cranelift_isle::environments::Environments;
 use cranelift_isle::lower::Lowered;
 use cranelift_isle::sema::{BoundVar, IfLet, Rule, RuleId};
 use cranelift_isle::trie_again::BindingId;
-use report_errors::names::NameTables;
+use report_names::names::NameTables;
 use report_queries::variable_sites::KnownSites;
 use std::alloc::AllocError;
 use text_json::Json;

@@ -3,7 +3,7 @@
 use crate::places::LinePlaces;
 use cranelift_isle::sema::{Fields, Type, Variant};
 use cranelift_isle::syntax::{self, Def, Extern, Ident};
-use report_errors::names::NameTables;
+use report_names::names::NameTables;
 use std::alloc::AllocError;
 use text_json::Json;
 

@@ -6,13 +6,13 @@ use cranelift_isle::lower::{Lowered, LoweredTerm};
 use cranelift_isle::serialize::{Block, ControlFlow, MatchArm};
 use cranelift_isle::syntax::Pos;
 use cranelift_isle::trie_again::{Binding, BindingId};
-use report_errors::explanation::push_rule_place;
-use report_errors::indented_lines::push_line;
-use report_errors::names::NameTables;
-use report_errors::way_text::{Sites, Way, WayTest};
-use report_errors::ways::test_of;
+use report_names::names::NameTables;
 use report_print::lines::FileLines;
 use report_queries::rules::rule_behind;
+use report_ways::explanation::push_rule_place;
+use report_ways::indented_lines::push_line;
+use report_ways::way_text::{Sites, Way, WayTest};
+use report_ways::ways::test_of;
 use run_terms::values::Content;
 use std::alloc::{AllocError, Global};
 

@@ -1,7 +1,7 @@
 //! Comments that allow a warning.
 
 use cranelift_isle::syntax::{Def, Files};
-use report_errors::definitions::definition_around;
+use report_names::definitions::definition_around;
 use report_print::report::Report;
 
 /// Whether a comment above the definition that a warning is told at allows it: one of the lines of comments that end right above

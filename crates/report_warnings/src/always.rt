@@ -4,8 +4,8 @@ use crate::kinds::{Warning, add_place, begun};
 use cranelift_isle::lower::Lowered;
 use cranelift_isle::sema::{BuiltinType, Expr, IfLet, Pattern, Term, TermKind, Type};
 use cranelift_isle::syntax::{self, Def};
-use report_errors::diagnosis::add_help;
-use report_errors::names::rule_at;
+use report_names::names::rule_at;
+use report_names::rule_notes::add_help;
 use report_print::report::{Place, Report};
 use std::alloc::{AllocError, Global};
 

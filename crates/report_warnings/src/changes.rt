@@ -5,7 +5,7 @@ use crate::type_changes::push_types;
 use crate::versions::{Version, term_called, term_name};
 use cranelift_isle::lower::{Lowered, LoweredTerm};
 use cranelift_isle::syntax::{Def, Rule};
-use report_errors::names::{name_of, priority_of};
+use report_names::names::{name_of, priority_of};
 use report_print::layout::push_place;
 use report_queries::texts::{Comments, names_of, print_term};
 use report_witness::rule_text::rule_text;

@@ -5,10 +5,10 @@ use cranelift_isle::lower::{Lowered, LoweredTerm};
 use cranelift_isle::sema::{Sym, Type};
 use cranelift_isle::syntax::{Def, Ident, Pos};
 use cranelift_isle::trie_again::{BindingId, Constraint};
-use report_errors::diagnosis::{add_help, add_rule};
-use report_errors::mentions::{MentionKind, Mentions};
-use report_errors::names::NameTables;
-use report_errors::site_words::push_head;
+use report_names::mentions::{MentionKind, Mentions};
+use report_names::names::NameTables;
+use report_names::rule_notes::{add_help, add_rule};
+use report_names::site_words::push_head;
 use report_print::report::Report;
 use std::alloc::{AllocError, Global};
 

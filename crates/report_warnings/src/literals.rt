@@ -4,8 +4,8 @@ use crate::coverage::int_type;
 use crate::kinds::{Warning, add_place, begun};
 use cranelift_isle::sema::{IntType, TypeEnv};
 use cranelift_isle::syntax::{Def, Pos};
-use report_errors::diagnosis::add_help;
-use report_errors::mentions::{LiteralValue, Mentions, Need, type_needed};
+use report_names::mentions::{LiteralValue, Mentions, Need, type_needed};
+use report_names::rule_notes::add_help;
 use report_print::report::{Place, Report};
 use std::alloc::{AllocError, Global};
 

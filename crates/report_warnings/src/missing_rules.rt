@@ -3,9 +3,9 @@
 use crate::sample_values::Samples;
 use cranelift_isle::syntax::{Decl, Def, Files, Pos, Rule};
 use cranelift_isle::trie_again;
-use report_errors::definitions::definition_around;
-use report_errors::extents::end_of_form;
-use report_errors::names::priority_of;
+use report_names::definitions::definition_around;
+use report_names::extents::end_of_form;
+use report_names::names::priority_of;
 use report_print::lines::file_text;
 use report_print::report::{Place, Report};
 use report_witness::witness::exclude_each_other;

@@ -13,8 +13,8 @@ ghost use Rattle.report_warnings.specs.RuleGroups.{AddsNumber, AreGrouped, meets
 use crate::kinds::{Warning, begun};
 use cranelift_isle::syntax::{Def, Pos};
 use cranelift_isle::trie_again::{BindingId, Constraint, Overlap, Rule};
-use report_errors::diagnosis::{add_help, add_rule};
-use report_errors::names::rule_at;
+use report_names::names::rule_at;
+use report_names::rule_notes::{add_help, add_rule};
 use report_print::report::{Place, Report, Word};
 use std::alloc::{AllocError, Global};
 use std::collections::{BTreeMap, BTreeSet};

@@ -6,7 +6,7 @@ use crate::uncovered::declaration_of;
 use cranelift_isle::lower::Lowered;
 use cranelift_isle::sema::Term;
 use cranelift_isle::syntax::Def;
-use report_errors::diagnosis::add_help;
+use report_names::rule_notes::add_help;
 use report_print::report::{Edit, Fix, Place, Report, Word};
 use std::alloc::{AllocError, Global};
 use std::collections::BTreeSet;

@@ -11,7 +11,7 @@ ghost use Rattle.report_warnings.specs.Added.{told_of, AddsTold};
 use crate::kinds::{Warning, begun};
 use cranelift_isle::serialize::{Block, ControlFlow, MatchArm};
 use cranelift_isle::syntax::{Def, Pos};
-use report_errors::diagnosis::{ONE_OF_ALIKE, add_first, add_help, add_rule, are_alike};
+use report_names::rule_notes::{ONE_OF_ALIKE, add_first, add_help, add_rule, are_alike};
 use report_print::report::Report;
 use std::alloc::{AllocError, Global};
 

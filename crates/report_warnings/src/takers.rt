@@ -4,7 +4,7 @@ use crate::versions::{Version, term_called};
 use cranelift_isle::lower::Lowered;
 use cranelift_isle::sema::{TermId, TypeId};
 use cranelift_isle::syntax::{Def, Ident, Pos, Rule};
-use report_errors::names::priority_of;
+use report_names::names::priority_of;
 use report_queries::names::type_name;
 use report_queries::premises::is_multi;
 use report_witness::witness::{exclude_each_other, term_of, witness};

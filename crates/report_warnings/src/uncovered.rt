@@ -8,8 +8,8 @@ use crate::untaken::untaken_call;
 use cranelift_isle::lower::{Lowered, LoweredTerm};
 use cranelift_isle::sema::Term;
 use cranelift_isle::syntax::{Decl, Def, Files};
-use report_errors::definitions::definition_around;
-use report_errors::diagnosis::add_help;
+use report_names::definitions::definition_around;
+use report_names::rule_notes::add_help;
 use report_print::report::{Place, Report};
 use std::alloc::{AllocError, Global};
 

@@ -5,8 +5,8 @@ use crate::passing::{Fact, constraint_by, denied_by};
 use cranelift_isle::lower::{Lowered, LoweredTerm};
 use cranelift_isle::sema::{Term, TypeEnv};
 use cranelift_isle::trie_again::{Binding, BindingId, Constraint, RuleSet, TupleIndex};
-use report_errors::names::NameTables;
-use report_errors::site_words::{push_head, site_texts, text_at};
+use report_names::names::NameTables;
+use report_names::site_words::{push_head, site_texts, text_at};
 use std::alloc::{AllocError, Global};
 
 // How many pieces a call may have.

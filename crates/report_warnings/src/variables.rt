@@ -2,9 +2,9 @@
 
 use crate::kinds::{Warning, add_place, begun};
 use cranelift_isle::syntax::{Def, Ident};
-use report_errors::definitions::declaration_of;
-use report_errors::meanings::{Meant, meant_by};
-use report_errors::mentions::{Mention, MentionKind, Mentions, Need};
+use report_names::definitions::declaration_of;
+use report_names::meanings::{Meant, meant_by};
+use report_names::mentions::{Mention, MentionKind, Mentions, Need};
 use report_print::report::{Place, Report};
 use std::alloc::{AllocError, Global};
 

@@ -1,8 +1,8 @@
 //! Which rules a person means.
 
-use crate::extents::end_of_form;
-use crate::names::name_of;
 use cranelift_isle::syntax::{Files, Rule};
+use report_names::extents::end_of_form;
+use report_names::names::name_of;
 use report_witness::witness::term_of;
 use std::alloc::{AllocError, Global};
 

@@ -2,7 +2,7 @@
 
 use crate::analysis::Analysis;
 use cranelift_isle::syntax::{Ident, Pos};
-use report_errors::extents::end_of_form;
+use report_names::extents::end_of_form;
 use serde_json::{Value, json};
 use std::alloc::{AllocError, Global};
 use text_documents::places::{DocumentPosition, PlaceTable};

@@ -2,10 +2,10 @@
 
 ghost use Rattle.std.specs.Prelude.{◌<◌, string_len, IfOk};
 
-use crate::names::NameTables;
 use crate::tree_sizes::{TreeSize, size_of_tree};
 use cranelift_isle::lower::{Lowered, LoweredTerm};
 use cranelift_isle::sema::TermId;
+use report_names::names::NameTables;
 use std::alloc::{AllocError, Global};
 use std::cmp::Reverse;
 

@@ -6,7 +6,7 @@ use crate::edits::changes_value;
 use app_messages::edits::Edit;
 use app_messages::messages::{member, range_of};
 use app_messages::refusals::Refusal;
-use report_errors::extents::{end_of_form, piece_of};
+use report_names::extents::{end_of_form, piece_of};
 use report_print::report::{Fix, Report};
 use serde_json::{Value, json};
 use std::alloc::{AllocError, Global};

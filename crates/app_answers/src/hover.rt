@@ -9,10 +9,10 @@ use app_names::symbols::{
     Symbol, is_built_in, mention_at, names_of, specs_of, symbol_of, type_named,
 };
 use cranelift_isle::syntax::{Def, Extern, Extractor, Ident, Pos, Rule};
-use report_errors::definitions::{declaration_of, definition_around, variant_with_type};
-use report_errors::explanation::explanation;
-use report_errors::mentions::{Mention, Mentions, type_needed};
+use report_names::definitions::{declaration_of, definition_around, variant_with_type};
+use report_names::mentions::{Mention, Mentions, type_needed};
 use report_print::lines::FileLines;
+use report_ways::explanation::explanation;
 use report_witness::conditions::{conditions_of, given_of};
 use serde_json::{Value, json};
 use std::alloc::{AllocError, Global};

@@ -1,46 +1,21 @@
-//! What the files of a workspace mean together.
+//! How what the files of a workspace mean together is worked out: they are read and lowered, and errors and warnings are told.
 
-use crate::diagnostics::{file_of, place_of};
-use crate::readings::{LostForms, Readings, parts_of};
-use crate::sources::Sources;
+use crate::readings::{Readings, parts_of};
+use app_answers::analysis::{Analysis, LostForms};
+use app_answers::diagnostics::{file_of, place_of};
+use app_answers::sources::Sources;
 use cranelift_isle::lower::{Lowered, lower};
 use cranelift_isle::sema::TypeEnv;
 use cranelift_isle::syntax::{Def, Error, Fault, Files, Pos};
-use report_errors::definitions::definition_around;
 use report_errors::diagnosis::{Amount, Reports, begin_of_error, reports_of};
-use report_errors::extents::end_of_form;
-use report_errors::lost::{LostPart, come_of_lost, errors_beside};
+use report_errors::lost::{come_of_lost, errors_beside};
 use report_errors::lost_names::{FormSeen, LostNames};
+use report_names::definitions::definition_around;
+use report_names::lost_part::LostPart;
 use report_print::report::Report;
 use report_stack::deep_rule;
 use report_warnings::lints::{warnings, warnings_of_each};
 use std::alloc::{AllocError, Global};
-
-/// What files mean together.
-pub struct Analysis {
-    /// The files.
-    pub sources: Sources,
-    /// The definitions of all forms that can be read, and the last good ones of the others, in order.
-    pub defs: Vec<Def>,
-    /// The forms that can't be read.
-    pub lost: Vec<LostForms>,
-    /// What the definitions are lowered to, where nothing is wrong with them.
-    pub lowered: Option<Lowered>,
-    /// The errors, or else the warnings.
-    pub reports: Vec<Report>,
-}
-
-impl Drop for Analysis {
-    fn drop(self) {
-        let Analysis {
-            sources: _,
-            defs: _,
-            lost: _,
-            lowered: _,
-            reports: _,
-        } = self;
-    }
-}
 
 /// What files mean together, by what they meant before. Of a text that can't be read whole the forms that can be read count, and
 /// the last good definitions of the others. Then no warning is told that several rules give, and nothing that comes of a form that
@@ -246,45 +221,4 @@ fn add_places(defs: &[Def], reports: &[Report], places: &mut Vec<Pos>) -> Result
 // Where the definition begins that a place lies in.
 fn place_around(defs: &[Def], pos: Pos) -> Option<Pos> {
     definition_around(defs, pos)?.place()
-}
-
-impl Analysis {
-    /// The forms that can't be read in which a position is.
-    pub fn lost_at(&self, pos: Pos) -> Option<&LostForms> {
-        let place = (pos.file, pos.offset);
-        let count = self
-            .lost
-            .partition_point(|forms| (forms.part.file, forms.part.begin) <= place);
-        let forms = self.lost.get(count.checked_sub(1)?)?;
-        if forms.part.has(pos) {
-            Some(forms)
-        } else {
-            None
-        }
-    }
-
-    /// The form at a position, as it is written, or as it was when it could be read last.
-    pub fn form_at(&self, pos: Pos) -> &str {
-        let rest = match self.lost_at(pos) {
-            Some(forms) => forms
-                .good
-                .get(pos.offset.saturating_sub(forms.part.begin)..),
-            None => self.text(pos.file).get(pos.offset..),
-        };
-        let rest = rest.unwrap_or("");
-        rest.get(..end_of_form(rest, 0)).unwrap_or("")
-    }
-
-    /// The text of a file by its number, or the empty text.
-    pub fn text(&self, file: usize) -> &str {
-        self.sources.text(file)
-    }
-
-    /// The URI of a file by its number, or the empty text.
-    pub fn uri(&self, file: usize) -> &str {
-        match self.sources.uris.get(file) {
-            Some(uri) => uri.as_str(),
-            None => "",
-        }
-    }
 }

@@ -1,9 +1,9 @@
 //! The tests on the way to a return, a line each.
 
 use crate::indented_lines::push_line;
-use crate::names::NameTables;
-use crate::site_words::{push_head, push_site, text_at};
 use cranelift_isle::trie_again::{Binding, BindingId, Constraint};
+use report_names::names::NameTables;
+use report_names::site_words::{push_head, push_site, text_at};
 use std::alloc::{AllocError, Global};
 
 /// A test on the way to a return.

@@ -6,13 +6,17 @@ use app_messages::messages::{member, place_of};
 use app_messages::refusals::Refusal;
 use app_names::symbols::{Specs, mention_at, names_of, specs_of, symbol_of};
 use cranelift_isle::syntax::Pos;
-use report_errors::mentions::Mention;
+use report_names::mentions::Mention;
 use serde_json::{Value, json};
 use std::alloc::{AllocError, Global};
 use text_documents::places::offset_at;
 
 /// The position in a file that a request is of.
-pub fn position_in(analysis: &Analysis, file: usize, params: &Value) -> Result<Pos, Refusal> {
+pub(crate) fn position_in(
+    analysis: &Analysis,
+    file: usize,
+    params: &Value,
+) -> Result<Pos, Refusal> {
     let place = place_of(member(params, "position")?)?;
     match offset_at(analysis.text(file), place) {
         Some(offset) => Ok(Pos { file, offset }),
@@ -102,7 +106,7 @@ fn same_names<'a>(
 }
 
 /// The place of a name.
-pub fn location_of(ranges: &Ranges<'_>, mention: &Mention<'_>) -> Result<Value, AllocError> {
+pub(crate) fn location_of(ranges: &Ranges<'_>, mention: &Mention<'_>) -> Result<Value, AllocError> {
     let range = ranges.of_name(mention.name)?;
     ranges.location(mention.name.1.file, range)
 }

@@ -5,8 +5,8 @@ use crate::references::position_in;
 use app_messages::refusals::Refusal;
 use app_names::contexts::{Context, context_at};
 use cranelift_isle::syntax::{Def, Ident};
-use report_errors::definitions::result_of;
-use report_errors::mentions::argument_type;
+use report_names::definitions::result_of;
+use report_names::mentions::argument_type;
 use serde_json::{Value, json};
 use std::alloc::{AllocError, Global};
 
@@ -71,7 +71,7 @@ fn signature_value(
 }
 
 /// The name of a type, or the empty text.
-pub fn text_of_type(ty: Option<&Ident>) -> &str {
+pub(crate) fn text_of_type(ty: Option<&Ident>) -> &str {
     match ty {
         Some(name) => name.0.as_str(),
         None => "",

@@ -1,7 +1,7 @@
 //! Sites, and what values are, in words.
 
 use crate::names::NameTables;
-use cranelift_isle::trie_again::{Binding, BindingId, Constraint};
+use core_rule_sets::trie_again::{Binding, BindingId, Constraint};
 use std::alloc::{AllocError, Global};
 
 // The longest text of a site, in bytes. A longer one is cut short, since a site may stand in a text many times.
@@ -45,7 +45,7 @@ fn site_text(
 }
 
 /// Adds what a site stands for. These are the texts of the sites before it, and so of those that it is made of.
-pub(crate) fn push_site(
+pub fn push_site(
     out: &mut String,
     names: NameTables<'_>,
     binding: &Binding,

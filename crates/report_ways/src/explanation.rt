@@ -2,12 +2,12 @@
 
 use crate::indented_lines::push_line;
 use crate::meant_rules::Called;
-use crate::names::{NameTables, rule_at};
 use crate::way_text::Sites;
 use crate::ways::Search;
 use cranelift_isle::lower::{Lowered, LoweredTerm};
 use cranelift_isle::syntax::{self, Def};
 use cranelift_isle::trie_again::{Overlap, Rule};
+use report_names::names::{NameTables, rule_at};
 use report_print::layout::push_place;
 use report_print::lines::FileLines;
 use report_witness::conditions::{Conditions, conditions_of, given_of};

@@ -1,13 +1,13 @@
 //! The usual layout, as edits.
 
 ghost use Rattle.std.specs.Prelude.{IfOk};
-ghost use Rattle.app_server.specs.Layouts.{KeepsTokens};
+ghost use Rattle.app_answers.specs.Layouts.{KeepsTokens};
 
 use crate::analysis::Analysis;
 use app_messages::edits::{PlacedEdit, edit_between, edits_value};
 use app_messages::messages::{member, range_of};
 use app_messages::refusals::Refusal;
-use report_errors::extents::end_of_form;
+use report_names::extents::end_of_form;
 use serde_json::Value;
 use std::alloc::{AllocError, Global};
 use text_documents::edits::range_at;
@@ -72,7 +72,7 @@ fn laid_out_in(
 }
 
 /// Where the form of a part of a text begins, behind white space.
-pub fn form_offset(chunk: &Chunk) -> usize {
+pub(crate) fn form_offset(chunk: &Chunk) -> usize {
     chunk.end.saturating_sub(chunk.text.trim_start().len())
 }
 

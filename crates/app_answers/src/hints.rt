@@ -5,8 +5,8 @@ use crate::ranges::{Ranges, end_of_name};
 use app_messages::messages::{member, range_of};
 use app_messages::refusals::Refusal;
 use cranelift_isle::syntax::{Def, Rule};
-use report_errors::definitions::root_of;
-use report_errors::mentions::{Mention, MentionKind, Mentions, type_needed};
+use report_names::definitions::root_of;
+use report_names::mentions::{Mention, MentionKind, Mentions, type_needed};
 use serde_json::{Value, json};
 use std::alloc::{AllocError, Global};
 use text_documents::edits::range_at;
@@ -109,7 +109,7 @@ pub fn lenses_of(alloc: Global, analysis: &Analysis, file: usize) -> Result<Valu
 }
 
 /// How many rules a term has.
-pub fn rules_text(alloc: Global, defs: &[Def], term: &str) -> Result<String, AllocError> {
+pub(crate) fn rules_text(alloc: Global, defs: &[Def], term: &str) -> Result<String, AllocError> {
     let count = defs.iter().filter(|def| is_rule_of(def, term)).count();
     match count {
         0 => String::from_str(alloc, "no rules"),
@@ -119,7 +119,7 @@ pub fn rules_text(alloc: Global, defs: &[Def], term: &str) -> Result<String, All
 }
 
 /// Whether a definition is a rule of a term.
-pub fn is_rule_of(def: &Def, term: &str) -> bool {
+pub(crate) fn is_rule_of(def: &Def, term: &str) -> bool {
     match def {
         Def::Rule(rule) => root_of(rule) == term,
         _ => false,

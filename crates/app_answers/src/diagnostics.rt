@@ -113,7 +113,7 @@ pub fn file_of(report: &Report) -> usize {
 }
 
 /// How places in the files of an analysis are shown.
-pub struct Shown<'a> {
+pub(crate) struct Shown<'a> {
     pub(crate) analysis: &'a Analysis,
     ranges: Ranges<'a>,
     lines: FileLines<'a>,
@@ -175,7 +175,7 @@ fn is_among(diagnostic: &Value, found: &[Value], count: usize) -> bool {
 }
 
 /// A report as a diagnostic. Where `--all` shows more is left out: an editor hasn't it.
-pub fn diagnostic_of(
+pub(crate) fn diagnostic_of(
     alloc: Global,
     shown: &Shown<'_>,
     report: &Report,

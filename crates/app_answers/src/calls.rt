@@ -9,8 +9,8 @@ use app_messages::messages::{member, text_of};
 use app_messages::refusals::Refusal;
 use app_names::symbols::{Symbol, mention_at, symbol_of};
 use cranelift_isle::syntax::{Decl, Def};
-use report_errors::definitions::declaration_of;
-use report_errors::mentions::{MentionKind, Mentions};
+use report_names::definitions::declaration_of;
+use report_names::mentions::{MentionKind, Mentions};
 use serde_json::{Value, json};
 use std::alloc::{AllocError, Global};
 

@@ -3,8 +3,8 @@
 use crate::analysis::Analysis;
 use crate::ranges::Ranges;
 use cranelift_isle::syntax::Ident;
-use report_errors::definitions::variant_of;
-use report_errors::mentions::{MentionKind, Mentions};
+use report_names::definitions::variant_of;
+use report_names::mentions::{MentionKind, Mentions};
 use serde_json::{Value, json};
 use std::alloc::{AllocError, Global};
 use text_documents::places::DocumentPosition;

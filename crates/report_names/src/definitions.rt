@@ -67,7 +67,7 @@ pub fn is_struct(ty: &Type, name: &str) -> bool {
 }
 
 /// The fields of the variant or the struct that makes the term of a name.
-pub fn fields_of<'a>(defs: &'a [Def], term: &str) -> Option<&'a Fields> {
+pub(crate) fn fields_of<'a>(defs: &'a [Def], term: &str) -> Option<&'a Fields> {
     if let Some(variant) = variant_of(defs, term) {
         return Some(&variant.fields);
     }

@@ -1,8 +1,9 @@
 //! What names, types, terms and rules are called.
 
 use crate::definitions::rule_around;
-use cranelift_isle::sema::{Sym, Term, TermId, Type, TypeEnv, TypeId, VariantId};
-use cranelift_isle::syntax::{Def, Pos, Rule};
+use core_syntax::syntax::{Def, Pos, Rule};
+use core_terms::Term;
+use core_types::{Sym, TermId, Type, TypeEnv, TypeId, VariantId};
 
 /// What names are looked up in.
 #[derive(Clone, Copy)]

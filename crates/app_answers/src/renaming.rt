@@ -14,10 +14,10 @@ use app_names::symbols::{
     type_named,
 };
 use cranelift_isle::syntax::{Def, Pos, TypeValue};
-use report_errors::definitions::{
+use report_names::definitions::{
     declaration_of, definition_around, place_of_constant, place_of_term,
 };
-use report_errors::mentions::{Mention, MentionKind, Mentions};
+use report_names::mentions::{Mention, MentionKind, Mentions};
 use serde_json::{Value, json};
 use std::alloc::{AllocError, Global};
 

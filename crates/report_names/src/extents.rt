@@ -141,7 +141,7 @@ fn length_of_word(text: &str) -> usize {
 }
 
 /// Whether a word ends before this character.
-pub(crate) fn ends_word(c: char) -> bool {
+pub fn ends_word(c: char) -> bool {
     c.is_whitespace() || matches!(c, '(' | ')' | ';' | '@')
 }
 

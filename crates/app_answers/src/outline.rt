@@ -8,7 +8,7 @@ use app_messages::refusals::Refusal;
 use cranelift_isle::syntax::{
     Decl, Def, Extern, Fields, Ident, Pos, Rule, StructFields, Type, TypeValue, Variant,
 };
-use report_errors::mentions::{MentionKind, Mentions};
+use report_names::mentions::{MentionKind, Mentions};
 use serde_json::{Value, json};
 use std::alloc::{AllocError, Global};
 
@@ -223,7 +223,7 @@ fn external_entry(
 }
 
 /// The entry of a declaration.
-pub fn declaration_entry(
+pub(crate) fn declaration_entry(
     alloc: Global,
     ranges: &Ranges<'_>,
     decl: &Decl,
@@ -233,7 +233,7 @@ pub fn declaration_entry(
 }
 
 /// The types of a term's arguments and of its result, as they are declared.
-pub fn signature_of(alloc: Global, decl: &Decl) -> Result<String, AllocError> {
+pub(crate) fn signature_of(alloc: Global, decl: &Decl) -> Result<String, AllocError> {
     let mut text = String::from_str(alloc, "(")?;
     for (number, ty) in decl.arg_tys.iter().enumerate() {
         if number > 0 {
@@ -259,7 +259,7 @@ fn named_rule_entry(alloc: Global, ranges: &Ranges<'_>, rule: &Rule) -> Result<V
 }
 
 /// The entry of the rule at a position, by a name, with what is said of it.
-pub fn rule_entry(
+pub(crate) fn rule_entry(
     alloc: Global,
     ranges: &Ranges<'_>,
     (name, detail): (&Ident, &str),

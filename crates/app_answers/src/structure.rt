@@ -7,7 +7,7 @@ use app_messages::messages::{member, place_of};
 use app_messages::refusals::Refusal;
 use app_names::contexts::{Context, context_at};
 use cranelift_isle::syntax::Pos;
-use report_errors::extents::end_of_form;
+use report_names::extents::end_of_form;
 use serde_json::{Value, json};
 use std::alloc::{AllocError, Global};
 use text_documents::places::offset_at;
