@@ -11,6 +11,7 @@ use cranelift_isle::lower::lower;
 use cranelift_isle::syntax::{Def, Error, Fault, Files, Pos};
 use report_names::definitions::definition_around;
 use report_names::extents::end_of_form;
+use report_names::lost_part::LostPart;
 use report_print::lines::file_text;
 use report_print::report::Report;
 use std::alloc::{AllocError, Global};
