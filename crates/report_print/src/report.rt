@@ -228,7 +228,7 @@ pub struct Edit {
     pub text: String,
 }
 
-/// A piece of a file, by what syntax trees know of it: `report_errors::extents::piece_of` finds it in the file's text.
+/// A piece of a file, by what syntax trees know of it: `report_names::extents::piece_of` finds it in the file's text.
 #[derive(Clone, Copy, PartialEq, Eq)]
 pub enum Place {
     /// Nothing, before this position.
