@@ -1,6 +1,5 @@
 -- Code is written as what is shown of it, in a notation where terms are functions and types are endings.
-use Rattle.std.proofs.Common.{◌≡◌, ◌∷◌, [], ℕ, zero, suc, Bool, true, false, List, Option, Some, None, refl, ap, ◌∙◌, sym, subst, arith}
-use Rattle.std.proofs.lemmas.Grind.{common_steps}
+use Rattle.std.proofs.Common.{◌≡◌, ◌∷◌, [], ℕ, zero, suc, Bool, true, false, List, Option, Some, None, refl, ap, ◌∙◌, sym, subst}
 use Rattle.std.proofs.Math.Bool.{or-false}
 use Rattle.std.proofs.lemmas.Option.{same_Some, none-some}
 use Rattle.model.specs.lists.Syntax.{Position}
@@ -186,8 +185,12 @@ module _ (p : Notation) (many_of composed_of : ℕ → Bool) (list_of : ℕ → 
 
   -- 3. tests
   seen_same : (c : Constraint) → is_seen_through q (shown_constraint p c) ≡ is_seen_through p c
+  seen_same (is_prim name) = refl
   seen_same (is_variant ty variant n) = refl
-  seen_same c = refl
+  seen_same (is_struct ty n) = refl
+  seen_same (is_bool b ty) = refl
+  seen_same (is_int z ty) = refl
+  seen_same is_present = refl
 
   comparison_same : (u : PlaceUse) (sign : Word) (c : Constraint) (r s : List CodePiece) → Same r s → Same (comparison_before p u sign c r) (comparison_before q (shown_use p u) sign (shown_constraint p c) s)
   comparison_same u sign c r s e =
@@ -202,8 +205,12 @@ module _ (p : Notation) (many_of composed_of : ℕ → Bool) (list_of : ℕ → 
       ap (λ tokens. word let_word ∷ tokens) (pattern_same c fields x y (ap (λ tokens. word equals ∷ tokens) (use_same u r s e)))
 
   constant_is : (c : Constraint) → is_constant (shown_constraint p c) ≡ is_constant c
+  constant_is (is_prim name) = refl
   constant_is (is_variant ty variant n) = refl
-  constant_is c = refl
+  constant_is (is_struct ty n) = refl
+  constant_is (is_bool b ty) = refl
+  constant_is (is_int z ty) = refl
+  constant_is is_present = refl
 
   condition_same : (constant : Bool) (u : PlaceUse) (c : Constraint) (fields : List (Option ℕ)) (r s : List CodePiece) → Same r s → Same (condition_before constant p u c fields r) (condition_before constant q (shown_use p u) (shown_constraint p c) fields s)
   condition_same true u c fields r s e = comparison_same u equal_to c r s e
@@ -246,8 +253,12 @@ module _ (p : Notation) (many_of composed_of : ℕ → Bool) (list_of : ℕ → 
   call_same false at v f us x r s h e = one_same at v x r s e ∙ ap (λ y. tokens_of (one_line q at v y s)) h
 
   made_line : (at : Margin) (v : ℕ) (o : Owner) (shape : Shape) (us : List PlaceUse) (s : List CodePiece) → bind_lines q at v (shown_made o shape us) s ≡ one_line q at v (shown_made o shape us) s
+  made_line at v (variant_owner ty variant) no_fields us s = refl
+  made_line at v (variant_owner ty variant) (named_fields n) us s = refl
   made_line at v (variant_owner ty variant) (unnamed_fields n) us s = refl
-  made_line at v o shape us s = refl
+  made_line at v (struct_owner ty) no_fields us s = refl
+  made_line at v (struct_owner ty) (named_fields n) us s = refl
+  made_line at v (struct_owner ty) (unnamed_fields n) us s = refl
 
   bind_same : (at : Margin) (v : ℕ) (x : Expr) (r s : List CodePiece) → Same r s → Same (bind_lines p at v x r) (bind_lines q at v (shown_expr p x) s)
   bind_same at v (extraction term u) r s e = rw (by.many (extractor_of term)) (call_same (many_of (p.function (extractor_of term))) at v (extractor_of term) (u ∷ []) (extraction term u) r s refl e)
@@ -308,12 +319,24 @@ module _ (p : Notation) (many_of composed_of : ℕ → Bool) (list_of : ℕ → 
       → named_test composed pass (record { place = place; pass = pass }) name ≡ Some test → TestSame sign (record { place = place; pass = pass }) (name_written name) as_it_is r test
   named_written sign false place pass name r test h e = subst (TestSame sign (record { place = place; pass = pass }) (name_written name) as_it_is r) (same_Some (record { place = place; pass = pass }, is_prim name) test e) (refl, rw h)
   named_written sign true place seen_through name r test h e = subst (TestSame sign (record { place = place; pass = seen_through }) (name_written name) as_it_is r) (same_Some (record { place = place; pass = as_it_is }, is_prim name) test e) (refl, rw h)
-  named_written sign composed place pass name r test h e = grind (arith, common_steps, none-some)
+  named_written sign true place as_it_is name r test h e = absurd (none-some test e)
+  named_written sign true place lent name r test h e = absurd (none-some test e)
+  named_written sign true place cloned name r test h e = absurd (none-some test e)
 
   test_written : (sign : Word) (a : PlaceUse) (place : Place) (pass : Pass) (r : List CodePiece) (test : PlaceUse × Constraint) → test_at p a place pass ≡ Some test → TestSame sign a place pass r test
   test_written sign a (int_written z ending) as_it_is r test e = subst (TestSame sign a (int_written z ending) as_it_is r) (same_Some (a, is_int z ending) test e) (refl, refl)
   test_written sign a (name_written name) as_it_is r test e = named_written sign (p.is_constant_composed name) a.place a.pass name r test refl e
-  test_written sign a place pass r test e = grind (arith, common_steps, none-some)
+  test_written sign a (int_written z ending) lent r test e = absurd (none-some test e)
+  test_written sign a (int_written z ending) cloned r test e = absurd (none-some test e)
+  test_written sign a (int_written z ending) seen_through r test e = absurd (none-some test e)
+  test_written sign a (name_written name) lent r test e = absurd (none-some test e)
+  test_written sign a (name_written name) cloned r test e = absurd (none-some test e)
+  test_written sign a (name_written name) seen_through r test e = absurd (none-some test e)
+  test_written sign a (variable v) pass r test e = absurd (none-some test e)
+  test_written sign a (parameter i) pass r test e = absurd (none-some test e)
+  test_written sign a (part_of v i) pass r test e = absurd (none-some test e)
+  test_written sign a (variant_written ty variant) pass r test e = absurd (none-some test e)
+  test_written sign a (struct_written ty) pass r test e = absurd (none-some test e)
 
   uses_same : (sign : Word) (a b : PlaceUse) (r s : List CodePiece) → Same r s → Same (use_before p a (put_between sign (use_before p b r))) (use_before q (shown_use p a) (put_between sign (use_before q (shown_use p b) s)))
   uses_same sign a b r s e = use_same a (put_between sign (use_before p b r)) (put_between sign (use_before q (shown_use p b) s)) (ap (λ tokens. word sign ∷ tokens) (use_same b r s e))
@@ -348,7 +371,14 @@ module _ (p : Notation) (many_of composed_of : ℕ → Bool) (list_of : ℕ → 
   end_is : (s : Statement) → is_end (result_ends q) (shown_at p s) ≡ is_end (result_ends p) s
   end_is (if_equal a b body) = end_of_either (test_of a b) (shown_use p a) (shown_use p b) (shown p body)
   end_is (unless_equal a b) = end_of_unless (test_of a b) (shown_use p a) (shown_use p b)
-  end_is s = refl
+  end_is (bind v x) = refl
+  end_is (bind_some v u) = refl
+  end_is no_way = refl
+  end_is (match_on u arms) = refl
+  end_is (for_each_of v from body) = refl
+  end_is (give place u) = refl
+  end_is (labelled body) = refl
+  end_is (unless_let u c fields) = refl
 
   left_of_either : (t : Option (PlaceUse × Constraint)) (a b : PlaceUse) (body : Block) → leaves_at (result_ends q) (equal_or_match t a b body) ≡ is_left (result_ends q) body
   left_of_either None a b body = refl
@@ -376,15 +406,21 @@ module _ (p : Notation) (many_of composed_of : ℕ → Bool) (list_of : ℕ → 
     leaves_is (if_equal a b body) = left_of_either (test_of a b) (shown_use p a) (shown_use p b) (shown p body) ∙ left_is body
     leaves_is (for_each_of v from body) = left_is body
     leaves_is (unless_equal a b) = left_of_unless (test_of a b) (shown_use p a) (shown_use p b)
-    leaves_is s = refl
+    leaves_is (unless_let u c fields) = refl
+    leaves_is (bind v x) = refl
+    leaves_is (bind_some v u) = refl
+    leaves_is no_way = refl
+    leaves_is (give place u) = refl
+    leaves_is (labelled body) = refl
 
     arms_left : (arms : CodeArms) → leaves_arms (result_ends q) (shown_arms p arms) ≡ leaves_arms (result_ends p) arms
     arms_left no_code_arm = refl
     arms_left (code_arm c fields body rest) = either (left_is body) (arms_left rest)
 
   alone_is : (arms : CodeArms) → is_alone (shown_arms p arms) ≡ is_alone arms
+  alone_is no_code_arm = refl
+  alone_is (code_arm c fields body no_code_arm) = refl
   alone_is (code_arm c fields body (code_arm d more b rest)) = refl
-  alone_is arms = refl
 
   head_same : (alone : Bool) (at : Margin) (u : PlaceUse) (r s : List CodePiece) → Same r s → Same (match_head alone p at u r) (match_head alone q at (shown_use p u) s)
   head_same true at u r s e = e

@@ -1,6 +1,5 @@
 -- Where names are apart, so are all tokens that stand in order.
-use Rattle.std.proofs.Common.{◌≡◌, ◌≢◌, ◌⊎◌, ◌<◌, ◌^◌, ◌++◌, ◌==◌, ◌∷◌, [], ℕ, Bool, true, false, List, Option, Some, None, get_or, drop, slice_get, refl, ap, sym, subst, ◌∙◌, inl, inr, ⊎_elim, eqb-true, codes, decimal, arith}
-use Rattle.std.proofs.lemmas.Grind.{common_steps}
+use Rattle.std.proofs.Common.{◌≡◌, ◌≢◌, ◌⊎◌, ◌<◌, ◌^◌, ◌++◌, ◌&&◌, ◌==◌, ◌∷◌, [], ℕ, Bool, true, false, not, List, Option, Some, None, get_or, drop, slice_get, refl, ap, sym, subst, ◌∙◌, inl, inr, ⊎_elim, eqb-true, codes, decimal, arith}
 use Rattle.std.specs.Prelude.{find}
 use Rattle.std.specs.Str.{bytes_eq}
 use Rattle.std.specs.Str.Parse.{AllDigits}
@@ -12,9 +11,9 @@ use Rattle.model.specs.lists.Syntax.{Position}
 use Rattle.model_code.specs.Tokens.{Word, let_word, mut_word, ref_word, if_word, else_word, match_word, while_word, return_word, break_word, some_word, none_word, true_word, false_word, ctx_word, returns_word, extend_word, len_word, most_word, clone_word, iter_word, next_word, unreachable_word, opening, closing, opening_brace, closing_brace, comma, colon, semicolon, dot, two_dots, underscore, arrow, equals, equal_to, unlike, at_least, ampersand, star, Owner, variant_owner, struct_owner, Token, word, variable_name, parameter_name, part_name, number, constant_name, owner_name, field_name, function_name, list_name, label_name, no_match}
 use Rattle.model_code.specs.Notation.{Notation}
 use Rattle.model_code.specs.Spelling.{Names, word_text, token_text}
-use Rattle.model_code.specs.Lexing.{lexed}
+use Rattle.model_code.specs.Lexing.{lexed, OwnTokensAreWords}
 use Rattle.model_code.specs.Reading.{order_of, same_word, same_owner}
-use Rattle.model_code.specs.OneReading.{Sign, a_token, a_log, told, sign_words, signs_words, Next, anything, is_free, a_method, a_brace, a_field, an_opening, a_closing, is_method, is_word, is_name_of_method, is_field_or_end, may_be, behind_told, is_known_sign, stands, follow}
+use Rattle.model_code.specs.OneReading.{Sign, a_token, a_log, told, sign_words, signs_words, Next, anything, is_free, a_method, a_brace, a_field, an_opening, a_closing, is_method, is_word, is_name_of_method, is_field_or_end, may_stand, may_be, behind_told, is_known_sign, stands, follow, AreApart}
 use Rattle.model_code.specs.ApartNames.{OwnToken, an_own_word, a_variable, a_parameter, a_label, own_text, is_own_method, IsSmallToken, IsOfNames, is_named, AreNamesApart, NamesApartMakeTokensApart}
 use Rattle.model_code.proofs.Lexing.{own_tokens_are_words_lem}
 
@@ -82,13 +81,24 @@ same_number v w e = let s : Some v ≡ Some w = sym (found v).1 ∙ ap (slice_ge
 
 only_word : (w : Word) (t : Token) → is_word w t ≡ true → t ≡ word w
 only_word w (word v) e = ap word (sym (same_number w v e))
-only_word w t e = grind (arith, common_steps)
+only_word w (variable_name v) e = absurd (false≢true e)
+only_word w (parameter_name i) e = absurd (false≢true e)
+only_word w (part_name i) e = absurd (false≢true e)
+only_word w (number z ending) e = absurd (false≢true e)
+only_word w (constant_name name) e = absurd (false≢true e)
+only_word w (owner_name o) e = absurd (false≢true e)
+only_word w (field_name o i) e = absurd (false≢true e)
+only_word w (function_name f) e = absurd (false≢true e)
+only_word w (list_name l) e = absurd (false≢true e)
+only_word w (label_name n) e = absurd (false≢true e)
+only_word w no_match e = absurd (false≢true e)
 
 that_owner : (o q : Owner) → same_owner o q ≡ true → o ≡ q
 that_owner (variant_owner ty i) (variant_owner uy j) e =
     let es = and_parts (ty == uy) (i == j) e in ap (λ t. variant_owner t i) (eqb-true ty uy es.0) ∙ ap (variant_owner uy) (eqb-true i j es.1)
+that_owner (variant_owner ty i) (struct_owner uy) e = absurd (false≢true e)
+that_owner (struct_owner ty) (variant_owner uy j) e = absurd (false≢true e)
 that_owner (struct_owner ty) (struct_owner uy) e = ap struct_owner (eqb-true ty uy e)
-that_owner o q e = grind (arith, common_steps)
 
 -- 2. the code's own tokens, told by their texts
 abbrev first_letter : List ℕ → ℕ
@@ -118,10 +128,21 @@ own_token (a_label n) = label_name n
 
 own_apart : (t u : OwnToken) → IsSmallToken t → IsSmallToken u → own_text t ≡ own_text u → t ≡ u
 own_apart (an_own_word w) (an_own_word v) h k e = ap an_own_word (same_text w v e)
+own_apart (an_own_word w) (a_variable n) h k e = absurd (let s : Some w ≡ None = sym (found w).0 ∙ ap word_of e in cc)
+own_apart (an_own_word w) (a_parameter n) h k e = absurd (let s : Some w ≡ None = sym (found w).0 ∙ ap word_of e in cc)
+own_apart (an_own_word w) (a_label n) h k e = absurd (let s : Some w ≡ None = sym (found w).0 ∙ ap word_of e in cc)
+own_apart (a_variable m) (an_own_word w) h k e = absurd (let s : Some w ≡ None = sym (found w).0 ∙ ap word_of (sym e) in cc)
+own_apart (a_parameter m) (an_own_word w) h k e = absurd (let s : Some w ≡ None = sym (found w).0 ∙ ap word_of (sym e) in cc)
+own_apart (a_label m) (an_own_word w) h k e = absurd (let s : Some w ≡ None = sym (found w).0 ∙ ap word_of (sym e) in cc)
 own_apart (a_variable m) (a_variable n) h k e = ap a_variable (decimal_injective m n h k (ap (drop 1) e))
+own_apart (a_variable m) (a_parameter n) h k e = absurd (let d : 118 ≡ 97 = ap first_letter e in omega (arith, d))
+own_apart (a_variable m) (a_label n) h k e = absurd (let d : 118 ≡ 39 = ap first_letter e in omega (arith, d))
+own_apart (a_parameter m) (a_variable n) h k e = absurd (let d : 97 ≡ 118 = ap first_letter e in omega (arith, d))
 own_apart (a_parameter m) (a_parameter n) h k e = ap a_parameter (decimal_injective m n h k (ap (drop 3) e))
+own_apart (a_parameter m) (a_label n) h k e = absurd (let d : 97 ≡ 39 = ap first_letter e in omega (arith, d))
+own_apart (a_label m) (a_variable n) h k e = absurd (let d : 39 ≡ 118 = ap first_letter e in omega (arith, d))
+own_apart (a_label m) (a_parameter n) h k e = absurd (let d : 39 ≡ 97 = ap first_letter e in omega (arith, d))
 own_apart (a_label m) (a_label n) h k e = ap a_label (decimal_injective m n h k (ap (drop 3) e))
-own_apart t u h k e = grind (arith, common_steps)
 
 -- only the dot has its text
 only_dot : (t : OwnToken) → own_text t ≡ codes "." → t ≡ an_own_word dot
@@ -228,7 +249,17 @@ module _ (names : Names) (p : Notation) (known : Token → Bool) (a : AreNamesAp
 
   method_word : (t : Token) → is_name_of_method t ≡ true → (w : Word) × (t ≡ word w) × (is_method w ≡ true)
   method_word (word w) h = (w, refl, h)
-  method_word t h = grind (arith, common_steps)
+  method_word (variable_name v) h = absurd (false≢true h)
+  method_word (parameter_name i) h = absurd (false≢true h)
+  method_word (part_name i) h = absurd (false≢true h)
+  method_word (number z ending) h = absurd (false≢true h)
+  method_word (constant_name c) h = absurd (false≢true h)
+  method_word (owner_name o) h = absurd (false≢true h)
+  method_word (field_name o i) h = absurd (false≢true h)
+  method_word (function_name f) h = absurd (false≢true h)
+  method_word (list_name l) h = absurd (false≢true h)
+  method_word (label_name n) h = absurd (false≢true h)
+  method_word no_match h = absurd (false≢true h)
 
   method_text : (w : Word) → is_method w ≡ true → lexed (word_text w) ≡ word_text w ∷ []
   method_text unreachable_word h = absurd (false≢true h)
@@ -274,34 +305,57 @@ module _ (names : Names) (p : Notation) (known : Token → Bool) (a : AreNamesAp
     pair : Look names known o ws → Look names known q vs → IsTold (anything inside) o q rest
     pair (an_own t h m x f) (an_own u k r y g) =
         inl (sym (on f g), x ∙ ap (λ z. Some (own_token z)) (own_apart t u h k (same f g)) ∙ sym y)
+    pair (an_own t h m x f) (a_break y g) = absurd (not_unreachable t (same f g))
     pair (an_own t h m x f) (a_part i k y g) =
         inr (λ xs more w s. behind_dot inside i k xs more
         (subst (λ z. follow p known (behind_told p (anything inside) z) xs ≡ true) (x ∙ ap (λ z. Some (own_token z)) (only_dot t (same f g))) w)
         (s ∙ ap (λ z. z ++ more) (sym (on f g))))
+    pair (an_own t h m x f) (a_panic w us y k g n) = absurd (not_unreachable t (same f g))
     pair (an_own t h m x f) (a_name u w us y n k l g i) =
         let r = i.own t h m (same f g) in inr (λ xs more c s. no_path (behind_told p (anything inside) o) xs (r.0 ++ more) c (s ∙ ap (λ b. b ++ more) (sym (on f g) ∙ r.1)))
+    pair (an_own t h m x f) (a_told at us y l g) = absurd (not_log t (same f g))
+    pair (a_break x f) (an_own u k m y g) = absurd (not_unreachable u (sym (same f g)))
     pair (a_break x f) (a_break y g) = inl (nothing_more ws rest (f ∙ sym g ∙ e), x ∙ sym y)
+    pair (a_break x f) (a_part i k y g) = absurd (other_letters 117 46 _ _ (λ z. omega (arith, z)) (same f g))
     pair (a_break x f) (a_panic w us y k g n) =
         inr (λ xs more v s. behind_unreachable w n xs us more
         (subst (λ z. follow p known (behind_told p (anything inside) z) xs ≡ true) x v)
         (s ∙ ap (λ z. z ++ more) (sym (more_words (codes "!") (codes "!") (codes "(" ∷ (w ∷ us)) rest (on f g)))))
+    pair (a_break x f) (a_name u w us y n k l g i) = absurd (i.unreachable (sym (same f g)))
+    pair (a_break x f) (a_told at us y l g) = absurd (other_letters 117 108 _ _ (λ z. omega (arith, z)) (same f g))
+    pair (a_part i h x f) (an_own u k m y g) = absurd (let z : [] ≡ decimal i ∷ rest = on f g in cc)
+    pair (a_part i h x f) (a_break y g) = absurd (other_letters 46 117 _ _ (λ z. omega (arith, z)) (same f g))
     pair (a_part i h x f) (a_part j k y g) =
         let z : decimal j ∷ [] ≡ decimal i ∷ rest = on f g in
         inl (sym (more_words (decimal j) (decimal i) [] rest z), x ∙ ap (λ n. Some (part_name n)) (sym (decimal_injective j i k h (first_words (decimal j) (decimal i) [] rest z))) ∙ sym y)
+    pair (a_part i h x f) (a_panic w us y k g n) = absurd (other_letters 46 117 _ _ (λ z. omega (arith, z)) (same f g))
     pair (a_part i h x f) (a_name u w us y n k l g m) =
         let r = m.own (an_own_word dot) tt refl (same f g) in
         absurd (no_digits i h 58 (codes ":") (omega arith) (sym (first_words (codes "::") (decimal i) r.0 rest (sym r.1 ∙ on f g))))
+    pair (a_part i h x f) (a_told at us y l g) = absurd (other_letters 46 108 _ _ (λ z. omega (arith, z)) (same f g))
+    pair (a_panic w us x h f n) (an_own u k m y g) = absurd (not_unreachable u (sym (same f g)))
+    pair (a_panic w us x h f n) (a_break y g) = absurd (let z : codes "!" ∷ [] ≡ codes "!" ∷ (codes "(" ∷ (w ∷ us ++ rest)) = on f g in cc)
+    pair (a_panic w us x h f n) (a_part i k y g) = absurd (other_letters 117 46 _ _ (λ z. omega (arith, z)) (same f g))
     pair (a_panic w us x h f n) (a_panic v ys y k g m) = inl (nothing_more ws rest (h ∙ sym k ∙ e), x ∙ sym y)
+    pair (a_panic w us x h f n) (a_name u v ys y m k l g i) = absurd (i.unreachable (sym (same f g)))
+    pair (a_panic w us x h f n) (a_told at ys y l g) = absurd (other_letters 117 108 _ _ (λ z. omega (arith, z)) (same f g))
     pair (a_name t w us x n h l f i) (an_own u k m y g) =
         let r = i.own u k m (sym (same f g)) in absurd (let z : [] ≡ codes "::" ∷ (r.0 ++ rest) = on f g ∙ ap (λ b. b ++ rest) r.1 in cc)
+    pair (a_name t w us x n h l f i) (a_break y g) = absurd (i.unreachable (same f g))
     pair (a_name t w us x n h l f i) (a_part j k y g) =
         let r = i.own (an_own_word dot) tt refl (sym (same f g)) in
         absurd (no_digits j k 58 (codes ":") (omega arith) (first_words (decimal j) (codes "::") [] (r.0 ++ rest) (on f g ∙ ap (λ b. b ++ rest) r.1)))
+    pair (a_name t w us x n h l f i) (a_panic v ys y k g m) = absurd (i.unreachable (same f g))
     pair (a_name t w us x n h l f i) (a_name u v ys y m k r g j) =
         ⊎_elim (λ z. inl (z.0, x ∙ ap Some z.1 ∙ sym y)) (λ z. inr (λ xs more c s. no_path (behind_told p (anything inside) o) xs (z.0 ++ more) c (s ∙ ap (λ b. b ++ more) z.1)))
         (a.apart t u rest n h m k (sym r ∙ e ∙ ap (λ z. z ++ rest) l))
+    pair (a_name t w us x n h l f i) (a_told at ys y r g) = absurd (i.log (same f g))
+    pair (a_told at us x l f) (an_own u k m y g) = absurd (not_log u (sym (same f g)))
+    pair (a_told at us x l f) (a_break y g) = absurd (other_letters 108 117 _ _ (λ z. omega (arith, z)) (same f g))
+    pair (a_told at us x l f) (a_part i k y g) = absurd (other_letters 108 46 _ _ (λ z. omega (arith, z)) (same f g))
+    pair (a_told at us x l f) (a_panic w ys y k g n) = absurd (other_letters 108 117 _ _ (λ z. omega (arith, z)) (same f g))
+    pair (a_told at us x l f) (a_name u w ys y n k r g i) = absurd (i.log (sym (same f g)))
     pair (a_told at us x l f) (a_told bt ys y r g) = inl (a.logs at bt rest (sym r ∙ e ∙ ap (λ z. z ++ rest) l), x ∙ sym y)
-    pair h i = grind (arith, common_steps, not_unreachable, same, not_log, other_letters, on)
 
   -- where a token is told by its place
   one_token : (s : Next) (t u v : Token) (rest : List (List ℕ)) → t ≡ v → u ≡ v → lexed (token_text names u) ≡ lexed (token_text names t) ++ rest → IsTold s (Some t) (Some u) rest
@@ -325,8 +379,18 @@ module _ (names : Names) (p : Notation) (known : Token → Bool) (a : AreNamesAp
   field_look : (o : Owner) (t : Token) → known t ≡ true → is_field_or_end o t ≡ true → FieldLook o t
   field_look o (word two_dots) k h = dots refl
   field_look o (word closing_brace) k h = end refl
+  field_look o (word w) k h = absurd (false≢true h)
   field_look o (field_name q i) k h = let s : o ≡ q = that_owner o q h in that i (ap (λ z. known (field_name z i)) s ∙ k) (ap (λ z. field_name z i) (sym s))
-  field_look o t k h = grind (arith, common_steps)
+  field_look o (variable_name v) k h = absurd (false≢true h)
+  field_look o (parameter_name i) k h = absurd (false≢true h)
+  field_look o (part_name i) k h = absurd (false≢true h)
+  field_look o (number z ending) k h = absurd (false≢true h)
+  field_look o (constant_name c) k h = absurd (false≢true h)
+  field_look o (owner_name q) k h = absurd (false≢true h)
+  field_look o (function_name f) k h = absurd (false≢true h)
+  field_look o (list_name l) k h = absurd (false≢true h)
+  field_look o (label_name n) k h = absurd (false≢true h)
+  field_look o no_match k h = absurd (false≢true h)
 
   module _ (o : Owner) (t u : Token) (rest : List (List ℕ)) (e : lexed (token_text names u) ≡ lexed (token_text names t) ++ rest) where
     first_same : {c d : List ℕ} (v w : Token) → t ≡ v → u ≡ w → lexed (token_text names v) ≡ c ∷ [] → lexed (token_text names w) ≡ d ∷ [] → c ≡ d
@@ -362,7 +426,16 @@ module _ (names : Names) (p : Notation) (known : Token → Bool) (a : AreNamesAp
       one_token an_opening t u (word opening) rest (only_word opening t (and_parts (known t) (is_word opening t) h).1) (only_word opening u (and_parts (known u) (is_word opening u) k).1) e
   by_place a_closing (a_token t) (a_token u) rest h k e =
       one_token a_closing t u (word closing) rest (only_word closing t (and_parts (known t) (is_word closing t) h).1) (only_word closing u (and_parts (known u) (is_word closing u) k).1) e
-  by_place s x y rest h k e = grind (arith, common_steps)
+  by_place (a_method inside) (a_log at) y rest h k e = absurd (false≢true h)
+  by_place (a_brace o) (a_log at) y rest h k e = absurd (false≢true h)
+  by_place (a_field o) (a_log at) y rest h k e = absurd (false≢true h)
+  by_place an_opening (a_log at) y rest h k e = absurd (false≢true h)
+  by_place a_closing (a_log at) y rest h k e = absurd (false≢true h)
+  by_place (a_method inside) (a_token t) (a_log at) rest h k e = absurd (false≢true k)
+  by_place (a_brace o) (a_token t) (a_log at) rest h k e = absurd (false≢true k)
+  by_place (a_field o) (a_token t) (a_log at) rest h k e = absurd (false≢true k)
+  by_place an_opening (a_token t) (a_log at) rest h k e = absurd (false≢true k)
+  by_place a_closing (a_token t) (a_log at) rest h k e = absurd (false≢true k)
 
   has_words : (s : Next) (x : Sign) → stands known s x ≡ true → (w : List ℕ) × (ws : List (List ℕ)) × (sign_words names x ≡ w ∷ ws)
   has_words s x h = let b = begun x (and_parts (is_known_sign known x) (may_be s x) h).0 in (b.0, b.1, b.2)

@@ -1,9 +1,8 @@
 -- The code of a tree runs as the tree, by induction on the tree.
-use Rattle.std.proofs.Common.{◌≡◌, ◌⊎◌, inl, inr, ℕ, zero, suc, ◌==◌, ◌&&◌, Bool, true, false, if◌then◌else◌, List, [], ◌∷◌, ◌++◌, length, Option, Some, None, slice_get, refl, sym, ap, ◌∙◌, eqb-true, arith}
-use Rattle.std.proofs.lemmas.Grind.{common_steps}
+use Rattle.std.proofs.Common.{◌≡◌, ◌⊎◌, inl, inr, ℕ, zero, suc, ◌==◌, ◌&&◌, Bool, true, false, if◌then◌else◌, List, [], ◌∷◌, ◌++◌, length, Option, Some, None, slice_get, refl, sym, ap, ◌∙◌, eqb-true}
 use Rattle.std.proofs.lemmas.Bool.{false≢true, true≢false, cases_Bool}
 use Rattle.model.specs.rules.Values.{Value, Values, value_and, value_eq, listed, of_variant, of_struct}
-use Rattle.model.specs.rules.Meaning.{Content, one, parts, just, many, contents, extractor_answer, pure_answer, impure_answer, bool_literal, int_literal, literal_value, constant_value}
+use Rattle.model.specs.rules.Meaning.{Content, one, parts, nothing, just, many, contents, extractor_answer, pure_answer, impure_answer, bool_literal, int_literal, literal_value, constant_value}
 use Rattle.model.specs.rules.Outcome.{Call, ran_through, Outcome, then_option}
 use Rattle.model.specs.sites.Sites.{Site, bool_site, int_site, prim_site, argument_site, extractor_site, constructor_site, iterator_site, make_variant_site, match_variant_site, make_struct_site, extract_struct_site, make_some_site, match_some_site, match_tuple_site}
 use Rattle.model.specs.trees.Trees.{Tree, no_step, step, Check, match_at, equal_at, loop_at, return_at, Arms, no_arm, arm}
@@ -83,13 +82,23 @@ module _ (w : World) (env : Env) (p : Passes) (clean : Clean w.sites env) where
   -- 2. a site is bound
   binds_site : (t : Trace) (s : ℕ) (o : Option Site) → is_in_place o ≡ false
       → run_statement (bind_code w.sites p s o) w None env t ≡ flow_of_bound (bind_site w env t.calls s o) t
+  binds_site t s None h = refl
+  binds_site t s (Some (bool_site b ty)) h = refl
+  binds_site t s (Some (int_site z ty)) h = absurd (true≢false h)
+  binds_site t s (Some (prim_site name)) h = absurd (true≢false h)
+  binds_site t s (Some (argument_site i)) h = absurd (true≢false h)
   binds_site t s (Some (extractor_site term source)) h = ap (λ o. flow_of_bound (now_bound env t.calls s (then_option o (extractor_answer w.meaning term))) t) (value_used (to_extractor term) source)
   binds_site t s (Some (constructor_site term sources instance)) h = ap (λ o. flow_of_bound (constructed w env t.calls s term instance o) t) (arguments_used term 0 sources)
+  binds_site t s (Some (iterator_site source)) h = refl
+  binds_site t s (Some (make_variant_site ty variant [])) h = absurd (true≢false h)
   binds_site t s (Some (make_variant_site ty variant (f ∷ fs))) h = ap (λ o. flow_of_bound (now_bound env t.calls s (then_option o (λ vs. Some (one (of_variant ty variant vs))))) t) (fields_used (f ∷ fs))
+  binds_site t s (Some (match_variant_site source variant field)) h = refl
+  binds_site t s (Some (make_struct_site ty [])) h = absurd (true≢false h)
   binds_site t s (Some (make_struct_site ty (f ∷ fs))) h = ap (λ o. flow_of_bound (now_bound env t.calls s (then_option o (λ vs. Some (one (of_struct ty vs))))) t) (fields_used (f ∷ fs))
+  binds_site t s (Some (extract_struct_site source field)) h = refl
   binds_site t s (Some (make_some_site source)) h = ap (λ o. flow_of_bound (now_bound env t.calls s (then_option o (λ c. Some (just c)))) t) (held_used source)
   binds_site t s (Some (match_some_site source)) h = ap (λ o. flow_of_bound (unwrapped env t.calls s o) t) (held_used source)
-  binds_site t s o h = grind (arith, common_steps)
+  binds_site t s (Some (match_tuple_site source field)) h = absurd (true≢false h)
 
   -- 3. what is bound stays clean
   abbrev CleanBound : Bound → Type 0
@@ -103,8 +112,12 @@ module _ (w : World) (env : Env) (p : Passes) (clean : Clean w.sites env) where
     now_clean calls (Some c) = clean_push w.sites env s c clean h
 
     unwrapped_clean : (calls : List Call) (o : Option Content) → CleanBound (unwrapped env calls s o)
+    unwrapped_clean calls None = tt
+    unwrapped_clean calls (Some (one v)) = tt
+    unwrapped_clean calls (Some (parts vs)) = tt
+    unwrapped_clean calls (Some nothing) = tt
     unwrapped_clean calls (Some (just c)) = clean_push w.sites env s c clean h
-    unwrapped_clean calls o = tt
+    unwrapped_clean calls (Some (many cs)) = tt
 
     constructed_clean : (calls : List Call) (term instance : ℕ) (o : Option Values) → CleanBound (constructed w env calls s term instance o)
     constructed_clean calls term instance None = tt
@@ -112,23 +125,27 @@ module _ (w : World) (env : Env) (p : Passes) (clean : Clean w.sites env) where
     constructed_clean calls term (suc n) (Some vs) = now_clean (calls ++ record { term = term; args = vs } ∷ []) (impure_answer w.meaning term (length calls))
 
     bound_clean : (calls : List Call) (o : Option Site) → CleanBound (bind_site w env calls s o)
+    bound_clean calls None = tt
     bound_clean calls (Some (bool_site b ty)) = now_clean calls (from_value (literal_value w.meaning (bool_literal b ty)))
     bound_clean calls (Some (int_site z ty)) = now_clean calls (in_place w env (int_site z ty))
     bound_clean calls (Some (prim_site name)) = now_clean calls (in_place w env (prim_site name))
     bound_clean calls (Some (argument_site i)) = now_clean calls (in_place w env (argument_site i))
     bound_clean calls (Some (extractor_site term source)) = now_clean calls (then_option (used_value w env source) (extractor_answer w.meaning term))
     bound_clean calls (Some (constructor_site term sources instance)) = constructed_clean calls term instance (used_values w env sources)
+    bound_clean calls (Some (iterator_site source)) = tt
     bound_clean calls (Some (make_variant_site ty variant fields)) = now_clean calls (then_option (used_values w env fields) (λ vs. Some (one (of_variant ty variant vs))))
+    bound_clean calls (Some (match_variant_site source variant field)) = tt
     bound_clean calls (Some (make_struct_site ty fields)) = now_clean calls (then_option (used_values w env fields) (λ vs. Some (one (of_struct ty vs))))
+    bound_clean calls (Some (extract_struct_site source field)) = tt
     bound_clean calls (Some (make_some_site source)) = now_clean calls (then_option (used w env source) (λ c. Some (just c)))
     bound_clean calls (Some (match_some_site source)) = unwrapped_clean calls (used w env source)
     bound_clean calls (Some (match_tuple_site source field)) = now_clean calls (then_option (used w env source) (λ c. part_at c field))
-    bound_clean calls o = tt
 
 -- 4. sites are bound in order, and what follows
 calls_over : (b : Bound) (t : Trace) (calls : List Call) (k : Env → Trace → Outcome) → on_bound b (with_calls t calls) k ≡ on_bound b t k
+calls_over (all_bound env c) t calls k = refl
+calls_over (unwrap_failed c) t calls k = refl
 calls_over (no_content_there c) t calls k = refl
-calls_over b t calls k = refl
 
 module _ (w : World) (p : Passes) where
   binds_run : (ss : List ℕ) (rest : Block) (k : Env → Trace → Outcome)
@@ -150,16 +167,25 @@ module _ (w : World) (p : Passes) where
 -- 5. flows
 braces_twice : (env : Env) (f : Flow) → in_braces env (in_braces env f) ≡ in_braces env f
 braces_twice env (goes_on env' t) = refl
-braces_twice env f = refl
+braces_twice env (leaves t) = refl
+braces_twice env (returns t) = refl
+braces_twice env (fails t) = refl
+braces_twice env (sticks t) = refl
 
 braces_same : (env : Env) (f : Flow) → outcome_of (in_braces env f) ≡ outcome_of f
 braces_same env (goes_on env' t) = refl
-braces_same env f = refl
+braces_same env (leaves t) = refl
+braces_same env (returns t) = refl
+braces_same env (fails t) = refl
+braces_same env (sticks t) = refl
 
 next_step : (f : Flow) (env : Env) (go : Env → Trace → Flow) (ho : Trace → Outcome) → ((t : Trace) → outcome_of (go env t) ≡ ho t)
     → outcome_of (then_flow (in_braces env f) go) ≡ or_next (outcome_of f) ho
 next_step (goes_on env' t) env go ho h = h t
-next_step f env h ho t = refl
+next_step (leaves t) env go ho h = refl
+next_step (returns t) env go ho h = refl
+next_step (fails t) env go ho h = refl
+next_step (sticks t) env go ho h = refl
 
 content_step : (o : Option Content) (t : Trace) (go : Content → Flow) (ho : Content → Outcome) → ((c : Content) → outcome_of (go c) ≡ ho c)
     → outcome_of (on_content o t go) ≡ with_content o t ho
@@ -171,8 +197,9 @@ choose_step true f g x y h k = h
 choose_step false f g x y h k = k
 
 equal_step : (a b : Option Value) (env : Env) (t : Trace) (f : Flow) (x : Outcome) → outcome_of f ≡ x → outcome_of (where_equal a b t f (goes_on env t)) ≡ on_equal a b t x
+equal_step None b env t f x h = refl
+equal_step (Some v) None env t f x h = refl
 equal_step (Some v) (Some u) env t f x h = choose_step (value_eq v u) f (goes_on env t) x (ending_at ran_through t) h refl
-equal_step a b env t f x h = refl
 
 each_step : (cs : List Content) (go : Content → Trace → Flow) (ho : Content → Trace → Outcome) (env : Env) → ((c : Content) (t : Trace) → outcome_of (go c t) ≡ ho c t)
     → (t : Trace) → outcome_of (each_flow cs go env t) ≡ for_each cs ho t
@@ -193,13 +220,21 @@ each_braced (c ∷ cs) go env t = on (go c t) (each_braced cs go env)
     on (sticks t') below = refl
 
 answers_braced : (o : Option Content) (go : Content → Trace → Flow) (env : Env) (t : Trace) → in_braces env (on_answers o go env t) ≡ on_answers o go env t
+answers_braced None go env t = refl
+answers_braced (Some (one v)) go env t = refl
+answers_braced (Some (parts vs)) go env t = refl
+answers_braced (Some nothing) go env t = refl
+answers_braced (Some (just c)) go env t = refl
 answers_braced (Some (many cs)) go env t = each_braced (contents cs) go env t
-answers_braced o h env t = refl
 
 answers_step : (o : Option Content) (go : Content → Trace → Flow) (ho : Content → Trace → Outcome) (env : Env) (t : Trace) → ((c : Content) (t : Trace) → outcome_of (go c t) ≡ ho c t)
     → outcome_of (on_answers o go env t) ≡ on_many o ho t
+answers_step None go ho env t h = refl
+answers_step (Some (one v)) go ho env t h = refl
+answers_step (Some (parts vs)) go ho env t h = refl
+answers_step (Some nothing) go ho env t h = refl
+answers_step (Some (just c)) go ho env t h = refl
 answers_step (Some (many cs)) go ho env t h = each_step (contents cs) go ho env h t
-answers_step o h ho env t c = refl
 
 -- what is written in place has no answers to go over
 one_is_none : (o : Option Value) (ho : Content → Trace → Outcome) (t : Trace) → on_many None ho t ≡ on_many (from_value o) ho t
@@ -207,15 +242,31 @@ one_is_none None ho t = refl
 one_is_none (Some v) ho t = refl
 
 part_is_none : (o : Option Content) (i : ℕ) (ho : Content → Trace → Outcome) (t : Trace) → on_many None ho t ≡ on_many (then_option o (λ c. part_at c i)) ho t
+part_is_none None i ho t = refl
+part_is_none (Some (one v)) i ho t = refl
 part_is_none (Some (parts vs)) i ho t = one_is_none (slice_get (listed vs) i) ho t
-part_is_none o i ho t = refl
+part_is_none (Some nothing) i ho t = refl
+part_is_none (Some (just c)) i ho t = refl
+part_is_none (Some (many cs)) i ho t = refl
 
 written_is_none : (w : World) (env : Env) (o : Option Site) (ho : Content → Trace → Outcome) (t : Trace) → on_many None ho t ≡ on_many (then_option o (in_place w env)) ho t
+written_is_none w env None ho t = refl
+written_is_none w env (Some (bool_site b ty)) ho t = refl
 written_is_none w env (Some (int_site z ty)) ho t = one_is_none (literal_value w.meaning (int_literal z ty)) ho t
 written_is_none w env (Some (prim_site name)) ho t = one_is_none (constant_value w.meaning name) ho t
 written_is_none w env (Some (argument_site i)) ho t = one_is_none (slice_get w.args i) ho t
+written_is_none w env (Some (extractor_site term source)) ho t = refl
+written_is_none w env (Some (constructor_site term sources instance)) ho t = refl
+written_is_none w env (Some (iterator_site source)) ho t = refl
+written_is_none w env (Some (make_variant_site ty variant [])) ho t = refl
+written_is_none w env (Some (make_variant_site ty variant (f ∷ fs))) ho t = refl
+written_is_none w env (Some (match_variant_site source variant field)) ho t = refl
+written_is_none w env (Some (make_struct_site ty [])) ho t = refl
+written_is_none w env (Some (make_struct_site ty (f ∷ fs))) ho t = refl
+written_is_none w env (Some (extract_struct_site source field)) ho t = refl
+written_is_none w env (Some (make_some_site source)) ho t = refl
+written_is_none w env (Some (match_some_site source)) ho t = refl
 written_is_none w env (Some (match_tuple_site source field)) ho t = part_is_none (bound_to env source) field ho t
-written_is_none w env o ho t = refl
 
 bound_is_used : (b : Option Content) (w : World) (env : Env) (o : Option Site) (ho : Content → Trace → Outcome) (t : Trace)
     → on_many b ho t ≡ on_many (or_else b (then_option o (in_place w env))) ho t
@@ -229,9 +280,11 @@ CleanOption sites (Some env) = Clean sites env
 
 fields_clean : (sites : List Site) (fields : List (Option ℕ)) (cs : List Content) (env : Env) → Clean sites env → no_field_in_place sites fields ≡ true → CleanOption sites (bind_fields fields cs env)
 fields_clean sites [] [] env clean h = clean
+fields_clean sites [] (c ∷ cs) env clean h = tt
+fields_clean sites (None ∷ rest) [] env clean h = tt
 fields_clean sites (None ∷ rest) (c ∷ cs) env clean h = fields_clean sites rest cs env clean h
+fields_clean sites (Some s ∷ rest) [] env clean h = tt
 fields_clean sites (Some s ∷ rest) (c ∷ cs) env clean h = fields_clean sites rest cs ((s, c) ∷ env) (clean_push sites env s c clean (left_of _ _ h)) (right_of _ _ h)
-fields_clean sites fields cs env clean h = tt
 
 bindings_step : (sites : List Site) (o : Option Env) (t : Trace) (go : Env → Flow) (ho : Env → Outcome) → CleanOption sites o → ((env : Env) → Clean sites env → outcome_of (go env) ≡ ho env)
     → outcome_of (with_bindings o t go) ≡ with_env o t ho
@@ -245,25 +298,53 @@ met_step sites None fields env t go ho other x clean n h k = k
 met_step sites (Some cs) fields env t go ho other x clean n h k = bindings_step sites (bind_fields fields cs env) t go ho (fields_clean sites fields cs env clean n) h
 
 give_step : (o : Option Content) (multi : Bool) (env : Env) (t : Trace) → outcome_of (give_content o multi None env t) ≡ with_content o t (returned multi t)
+give_step None multi env t = refl
+give_step (Some c) true env t = refl
 give_step (Some c) false env t = refl
-give_step o multi env t = refl
 
 give_braced : (o : Option Content) (multi : Bool) (env : Env) (t : Trace) → in_braces env (give_content o multi None env t) ≡ give_content o multi None env t
+give_braced None multi env t = refl
+give_braced (Some c) true env t = refl
 give_braced (Some c) false env t = refl
-give_braced o multi env t = refl
 
 -- 6. by induction on the tree
 module _ (w : World) (p : Passes) where
   loop_braced : (o : Option Site) (s : ℕ) (body : Block) (env : Env) (t : Trace) → in_braces env (run_statement (loop_code o s body) w None env t) ≡ run_statement (loop_code o s body) w None env t
+  loop_braced None s body env t = refl
+  loop_braced (Some (bool_site b ty)) s body env t = refl
+  loop_braced (Some (int_site z ty)) s body env t = refl
+  loop_braced (Some (prim_site name)) s body env t = refl
+  loop_braced (Some (argument_site i)) s body env t = refl
+  loop_braced (Some (extractor_site term source)) s body env t = refl
+  loop_braced (Some (constructor_site term sources instance)) s body env t = refl
   loop_braced (Some (iterator_site source)) s body env t = answers_braced (bound_to env source) (λ c t'. run_block body w None ((s, c) ∷ env) t') env t
-  loop_braced o s body env t = refl
+  loop_braced (Some (make_variant_site ty variant fields)) s body env t = refl
+  loop_braced (Some (match_variant_site source variant field)) s body env t = refl
+  loop_braced (Some (make_struct_site ty fields)) s body env t = refl
+  loop_braced (Some (extract_struct_site source field)) s body env t = refl
+  loop_braced (Some (make_some_site source)) s body env t = refl
+  loop_braced (Some (match_some_site source)) s body env t = refl
+  loop_braced (Some (match_tuple_site source field)) s body env t = refl
 
   loop_step : (o : Option Site) (s : ℕ) (body : Block) (env : Env) (t : Trace) (ho : Content → Trace → Outcome)
       → ((c : Content) (t' : Trace) → outcome_of (run_block body w None ((s, c) ∷ env) t') ≡ ho c t')
       → outcome_of (run_statement (loop_code o s body) w None env t) ≡ on_many (then_option (then_option o iterated) (used w env)) ho t
+  loop_step None s body env t ho h = refl
+  loop_step (Some (bool_site b ty)) s body env t ho h = refl
+  loop_step (Some (int_site z ty)) s body env t ho h = refl
+  loop_step (Some (prim_site name)) s body env t ho h = refl
+  loop_step (Some (argument_site i)) s body env t ho h = refl
+  loop_step (Some (extractor_site term source)) s body env t ho h = refl
+  loop_step (Some (constructor_site term sources instance)) s body env t ho h = refl
   loop_step (Some (iterator_site source)) s body env t ho h =
       answers_step (bound_to env source) (λ c t'. run_block body w None ((s, c) ∷ env) t') ho env t h ∙ bound_is_used (bound_to env source) w env (slice_get w.sites source) ho t
-  loop_step o s body env t ho h = refl
+  loop_step (Some (make_variant_site ty variant fields)) s body env t ho h = refl
+  loop_step (Some (match_variant_site source variant field)) s body env t ho h = refl
+  loop_step (Some (make_struct_site ty fields)) s body env t ho h = refl
+  loop_step (Some (extract_struct_site source field)) s body env t ho h = refl
+  loop_step (Some (make_some_site source)) s body env t ho h = refl
+  loop_step (Some (match_some_site source)) s body env t ho h = refl
+  loop_step (Some (match_tuple_site source field)) s body env t ho h = refl
 
   check_braced : (check : Check) (env : Env) (t : Trace)
       → in_braces env (run_statement (check_code check w.sites p) w None env t) ≡ run_statement (check_code check w.sites p) w None env t

@@ -1,7 +1,7 @@
 -- Uses fit: in flat code as before, and in the code of a typed tree by its types.
 use Rattle.std.proofs.Common.{◌≡◌, ◌&&◌, ◌||◌, ◌∷◌, [], ℕ, suc, Bool, true, false, List, Option, Some, None, slice_get, refl, ap, ◌∙◌, sym}
 use Rattle.std.proofs.lemmas.Bool.{and_parts, and_from, false≢true}
-use Rattle.model.specs.sites.Sites.{Site, bool_site, extractor_site, constructor_site, iterator_site, make_variant_site, make_struct_site, make_some_site, match_some_site, Constraint, is_variant, is_struct, is_bool, is_int, is_prim, is_present}
+use Rattle.model.specs.sites.Sites.{Site, bool_site, int_site, prim_site, argument_site, extractor_site, constructor_site, iterator_site, make_variant_site, match_variant_site, make_struct_site, extract_struct_site, make_some_site, match_some_site, match_tuple_site, Constraint, is_variant, is_struct, is_bool, is_int, is_prim, is_present}
 use Rattle.model.specs.trees.Trees.{Tree, no_step, step, Check, match_at, equal_at, loop_at, return_at, Arms, no_arm, arm}
 use Rattle.model_code.specs.Code.{Place, variable, parameter, PlaceUse, Block, no_statement, statement, Statement, bind, bind_some, no_way, match_on, if_equal, for_each_of, give, labelled, unless_let, unless_equal, CodeArms, no_code_arm, code_arm}
 use Rattle.model_code.specs.TreeCode.{Passes, use_at, arguments_from, fields_of, bind_code, binds_code, loop_code, tree_code, check_code, arms_code, to_field, to_match}
@@ -98,24 +98,51 @@ flat_keeps_modes_lem types multi away b deep n u h = flat_fits types multi away 
 -- 2. each way to hand on gives what is wanted: by mode, whether it is Copy, and whether it is made on the spot
 lent_fits : (m : BindingMode) (copy new owned takes : Bool) → copy_is_value m copy ≡ true → takes_what_is takes copy ≡ true → fits_parameter takes (given_by m (new || copy) owned (lend m copy)) ≡ true
 lent_fits a_reference true new owned takes h k = absurd (false≢true h)
+lent_fits a_reference false new owned true h k = refl
 lent_fits a_reference false new owned false h k = absurd (false≢true k)
 lent_fits a_value true new owned true h k = absurd (false≢true k)
+lent_fits a_value true true owned false h k = refl
+lent_fits a_value true false owned false h k = refl
+lent_fits a_value false new owned true h k = refl
 lent_fits a_value false new owned false h k = absurd (false≢true k)
-lent_fits m copy new owned takes h k = refl
 
 kept_fits : (m : BindingMode) (copy new owned : Bool) → copy_is_value m copy ≡ true → (new ≡ true → is_value m ≡ true) → fits_value false (given_by m (new || copy) owned (keep_or_clone (new || copy))) ≡ true
 kept_fits a_reference true new owned h k = absurd (false≢true h)
 kept_fits a_reference false true owned h k = absurd (false≢true (k refl))
-kept_fits m copy new owned h k = refl
+kept_fits a_reference false false owned h k = refl
+kept_fits a_value true true owned h k = refl
+kept_fits a_value true false owned h k = refl
+kept_fits a_value false true owned h k = refl
+kept_fits a_value false false owned h k = refl
 
 back_fits : (m : BindingMode) (copy new owned multi : Bool) → copy_is_value m copy ≡ true → (new ≡ true → is_value m ≡ true) → fits_result multi false (given_by m (new || copy) owned (hand_back m (new || copy) owned multi)) ≡ true
 back_fits a_reference true new owned multi h k = absurd (false≢true h)
 back_fits a_reference false true owned multi h k = absurd (false≢true (k refl))
-back_fits m copy new owned multi h k = refl
+back_fits a_reference false false owned multi h k = refl
+back_fits a_value true true owned multi h k = refl
+back_fits a_value true false owned multi h k = refl
+back_fits a_value false true owned multi h k = refl
+back_fits a_value false false true true h k = refl
+back_fits a_value false false true false h k = refl
+back_fits a_value false false false multi h k = refl
 
 seen_fits : (m q : BindingMode) (keep owned keep' owned' : Bool) → fits_equal (given_by m keep owned (look_at m q)) (given_by q keep' owned' (look_at q m)) ≡ true
 seen_fits a_reference a_reference keep owned keep' owned' = refl
-seen_fits m q keep owned keep' owned' = refl
+seen_fits a_reference a_value keep owned true owned' = refl
+seen_fits a_reference a_value keep owned false true = refl
+seen_fits a_reference a_value keep owned false false = refl
+seen_fits a_value a_reference true owned keep' owned' = refl
+seen_fits a_value a_reference false true keep' owned' = refl
+seen_fits a_value a_reference false false keep' owned' = refl
+seen_fits a_value a_value true owned true owned' = refl
+seen_fits a_value a_value true owned false true = refl
+seen_fits a_value a_value true owned false false = refl
+seen_fits a_value a_value false true true owned' = refl
+seen_fits a_value a_value false true false true = refl
+seen_fits a_value a_value false true false false = refl
+seen_fits a_value a_value false false true owned' = refl
+seen_fits a_value a_value false false false true = refl
+seen_fits a_value a_value false false false false = refl
 
 new_is_value : (types : Types) (place : Place) → is_new place ≡ true → is_value (mode_at types place) ≡ true
 new_is_value types (variable v) h = absurd (false≢true h)
@@ -129,14 +156,24 @@ matched false = gives_reference
 
 matched_is : (m : BindingMode) (copy new owned : Bool) → copy_is_value m copy ≡ true → matched copy ≡ given_by m (new || copy) owned (lend m copy)
 matched_is a_reference true new owned h = absurd (false≢true h)
-matched_is m copy new owned h = refl
+matched_is a_reference false new owned h = refl
+matched_is a_value true true owned h = refl
+matched_is a_value true false owned h = refl
+matched_is a_value false new owned h = refl
 
 pattern_fits : (c : Constraint) (copy : Bool) → pattern_typed c copy ≡ true → fits_pattern c (matched copy) ≡ true
 pattern_fits (is_variant ty variant fields) true h = absurd (false≢true h)
+pattern_fits (is_variant ty variant fields) false h = refl
 pattern_fits (is_struct ty fields) true h = absurd (false≢true h)
+pattern_fits (is_struct ty fields) false h = refl
+pattern_fits (is_bool b ty) true h = refl
 pattern_fits (is_bool b ty) false h = absurd (false≢true h)
+pattern_fits (is_int z ty) true h = refl
 pattern_fits (is_int z ty) false h = absurd (false≢true h)
-pattern_fits c copy h = refl
+pattern_fits (is_prim name) true h = refl
+pattern_fits (is_prim name) false h = refl
+pattern_fits is_present true h = refl
+pattern_fits is_present false h = refl
 
 inside_fits : (types : Types) (copy : Bool) (v : ℕ) → inside_typed types copy v ≡ true → fits_inside types (matched copy) v ≡ true
 inside_fits types true v h = h
@@ -188,11 +225,18 @@ module _ (types : Types) (multi : Bool) (sites : List Site) where
   match_is s h = let place = place_in sites s in matched_is (mode_at types place) (types.is_copy place) (is_new place) (is_owned types place) h
 
   bind_fits : (s : ℕ) (o : Option Site) → site_typed types sites s o ≡ true → statement_fits types multi false (bind_code sites p s o) ≡ true
+  bind_fits s None h = refl
   bind_fits s (Some (bool_site b ty)) h = h
+  bind_fits s (Some (int_site z ty)) h = refl
+  bind_fits s (Some (prim_site name)) h = refl
+  bind_fits s (Some (argument_site i)) h = refl
   bind_fits s (Some (extractor_site term source)) h = argument_fits (types.extracts_reference term) source h
   bind_fits s (Some (constructor_site term sources instance)) h = arguments_fit term 0 sources h
+  bind_fits s (Some (iterator_site source)) h = refl
   bind_fits s (Some (make_variant_site ty variant fields)) h = let hs = and_parts (is_value (types.variables s)) (fields_typed types sites fields) h in and_from _ _ hs.0 (fields_fit fields hs.1)
+  bind_fits s (Some (match_variant_site source variant field)) h = refl
   bind_fits s (Some (make_struct_site ty fields)) h = let hs = and_parts (is_value (types.variables s)) (fields_typed types sites fields) h in and_from _ _ hs.0 (fields_fit fields hs.1)
+  bind_fits s (Some (extract_struct_site source field)) h = refl
   bind_fits s (Some (make_some_site source)) h =
       let place = place_in sites source in
       let hs = and_parts (is_value (types.variables s)) (is_typed_at types place) h in
@@ -200,7 +244,7 @@ module _ (types : Types) (multi : Bool) (sites : List Site) where
   bind_fits s (Some (match_some_site source)) h =
       let hs = and_parts (is_typed_at types (place_in sites source)) (inside_typed types (types.is_copy (place_in sites source)) s) h in
       ap (λ g. fits_inside types g s) (sym (match_is source hs.0)) ∙ inside_fits types (types.is_copy (place_in sites source)) s hs.1
-  bind_fits s o h = refl
+  bind_fits s (Some (match_tuple_site source field)) h = refl
 
   binds_fit : (ss : List ℕ) (rest : Block) → binds_typed types sites ss ≡ true → block_fits types multi false rest ≡ true → block_fits types multi false (binds_code sites p ss rest) ≡ true
   binds_fit [] rest h k = k
@@ -209,8 +253,21 @@ module _ (types : Types) (multi : Bool) (sites : List Site) where
       and_from _ _ (bind_fits s (slice_get sites s) hs.0) (binds_fit ss rest hs.1 k)
 
   loop_fits : (result : ℕ) (o : Option Site) (body : Block) → site_typed types sites result o ≡ true → block_fits types multi false body ≡ true → statement_fits types multi false (loop_code o result body) ≡ true
+  loop_fits result None body h k = refl
+  loop_fits result (Some (bool_site b ty)) body h k = refl
+  loop_fits result (Some (int_site z ty)) body h k = refl
+  loop_fits result (Some (prim_site name)) body h k = refl
+  loop_fits result (Some (argument_site i)) body h k = refl
+  loop_fits result (Some (extractor_site term source)) body h k = refl
+  loop_fits result (Some (constructor_site term sources instance)) body h k = refl
   loop_fits result (Some (iterator_site source)) body h k = and_from _ _ h k
-  loop_fits result o body h k = refl
+  loop_fits result (Some (make_variant_site ty variant fields)) body h k = refl
+  loop_fits result (Some (match_variant_site source variant field)) body h k = refl
+  loop_fits result (Some (make_struct_site ty fields)) body h k = refl
+  loop_fits result (Some (extract_struct_site source field)) body h k = refl
+  loop_fits result (Some (make_some_site source)) body h k = refl
+  loop_fits result (Some (match_some_site source)) body h k = refl
+  loop_fits result (Some (match_tuple_site source field)) body h k = refl
 
   mutual
     tree_fits : (tree : Tree) → tree_typed types sites tree ≡ true → block_fits types multi false (tree_code tree sites p) ≡ true

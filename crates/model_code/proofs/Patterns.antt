@@ -18,18 +18,21 @@ binding_at false v rest = refl
 
 -- 1. fields with names
 end_back : (bound lacking : Bool) (rest : List CodePiece) → expect_all (end_words bound lacking) (tokens_of (fields_end bound lacking rest)) ≡ Some (tokens_of rest)
+end_back true false rest = refl
 end_back false false rest = refl
-end_back bound lacking rest = refl
+end_back true true rest = refl
+end_back false true rest = refl
 
 other_field : (o : Owner) (i j : ℕ) (rest : List Token) → i < j → expect_field o i (field_name o j ∷ rest) ≡ None
 other_field o i j rest h = rw (same_owner-refl o, ne_eqb i j (omega arith))
 
 -- a field that is bound further on isn't this one
 no_field : (p : Notation) (o : Owner) (i j : ℕ) (bound : Bool) (fields : List (Option ℕ)) (rest : List CodePiece) → i < j → next_field o i bound (tokens_of (named_bindings p o j bound true fields rest)) ≡ None
+no_field p o i j true [] rest h = refl
+no_field p o i j false [] rest h = refl
 no_field p o i j bound (None ∷ fields) rest h = no_field p o i (suc j) bound fields rest (omega arith)
 no_field p o i j true (Some v ∷ fields) rest h = other_field o i j _ h
 no_field p o i j false (Some v ∷ fields) rest h = other_field o i j _ h
-no_field p o i j bound fields rest h = refl
 
 this_field : (o : Owner) (i : ℕ) (bound : Bool) (rest : List CodePiece) → next_field o i bound (tokens_of (put_first_if bound comma (token (field_name o i) ∷ put_first colon rest))) ≡ Some (tokens_of rest)
 this_field o i true rest = that_field o i (tokens_of rest)
@@ -100,8 +103,9 @@ truth_back p false rest = refl
 present_back : (p : Notation) (fields : List (Option ℕ)) (rest : List CodePiece) → (length fields == 1) ≡ true
     → read_pattern p (tokens_of (pattern_before p is_present fields rest)) ≡ Some (record { constraint = is_present; fields = fields }, tokens_of rest)
 present_back p [] rest h = absurd (false≢true h)
+present_back p (None ∷ []) rest h = refl
+present_back p (Some v ∷ []) rest h = refl
 present_back p (field ∷ (next ∷ fields)) rest h = absurd (let e : suc (suc (length fields)) ≡ 1 = eqb-true (suc (suc (length fields))) 1 h in omega (arith, e))
-present_back p fields rest h = refl
 
 pub pattern_back : (p : Notation) (c : Constraint) (fields : List (Option ℕ)) (rest : List CodePiece) → is_named c ≡ false → pattern_writable p c fields ≡ true
     → read_pattern p (tokens_of (pattern_before p c fields rest)) ≡ Some (record { constraint = shown_constraint p c; fields = fields }, tokens_of rest)

@@ -1,13 +1,12 @@
 -- Each statement is read back, where the blocks in it are.
-use Rattle.std.proofs.Common.{◌≡◌, ◌<◌, ◌≤◌, ◌∷◌, [], ℕ, suc, Bool, true, false, List, length, Option, Some, None, is_some, refl, ap, ◌∙◌, sym, subst, inl, inr, arith}
-use Rattle.std.proofs.lemmas.Grind.{common_steps}
+use Rattle.std.proofs.Common.{◌≡◌, ◌<◌, ◌≤◌, ◌∷◌, [], ℕ, suc, Bool, true, false, List, length, Option, Some, None, is_some, refl, ap, ◌∙◌, sym, subst, inl, inr}
 use Rattle.std.proofs.lemmas.Bool.{false≢true}
 use Rattle.model.specs.lists.Syntax.{Position}
-use Rattle.model.specs.sites.Sites.{Constraint, is_variant, is_bool, is_int, is_prim, is_present}
+use Rattle.model.specs.sites.Sites.{Constraint, is_variant, is_struct, is_bool, is_int, is_prim, is_present}
 use Rattle.model.specs.rules.Outcome.{then_option}
 use Rattle.model.proofs.SameSites.{number_same}
 use Rattle.model_code.specs.Code.{Place, name_written, PlaceUse, Expr, truth_written, read, extraction, call, variant_of, struct_of, some_of, Block, Statement, bind, bind_some, match_on, if_equal, for_each_of, give, labelled, unless_let, unless_equal, CodeArms, no_code_arm, code_arm}
-use Rattle.model_code.specs.Tokens.{let_word, some_word, else_word, opening, closing, opening_brace, closing_brace, comma, semicolon, dot, equals, equal_to, unlike, ampersand, star, mut_word, next_word, iter_word, while_word, ctx_word, arrow, Token, variable_name}
+use Rattle.model_code.specs.Tokens.{let_word, some_word, else_word, opening, closing, opening_brace, closing_brace, comma, semicolon, dot, equals, equal_to, unlike, ampersand, star, mut_word, next_word, iter_word, while_word, ctx_word, none_word, arrow, Token, word, variable_name, no_match}
 use Rattle.model_code.specs.Notation.{Notation, ReturnForm, gives_one, gives_option, gives_many, Callee, extractor_of, constructor_of}
 use Rattle.model_code.specs.Pieces.{CodePiece, token, space, line_end, set_in, tokens_of, Margin, inside, put, put_if, put_first, put_between, put_all, end_line, use_before, pattern_before, is_constant, is_seen_through, constant_before, comparison_before, let_before, arm_pattern, break_before, open_body, close_body, one_line, many_lines, call_lines, bind_lines, failure_before, bind_some_line, log_lines, give_lines, result_lines, equal_head, loop_head, unless_line, unless_equal_line, arm_head, in_braces_at, label_before, match_head, arms_at, match_end, block_before, arms_before}
 use Rattle.model_code.specs.Shown.{nowhere, shown_use, shown_uses, shown_expr, shown_constraint, shown, shown_at, equal_or_match, unless_either, test_at}
@@ -21,12 +20,19 @@ use Rattle.model_code.proofs.Tests.{seen, match_plain, plain_or_lent, plain_wher
 -- no constant, so no named one
 not_named : (c : Constraint) → is_constant c ≡ false → is_named c ≡ false
 not_named (is_prim name) h = h
-not_named c h = refl
+not_named (is_variant ty variant n) h = refl
+not_named (is_struct ty n) h = refl
+not_named (is_bool b ty) h = refl
+not_named (is_int z ty) h = refl
+not_named is_present h = refl
 
 -- what ends a block begins no statement
 pub nothing_more : (p : Notation) (n : ℕ) (inner : Inner) (label : Option ℕ) (tokens : List Token) → ends_block tokens ≡ true → read_statement p n inner label tokens ≡ None
+nothing_more p n inner label [] h = refl
+nothing_more p n inner label (word closing_brace ∷ rest) h = refl
+nothing_more p n inner label (word none_word ∷ rest) h = refl
+nothing_more p n inner label (no_match ∷ rest) h = refl
 nothing_more p n inner label (_ ∷ rest) h = absurd (false≢true h)
-nothing_more p n inner label tokens h = refl
 
 module _ (p : Notation) (n : ℕ) where
   abbrev inner : Inner
@@ -70,8 +76,9 @@ module _ (p : Notation) (n : ℕ) where
 
   failure_back : (kind : ReturnForm) (label : Option ℕ) (v : ℕ) (u : PlaceUse) (rest : List CodePiece)
       → read_else kind label (record { constraint = is_present; fields = Some v ∷ [] }) u (tokens_of (put opening_brace (failure_before kind (space ∷ put closing_brace (end_line rest))))) ≡ Some (bind_some v u, tokens_of rest)
+  failure_back gives_one label v u rest = refl
   failure_back gives_option label v u rest = refl
-  failure_back kind label v u rest = refl
+  failure_back gives_many label v u rest = refl
 
   abbrev then_else : Option ℕ → Pattern → PlaceUse → List Token → TokenReading Statement
   then_else label pattern u tokens = then_option (expect else_word tokens) (read_else p.kind label pattern u)
@@ -154,7 +161,9 @@ module _ (p : Notation) (n : ℕ) where
   constant_head at u (is_prim name) fields body rest k w m h = named_head at u name fields body rest w m h
   constant_head at u (is_bool b ty) fields body rest k w m h = plain_head at u (is_bool b ty) fields body rest k w refl h
   constant_head at u (is_int z ty) fields body rest k w m h = plain_head at u (is_int z ty) fields body rest k w refl h
-  constant_head at u c fields body rest k w m h = grind (arith, common_steps)
+  constant_head at u (is_variant ty variant m) fields body rest k w e h = absurd (false≢true k)
+  constant_head at u (is_struct ty m) fields body rest k w e h = absurd (false≢true k)
+  constant_head at u is_present fields body rest k w e h = absurd (false≢true k)
 
   let_head : (at : Margin) (u : PlaceUse) (c : Constraint) (fields : List (Option ℕ)) (body : Block) (rest : List CodePiece) → is_constant c ≡ false → pattern_writable p c fields ≡ true
       → BlockBack (inside at) body (close_body at rest)
@@ -216,15 +225,19 @@ module _ (p : Notation) (n : ℕ) where
   unless_constant at u (is_prim name) fields rest l k w m = unless_named at u name fields rest l w m
   unless_constant at u (is_bool b ty) fields rest l k w m = unless_plain at u (is_bool b ty) fields rest l k w refl
   unless_constant at u (is_int z ty) fields rest l k w m = unless_plain at u (is_int z ty) fields rest l k w refl
-  unless_constant at u c fields rest l k w m = grind (arith, common_steps)
+  unless_constant at u (is_variant ty variant m) fields rest l k w e = absurd (false≢true k)
+  unless_constant at u (is_struct ty m) fields rest l k w e = absurd (false≢true k)
+  unless_constant at u is_present fields rest l k w e = absurd (false≢true k)
 
   -- behind `let`, a pattern that is no constant begins with no variable
   bare_let : (label : Option ℕ) (c : Constraint) (fields : List (Option ℕ)) (rest : List CodePiece) → is_constant c ≡ false
       → read_let p n inner label (tokens_of (pattern_before p c fields rest)) ≡ read_let_pattern p label (tokens_of (pattern_before p c fields rest))
+  bare_let label (is_variant ty variant m) fields rest k = refl
+  bare_let label (is_struct ty m) fields rest k = refl
+  bare_let label is_present fields rest k = refl
   bare_let label (is_bool b ty) fields rest k = absurd (false≢true (sym k))
   bare_let label (is_int z ty) fields rest k = absurd (false≢true (sym k))
   bare_let label (is_prim name) fields rest k = absurd (false≢true (sym k))
-  bare_let label c fields rest k = refl
 
   left_back : (at : Margin) (u : PlaceUse) (c : Constraint) (fields : List (Option ℕ)) (rest : List CodePiece) → is_some at.label ≡ true
       → then_else at.label (record { constraint = c; fields = fields }) u (tokens_of (space ∷ put else_word (break_before at (end_line rest)))) ≡ Some (unless_let u c fields, tokens_of rest)
@@ -279,8 +292,13 @@ module _ (p : Notation) (n : ℕ) where
 
   -- 7. matches
   not_last : (u : PlaceUse) (c : Constraint) (fields : List (Option ℕ)) (rest : List CodePiece) → expect_all last_arm (tokens_of (arm_pattern p u c fields rest)) ≡ None
+  not_last u (is_bool true ty) fields rest = refl
+  not_last u (is_bool false ty) fields rest = refl
+  not_last u (is_prim name) fields rest = refl
   not_last u (is_variant ty variant m) fields rest = refl
-  not_last u c fields rest = refl
+  not_last u (is_struct ty m) fields rest = refl
+  not_last u (is_int z ty) fields rest = refl
+  not_last u is_present fields rest = refl
 
   abbrev with_arm : Option ℕ → PlaceUse → ℕ → Pattern → List Token → TokenReading CodeArms
   with_arm label u k pattern tokens = then_option (expect arrow tokens) (λ behind. then_read (read_body inner label behind) (λ body later. then_read (read_arms p inner label u k later) (λ arms end. Some (code_arm pattern.constraint pattern.fields body arms, end))))

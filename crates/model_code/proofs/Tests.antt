@@ -1,6 +1,5 @@
 -- Tests are read back: what is compared with what, and which label is left.
-use Rattle.std.proofs.Common.{◌≡◌, ◌⊎◌, inl, inr, subst, ◌||◌, ◌==◌, ◌∷◌, [], ℕ, Bool, true, false, not, List, Option, Some, None, is_some, refl, ap, ◌∙◌, sym, arith}
-use Rattle.std.proofs.lemmas.Grind.{common_steps}
+use Rattle.std.proofs.Common.{◌≡◌, ◌⊎◌, inl, inr, subst, ◌||◌, ◌==◌, ◌∷◌, [], ℕ, Bool, true, false, not, List, Option, Some, None, is_some, refl, ap, ◌∙◌, sym}
 use Rattle.std.proofs.lemmas.Bool.{and_from, false≢true}
 use Rattle.std.specs.Ordering.{int_eq}
 use Rattle.std.proofs.lemmas.Bool.Decides.{Decides-int_eq}
@@ -29,7 +28,8 @@ pub plain_or_lent : (composed : Bool) (pass : Pass) → (not composed || is_look
 plain_or_lent false pass h = inl refl
 plain_or_lent true as_it_is h = inl refl
 plain_or_lent true lent h = inr (refl, refl)
-plain_or_lent composed pass h = grind (arith, common_steps)
+plain_or_lent true cloned h = absurd (false≢true h)
+plain_or_lent true seen_through h = absurd (false≢true h)
 
 abbrev pub seen : Bool → PlaceUse → PlaceUse
 seen true u = record { place = u.place; pass = seen_through }
@@ -38,7 +38,9 @@ seen false u = u
 plain_seen : {B : Type 0} (p : Notation) (place : Place) (pass : Pass) (rest : List CodePiece) (go : PlaceUse → List Token → TokenReading B) → is_plain pass ≡ true → follows (tokens_of rest) ≡ true
     → then_read (read_use (word star ∷ tokens_of (passed_before p place pass rest))) go ≡ go (record { place = shown_place p place; pass = seen_through }) (tokens_of rest)
 plain_seen p place as_it_is rest go h f = after_use p (record { place = place; pass = seen_through }) rest go f
-plain_seen p place pass rest go h f = grind (arith, common_steps)
+plain_seen p place lent rest go h f = absurd (false≢true h)
+plain_seen p place cloned rest go h f = absurd (false≢true h)
+plain_seen p place seen_through rest go h f = absurd (false≢true h)
 
 pub plain_pass : (pass : Pass) → is_plain pass ≡ true → pass ≡ as_it_is
 plain_pass as_it_is h = refl
@@ -57,7 +59,11 @@ plain_of false plain h e = absurd (false≢true e)
 
 pub plain_where_seen : (p : Notation) (u : PlaceUse) (c : Constraint) → match_plain p u c ≡ true → is_seen_through p c ≡ true → is_plain u.pass ≡ true
 plain_where_seen p u (is_prim name) h e = plain_of (p.is_constant_composed name) (is_plain u.pass) h e
-plain_where_seen p u c h e = grind (arith, common_steps)
+plain_where_seen p u (is_variant ty variant n) h e = absurd (false≢true e)
+plain_where_seen p u (is_struct ty n) h e = absurd (false≢true e)
+plain_where_seen p u (is_bool b ty) h e = absurd (false≢true e)
+plain_where_seen p u (is_int z ty) h e = absurd (false≢true e)
+plain_where_seen p u is_present h e = absurd (false≢true e)
 
 -- the first value of a comparison with a constant
 pub after_compared : {B : Type 0} (p : Notation) (u : PlaceUse) (c : Constraint) (rest : List CodePiece) (go : PlaceUse → List Token → TokenReading B) → match_plain p u c ≡ true → follows (tokens_of rest) ≡ true
@@ -68,7 +74,11 @@ after_compared p u c rest go h f = compared_at (is_seen_through p c) p u rest go
 bare_compared : (p : Notation) (place : Place) (pass : Pass) (rest : List CodePiece)
     → read_compared (tokens_of (passed_before p place pass rest)) ≡ then_read (read_use (tokens_of (passed_before p place pass rest))) (λ u behind. Some (a_use u, behind))
 bare_compared p (variable v) as_it_is rest = refl
-bare_compared p place pass rest = refl
+bare_compared p _ as_it_is rest = refl
+bare_compared p place lent rest = refl
+bare_compared p (variable v) cloned rest = refl
+bare_compared p _ cloned rest = refl
+bare_compared p place seen_through rest = refl
 
 pub after_second : {B : Type 0} (p : Notation) (u : PlaceUse) (rest : List CodePiece) (go : Compared → List Token → TokenReading B) → follows (tokens_of rest) ≡ true
     → then_read (read_compared (tokens_of (use_before p u rest))) go ≡ go (a_use (shown_use p u)) (tokens_of rest)
@@ -92,7 +102,9 @@ pub after_constant : {B : Type 0} (p : Notation) (c : Constraint) (rest : List C
 after_constant p (is_bool b ty) rest go h f = truth_compared b rest go
 after_constant p (is_int z ty) rest go h f = after_second p (constant_use (int_written z ty)) rest go f
 after_constant p (is_prim name) rest go h f = after_second p (constant_use (name_written name)) rest go f
-after_constant p c rest go h f = grind (arith, common_steps)
+after_constant p (is_variant ty variant n) rest go h f = absurd (false≢true h)
+after_constant p (is_struct ty n) rest go h f = absurd (false≢true h)
+after_constant p is_present rest go h f = absurd (false≢true h)
 
 -- 3. so a comparison with a constant is read as a match
 named_back : (composed : Bool) (u : PlaceUse) (name : ℕ) → (composed ≡ true → is_plain u.pass ≡ true) → named_test composed (seen composed u).pass (seen composed u) name ≡ Some (u, is_prim name)
@@ -101,35 +113,56 @@ named_back true u name h = ap (λ pass. Some (record { place = u.place; pass = p
 
 pub equal_back : (p : Notation) (u : PlaceUse) (c : Constraint) (body : Block) → is_constant c ≡ true → match_plain p u c ≡ true
     → equal_of p (seen (is_seen_through p c) (shown_use p u)) (constant_compared p c) body ≡ match_on (shown_use p u) (code_arm (shown_constraint p c) [] body no_code_arm)
+equal_back p u (is_bool b ty) body h m = refl
+equal_back p u (is_int z ty) body h m = refl
 equal_back p u (is_prim name) body h m = rw (named_back (p.is_constant_composed name) (shown_use p u) name (plain_where_seen p u (is_prim name) m))
-equal_back p u c body h m = grind (arith, common_steps)
+equal_back p u (is_variant ty variant n) body h m = absurd (false≢true h)
+equal_back p u (is_struct ty n) body h m = absurd (false≢true h)
+equal_back p u is_present body h m = absurd (false≢true h)
 
 pub unless_back : (p : Notation) (u : PlaceUse) (c : Constraint) → is_constant c ≡ true → match_plain p u c ≡ true
     → unless_of p (seen (is_seen_through p c) (shown_use p u)) (constant_compared p c) ≡ unless_let (shown_use p u) (shown_constraint p c) []
+unless_back p u (is_bool b ty) h m = refl
+unless_back p u (is_int z ty) h m = refl
 unless_back p u (is_prim name) h m = rw (named_back (p.is_constant_composed name) (shown_use p u) name (plain_where_seen p u (is_prim name) m))
-unless_back p u c h m = grind (arith, common_steps)
+unless_back p u (is_variant ty variant n) h m = absurd (false≢true h)
+unless_back p u (is_struct ty n) h m = absurd (false≢true h)
+unless_back p u is_present h m = absurd (false≢true h)
 
 pub constants_bind_nothing : (p : Notation) (c : Constraint) (fields : List (Option ℕ)) → is_constant c ≡ true → pattern_writable p c fields ≡ true → fields ≡ []
 constants_bind_nothing p (is_bool b ty) fields h w = no_bindings fields w
 constants_bind_nothing p (is_int z ty) fields h w = no_bindings fields w
 constants_bind_nothing p (is_prim name) fields h w = no_bindings fields w
-constants_bind_nothing p c fields h w = grind (arith, common_steps)
+constants_bind_nothing p (is_variant ty variant n) fields h w = absurd (false≢true h)
+constants_bind_nothing p (is_struct ty n) fields h w = absurd (false≢true h)
+constants_bind_nothing p is_present fields h w = absurd (false≢true h)
 
 -- behind `if`, where no `let` follows
 starred_if : (p : Notation) (inner : Inner) (label : Option ℕ) (place : Place) (rest : List CodePiece)
     → read_if p inner label (word star ∷ tokens_of (place_before p place rest)) ≡ then_read (read_use (word star ∷ tokens_of (place_before p place rest))) (read_sign p inner label)
+starred_if p inner label (variable v) rest = refl
+starred_if p inner label (parameter i) rest = refl
+starred_if p inner label (part_of v i) rest = refl
+starred_if p inner label (int_written z ty) rest = refl
+starred_if p inner label (name_written name) rest = refl
 starred_if p inner label (variant_written ty variant) rest = refl
-starred_if p inner label place rest = refl
+starred_if p inner label (struct_written ty) rest = refl
 
 bare_if : (p : Notation) (inner : Inner) (label : Option ℕ) (place : Place) (pass : Pass) (rest : List CodePiece)
     → read_if p inner label (tokens_of (passed_before p place pass rest)) ≡ then_read (read_use (tokens_of (passed_before p place pass rest))) (read_sign p inner label)
+bare_if p inner label (variable v) as_it_is rest = refl
+bare_if p inner label _ as_it_is rest = refl
+bare_if p inner label place lent rest = refl
+bare_if p inner label (variable v) cloned rest = refl
+bare_if p inner label _ cloned rest = refl
 bare_if p inner label place seen_through rest = starred_if p inner label place rest
-bare_if p inner label place pass rest = refl
 
 plain_if : (p : Notation) (inner : Inner) (label : Option ℕ) (place : Place) (pass : Pass) (rest : List CodePiece) → is_plain pass ≡ true
     → read_if p inner label (word star ∷ tokens_of (passed_before p place pass rest)) ≡ then_read (read_use (word star ∷ tokens_of (passed_before p place pass rest))) (read_sign p inner label)
 plain_if p inner label place as_it_is rest h = starred_if p inner label place rest
-plain_if p inner label place pass rest h = grind (arith, common_steps)
+plain_if p inner label place lent rest h = absurd (false≢true h)
+plain_if p inner label place cloned rest h = absurd (false≢true h)
+plain_if p inner label place seen_through rest h = absurd (false≢true h)
 
 pub if_back : (composed : Bool) (p : Notation) (inner : Inner) (label : Option ℕ) (u : PlaceUse) (rest : List CodePiece) → (composed ≡ true → is_plain u.pass ≡ true)
     → read_if p inner label (tokens_of (put_if composed star (use_before p u rest))) ≡ then_read (read_use (tokens_of (put_if composed star (use_before p u rest)))) (read_sign p inner label)
@@ -147,8 +180,10 @@ same_place-refl (variant_written ty variant) = and_from (ty == ty) (variant == v
 same_place-refl (struct_written ty) = number_same ty
 
 same_pass-refl : (pass : Pass) → same_pass pass pass ≡ true
+same_pass-refl as_it_is = refl
+same_pass-refl lent = refl
+same_pass-refl cloned = refl
 same_pass-refl seen_through = refl
-same_pass-refl pass = refl
 
 same_use-refl : (u : PlaceUse) → same_use u u ≡ true
 same_use-refl u = and_from (same_place u.place u.place) (same_pass u.pass u.pass) (same_place-refl u.place) (same_pass-refl u.pass)
@@ -160,18 +195,29 @@ guard_back p u name rest h = rw (named_back (p.is_constant_composed name) u name
 -- a guard that a comparison begins
 starred_guard : (p : Notation) (u : PlaceUse) (place : Place) (rest : List CodePiece)
     → read_compared_guard p u (word star ∷ tokens_of (place_before p place rest)) ≡ then_read (read_use (word star ∷ tokens_of (place_before p place rest))) (guard_by u (test_at p))
+starred_guard p u (variable v) rest = refl
+starred_guard p u (parameter i) rest = refl
+starred_guard p u (part_of v i) rest = refl
+starred_guard p u (int_written z ty) rest = refl
+starred_guard p u (name_written name) rest = refl
 starred_guard p u (variant_written ty variant) rest = refl
-starred_guard p u place rest = refl
+starred_guard p u (struct_written ty) rest = refl
 
 bare_guard : (p : Notation) (u : PlaceUse) (place : Place) (pass : Pass) (rest : List CodePiece)
     → read_compared_guard p u (tokens_of (passed_before p place pass rest)) ≡ then_read (read_use (tokens_of (passed_before p place pass rest))) (guard_by u (test_at p))
+bare_guard p u (variable v) as_it_is rest = refl
+bare_guard p u _ as_it_is rest = refl
+bare_guard p u place lent rest = refl
+bare_guard p u (variable v) cloned rest = refl
+bare_guard p u _ cloned rest = refl
 bare_guard p u place seen_through rest = starred_guard p u place rest
-bare_guard p u place pass rest = refl
 
 plain_guard : (p : Notation) (u : PlaceUse) (place : Place) (pass : Pass) (rest : List CodePiece) → is_plain pass ≡ true
     → read_compared_guard p u (word star ∷ tokens_of (passed_before p place pass rest)) ≡ then_read (read_use (word star ∷ tokens_of (passed_before p place pass rest))) (guard_by u (test_at p))
 plain_guard p u place as_it_is rest h = starred_guard p u place rest
-plain_guard p u place pass rest h = grind (arith, common_steps)
+plain_guard p u place lent rest h = absurd (false≢true h)
+plain_guard p u place cloned rest h = absurd (false≢true h)
+plain_guard p u place seen_through rest h = absurd (false≢true h)
 
 compared_guard : (composed : Bool) (p : Notation) (u : PlaceUse) (rest : List CodePiece) → (composed ≡ true → is_plain u.pass ≡ true)
     → read_compared_guard p (shown_use p u) (tokens_of (put_if composed star (use_before p u rest))) ≡ then_read (read_use (tokens_of (put_if composed star (use_before p u rest)))) (guard_by (shown_use p u) (test_at p))

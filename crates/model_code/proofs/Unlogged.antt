@@ -2,8 +2,8 @@
 use Rattle.std.proofs.Common.{◌≡◌, ◌++◌, ◌∷◌, [], ℕ, zero, suc, Bool, true, false, List, Option, Some, None, refl, ap, ◌∙◌}
 use Rattle.std.proofs.lemmas.Bool.{false≢true}
 use Rattle.model.specs.lists.Syntax.{Position}
-use Rattle.model.specs.sites.Sites.{Constraint, is_variant, is_struct, is_prim, is_present}
-use Rattle.model_code.specs.Code.{Place, variant_written, Pass, as_it_is, lent, cloned, seen_through, PlaceUse, Expr, truth_written, read, extraction, call, variant_of, struct_of, some_of, Block, no_statement, statement, Statement, bind, bind_some, no_way, match_on, if_equal, for_each_of, give, labelled, unless_let, unless_equal, CodeArms, no_code_arm, code_arm}
+use Rattle.model.specs.sites.Sites.{Constraint, is_variant, is_struct, is_bool, is_int, is_prim, is_present}
+use Rattle.model_code.specs.Code.{Place, variable, parameter, part_of, int_written, name_written, variant_written, struct_written, Pass, as_it_is, lent, cloned, seen_through, PlaceUse, Expr, truth_written, read, extraction, call, variant_of, struct_of, some_of, Block, no_statement, statement, Statement, bind, bind_some, no_way, match_on, if_equal, for_each_of, give, labelled, unless_let, unless_equal, CodeArms, no_code_arm, code_arm}
 use Rattle.model_code.specs.Tokens.{Word, ref_word, mut_word, else_word, closing, opening_brace, closing_brace, comma, colon, arrow, equals, equal_to, unlike, ampersand, star, Owner, variant_owner, struct_owner, variable_name, field_name}
 use Rattle.model_code.specs.Notation.{Notation, ReturnForm, gives_one, gives_option, gives_many, Shape, no_fields, named_fields, unnamed_fields, Callee, extractor_of, constructor_of}
 use Rattle.model_code.specs.Pieces.{CodePiece, token, space, set_in, line_end, rule_comment, log_line, tokens_of, Margin, inside, in_braces_at, put, put_first, put_first_if, put_between, put_all, put_if, end_line, place_before, clone_call, passed_before, use_before, args_before, called_before, gap_before, comma_before, named_values, unnamed_values, made_before, answer_before, expr_before, binding_before, fields_end, named_bindings, place_in_order, unnamed_bindings, bindings_before, inner_before, constant_before, pattern_before, is_constant, is_seen_through, comparison_before, let_before, condition_before, arm_pattern, break_before, open_body, close_body, one_line, many_lines, call_lines, bind_lines, failure_before, bind_some_line, log_lines, given_end, give_lines, result_lines, equal_head, unless_line, unless_equal_line, is_alone, match_head, arms_at, arm_head, match_end, label_before, is_left, result_ends, is_end, unless_end, block_before, statement_before, arms_before}
@@ -46,8 +46,13 @@ comma_quiet (suc i) rest = refl
 module _ (p : Notation) where
   -- 1. places, uses, and what is bound
   place_quiet : (place : Place) (rest : List CodePiece) → AsQuiet (place_before p place rest) rest
+  place_quiet (variable v) rest = refl
+  place_quiet (parameter i) rest = refl
+  place_quiet (part_of v i) rest = refl
+  place_quiet (int_written z ty) rest = refl
+  place_quiet (name_written name) rest = refl
   place_quiet (variant_written ty variant) rest = refl
-  place_quiet place rest = refl
+  place_quiet (struct_written ty) rest = refl
 
   pass_quiet : (place : Place) (pass : Pass) (rest : List CodePiece) → AsQuiet (passed_before p place pass rest) rest
   pass_quiet place as_it_is rest = place_quiet place rest
@@ -96,8 +101,10 @@ module _ (p : Notation) where
   binding_quiet o i v rest = put_first_if_quiet (p.is_field_composed o i) ref_word (token (variable_name v) ∷ rest)
 
   end_quiet : (bound lacking : Bool) (rest : List CodePiece) → AsQuiet (fields_end bound lacking rest) rest
+  end_quiet true false rest = refl
   end_quiet false false rest = refl
-  end_quiet bound lacking rest = refl
+  end_quiet false true rest = refl
+  end_quiet true true rest = refl
 
   named_fields_quiet : (o : Owner) (i : ℕ) (bound lacking : Bool) (fields : List (Option ℕ)) (rest : List CodePiece) → AsQuiet (named_bindings p o i bound lacking fields rest) rest
   named_fields_quiet o i bound lacking [] rest = end_quiet bound lacking rest
@@ -122,18 +129,25 @@ module _ (p : Notation) where
   bindings_quiet o (unnamed_fields n) fields rest = unnamed_fields_quiet o 0 fields rest
 
   inner_quiet : (fields : List (Option ℕ)) (rest : List CodePiece) → AsQuiet (inner_before fields rest) rest
+  inner_quiet [] rest = refl
+  inner_quiet (None ∷ fields) rest = refl
   inner_quiet (Some v ∷ fields) rest = refl
-  inner_quiet fields rest = refl
 
   constant_quiet : (c : Constraint) (rest : List CodePiece) → AsQuiet (constant_before p c rest) rest
+  constant_quiet (is_bool b ty) rest = refl
+  constant_quiet (is_int z ty) rest = refl
+  constant_quiet (is_prim name) rest = refl
   constant_quiet (is_variant ty variant n) rest = refl
-  constant_quiet c rest = refl
+  constant_quiet (is_struct ty n) rest = refl
+  constant_quiet is_present rest = refl
 
   pattern_quiet : (c : Constraint) (fields : List (Option ℕ)) (rest : List CodePiece) → AsQuiet (pattern_before p c fields rest) rest
   pattern_quiet (is_variant ty variant n) fields rest = bindings_quiet (variant_owner ty variant) (p.shape (variant_owner ty variant)) fields rest
   pattern_quiet (is_struct ty n) fields rest = bindings_quiet (struct_owner ty) (p.shape (struct_owner ty)) fields rest
   pattern_quiet is_present fields rest = inner_quiet fields (put closing rest)
-  pattern_quiet c fields rest = refl
+  pattern_quiet (is_bool b ty) fields rest = refl
+  pattern_quiet (is_int z ty) fields rest = refl
+  pattern_quiet (is_prim name) fields rest = refl
 
   -- 3. tests
   comparison_quiet : (u : PlaceUse) (sign : Word) (c : Constraint) (rest : List CodePiece) → AsQuiet (comparison_before p u sign c rest) rest
@@ -152,8 +166,9 @@ module _ (p : Notation) where
   arm_pattern_quiet u (is_prim name) fields rest = comparison_quiet u equal_to (is_prim name) rest
   arm_pattern_quiet u (is_variant ty variant n) fields rest = pattern_quiet (is_variant ty variant n) fields rest
   arm_pattern_quiet u (is_struct ty n) fields rest = pattern_quiet (is_struct ty n) fields rest
+  arm_pattern_quiet u (is_bool b ty) fields rest = refl
+  arm_pattern_quiet u (is_int z ty) fields rest = refl
   arm_pattern_quiet u is_present fields rest = pattern_quiet is_present fields rest
-  arm_pattern_quiet u c fields rest = refl
 
   -- 4. lines
   one_quiet : (at : Margin) (v : ℕ) (x : Expr) (rest : List CodePiece) → AsQuiet (one_line p at v x rest) rest
@@ -176,8 +191,9 @@ module _ (p : Notation) where
   bind_quiet at v (some_of u) rest = one_quiet at v (some_of u) rest
 
   failure_quiet : (kind : ReturnForm) (rest : List CodePiece) → AsQuiet (failure_before kind rest) rest
+  failure_quiet gives_one rest = refl
   failure_quiet gives_option rest = refl
-  failure_quiet kind rest = refl
+  failure_quiet gives_many rest = refl
 
   bind_some_quiet : (at : Margin) (v : ℕ) (u : PlaceUse) (rest : List CodePiece) → AsQuiet (bind_some_line p at v u rest) rest
   bind_some_quiet at v u rest =
@@ -253,8 +269,10 @@ module _ (p : Notation) where
           arm_quiet alone at u c fields (block_before p (inside at) body (close_body at behind)) ∙ (block_quiet body (inside at) (close_body at behind) ∙ arms_quiet more alone at u rest)
 
 end_before_quiet : (ended : Bool) (kind : ReturnForm) (rest : List CodePiece) → AsQuiet (end_before ended kind rest) rest
+end_before_quiet true kind rest = refl
+end_before_quiet false gives_one rest = refl
 end_before_quiet false gives_option rest = refl
-end_before_quiet ended kind rest = refl
+end_before_quiet false gives_many rest = refl
 
 -- 6. so the words and marks are those of the tokens
 quiet_words : (names : Names) (ps : List CodePiece) → is_quiet ps ≡ true → pieces_lexed names ps ≡ words_of names (tokens_of ps)

@@ -2,7 +2,7 @@
 use Rattle.std.proofs.Common.{◌≡◌, ◌<◌, ◌≤◌, ◌∷◌, [], ℕ, zero, suc, Bool, true, false, List, length, Some, None, refl, ap, ◌∙◌, arith}
 use Rattle.std.proofs.lemmas.Bool.{eqb-true}
 use Rattle.model.specs.rules.Outcome.{then_option}
-use Rattle.model_code.specs.Code.{Place, variable, Pass, as_it_is, PlaceUse, Expr, truth_written, read, extraction, call, variant_of, struct_of, some_of}
+use Rattle.model_code.specs.Code.{Place, variable, Pass, as_it_is, lent, cloned, seen_through, PlaceUse, Expr, truth_written, read, extraction, call, variant_of, struct_of, some_of}
 use Rattle.model_code.specs.Tokens.{opening, closing, ctx_word, comma, colon, ampersand, Owner, variant_owner, struct_owner, Token, word, field_name, owner_name}
 use Rattle.model_code.specs.Notation.{Notation, Shape, no_fields, named_fields, unnamed_fields, Callee, extractor_of, constructor_of}
 use Rattle.model_code.specs.Pieces.{CodePiece, token, tokens_of, put, put_first, put_all, put_if, end_line, passed_before, use_before, truth_word, args_before, called_before, gap_before, comma_before, named_values, unnamed_values, made_before, expr_before}
@@ -14,7 +14,12 @@ use Rattle.model_code.proofs.Uses.{follows, after_use, that_field}
 -- 1. what is handed to a function
 no_mut : (p : Notation) (place : Place) (pass : Pass) (rest : List CodePiece) → unless_mut (tokens_of (passed_before p place pass rest)) ≡ Some (tokens_of (passed_before p place pass rest))
 no_mut p (variable v) as_it_is rest = refl
-no_mut p place pass rest = refl
+no_mut p _ as_it_is rest = refl
+no_mut p (variable v) lent rest = refl
+no_mut p _ lent rest = refl
+no_mut p (variable v) cloned rest = refl
+no_mut p _ cloned rest = refl
+no_mut p place seen_through rest = refl
 
 args_follow : (p : Notation) (us : List PlaceUse) (rest : List CodePiece) → follows (tokens_of rest) ≡ true → follows (tokens_of (args_before p us rest)) ≡ true
 args_follow p [] rest h = h
@@ -92,7 +97,12 @@ made_at p n o (unnamed_fields m) us rest e h = rw (e, ← eqb-true (length us) m
 read_bare : (p : Notation) (n : ℕ) (place : Place) (pass : Pass) (rest : List CodePiece)
     → read_expr p n (tokens_of (passed_before p place pass (end_line rest))) ≡ then_read (read_use (tokens_of (passed_before p place pass (end_line rest)))) (λ u behind. Some (read u, behind))
 read_bare p n (variable v) as_it_is rest = refl
-read_bare p n place pass rest = refl
+read_bare p n _ as_it_is rest = refl
+read_bare p n (variable v) lent rest = refl
+read_bare p n _ lent rest = refl
+read_bare p n (variable v) cloned rest = refl
+read_bare p n _ cloned rest = refl
+read_bare p n place seen_through rest = refl
 
 truth_back : (p : Notation) (n : ℕ) (b : Bool) (rest : List Token) → read_expr p n (word (truth_word b) ∷ rest) ≡ Some (truth_written b 0, rest)
 truth_back p n true rest = refl
