@@ -1,7 +1,8 @@
 -- Texts that are added part by part: a loop's step, and its end.
-use Rattle.std.proofs.Common.{◌≡◌, ℕ, ◌+◌, ◌<◌, ◌≤◌, List, [], ◌∷◌, ◌++◌, map, length, get_or, drop, Option, refl, sym, ap, ◌∙◌}
+use Rattle.std.proofs.Common.{◌≡◌, ℕ, ◌+◌, ◌*◌, ◌/◌, ◌%◌, ◌<◌, ◌≤◌, List, [], ◌∷◌, ◌++◌, map, length, get_or, drop, Option, refl, sym, ap, ◌∙◌, arith}
 use Rattle.std.specs.Prelude.{replicate, codes, decimal}
-use Rattle.std.proofs.lemmas.List.{append-nil, append_assoc, at_drop_more, at_drop_all}
+use Rattle.std.proofs.lemmas.List.{append-nil, append_assoc, at_drop_more, at_drop_all, replicate-append-replicate}
+use Rattle.std.proofs.lemmas.Nat.{div-add-mod'}
 use Rattle.model.specs.lists.Syntax.{Position}
 use Rattle.model.specs.trees.Trees.{Arms, no_arm, arm}
 use Rattle.model_print.specs.Lines.{Word, Token, word, nothing, Line, line}
@@ -95,3 +96,16 @@ module _ (n : Names) where
 
     pub arms_spelled : (d : ℕ) → IsSpelled (λ i (arms : List MatchArm). lines_text n said (arms_lines d (arms_view arms))) (λ i a. lines_text n said (arms_lines d (arm_view a no_arm)))
     arms_spelled d = record { none = λ i. refl; more = λ i x xs. arm_more d x (arms_view xs) }
+
+all_spaces : (d : ℕ) → d / 32 * 32 + d % 32 / 4 * 4 + d % 32 % 4 * 1 ≡ d
+all_spaces d = grind (arith, div-add-mod' d 32, div-add-mod' (d % 32) 4)
+
+-- spaces by 32, then by 4, then one by one
+pub spaces_joined : (d : ℕ) (old one two new : List ℕ) → one ≡ old ++ replicate (d / 32 * 32) 32 → two ≡ one ++ replicate (d % 32 / 4 * 4) 32 → new ≡ two ++ replicate (d % 32 % 4 * 1) 32 → new ≡ old ++ replicate d 32
+spaces_joined d old one two new h h2 h3 =
+    let a : ℕ = d / 32 * 32 in
+    let b : ℕ = d % 32 / 4 * 4 in
+    let c : ℕ = d % 32 % 4 * 1 in
+    let both : two ≡ old ++ replicate (a + b) 32 = h2 ∙ ap (λ (t : List ℕ). t ++ replicate b 32) h ∙ append_assoc old (replicate a 32) (replicate b 32) ∙ ap (λ (t : List ℕ). old ++ t) (replicate-append-replicate a b 32) in
+    h3 ∙ ap (λ (t : List ℕ). t ++ replicate c 32) both ∙ append_assoc old (replicate (a + b) 32) (replicate c 32)
+    ∙ ap (λ (t : List ℕ). old ++ t) (replicate-append-replicate (a + b) c 32 ∙ ap (λ (n : ℕ). replicate n 32) (all_spaces d))

@@ -1,6 +1,6 @@
 //! The printed form of trees: each term with its sites and its steps, one a line.
 
-ghost use Rattle.std.specs.Prelude.{◌≡◌, ◌+◌, ◌++◌, ◌∷◌, [], ℕ, List, IfOk, OnOk, codes, decimal, map, replicate, slice_get, string_bytes};
+ghost use Rattle.std.specs.Prelude.{◌≡◌, ◌+◌, ◌*◌, ◌++◌, ◌∷◌, [], ℕ, List, IfOk, OnOk, codes, decimal, map, replicate, slice_get, string_bytes};
 ghost use Rattle.std.specs.BTreeMap.{get};
 ghost use Rattle.std.specs.Fmt.{signed_decimal};
 ghost use Rattle.core_rule_sets.specs.SiteViews.{constraint_view, site_view, site_views};
@@ -382,12 +382,21 @@ fn print_head(
     print_sites(out, names, sites)
 }
 
-// Spaces before a line.
+// Spaces before a line. The lines of a deep tree have many, so most are added by 32.
 fn print_spaces(out: &mut String, depth: usize) -> Result<(), AllocError>
     ensures { OnOk result (string_bytes out.new ≡ string_bytes out.old ++ replicate depth 32) }
 {
-    for step in 0..depth {
-        out.push_str(" ")?;
+    print_pieces(out, "                                ", depth / 32)?;
+    print_pieces(out, "    ", depth % 32 / 4)?;
+    print_pieces(out, " ", depth % 32 % 4)
+}
+
+// A piece of spaces, so many times.
+fn print_pieces(out: &mut String, piece: &str, times: usize) -> Result<(), AllocError>
+    ensures { (width : ℕ) → piece.now ≡ replicate width 32 → OnOk result (string_bytes out.new ≡ string_bytes out.old ++ replicate (times * width) 32) }
+{
+    for step in 0..times {
+        out.push_str(piece)?;
     }
     Ok(())
 }

@@ -1,11 +1,10 @@
-use Rattle.std.proofs.Common.{◌++◌, ap, ◌∙◌}
-use Rattle.std.specs.Prelude.{replicate, string_bytes}
-use Rattle.std.proofs.lemmas.List.{append_assoc, replicate-append-replicate}
+use Rattle.std.proofs.Common.{string_bytes, refl}
+use Rattle.std.proofs.lemmas.Result.{on_ok_weaker}
+use Rattle.report_print.proofs.PrintSteps.{spaces_joined}
 use Rattle.report_print.proofs.print.print_spaces.Goals as goal
 
-pub loop-step-preserved : goal.loop-step-preserved
-loop-step-preserved c =
-    let old = string_bytes c.args.out.now in
-    let n = c.loop-step.step in
-    c.in_ok-push_str.ensures.bytes ∙ ap (λ t. t ++ replicate 1 32) c.loop-step.invariant ∙ append_assoc old (replicate n 32) (replicate 1 32)
-    ∙ ap (λ t. old ++ t) (replicate-append-replicate n 1 32)
+pub returns : goal.returns
+returns c = on_ok_weaker c.print_pieces-3.result
+    (spaces_joined c.args.depth (string_bytes c.args.out.now) (string_bytes c.print_pieces.new.out) (string_bytes c.print_pieces-2.new.out) (string_bytes c.print_pieces-3.new.out)
+        (c.in_ok-print_pieces.ensures 32 refl) (c.in_ok-print_pieces-2.ensures 4 refl))
+    (c.print_pieces-3.ensures 1 refl)
