@@ -3,6 +3,7 @@ mod Chains
 mod DistinctKeys
 mod ListIteration
 mod Orders
+mod MapTurns
 mod OverlapCounts
 mod Queues
 mod Reporting

@@ -1,5 +1,5 @@
 -- Counts of unreported overlaps by rule, and the reports that are made by them.
-use Rattle.std.proofs.Common.{◌≡◌, ◌==◌, ◌&&◌, ◌||◌, ℕ, suc, ◌+◌, ◌-◌, ◌<◌, ◌≤◌, Bool, true, false, not, nat_lt, if◌then◌else◌, List, [], ◌∷◌, ◌++◌, length, map, get_or, filter, refl, sym, ap, ◌∙◌, subst, inl, inr, arith, append_assoc, eqb-true}
+use Rattle.std.proofs.Common.{◌≡◌, ◌⊎◌, ◌==◌, ◌&&◌, ◌||◌, ℕ, zero, suc, ◌+◌, ◌-◌, ◌<◌, ◌≤◌, Bool, true, false, not, nat_lt, if◌then◌else◌, List, [], ◌∷◌, ◌++◌, length, map, filter, refl, sym, ap, ◌∙◌, subst, inl, inr, arith, append_assoc, eqb-true}
 use Rattle.std.specs.BTreeMap.{BTreeMap}
 use Rattle.std.specs.Global.{Vec}
 use Rattle.std.proofs.lemmas.Bool.{cases_Bool}
@@ -9,20 +9,18 @@ use Rattle.std.proofs.lemmas.List.Elements.{filter_agree}
 use Rattle.model.specs.lists.Syntax.{Position}
 use Rattle.model.specs.sites.Overlap.{position_eq, position_lt, has_end, other_end, degree, is_reported_before, overlap_reports, overlap_reports_in, rules_overlap, ascending_positions}
 use Rattle.model.specs.claims.Refusals.{overlapping, refusal_of}
-use Rattle.model.proofs.Elements.{In}
-use Rattle.laws_sites.proofs.overlaps.ListedOverlaps.{position_means, in_ascending, left_over, no_longer}
+use Rattle.laws_sites.proofs.overlaps.ListedOverlaps.{position_means, left_over}
 use Rattle.core_syntax.specs.SyntaxViews.{position}
 use Rattle.core_syntax.specs.declared.syntax.Error.{Error}
 use Rattle.core_syntax.specs.declared.syntax.Pos.{Pos}
 use Rattle.core_overlap.specs.Comparisons.{positions}
 use Rattle.core_syntax.specs.ErrorViews.{error_views}
-use Rattle.core_overlap.specs.Graphs.{neighbours, ends_of, unreported_at, neighbours_at, same_pos, position_count, counts_before, unreported, count_left}
-use Rattle.core_overlap.proofs.Reporting.{kept_pairs, stands, filtered_map, kept_from, left_of, left_kept, degree_left, no_reports, one_report, none_left_over, ends_kept, no_more_than}
+use Rattle.core_overlap.specs.Graphs.{neighbours, unreported_at, neighbours_at, same_pos, position_count, counts_before, unreported, count_left}
+use Rattle.core_overlap.proofs.Reporting.{kept_pairs, stands, filtered_map, kept_from, left_of, left_kept, degree_left, no_reports, none_first, one_report, none_left_over, no_more_than}
 
--- 1. sums of counts
-
-pub degree_few : (ps : List (Position × Position)) (a : Position) → degree ps a ≤ length ps
-degree_few ps a = no_longer (has_end a) ps
+-- 1. how many overlaps a rule has
+pub degree_is : (pairs : List (Position × Position)) (ns : List Pos) (a : Position) → positions ns ≡ neighbours pairs a → length ns ≡ degree pairs a
+degree_is pairs ns a e = sym (length-map ns position) ∙ ap length e ∙ length-map (filter (has_end a) pairs) (other_end a)
 
 -- 2. the rules that two overlaps of one rule add
 pub both_listed : (old mid new : List Pos) (first second q : Pos) → (same_pos first second ≡ true → ⊥) → mid ≡ old ++ (if same_pos first q then second ∷ [] else []) → new ≡ mid ++ (if same_pos second q then first ∷ [] else [])
@@ -63,37 +61,32 @@ so_far_none pairs counts errors n e l c = record {
       ∙ (λ k. map refusal_of (map rules_overlap (overlap_reports_in (l k) (all_kept pairs k))));
 }
 
--- the rules of the overlaps are among these
-abbrev pub HasEnds : List Pos → List (Position × Position) → Type 0
-HasEnds rules pairs = positions rules ≡ ascending_positions (ends_of pairs)
+zero_or_more : (n : ℕ) → (n ≡ 0) ⊎ (0 < n)
+zero_or_more zero = inl refl
+zero_or_more (suc n) = inr (omega arith)
 
-module _ (pairs : List (Position × Position)) (rules : List Pos) (counts : BTreeMap Pos ℕ) (errors : List Error) (n : ℕ) (at : Pos) (all : HasEnds rules pairs)
-    (first : (k : ℕ) (d : Pos) → k < length rules → counts_before counts (get_or rules k d) at ≡ false) (s : IsSoFar pairs counts errors n) where
-  left : List (Position × Position)
-  left = kept_pairs s.kept pairs
+module _ (pairs : List (Position × Position)) (counts : BTreeMap Pos ℕ) (errors : List Error) (n : ℕ) (at : Pos)
+    (first : (q : Pos) → 0 < unreported_at counts q → counts_before counts q at ≡ false) (s : IsSoFar pairs counts errors n) where
+  abbrev place : Position → Pos
+  place y = record { file = y.file; offset = y.offset }
 
   same_before : (p q : Pos) → counts_before counts p q ≡ is_reported_before (kept_pairs s.kept pairs) (position p) (position q)
   same_before p q = (λ k. nat_lt (s.counted q k) (s.counted p k) || ((s.counted p k == s.counted q k) && position_lt (position q) (position p)))
 
-  at_place : (xs : List Pos) (y : Position) → In (positions xs) y → (k : ℕ) × (k < length xs) × ((d : Pos) → position (get_or xs k d) ≡ y)
-  at_place [] y i = absurd i
-  at_place (x ∷ xs) y (inl e) = (0, omega arith, λ d. e)
-  at_place (x ∷ xs) y (inr i) = let r = at_place xs y i in (suc r.0, let l : r.0 < length xs = r.1 in omega arith, r.2)
-
-  none_before : (y : Position) → In (ends_of (kept_pairs s.kept pairs)) y → is_reported_before (kept_pairs s.kept pairs) y (position at) ≡ false
-  none_before y i =
-      let j = subst (λ l. In l y) (sym all) (in_ascending (ends_of pairs) y (ends_kept s.kept pairs y i)) in
-      let r = at_place rules y j in
-      ap (λ x. is_reported_before (kept_pairs s.kept pairs) x (position at)) (sym (r.2 at))
-      ∙ sym (same_before (get_or rules r.0 at) at) ∙ first r.0 at r.1
+  -- no rule that has overlaps left is reported before the first one
+  not_before : (y : Position) → 0 < degree (kept_pairs s.kept pairs) y → is_reported_before (kept_pairs s.kept pairs) y (position at) ≡ false
+  not_before y h = sym (same_before (place y) at) ∙ first (place y) (let c = s.counted (place y) in omega (arith, c, h))
 
   -- where the first rule has no overlap left, none has
   pub so_far_all : unreported_at counts at ≡ 0 → error_views errors ≡ map refusal_of (map rules_overlap (overlap_reports pairs))
   so_far_all z =
-      let none = none_left_over (kept_pairs s.kept pairs) (λ y i.
-      let most = no_more_than (degree (kept_pairs s.kept pairs) y) (degree (kept_pairs s.kept pairs) (position at)) (position_lt (position at) y) (none_before y i) in
-      let c = s.counted at in
-      omega (arith, most, c, z)) in
+      let none = none_left_over (kept_pairs s.kept pairs) (λ y. elim (zero_or_more (degree (kept_pairs s.kept pairs) y)) [
+        | inl e ↦ e
+        | inr h ↦
+            let most = no_more_than (degree (kept_pairs s.kept pairs) y) (degree (kept_pairs s.kept pairs) (position at)) (position_lt (position at) y) (not_before y h) in
+            let c = s.counted at in
+            omega (arith, most, c, z)
+      ]) in
       sym (append-nil (error_views errors))
       ∙ (λ k. error_views errors ++ map refusal_of (map rules_overlap (sym (ap (overlap_reports_in n) none ∙ no_reports n) k)))
       ∙ s.reported
@@ -120,6 +113,13 @@ module _ (pairs : List (Position × Position)) (rules : List Pos) (counts : BTre
           elim (cases_Bool (unreported_at counts at == 0)) [
             | inl t ↦ absurd (some (eqb-true (unreported_at counts at) 0 t))
             | inr f ↦ (let c = s.counted at in let z = some in grind (arith, nat_tests))
+          ]
+
+      none_before : (y : Position) → is_reported_before (kept_pairs s.kept pairs) y (position at) ≡ false
+      none_before y =
+          elim (zero_or_more (degree (kept_pairs s.kept pairs) y)) [
+            | inl e ↦ none_first (degree (kept_pairs s.kept pairs) y) (degree (kept_pairs s.kept pairs) (position at)) (position_lt (position at) y) e positive
+            | inr h ↦ not_before y h
           ]
 
       ka : s.kept (position at) ≡ true

@@ -12,7 +12,7 @@ use Rattle.laws_sites.proofs.overlaps.ListedOverlaps.{position_means}
 use Rattle.core_syntax.specs.SyntaxViews.{position}
 use Rattle.core_syntax.specs.declared.syntax.Pos.{Pos}
 use Rattle.core_syntax.specs.contracts.syntax.PosOrd.TheImpl.{ghosts}
-use Rattle.core_overlap.specs.Graphs.{unreported_at, same_pos, counts_before, position_count, count_left, entry_cmp, IsQueued}
+use Rattle.core_overlap.specs.Graphs.{unreported_at, same_pos, counts_before, position_count, count_left, entry_cmp, AreQueued, IsQueued}
 
 -- 1. the order of entries
 lt_of : (x y u v : Bool) → is_lt (ordering_then (cond x Less (cond y Equal Greater)) (cond u Less (cond v Equal Greater))) ≡ (x || (y && u))
@@ -37,7 +37,7 @@ apart a b h = grind (arith, nat_tests)
 pos_lt : (p q : Pos) → is_lt (ghosts.cmp p q) ≡ position_lt (position p) (position q)
 pos_lt p q = lt_of (nat_lt p.file q.file) (p.file == q.file) (nat_lt p.offset q.offset) (p.offset == q.offset)
 
-pos_eq : (p q : Pos) → is_eq (ghosts.cmp p q) ≡ same_pos p q
+pub pos_eq : (p q : Pos) → is_eq (ghosts.cmp p q) ≡ same_pos p q
 pos_eq p q = eq_of (nat_lt p.file q.file) (p.file == q.file) (nat_lt p.offset q.offset) (p.offset == q.offset) (apart p.file q.file) (apart p.offset q.offset)
 
 then_lt : (x y : Bool) (o : Ordering) → is_lt (ordering_then (cond x Less (cond y Equal Greater)) o) ≡ (x || (y && is_lt o))
@@ -53,7 +53,7 @@ then_eq false false o h = absurd (false≢true h)
 pub entry_lt : (m n : ℕ) (p q : Pos) → is_lt (entry_cmp (m, p) (n, q)) ≡ (nat_lt m n || ((m == n) && position_lt (position p) (position q)))
 entry_lt m n p q = then_lt (nat_lt m n) (m == n) (ghosts.cmp p q) ∙ ap (λ b. nat_lt m n || ((m == n) && b)) (pos_lt p q)
 
-pos_means : (p q : Pos) → same_pos p q ≡ true → p ≡ q
+pub pos_means : (p q : Pos) → same_pos p q ≡ true → p ≡ q
 pos_means p q h = ap {B = Pos} (λ x. record { file = x.file; offset = x.offset }) (position_means (position p) (position q) h)
 
 entry_means : (m n : ℕ) (p q : Pos) → is_eq (entry_cmp (m, p) (n, q)) ≡ true → p ≡ q
@@ -94,13 +94,22 @@ queued_anew m queue mid now most left place out is back q i =
     ]
 
 -- 4. counts that fall
-pub still_queued : (m after : BTreeMap Pos ℕ) (queue : BTreeSet (ℕ × Pos)) (at : Pos) (found : List Pos) → ((q : Pos) → unreported_at after q ≡ count_left m at found q)
+still_queued : (m after : BTreeMap Pos ℕ) (queue : BTreeSet (ℕ × Pos)) (at : Pos) (found : List Pos) → ((q : Pos) → unreported_at after q ≡ count_left m at found q)
     → (q : Pos) → IsQueued m queue q → IsQueued after queue q
 still_queued m after queue at found left q i = (i.0, fewer (same_pos at q) (unreported_at m q) (position_count q found) (unreported_at after q) i.0 i.1 (left q), i.2)
   where
     fewer : (b : Bool) (u c v n : ℕ) → u ≤ n → v ≡ (if b then 0 else u - c) → v ≤ n
     fewer true u c v n h e = omega (arith, h, e)
     fewer false u c v n h e = omega (arith, h, e)
+
+pub are_still_queued : (m after : BTreeMap Pos ℕ) (queue now : BTreeSet (ℕ × Pos)) (at : Pos) (found : List Pos) → ((q : Pos) → unreported_at after q ≡ count_left m at found q)
+    → ((q : Pos) → IsQueued m queue q → IsQueued m now q) → AreQueued m queue → AreQueued after now
+are_still_queued m after queue now at found left kept all q h =
+    still_queued m after now at found left q (kept q (all q (some (same_pos at q) (unreported_at m q) (position_count q found) (unreported_at after q) (left q) h)))
+  where
+    some : (b : Bool) (u c v : ℕ) → v ≡ (if b then 0 else u - c) → 0 < v → 0 < u
+    some true u c v e h = absurd (omega (arith, e, h))
+    some false u c v e h = omega (arith, e, h)
 
 -- 5. what all entries say together, which falls with each that is made anew
 abbrev pub said : List (ℕ × Pos) → ℕ

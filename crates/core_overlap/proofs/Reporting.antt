@@ -1,14 +1,14 @@
 -- Overlaps that aren't reported yet: which rules they leave, and how many each rule has.
-use Rattle.std.proofs.Common.{◌≡◌, ◌==◌, ◌&&◌, ◌||◌, ℕ, zero, suc, ◌+◌, ◌-◌, ◌<◌, ◌≤◌, Bool, true, false, not, cond, nat_lt, if◌then◌else◌, List, [], ◌∷◌, length, map, filter, refl, sym, ap, ◌∙◌, subst, inl, inr, arith, lt-ltb, eq-eqb}
+use Rattle.std.proofs.Common.{◌≡◌, ◌==◌, ◌&&◌, ◌||◌, ℕ, zero, suc, ◌+◌, ◌-◌, ◌<◌, ◌≤◌, Bool, true, false, not, cond, nat_lt, if◌then◌else◌, List, [], ◌∷◌, length, map, filter, flat_map, refl, sym, ap, ◌∙◌, subst, inl, inr, arith, lt-ltb, eq-eqb}
 use Rattle.std.proofs.lemmas.Bool.{cases_Bool, cond-true, cond-false, and_parts, and_from, false≢true, not-true}
 use Rattle.std.proofs.lemmas.Bool.Decides.{nat_tests}
 use Rattle.std.proofs.lemmas.List.Elements.{filter_agree}
 use Rattle.std.proofs.Math.Bool.{and-true, or-false}
 use Rattle.model.specs.lists.Syntax.{Position}
 use Rattle.model.specs.sites.Overlap.{position_eq, position_lt, has_end, other_end, degree, is_reported_before, foremost, overlap_report, overlap_reports_in}
-use Rattle.model.proofs.Elements.{In, or_split, or_right, in_filter, filter_from, passed_filter, in_map, in_flat_map, from_flat_map}
+use Rattle.model.proofs.Elements.{In, or_split, or_right, in_filter, filter_from, passed_filter, in_map, in_flat_map}
 use Rattle.laws_sites.proofs.overlaps.ListedOverlaps.{position_means, first_end, second_end, left_over}
-use Rattle.core_overlap.specs.Graphs.{neighbours, ends_of}
+use Rattle.core_overlap.specs.Graphs.{neighbours}
 use Rattle.core_overlap.proofs.Ascents.{lt_total}
 
 abbrev Pair : Type 0
@@ -212,13 +212,16 @@ then_first m n false e h = refl
 pub no_more_than : (m n : ℕ) (x : Bool) → (nat_lt n m || ((m == n) && x)) ≡ false → m ≤ n
 no_more_than m n x h = grind (arith, nat_tests)
 
+pub none_first : (m n : ℕ) (x : Bool) → m ≡ 0 → 0 < n → (nat_lt n m || ((m == n) && x)) ≡ false
+none_first m n x z p = grind (arith, nat_tests)
+
 module _ (ps : List Pair) where
   one_first : (a b : Position) → is_reported_before ps a b ≡ false → is_reported_before ps b a ≡ false → a ≡ b
   one_first a b h k =
       let e = same_degree (degree ps a) (degree ps b) (position_lt b a) (position_lt a b) h k in
       lt_total a b (then_first (degree ps b) (degree ps a) (position_lt a b) (sym e) k) (then_first (degree ps a) (degree ps b) (position_lt b a) e h)
 
-  foremost_is : (x a : Position) (bs : List Position) → In (a ∷ bs) x → ((y : Position) → In (a ∷ bs) y → is_reported_before ps y x ≡ false) → foremost ps a bs ≡ x
+  foremost_is : (x a : Position) (bs : List Position) → In (a ∷ bs) x → ((y : Position) → is_reported_before ps y x ≡ false) → foremost ps a bs ≡ x
   foremost_is x a [] (inl e) h = e
   foremost_is x a [] (inr i) h = absurd i
   foremost_is x a (b ∷ bs) i h =
@@ -226,25 +229,29 @@ module _ (ps : List Pair) where
         | inl t ↦
             ap (λ u. foremost ps u bs) (cond-true (is_reported_before ps b a) b a t)
             ∙ foremost_is x b bs
-            (elim i [ inl e ↦ absurd (false≢true (sym (h b (inr (inl refl))) ∙ ap (is_reported_before ps b) (sym e) ∙ t)) | inr j ↦ j ])
-            (λ y j. h y (inr j))
+            (elim i [ inl e ↦ absurd (false≢true (sym (h b) ∙ ap (is_reported_before ps b) (sym e) ∙ t)) | inr j ↦ j ])
+            h
         | inr f ↦
             ap (λ u. foremost ps u bs) (cond-false (is_reported_before ps b a) b a f)
             ∙ foremost_is x a bs
             (elim i [
               | inl e ↦ inl e
               | inr j ↦ elim j [
-                | inl e ↦ inl (one_first a b (ap (is_reported_before ps a) e ∙ h a (inl refl)) f ∙ e)
+                | inl e ↦ inl (one_first a b (ap (is_reported_before ps a) e ∙ h a) f ∙ e)
                 | inr l ↦ inr l
               ]
             ])
-            (λ y j. h y (elim j [ inl e ↦ inl e | inr l ↦ inr (inr l) ]))
+            h
       ]
 
 -- 6. one more report
 pub no_reports : (n : ℕ) → overlap_reports_in n [] ≡ []
 no_reports zero = refl
 no_reports (suc n) = refl
+
+-- both ends of each overlap
+abbrev ends_of : List Pair → List Position
+ends_of ps = flat_map (λ e. e.0 ∷ (e.1 ∷ [])) ps
 
 end_in : (ps : List Pair) (a : Position) (e : Pair) → In ps e → has_end a e ≡ true → In (ends_of ps) a
 end_in ps a e i h =
@@ -254,25 +261,19 @@ end_in ps a e i h =
       | inr t ↦ inr (inl (position_means e.1 a t))
     ])
 
-pub one_report : (n : ℕ) (ps : List Pair) (a : Position) → 0 < degree ps a → ((y : Position) → In (ends_of ps) y → is_reported_before ps y a ≡ false)
+pub one_report : (n : ℕ) (ps : List Pair) (a : Position) → 0 < degree ps a → ((y : Position) → is_reported_before ps y a ≡ false)
     → overlap_reports_in (suc n) ps ≡ overlap_report ps a ∷ overlap_reports_in n (left_over a ps)
 one_report n [] a d h = absurd (omega (arith, d))
 one_report n (e ∷ es) a d h =
     let x = positive_in (filter (has_end a) (e ∷ es)) d in
     let in' = end_in (e ∷ es) a x.0 (in_filter (has_end a) (e ∷ es) x.0 x.1) (passed_filter (has_end a) (e ∷ es) x.0 x.1) in
-    let is = foremost_is (e ∷ es) a e.0 (ends_of (e ∷ es)) (inr in') (λ y i. elim i [ inl s ↦ h y (inl s) | inr j ↦ h y j ]) in
+    let is = foremost_is (e ∷ es) a e.0 (ends_of (e ∷ es)) (inr in') h in
     (λ k. overlap_report (e ∷ es) (is k) ∷ overlap_reports_in n (left_over (is k) (e ∷ es)))
 
 -- where no rule has an overlap left, none is
-pub none_left_over : (ps : List Pair) → ((y : Position) → In (ends_of ps) y → degree ps y ≡ 0) → ps ≡ []
+pub none_left_over : (ps : List Pair) → ((y : Position) → degree ps y ≡ 0) → ps ≡ []
 none_left_over [] h = refl
 none_left_over (e ∷ es) h =
-    let z = h e.0 (inl refl) in
+    let z = h e.0 in
     let some = in_positive (filter (has_end e.0) (e ∷ es)) e (filter_from (has_end e.0) (e ∷ es) e (inl refl) (first_end e.0 e refl)) in
     absurd (omega (arith, z, some))
-
--- the ends of what is kept are ends of the whole
-pub ends_kept : (kept : Position → Bool) (ps : List Pair) (y : Position) → In (ends_of (kept_pairs kept ps)) y → In (ends_of ps) y
-ends_kept kept ps y i =
-    let e = from_flat_map (λ (x : Pair). x.0 ∷ (x.1 ∷ [])) (kept_pairs kept ps) y i in
-    in_flat_map (λ (x : Pair). x.0 ∷ (x.1 ∷ [])) ps e.0 y (in_filter (λ x. kept x.0 && kept x.1) ps e.0 e.1) e.2

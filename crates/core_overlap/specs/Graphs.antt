@@ -1,7 +1,7 @@
 -- The graph of wrong overlaps, by the positions of rules: which rules each one overlaps, and how many of these are unreported.
-use Rattle.std.specs.Prelude.{ℕ, ◌-◌, ◌<◌, ◌≤◌, Bool, ◌&&◌, ◌||◌, IsTrue, List, [], ◌∷◌, get_or, length, map, nat_lt, unwrap_or, if◌then◌else◌}
+use Rattle.std.specs.Prelude.{ℕ, ◌-◌, ◌<◌, ◌≤◌, Bool, ◌&&◌, ◌||◌, IsTrue, List, length, map, nat_lt, unwrap_or, if◌then◌else◌}
 use Rattle.std.specs.Bool.{◌==◌}
-use Rattle.std.specs.List.{filter, flat_map}
+use Rattle.std.specs.List.{filter}
 use Rattle.std.specs.Global.{Vec}
 use Rattle.std.specs.BTreeMap.{BTreeMap, get}
 use Rattle.std.specs.BTreeSet.{BTreeSet, contains}
@@ -17,10 +17,6 @@ use Rattle.core_rule_sets.specs.Endings.{items_of}
 -- the rules that overlap one, in the order of the overlaps
 abbrev pub neighbours : List (Position × Position) → Position → List Position
 neighbours pairs at = map (other_end at) (filter (has_end at) pairs)
-
--- both ends of each overlap
-abbrev pub ends_of : List (Position × Position) → List Position
-ends_of pairs = flat_map (λ e. e.0 ∷ (e.1 ∷ [])) pairs
 
 -- what a map has of a rule: how many of its overlaps are unreported, and which rules it overlaps
 abbrev pub unreported_at : BTreeMap Pos ℕ → Pos → ℕ
@@ -57,6 +53,6 @@ entry_cmp x y = ordering_then (nat_cmp x.0 y.0) (ghosts.cmp x.1 y.1)
 abbrev pub IsQueued : BTreeMap Pos ℕ → BTreeSet (ℕ × Pos) → Pos → Type 0
 IsQueued m queue q = (n : ℕ) × (unreported_at m q ≤ n) × IsTrue (contains entry_cmp queue (n, q))
 
--- so does each of some rules
-abbrev pub AreQueued : BTreeMap Pos ℕ → List Pos → BTreeSet (ℕ × Pos) → Type 0
-AreQueued m rules queue = (k : ℕ) (d : Pos) → k < length rules → IsQueued m queue (get_or rules k d)
+-- so does each rule that has overlaps unreported
+abbrev pub AreQueued : BTreeMap Pos ℕ → BTreeSet (ℕ × Pos) → Type 0
+AreQueued m queue = (q : Pos) → 0 < unreported_at m q → IsQueued m queue q

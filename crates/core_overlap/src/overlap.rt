@@ -1,7 +1,7 @@
 //! The check of overlaps: rules of one priority that may both match, and rules that others mask.
 ghost use Rattle.std.specs.Prelude.{◌^◌, List, Option, None, true, false, Some, slice_get, if◌then◌else◌, slice_index_or, ◌≡◌, ◌++◌, ◌∷◌, [], ◌+◌, ◌-◌, ◌<◌, ℕ, All, IfOk, OnOk, drop, length, map, nat_lt, cond, vec_len};
 ghost use Rattle.model.specs.claims.Refusals.{overlapping, refusal_of};
-ghost use Rattle.model.specs.sites.Overlap.{RuleReport, ShadowReport, ascending_positions, by_position, degree, has_end, other_end, overlap_reports, rule_shadows, rules_overlap};
+ghost use Rattle.model.specs.sites.Overlap.{RuleReport, ShadowReport, ascending_positions, by_position, has_end, other_end, overlap_reports, rule_shadows, rules_overlap};
 ghost use Rattle.model.specs.sites.SetRules.{is_mask_of, is_subset, overlap_between, overlap_wrongly, shadows_among, wrong_among};
 ghost use Rattle.core_syntax.specs.ErrorViews.{error_view, error_views, span_starts};
 ghost use Rattle.core_syntax.specs.Positions.{HasSingleSpans, IsSingle};
@@ -11,7 +11,7 @@ ghost use Rattle.core_overlap.specs.Comparisons.{AreGrouped, list_views, masked_
 ghost use Rattle.core_overlap.specs.ErrorViews.{error_pos};
 ghost use Rattle.core_overlap.specs.ComparedRules.{HaveSingleSpans, found_shadows, found_wrong};
 ghost use Rattle.core_overlap.specs.Keys.{AreKeys, AreNext, IsAhead, IsFirst, nearer};
-ghost use Rattle.core_overlap.specs.Graphs.{unreported_at, AreQueued, IsQueued, count_left, counts_before, ends_of, neighbours_at, neighbours, same_pos, position_count, unreported};
+ghost use Rattle.core_overlap.specs.Graphs.{unreported_at, AreQueued, IsQueued, count_left, counts_before, neighbours_at, neighbours, same_pos, position_count, unreported};
 
 use crate::keys::{Keys, equated, first_without, keys_of};
 use core_rule_sets::trie_again::{Overlap, Rule};
@@ -84,7 +84,7 @@ impl Errors {
             → error_views v.items ≡ map refusal_of (by_position (map rules_overlap (overlap_reports (found_wrong self)) ++ map rule_shadows shadows))) }
     {
         let Errors { wrong, mut shadows } = self;
-        let mut errors = overlap_errors(alloc, &wrong)?;
+        let mut errors = overlap_errors(alloc, wrong)?;
         errors.append(&mut shadows)?;
         by_place(errors)
     }
@@ -372,18 +372,6 @@ fn add_shadows(
     Ok(())
 }
 
-// Both rules of each overlap.
-fn ends(alloc: Global, wrong: &[(Pos, Pos)]) -> Result<Vec<Pos>, AllocError>
-    ensures { IfOk result (λ v. positions v.items ≡ ends_of (pair_views wrong.now)) }
-{
-    let mut ends = Vec::new(alloc);
-    for (first, second) in wrong {
-        ends.push(*first)?;
-        ends.push(*second)?;
-    }
-    Ok(ends)
-}
-
 // These places ascending, each once.
 fn ascending(mut places: Vec<Pos>) -> Result<Vec<Pos>, AllocError>
     ensures { IfOk result (λ v. positions v.items ≡ ascending_positions (positions places.items)) }
@@ -401,40 +389,6 @@ fn count(counts: &BTreeMap<Pos, usize>, place: Pos) -> usize
         Some(count) => *count,
         None => 0,
     }
-}
-
-// Adds one overlap to those of a rule.
-fn add_one(counts: &mut BTreeMap<Pos, usize>, place: Pos) -> Result<(), AllocError>
-    requires { unreported_at counts.old place < 2 ^ 64 - 1 }
-    ensures { OnOk result ((q : Pos) → unreported_at counts.new q ≡ unreported_at counts.old q + (if same_pos place q then 1 else 0)) }
-{
-    let more = count(counts, place) + 1;
-    counts.insert(place, more)?;
-    Ok(())
-}
-
-// Adds an overlap to those of both its rules.
-fn add_to_both(counts: &mut BTreeMap<Pos, usize>, first: Pos, second: Pos) -> Result<(), AllocError>
-    requires { (q : Pos) → unreported_at counts.old q < 2 ^ 64 - 1 }
-    ensures { OnOk result ((q : Pos) → unreported_at counts.new q
-        ≡ unreported_at counts.old q + (if has_end (position q) (position first, position second) then 1 else 0)) }
-{
-    add_one(counts, first)?;
-    if first != second {
-        add_one(counts, second)?;
-    }
-    Ok(())
-}
-
-fn counts_of(alloc: Global, wrong: &[(Pos, Pos)]) -> Result<BTreeMap<Pos, usize>, AllocError>
-    requires { length wrong.now < 2 ^ 64 }
-    ensures { IfOk result (λ m. (q : Pos) → unreported_at m q ≡ degree (pair_views wrong.now) (position q)) }
-{
-    let mut counts = BTreeMap::new(alloc);
-    for (first, second) in wrong {
-        add_to_both(&mut counts, *first, *second)?;
-    }
-    Ok(counts)
 }
 
 // Adds a rule to those that another one overlaps.
@@ -458,28 +412,42 @@ fn add_both(others: &mut BTreeMap<Pos, Vec<Pos>>, first: Pos, second: Pos) -> Re
     Ok(())
 }
 
-fn others_of(alloc: Global, wrong: &[(Pos, Pos)]) -> Result<BTreeMap<Pos, Vec<Pos>>, AllocError>
-    ensures { IfOk result (λ m. (q : Pos) → positions (neighbours_at m q) ≡ neighbours (pair_views wrong.now) (position q)) }
+// The rules that each rule overlaps. The overlaps are freed here: they say no more than these.
+fn others_of(alloc: Global, wrong: Vec<(Pos, Pos)>) -> Result<BTreeMap<Pos, Vec<Pos>>, AllocError>
+    ensures { IfOk result (λ m. (q : Pos) → positions (neighbours_at m q) ≡ neighbours (pair_views wrong.items) (position q)) }
 {
     let mut others = BTreeMap::new(alloc);
-    for (first, second) in wrong {
+    for (first, second) in &wrong {
         add_both(&mut others, *first, *second)?;
     }
     Ok(others)
 }
 
-// An entry for each of some rules: how many of its overlaps aren't reported, and its place. So the last entry is of the rule
-// that is reported first.
+// How many rules each rule overlaps.
+fn counts_of(
+    alloc: Global,
+    others: &BTreeMap<Pos, Vec<Pos>>,
+) -> Result<BTreeMap<Pos, usize>, AllocError>
+    ensures { IfOk result (λ m. (q : Pos) → unreported_at m q ≡ length (neighbours_at others.now q)) }
+{
+    let mut counts = BTreeMap::new(alloc);
+    for (place, all) in others {
+        counts.insert(*place, all.len())?;
+    }
+    Ok(counts)
+}
+
+// An entry for each rule: how many of its overlaps aren't reported, and its place. So the last entry is of the rule that is
+// reported first.
 fn queue_of(
     alloc: Global,
     counts: &BTreeMap<Pos, usize>,
-    rules: &[Pos],
 ) -> Result<BTreeSet<(usize, Pos)>, AllocError>
-    ensures { IfOk result (λ queue. AreQueued counts.now rules.now queue) }
+    ensures { IfOk result (λ queue. AreQueued counts.now queue) }
 {
     let mut queue = BTreeSet::new(alloc);
-    for rule in rules {
-        queue.insert((count(counts, *rule), *rule))?;
+    for (place, count) in counts {
+        queue.insert((*count, *place))?;
     }
     Ok(queue)
 }
@@ -544,22 +512,21 @@ fn unreported(
 }
 
 // Takes an overlap from those of a rule.
-fn take_one(counts: &mut BTreeMap<Pos, usize>, place: Pos) -> Result<(), AllocError>
-    ensures { OnOk result ((q : Pos) → unreported_at counts.new q ≡ unreported_at counts.old q - (if same_pos place q then 1 else 0)) }
+fn take_one(counts: &mut BTreeMap<Pos, usize>, place: Pos)
+    ensures { (q : Pos) → unreported_at counts.new q ≡ unreported_at counts.old q - (if same_pos place q then 1 else 0) }
 {
-    let left = count(counts, place).saturating_sub(1);
-    counts.insert(place, left)?;
-    Ok(())
+    if let Some(count) = counts.get_mut(&place) {
+        *count = count.saturating_sub(1);
+    }
 }
 
 // Takes an overlap from those of each of these rules.
-fn take_away(counts: &mut BTreeMap<Pos, usize>, found: &[Pos]) -> Result<(), AllocError>
-    ensures { OnOk result ((q : Pos) → unreported_at counts.new q ≡ unreported_at counts.old q - position_count q found.now) }
+fn take_away(counts: &mut BTreeMap<Pos, usize>, found: &[Pos])
+    ensures { (q : Pos) → unreported_at counts.new q ≡ unreported_at counts.old q - position_count q found.now }
 {
     for other in found {
-        take_one(counts, *other)?;
+        take_one(counts, *other);
     }
-    Ok(())
 }
 
 /// The error of a rule with others that it overlaps.
@@ -597,7 +564,7 @@ pub fn report(
     ensures single { OnOk result (All HasSingleSpans errors.old.items → All HasSingleSpans errors.new.items) }
 {
     let found = unreported(alloc, others, counts, place)?;
-    take_away(counts, &found)?;
+    take_away(counts, &found);
     counts.insert(place, 0)?;
     let listed = ascending(found)?;
     errors.push(overlap_error(alloc, place, &listed)?)?;
@@ -606,16 +573,15 @@ pub fn report(
 
 // The errors of wrong overlaps. The rule with the most of them is reported first, of several the latest, with all that it
 // overlaps; then the same of the overlaps that are left.
-fn overlap_errors(alloc: Global, wrong: &[(Pos, Pos)]) -> Result<Vec<Error>, AllocError>
-    ensures reports { IfOk result (λ v. error_views v.items ≡ map refusal_of (map rules_overlap (overlap_reports (pair_views wrong.now)))) }
+fn overlap_errors(alloc: Global, wrong: Vec<(Pos, Pos)>) -> Result<Vec<Error>, AllocError>
+    ensures reports { IfOk result (λ v. error_views v.items ≡ map refusal_of (map rules_overlap (overlap_reports (pair_views wrong.items)))) }
     ensures single { IfOk result (λ v. All HasSingleSpans v.items) }
 {
     let most = wrong.len();
     let mut errors = Vec::new(alloc);
-    let rules = ascending(ends(alloc, wrong)?)?;
     let others = others_of(alloc, wrong)?;
-    let mut counts = counts_of(alloc, wrong)?;
-    let mut queue = queue_of(alloc, &counts, &rules)?;
+    let mut counts = counts_of(alloc, &others)?;
+    let mut queue = queue_of(alloc, &counts)?;
     // Each report takes an overlap away, so there are no more reports than overlaps.
     for _ in 0..most {
         let place = foremost(&counts, &mut queue)?;

@@ -1,15 +1,17 @@
-use Rattle.std.proofs.Common.{take, arith}
-use Rattle.std.proofs.lemmas.List.{length-map, length-take}
-use Rattle.core_syntax.specs.SyntaxViews.{position}
-use Rattle.core_overlap.specs.Comparisons.{pair_view, pair_views}
-use Rattle.core_overlap.proofs.OverlapCounts.{degree_few}
+use Rattle.std.proofs.Common.{◌∙◌, rules}
+use Rattle.std.specs.Map.Iter.{deref_pair}
+use Rattle.std.proofs.lemmas.Map.Iter.{btree_map_turn}
+use Rattle.core_overlap.proofs.MapTurns.{places_total, none_counted, one_counted, all_counted}
 use Rattle.core_overlap.proofs.overlap.counts_of.Goals as goal
 
-pub add_to_both-requires : goal.add_to_both-requires
-add_to_both-requires c = λ q.
-    let k = c.loop-first.first-index in
-    let few = degree_few (pair_views (take k c.args.wrong.now)) (position q) in
-    let many = length-map (take k c.args.wrong.now) pair_view in
-    let front = length-take k c.args.wrong.now in
-    let is = c.loop-first.invariant q in
-    omega (arith, few, many, front, is)
+pub loop-place-init : goal.loop-place-init
+loop-place-init c = none_counted c.args.others.now c.new-counts.result c.into_iter-place-iterator.result c.new-counts.ensures.empty (search rules)
+
+pub loop-place-preserved : goal.loop-place-preserved
+loop-place-preserved c =
+    let turn = btree_map_turn deref_pair c.loop-place.yielded c.into_iter-place-iterator.result c.loop-place.place-iterator c.next.new.self c.next.result (c.in-Some.place, c.in-Some.all) c.loop-place.yielded_by c.in-Some.is c.next.ensures.steps places_total c.args.others.now (search rules) (search rules) in
+    one_counted c.args.others.now c.loop-place.counts c.insert.new.self c.loop-place.place-iterator c.next.new.self c.in-Some.place.now c.in-Some.all.now c.len.result
+    c.in-Some.ensures.steps turn.1 (c.len.ensures ∙ c.in-Some.all.now.ok.0) c.in_ok-insert.ensures.updates c.loop-place.invariant
+
+pub returns : goal.returns
+returns c = all_counted c.args.others.now c.loop-place.counts c.loop-place.place-iterator c.in-None.ensures.steps.0 c.loop-place.invariant

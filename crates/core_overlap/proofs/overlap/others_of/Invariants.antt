@@ -6,4 +6,4 @@ use Rattle.core_overlap.specs.Graphs.{neighbours_at, neighbours}
 use Rattle.core_overlap.proofs.overlap.others_of.Given as goal
 
 abbrev pub invariant-loop-first : goal.invariant-loop-first
-invariant-loop-first l = (q : Pos) → positions (neighbours_at l.others q) ≡ neighbours (pair_views (take l.first-index l.wrong)) (position q)
+invariant-loop-first l = (q : Pos) → positions (neighbours_at l.others q) ≡ neighbours (pair_views (take l.first-index l.fn.wrong.items)) (position q)

@@ -7,7 +7,7 @@ use Rattle.core_overlap.proofs.overlap.overlap_errors.Given as goal
 
 abbrev pub invariant-loop : goal.invariant-loop
 invariant-loop l = record {
-  counted : IsSoFar (pair_views l.wrong) l.counts l.errors.items (l.most - l.counter);
-  queued : AreQueued l.counts l.rules.items l.queue;
+  counted : IsSoFar (pair_views l.fn.wrong.items) l.counts l.errors.items (l.most - l.counter);
+  queued : AreQueued l.counts l.queue;
   single : All HasSingleSpans l.errors.items;
 }

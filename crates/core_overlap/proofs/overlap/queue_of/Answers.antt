@@ -1,15 +1,18 @@
-use Rattle.std.proofs.Common.{below_more, get_or, subst}
-use Rattle.std.proofs.lemmas.List.{get_or_default}
+use Rattle.std.proofs.Common.{rules}
+use Rattle.std.specs.Map.Iter.{deref_pair}
+use Rattle.std.proofs.lemmas.Map.Iter.{btree_map_turn}
 use Rattle.core_overlap.specs.Graphs.{IsQueued}
-use Rattle.core_overlap.proofs.Queues.{queued_with, is_queued}
+use Rattle.core_overlap.proofs.MapTurns.{places_total, all_left, one_queued, all_queued}
 use Rattle.core_overlap.proofs.overlap.queue_of.Goals as goal
 
-pub loop-rule-preserved : goal.loop-rule-preserved
-loop-rule-preserved c = λ k d l.
-    let counts = c.args.counts.now in
-    let rules = c.args.rules.now in
-    let at = c.loop-rule.rule-index in
-    let more = c.in_ok-insert.ensures.updates in
-    below_more (λ i. IsQueued counts c.insert.new.self (get_or rules i d)) at
-    (λ i h. queued_with counts c.loop-rule.queue c.insert.new.self _ more (get_or rules i d) (c.loop-rule.invariant i d h))
-    (subst (IsQueued counts c.insert.new.self) (get_or_default rules at (record { file = 0; offset = 0 }) d c.loop-rule-test.true) (is_queued counts c.loop-rule.queue c.insert.new.self _ _ c.count.ensures more)) k l
+pub loop-place-init : goal.loop-place-init
+loop-place-init c = all_left (IsQueued c.args.counts.now c.new-queue.result) c.args.counts.now c.into_iter-place-iterator.result (search rules)
+
+pub loop-place-preserved : goal.loop-place-preserved
+loop-place-preserved c =
+    let turn = btree_map_turn deref_pair c.loop-place.yielded c.into_iter-place-iterator.result c.loop-place.place-iterator c.next.new.self c.next.result (c.in-Some.place, c.in-Some.count) c.loop-place.yielded_by c.in-Some.is c.next.ensures.steps places_total c.args.counts.now (search rules) (search rules) in
+    one_queued c.args.counts.now c.loop-place.queue c.insert.new.self c.loop-place.place-iterator c.next.new.self c.in-Some.place.now c.in-Some.count.now
+    c.in-Some.ensures.steps turn.1 c.in_ok-insert.ensures.updates c.loop-place.invariant
+
+pub returns : goal.returns
+returns c = all_queued c.args.counts.now c.loop-place.queue c.loop-place.place-iterator c.in-None.ensures.steps.0 c.loop-place.invariant
