@@ -1,5 +1,5 @@
 -- A loop over a map whose keys are places: each place is done, or what the map has of it is left.
-use Rattle.std.proofs.Common.{◌≡◌, ◌⊎◌, ℕ, ◌<◌, true, Option, Some, None, List, [], ◌∷◌, length, unwrap_or, sym, ap, ◌∙◌, subst, inl, inr, refl, arith}
+use Rattle.std.proofs.Common.{◌≡◌, ◌⊎◌, ℕ, true, Option, Some, None, List, [], ◌∷◌, length, unwrap_or, sym, ap, ◌∙◌, subst, inl, inr, arith}
 use Rattle.std.specs.BTreeMap.{BTreeMap, IsEmpty, Updates, get}
 use Rattle.std.specs.BTreeSet as sorted
 use Rattle.std.specs.BTreeSet.{BTreeSet}
@@ -31,7 +31,7 @@ IsDoneOrLeft done m left q = done q ⊎ (found_in q left ≡ get ghosts.cmp m q)
 pub all_left : {X : Type 0} (done : Pos → Type 0) (m : BTreeMap Pos X) (left : List (Pos × X)) → left ≡ m.entries → (q : Pos) → IsDoneOrLeft done m left q
 all_left done m left e q = inr (ap (found_in q) e)
 
-pub one_done : {X : Type 0} (before after : Pos → Type 0) (m : BTreeMap Pos X) (left rest : List (Pos × X)) (k : Pos) (v : X) → left ≡ (k, v) ∷ rest
+one_done : {X : Type 0} (before after : Pos → Type 0) (m : BTreeMap Pos X) (left rest : List (Pos × X)) (k : Pos) (v : X) → left ≡ (k, v) ∷ rest
     → after k → ((q : Pos) → before q → after q) → ((q : Pos) → IsDoneOrLeft before m left q) → (q : Pos) → IsDoneOrLeft after m rest q
 one_done before after m left rest k v e this keep all q =
     elim (cases_Bool (is_eq (ghosts.cmp q k))) [
@@ -42,7 +42,7 @@ one_done before after m left rest k v e this keep all q =
       ]
     ]
 
-pub all_done : {X : Type 0} (done : Pos → Type 0) (m : BTreeMap Pos X) (left : List (Pos × X)) → left ≡ [] → ((q : Pos) → IsDoneOrLeft done m left q)
+all_done : {X : Type 0} (done : Pos → Type 0) (m : BTreeMap Pos X) (left : List (Pos × X)) → left ≡ [] → ((q : Pos) → IsDoneOrLeft done m left q)
     → (q : Pos) → done q ⊎ (get ghosts.cmp m q ≡ None)
 all_done done m left e all q = elim (all q) [ inl d ↦ inl d | inr l ↦ inr (sym l ∙ ap (found_in q) e) ]
 

@@ -1,5 +1,5 @@
 //! The check of overlaps: rules of one priority that may both match, and rules that others mask.
-ghost use Rattle.std.specs.Prelude.{◌^◌, List, Option, None, true, false, Some, slice_get, if◌then◌else◌, slice_index_or, ◌≡◌, ◌++◌, ◌∷◌, [], ◌+◌, ◌-◌, ◌<◌, ℕ, All, IfOk, OnOk, drop, length, map, nat_lt, cond, vec_len};
+ghost use Rattle.std.specs.Prelude.{List, Option, None, true, false, Some, slice_get, if◌then◌else◌, slice_index_or, ◌≡◌, ◌++◌, ◌∷◌, [], ◌+◌, ◌-◌, ◌<◌, ℕ, All, IfOk, OnOk, drop, length, map, nat_lt, cond, vec_len};
 ghost use Rattle.model.specs.claims.Refusals.{overlapping, refusal_of};
 ghost use Rattle.model.specs.sites.Overlap.{RuleReport, ShadowReport, ascending_positions, by_position, has_end, other_end, overlap_reports, rule_shadows, rules_overlap};
 ghost use Rattle.model.specs.sites.SetRules.{is_mask_of, is_subset, overlap_between, overlap_wrongly, shadows_among, wrong_among};
