@@ -64,6 +64,7 @@ fn is_unknown(errors: &[Error], variable: &str) -> bool {
         _ => false,
     }
 }
+
 /// Whether a type environment is as its copy after rules were read with it and memory was refused, and reading them again
 /// comes to what is wanted; or reading them came to that at once.
 pub fn rules_stay(alloc: Global, text: &str, wanted: ExpectedReading) -> Result<bool, Fault> {

@@ -1,6 +1,8 @@
 //! How types that aren't those that are wanted are noted, and the names of types, for errors.
 
-ghost use Rattle.std.specs.Prelude.{[], ◌∷◌, OnOk};
+ghost use Rattle.std.specs.Prelude.{◌≡◌, [], ◌∷◌, ◌++◌, OnOk};
+ghost use Rattle.model.specs.claims.Refusals.{ill_typed};
+ghost use Rattle.core_syntax.specs.ErrorViews.{error_views};
 ghost use Rattle.core_syntax.specs.NotedErrors.{NotesMore};
 ghost use Rattle.core_syntax.specs.Positions.{NotesAt};
 ghost use Rattle.core_syntax.specs.SyntaxViews.{position};
@@ -10,7 +12,7 @@ use core_types::{Type, TypeEnv, TypeId, report};
 use core_why::{Typed, Why};
 use std::alloc::AllocError;
 
-// Notes that what has this name has another type than is wanted.
+// Notes that what has this name has another type than is wanted: one error more, which names no limit.
 pub fn report_mismatch(
     tyenv: &TypeEnv,
     errors: &mut Vec<Error>,
@@ -22,6 +24,7 @@ pub fn report_mismatch(
 ) -> Result<(), AllocError>
     ensures noted { OnOk result (NotesMore errors.old.items errors.new.items) }
     ensures places { OnOk result (NotesAt (position pos ∷ []) errors.old.items errors.new.items) }
+    ensures one { OnOk result (error_views errors.new.items ≡ error_views errors.old.items ++ ill_typed (position pos) ∷ []) }
 {
     let alloc = *errors.allocator();
     let name = name.0.clone()?;
