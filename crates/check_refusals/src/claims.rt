@@ -68,7 +68,7 @@ impl RefusalClaim {
             RefusalClaim::Errors => rules_stay(
                 alloc,
                 REFUSED,
-                ExpectedReading::Error("Unknown variable 'z'"),
+                ExpectedReading::UnknownVariable("z"),
             ),
             RefusalClaim::Visits => Ok(visits_begin(alloc)?),
         }

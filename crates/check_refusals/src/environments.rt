@@ -10,6 +10,7 @@ use core_rules::TermEnv;
 use core_syntax::stablemapset::StableMap;
 use core_syntax::syntax::{Def, Error, Fault};
 use core_types::{Sym, Type, TypeEnv, TypeId};
+use core_why::{Why, Wrong};
 use std::alloc::{AllocError, Global};
 use text_reader::errors::ReadFault;
 use text_reader::read;
@@ -33,8 +34,8 @@ pub const REFUSED: &str = "(type T (enum (A (v u8)) (B))) (extern const $K u8)
 pub enum ExpectedReading {
     /// So many terms, and so many rules.
     Rules(usize, usize),
-    /// One error with this text.
-    Error(&'static str),
+    /// One error, of a variable of this name that isn't known.
+    UnknownVariable(&'static str),
 }
 
 impl ExpectedReading {
@@ -43,16 +44,23 @@ impl ExpectedReading {
             (ExpectedReading::Rules(terms, rules), Ok(env)) => {
                 env.terms.len() == terms && env.rules.len() == rules
             }
-            (ExpectedReading::Error(text), Err(Fault::Errors(errors))) => is_error(errors, text),
+            (ExpectedReading::UnknownVariable(name), Err(Fault::Errors(errors))) => {
+                is_unknown(errors, name)
+            }
             _ => false,
         }
     }
 }
 
-// Whether these errors are one, with this text.
-fn is_error(errors: &[Error], text: &str) -> bool {
+// Whether these errors are one, of a variable of this name that isn't known.
+fn is_unknown(errors: &[Error], variable: &str) -> bool {
     match errors {
-        [Error::TypeError { msg, .. }] => msg.as_str() == text,
+        [
+            Error::TypeError {
+                msg: Why::Named(name, Wrong::UnknownVariable),
+                ..
+            },
+        ] => name.as_str() == variable,
         _ => false,
     }
 }

@@ -1,4 +1,4 @@
-//! The errors of rules that are left out, with their texts.
+//! The errors of rules that are left out.
 ghost use Rattle.std.specs.Prelude.{◌≡◌, ◌++◌, ◌∷◌, [], All, OnOk};
 ghost use Rattle.core_syntax.specs.SyntaxViews.{position};
 ghost use Rattle.model.specs.claims.Refusals.{past_limit, unreachable};
@@ -7,48 +7,47 @@ ghost use Rattle.core_syntax.specs.Positions.{HasSingleSpans};
 ghost use Rattle.core_builder.specs.AddedRules.{unreachable_each};
 
 use core_rule_sets::trie_again::Constraint;
-use core_rule_sets::verdict::Unreachable;
+use core_rule_sets::verdict;
 use core_syntax::syntax::{Error, Limit, Pos, Span};
-use std::alloc::{AllocError, Global};
+use core_why::{Asked, Unreachable};
+use std::alloc::AllocError;
 
-// What a constraint asks, for messages: types, variants and names go by their numbers.
-fn constraint_text(alloc: Global, constraint: Constraint) -> Result<String, AllocError> {
+// What a constraint asks, by ids.
+fn asked_by(constraint: Constraint) -> Asked {
     match constraint {
-        Constraint::Variant { ty, variant, .. } => {
-            format!(in alloc; "variant {} of type {}", variant.0, ty.0)
-        }
-        Constraint::Struct { ty, .. } => format!(in alloc; "struct of type {}", ty.0),
-        Constraint::ConstBool { val, ty } => format!(in alloc; "bool {val} of type {}", ty.0),
-        Constraint::ConstInt { val, ty } => format!(in alloc; "integer {val} of type {}", ty.0),
-        Constraint::ConstPrim { val } => format!(in alloc; "constant {}", val.0),
-        Constraint::Some => String::from_str(alloc, "some"),
+        Constraint::Variant { ty, variant, .. } => Asked::Variant {
+            ty: ty.0,
+            variant: variant.0,
+        },
+        Constraint::Struct { ty, .. } => Asked::Struct { ty: ty.0 },
+        Constraint::ConstBool { val, ty } => Asked::Bool { ty: ty.0, val },
+        Constraint::ConstInt { val, ty } => Asked::Int { ty: ty.0, val },
+        Constraint::ConstPrim { val } => Asked::Prim { val: val.0 },
+        Constraint::Some => Asked::Some,
     }
 }
 
 // What is wrong with a rule that no values can match.
-fn unreachable_text(alloc: Global, why: Unreachable) -> Result<String, AllocError> {
+fn unreachable_by(why: verdict::Unreachable) -> Unreachable {
     match why {
-        Unreachable::Conflict { first, second } => {
-            let first = constraint_text(alloc, first)?;
-            let second = constraint_text(alloc, second)?;
-            format!(in alloc; "rule requires binding to match both {first} and {second}")
-        }
-        Unreachable::Cycle => {
-            String::from_str(alloc, "rule requires a value to equal a part of itself")
-        }
+        verdict::Unreachable::Conflict { first, second } => Unreachable::Conflict {
+            first: asked_by(first),
+            second: asked_by(second),
+        },
+        verdict::Unreachable::Cycle => Unreachable::Cycle,
     }
 }
 
 // The rule there can never match.
 pub(crate) fn report_unreachable(
     errors: &mut Vec<Error>,
-    why: Unreachable,
+    why: verdict::Unreachable,
     pos: Pos,
 ) -> Result<(), AllocError>
     ensures says { OnOk result (error_views errors.new.items ≡ error_views errors.old.items ++ unreachable (position pos) ∷ []) }
     ensures single { OnOk result (All HasSingleSpans errors.old.items → All HasSingleSpans errors.new.items) }
 {
-    let msg = unreachable_text(*errors.allocator(), why)?;
+    let msg = unreachable_by(why);
     let span = Span::new_single(pos);
     errors.push(Error::UnreachableError { msg, span })?;
     Ok(())
@@ -64,7 +63,7 @@ pub(crate) fn report_conflicts(
     ensures single { OnOk result (All HasSingleSpans errors.old.items → All HasSingleSpans errors.new.items) }
 {
     for (first, second) in conflicts {
-        let why = Unreachable::Conflict {
+        let why = verdict::Unreachable::Conflict {
             first: *first,
             second: *second,
         };

@@ -6,6 +6,7 @@ use Rattle.std.proofs.lemmas.List.Elements.{All-weaker, All-contains_itself, Con
 use Rattle.model.specs.lists.Syntax.{Position}
 use Rattle.model.proofs.Members.{nothing_in, in_head, in_tail, in_alone, in_cases, in_flat_map, all_members}
 use Rattle.core_syntax.specs.declared.syntax.Error.{Error}
+use Rattle.core_why.specs.declared.reasons.Why.{Why}
 use Rattle.core_syntax.specs.declared.syntax.Error.TheVariants.{TypeError, LimitError}
 use Rattle.core_syntax.specs.declared.syntax.Limit.{Limit}
 use Rattle.core_syntax.specs.declared.syntax.Pos.{Pos}
@@ -63,7 +64,7 @@ stand_among ps qs e a s = record {
 }
 
 -- an error at a place
-pub stands_there : (at : Pos) (msg : String Global) (span : Span) → span.from ≡ at → span.to ≡ single_end at → ErrorStandsAt (position at ∷ []) (TypeError msg span)
+pub stands_there : (at : Pos) (msg : Why) (span : Span) → span.from ≡ at → span.to ≡ single_end at → ErrorStandsAt (position at ∷ []) (TypeError msg span)
 stands_there at msg span from to = record {
   named = subst (λ p. All (Contains (position at ∷ [])) (position p ∷ [])) (sym from) (All-contains_itself (position at ∷ []));
   single = to ∙ ap single_end (sym from);

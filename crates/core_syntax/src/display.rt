@@ -41,12 +41,9 @@ impl fmt::Display for Error {
     fn fmt<W: fmt::Write>(&self, f: &mut fmt::Formatter<W>) -> fmt::Result {
         f.write_str(self.kind())?;
         match self {
-            Error::TypeError { msg, span }
-            | Error::UnreachableError { msg, span }
-            | Error::LimitError { msg, span, .. } => {
-                let at = span.from;
-                write!(f, " at {at}: {msg}")
-            }
+            Error::TypeError { msg, span } => write_placed(f, span.from, msg),
+            Error::UnreachableError { msg, span } => write_placed(f, span.from, msg),
+            Error::LimitError { msg, span, .. } => write_placed(f, span.from, msg),
             Error::OverlapError { msg, rules } => {
                 write_places(f, rules)?;
                 write!(f, ": {msg}")
@@ -61,6 +58,15 @@ impl fmt::Display for Error {
 }
 
 impl std::error::Error for Error {}
+
+// Writes a place, and what isn't right there.
+fn write_placed<W: fmt::Write, M: fmt::Display>(
+    f: &mut fmt::Formatter<W>,
+    at: Pos,
+    msg: &M,
+) -> fmt::Result {
+    write!(f, " at {at}: {msg}")
+}
 
 // Writes where spans begin, with commas between them.
 fn write_places<W: fmt::Write>(f: &mut fmt::Formatter<W>, spans: &[Span]) -> fmt::Result {

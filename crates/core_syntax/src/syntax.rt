@@ -14,6 +14,7 @@ ghost use Rattle.model.specs.lists.Expansions.{substituted, all_substituted};
 ghost use Rattle.core_syntax.specs.Places.{full_name_of, line_of, printed_line, single_end, term_view, HoldsBeginning};
 ghost use Rattle.core_syntax.specs.SyntaxViews.{definition_place, definition_view, position, name_view, pattern_view, pattern_views, expr_view, expr_views, let_views};
 
+use core_why::{Unreachable, Why};
 use std::alloc::{AllocError, AllocFailed, Global};
 
 /// A place in a file. Ordered by file, then offset, so that errors can be told in the order of the text.
@@ -96,14 +97,14 @@ pub enum Error {
     /// A definition, or what it says, isn't right.
     TypeError {
         /// What isn't right.
-        msg: String,
+        msg: Why,
         /// Where.
         span: Span,
     },
     /// A rule can never match.
     UnreachableError {
         /// Why it can't.
-        msg: String,
+        msg: Unreachable,
         /// The rule.
         span: Span,
     },

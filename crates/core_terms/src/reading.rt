@@ -3,11 +3,10 @@
 
 ghost use Rattle.std.specs.Prelude.{◌≡◌, ◌⊎◌, ◌++◌, ◌∷◌, [], ℕ, None, Some, All, nat_eq, if◌then◌else◌, length, map, IfOk, OnOk, MatchOption, option_map};
 ghost use Rattle.core_syntax.specs.Positions.{NotesAt, declaration_positions, name_positions};
-ghost use Rattle.core_syntax.specs.SyntaxViews.{decl_view, name_view, position};
+ghost use Rattle.core_syntax.specs.SyntaxViews.{decl_view, name_view};
 ghost use Rattle.core_types.specs.Envs.{names_of, IsInterned};
 ghost use Rattle.model.specs.lists.Names.{number};
 ghost use Rattle.core_syntax.specs.NotedErrors.{NotesMore};
-ghost use Rattle.core_types.specs.ToldErrors.{Notes};
 ghost use Rattle.core_terms.specs.TermBreaches.{FirstStandsAt};
 ghost use Rattle.core_terms.specs.TermTables.{term_at};
 ghost use Rattle.core_terms.specs.TermViews.{term_view, term_views};
@@ -25,8 +24,9 @@ mod type_terms;
 
 use crate::term::{ConstructorKind, Term, TermFlags, TermKind};
 use crate::term_table::TermTable;
-use core_syntax::syntax::{Decl, Error, Ident, Pos};
-use core_types::{Sym, TermId, TypeEnv, TypeId, report};
+use core_syntax::syntax::{Decl, Error, Ident};
+use core_types::{Sym, TermId, TypeEnv, TypeId, report_name};
+use core_why::Wrong;
 use std::alloc::AllocError;
 
 impl TermTable {
@@ -46,8 +46,8 @@ impl TermTable {
             return Ok(());
         };
         let earlier = self.terms[existing.index()].decl_pos;
-        report_name(errors, decl.pos, "Duplicate decl for", &decl.term)?;
-        report_name(errors, earlier, "Duplicate decl for", &decl.term)
+        report_name(errors, decl.pos, Wrong::TermTwice, &decl.term.0)?;
+        report_name(errors, earlier, Wrong::TermTwice, &decl.term.0)
     }
 
     // Adds a declared term, if the types that it names are known.
@@ -68,7 +68,8 @@ impl TermTable {
             return Ok(());
         };
         let Some(ret_ty) = tyenv.get_type_by_name(&decl.ret_ty) else {
-            return report_name(errors, decl.ret_ty.1, "Unknown return type:", &decl.ret_ty);
+            let name = &decl.ret_ty;
+            return report_name(errors, name.1, Wrong::UnknownResult, &name.0);
         };
         self.push_term(decl, name, arg_tys, ret_ty)
     }
@@ -157,26 +158,10 @@ fn arg_types(
     let mut arg_tys = Vec::with_capacity(*errors.allocator(), names.len())?;
     for name in names {
         let Some(ty) = tyenv.get_type_by_name(name) else {
-            report_name(errors, name.1, "Unknown arg type:", name)?;
+            report_name(errors, name.1, Wrong::UnknownArgument, &name.0)?;
             return Ok(None);
         };
         arg_tys.push(ty)?;
     }
     Ok(Some(arg_tys))
-}
-
-// Notes at a place what is wrong with a name.
-pub(crate) fn report_name(
-    errors: &mut Vec<Error>,
-    pos: Pos,
-    what: &str,
-    name: &Ident,
-) -> Result<(), AllocError>
-    ensures noted { OnOk result (NotesMore errors.old.items errors.new.items) }
-    ensures places { OnOk result (NotesAt (position pos ∷ []) errors.old.items errors.new.items) }
-    ensures told { OnOk result (Notes 1 (position pos ∷ []) errors.old.items errors.new.items) }
-{
-    let alloc = *errors.allocator();
-    let msg = format!(in alloc; "{what} '{}'", name.0)?;
-    report(errors, pos, msg.as_str())
 }

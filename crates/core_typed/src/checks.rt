@@ -9,11 +9,11 @@ ghost use Rattle.core_types.specs.Envs.{constant_at};
 ghost use Rattle.core_types.specs.TypeViews.{type_view, type_views};
 ghost use Rattle.core_typed.specs.Elaborating.{Checks};
 
-use crate::reports::{report, type_text};
+use crate::reports::{report_mismatch, type_text};
 use core_syntax::syntax::{Error, Ident, Pos};
-use core_types::{BuiltinType, Sym, Type, TypeEnv, TypeId};
+use core_types::{BuiltinType, Sym, Type, TypeEnv, TypeId, report};
+use core_why::{Typed, Why};
 use std::alloc::AllocError;
-use std::fmt::Display;
 
 /// Whether integers stand for values of the type: of a built-in integer type, or of a primitive one.
 #[tactic(auto, using(core_syntax::proofs::Positioned::notes_nothing))]
@@ -30,9 +30,8 @@ pub fn check_integer(
     if has_integers(tyenv, ty) {
         return Ok(());
     }
-    let name = type_text(tyenv, ty);
-    let msg = format_args!("expected non-integer type {name}, but found integer literal '{val}'");
-    report(errors, pos, msg)
+    let ty = String::from_str(*errors.allocator(), type_text(tyenv, ty))?;
+    report(errors, pos, Why::NoInteger { ty, val })
 }
 
 // Whether integers stand for values of the type.
@@ -84,19 +83,20 @@ pub fn check_bool(
     if ty == TypeId::BOOL {
         return Ok(());
     }
-    let name = type_text(tyenv, ty);
-    let msg = format_args!("Boolean literal '{val}' has type bool but we need {name} in context");
-    report(errors, pos, msg)
+    let ty = String::from_str(*errors.allocator(), type_text(tyenv, ty))?;
+    report(errors, pos, Why::NoTruth { ty, val })
 }
 
-/// Whether a type is the one that is wanted; else this is noted.
+/// Whether the type of what has this name is the one that is wanted; else this is noted.
 #[tactic(auto, using(core_syntax::proofs::Positioned::notes_nothing))]
-pub fn check_same<M: Display + Drop>(
+pub fn check_same(
+    tyenv: &TypeEnv,
     errors: &mut Vec<Error>,
     pos: Pos,
+    what: Typed,
+    name: &Ident,
     has: TypeId,
     want: TypeId,
-    msg: M,
 ) -> Result<(), AllocError>
     ensures checks { OnOk result (Checks errors.old.items errors.new.items (has.0 ≡ want.0)) }
     ensures places { OnOk result (NotesAt (position pos ∷ []) errors.old.items errors.new.items) }
@@ -104,7 +104,7 @@ pub fn check_same<M: Display + Drop>(
     if has == want {
         return Ok(());
     }
-    report(errors, pos, msg)
+    report_mismatch(tyenv, errors, pos, what, name, has, Some(want))
 }
 
 /// Whether there are as many arguments as the term has.
@@ -122,11 +122,8 @@ pub fn check_count(
     if got == expect {
         return Ok(());
     }
-    let name = term.0.as_str();
-    let msg = format_args!(
-        "Incorrect argument count for term '{name}': got {got}, expect {expect}"
-    );
-    report(errors, pos, msg)
+    let term = term.0.clone()?;
+    report(errors, pos, Why::ArgumentCount { term, got, expect })
 }
 
 /// The type of the constant of a name.

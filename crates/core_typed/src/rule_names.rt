@@ -11,11 +11,11 @@ ghost use Rattle.core_typed.specs.RuleNaming.{AreCounts, MapsNames, NamesRule, T
 ghost use Rattle.core_typed.specs.RuleViews.{rule_view, rule_views};
 
 use crate::Rule;
-use crate::reports::report;
 use core_syntax::stablemapset::StableMap;
 use core_syntax::syntax::Error;
 use core_terms::Term;
-use core_types::{RuleId, Sym, TermId, TypeEnv};
+use core_types::{RuleId, Sym, TermId, TypeEnv, report_name};
+use core_why::Wrong;
 use std::alloc::{AllocError, Global};
 
 // Gives each rule without a name that is the only one of its term the term's name.
@@ -100,8 +100,7 @@ fn map_name(
         return Ok(());
     };
     if rule_map.contains_key(&name) {
-        let msg = format_args!("Duplicate rule name: '{}'", tyenv.text_of(name));
-        return report(errors, rule.pos, msg);
+        return report_name(errors, rule.pos, Wrong::RuleTwice, tyenv.text_of(name));
     }
     rule_map.insert(name, rule.id)?;
     Ok(())
@@ -132,6 +131,5 @@ fn check_term(tyenv: &TypeEnv, term: &Term, errors: &mut Vec<Error>) -> Result<(
         return Ok(());
     }
     let name = tyenv.text_of(term.name);
-    let msg = format_args!("no rules, extractor, or external definition for declaration '{name}'");
-    report(errors, term.decl_pos, msg)
+    report_name(errors, term.decl_pos, Wrong::Undefined, name)
 }

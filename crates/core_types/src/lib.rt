@@ -10,7 +10,7 @@ mod variant_terms;
 
 pub use builtin::{BuiltinType, IntType, builtin_ids_in_order, builtin_names_in_order};
 pub use ids::{FieldId, RuleId, Sym, TermId, TypeId, VarId, VariantId};
-pub use reading::report;
+pub use reading::{report, report_name};
 pub use type_env::TypeEnv;
 pub use types::{Fields, StructField, StructFields, TupleField, TupleFields, Type, Variant};
 pub use variant_terms::VariantTerms;

@@ -33,6 +33,7 @@ use crate::types::Type;
 use core_syntax::stablemapset::StableMap;
 use core_syntax::syntax;
 use core_syntax::syntax::{Def, Error, Fault, Pos, Span};
+use core_why::{Why, Wrong};
 use std::alloc::{AllocError, Global};
 use std::collections::HashMap;
 
@@ -170,22 +171,41 @@ impl TypeEnv {
     }
 }
 
-/// Notes that the definition at a place isn't right: one error more, after those so far.
+/// Notes that the definition at a place, or what it says there, isn't right: one error more, after those so far.
 ///
 /// # Errors
 ///
 /// Where memory is refused.
 #[tactic(auto, using(core_syntax::proofs::Positioned::notes_one, core_syntax::proofs::Positioned::stands_there, crate::proofs::ToldErrors::one_noted))]
-pub fn report(errors: &mut Vec<Error>, pos: Pos, msg: &str) -> Result<(), AllocError>
+pub fn report(errors: &mut Vec<Error>, pos: Pos, msg: Why) -> Result<(), AllocError>
     ensures noted { OnOk result (NotesMore errors.old.items errors.new.items) }
     ensures places { OnOk result (NotesAt (position pos ∷ []) errors.old.items errors.new.items) }
     ensures one { OnOk result (error_views errors.new.items ≡ error_views errors.old.items ++ ill_typed (position pos) ∷ []) }
     ensures told { OnOk result (Notes 1 (position pos ∷ []) errors.old.items errors.new.items) }
 {
-    let msg = String::from_str(*errors.allocator(), msg)?;
     let span = Span::new_single(pos);
     errors.push(Error::TypeError { msg, span })?;
     Ok(())
+}
+
+/// Notes at a place that what has a name isn't right: one error more, after those so far.
+///
+/// # Errors
+///
+/// Where memory is refused.
+pub fn report_name(
+    errors: &mut Vec<Error>,
+    pos: Pos,
+    wrong: Wrong,
+    name: &str,
+) -> Result<(), AllocError>
+    ensures noted { OnOk result (NotesMore errors.old.items errors.new.items) }
+    ensures places { OnOk result (NotesAt (position pos ∷ []) errors.old.items errors.new.items) }
+    ensures one { OnOk result (error_views errors.new.items ≡ error_views errors.old.items ++ ill_typed (position pos) ∷ []) }
+    ensures told { OnOk result (Notes 1 (position pos ∷ []) errors.old.items errors.new.items) }
+{
+    let name = String::from_str(*errors.allocator(), name)?;
+    report(errors, pos, Why::Named(name, wrong))
 }
 
 // Notes that the name of a definition is that of another type.
@@ -196,12 +216,9 @@ fn report_duplicate(
 ) -> Result<(), AllocError>
     ensures told { OnOk result (NotesTaken existing.0 (position ty.now.pos) errors.old.items errors.new.items) }
 {
-    let alloc = *errors.allocator();
-    let twice = format!(in alloc; "Type with name '{}' defined more than once", ty.name.0)?;
-    report(errors, ty.pos, twice.as_str())?;
+    report_name(errors, ty.pos, Wrong::TypeTwice, &ty.name.0)?;
     if existing.index() >= BuiltinType::ALL.len() {
         return Ok(());
     }
-    let builtin = format!(in alloc; "Type with name '{}' is a built-in type", ty.name.0)?;
-    report(errors, ty.pos, builtin.as_str())
+    report_name(errors, ty.pos, Wrong::TypeBuiltin, &ty.name.0)
 }

@@ -5,6 +5,7 @@
 pub use core_containers::disjointsets;
 pub use core_serialize::serialize;
 pub use core_syntax::{stablemapset, syntax};
+pub use core_why as why;
 
 pub mod environments;
 pub mod laws;

@@ -1,13 +1,13 @@
 //! What is wrong with definitions, as reports.
 
 use crate::conflicts::{RuleConflicts, times_before};
-use crate::error_order::{Order, place_of, words_of};
+use crate::error_order::{Order, place_of, why_of};
 use crate::named_forms::{named_forms, only_place};
 use crate::reports::report_of as report_of_type_error;
-use crate::template_errors::{TemplateUse, add_use, use_at, uses_behind};
-use crate::terms_in_errors::is_of_multi;
+use crate::template_errors::{UseError, add_use, use_at, uses_behind};
 use crate::undefined_terms::add_uses;
 use crate::unmatched_templates::{Templates, report_of_template};
+use core_why::Unreachable;
 use cranelift_isle::syntax::{Decl, Def, Error, Limit, Pos, Rule, Span};
 use report_names::definitions::{constants_of, declaration_of, root_of, rule_around};
 use report_names::meanings::meant_by;
@@ -262,7 +262,7 @@ fn add_report(
     reports: &mut Vec<Report>,
     errors: &[Error],
     order: &Order,
-    uses: &[Option<TemplateUse<'_>>],
+    uses: &[Option<UseError<'_>>],
     number: usize,
     conflict: Option<Conflict<'_>>,
 ) -> Result<(), AllocError> {
@@ -282,11 +282,16 @@ fn add_report(
     }
     let mut rule = place_of(error).and_then(|pos| rule_around(source.defs, pos));
     if let Some(found) = use_at(uses, number) {
-        add_use(source.alloc, &mut report, found, order.told_with(number))?;
-        rule = Some(found.rule);
+        add_use(
+            source.alloc,
+            &mut report,
+            &found.of,
+            order.told_with(number),
+        )?;
+        rule = Some(found.of.rule);
     }
-    let is_of_multi = source.is_explained && is_of_multi(words_of(error));
-    if let (Some(rule), true) = (rule, is_of_multi) {
+    let is_of_multi = why_of(error).is_some_and(|why| why.is_of_multi());
+    if let (Some(rule), true) = (rule, source.is_explained && is_of_multi) {
         add_multi(source, &mut report, rule)?;
     }
     reports.push(report)?;
@@ -360,7 +365,7 @@ fn report_of(
                 source.is_explained,
             )
         }
-        Error::UnreachableError { msg, span } => unreachable(source, msg, *span, conflict),
+        Error::UnreachableError { msg, span } => of_unreachable(source, *msg, *span, conflict),
         Error::LimitError { limit, msg, span } => of_rule(
             source,
             ("limit", msg),
@@ -373,23 +378,24 @@ fn report_of(
 }
 
 // The report of a rule that can't match.
-fn unreachable(
+fn of_unreachable(
     source: Source<'_>,
-    msg: &str,
+    why: Unreachable,
     span: Span,
     conflict: Option<Conflict<'_>>,
 ) -> Result<Report, AllocError> {
     match conflict {
         Some(conflict) => of_conflict(source, span, conflict),
-        None => of_words(source, msg, span),
+        None => of_asked(source, why, span),
     }
 }
 
-// The report of a rule that can't match, by the library's words.
-fn of_words(source: Source<'_>, msg: &str, span: Span) -> Result<Report, AllocError> {
+// The report of a rule that can't match, by what the library says.
+fn of_asked(source: Source<'_>, why: Unreachable, span: Span) -> Result<Report, AllocError> {
     let alloc = source.alloc;
-    let Some((first, second)) = named_forms(alloc, source.defs, source.expand, msg)? else {
-        return of_rule(source, ("unreachable", msg), span, WAY_OUT);
+    let Some((first, second)) = named_forms(alloc, source.defs, source.expand, why)? else {
+        let message = format!(in alloc; "{why}")?;
+        return of_rule(source, ("unreachable", message.as_str()), span, WAY_OUT);
     };
     let mut message = String::new(alloc);
     push_rule(&mut message, source.defs, span.from)?;

@@ -1,9 +1,8 @@
 //! Which errors a person is shown, and which say no more than another one.
 
-use crate::codes::code_of;
-use crate::template_errors::{TemplateUse, first_like};
-use crate::terms_in_errors::{is_of_impure, path_in, undefined_in, unusable_in};
+use crate::template_errors::{UseError, first_like};
 use core_syntax::syntax::{Def, Error, Pos};
+use core_why::{Why, Wrong};
 use report_names::definitions::rule_around;
 use report_names::mentions::{Mentions, Need};
 use std::alloc::{AllocError, Global};
@@ -55,12 +54,12 @@ impl Order {
         alloc: Global,
         defs: &[Def],
         errors: &[Error],
-        uses: &[Option<TemplateUse<'_>>],
+        uses: &[Option<UseError<'_>>],
     ) -> Result<Order, AllocError> {
         let causes = Causes::new(alloc, errors)?;
         let mut leaders = Vec::new(alloc);
         for (number, error) in errors.iter().enumerate() {
-            let mut leader = match first_like(errors, uses, number) {
+            let mut leader = match first_like(uses, number) {
                 Some(first) => first,
                 None => number,
             };
@@ -104,11 +103,11 @@ fn shown_of(alloc: Global, leaders: &[usize]) -> Result<Vec<usize>, AllocError> 
     Ok(shown)
 }
 
-/// What a type error says, or the empty text for other errors.
-pub(crate) fn words_of(error: &Error) -> &str {
+/// What isn't right, if that is a definition or what it says.
+pub(crate) fn why_of(error: &Error) -> Option<&Why> {
     match error {
-        Error::TypeError { msg, .. } => msg.as_str(),
-        _ => "",
+        Error::TypeError { msg, .. } => Some(msg),
+        _ => None,
     }
 }
 
@@ -160,34 +159,42 @@ impl<'a> Causes<'a> {
             leaders: Vec::new(alloc),
         };
         for (number, error) in errors.iter().enumerate() {
-            match path_in(words_of(error)) {
-                Some(path) => causes.add_cycle(path, number)?,
-                None => causes.add_term(error, number)?,
+            match why_of(error) {
+                Some(Why::Recursion(way)) => causes.add_cycle(way, number)?,
+                Some(why) => causes.add_term(why, place_of(error), number)?,
+                None => {}
             }
         }
         Ok(causes)
     }
 
-    // Adds what the error of a number says of a term.
-    fn add_term(&mut self, error: &'a Error, number: usize) -> Result<(), AllocError> {
-        let words = words_of(error);
-        if let Some(term) = undefined_in(words) {
-            if !self.terms.contains_key(&term) {
-                self.terms.insert(term, number)?;
+    // Adds the term that the error of a number, at this place, says isn't defined or has no constructor.
+    fn add_term(
+        &mut self,
+        why: &'a Why,
+        place: Option<Pos>,
+        number: usize,
+    ) -> Result<(), AllocError> {
+        match (why, place) {
+            (Why::Named(term, Wrong::Undefined), _) => {
+                if !self.terms.contains_key(&term.as_str()) {
+                    self.terms.insert(term.as_str(), number)?;
+                }
             }
-        }
-        if let (Some(pos), "no-constructor") = (place_of(error), code_of(words)) {
-            self.unmade.insert(pos, number)?;
+            (Why::Named(_, Wrong::NoConstructor), Some(pos)) => {
+                self.unmade.insert(pos, number)?;
+            }
+            _ => {}
         }
         Ok(())
     }
 
-    // Adds the cycle that a path ends in, which the error of a number tells.
-    fn add_cycle(&mut self, path: &'a str, number: usize) -> Result<(), AllocError> {
-        let Some((way, last)) = path.rsplit_once(" -> ") else {
+    // Adds the cycle that a way ends in, which the error of a number tells.
+    fn add_cycle(&mut self, way: &'a str, number: usize) -> Result<(), AllocError> {
+        let Some((way, last)) = way.rsplit_once(' ') else {
             return Ok(());
         };
-        let closed = way.split(" -> ").next() == Some(last);
+        let closed = way.split(' ').next() == Some(last);
         let leader = Leader { number, closed };
         let Some(known) = self.cycles.get(&last).copied() else {
             self.add_extractors(way, last)?;
@@ -205,7 +212,7 @@ impl<'a> Causes<'a> {
     // Adds the extractors of the next cycle: those of a way, from one on.
     fn add_extractors(&mut self, way: &'a str, first: &str) -> Result<(), AllocError> {
         let cycle = self.leaders.len();
-        for name in way.rsplit(" -> ") {
+        for name in way.rsplit(' ') {
             self.cycles.insert(name, cycle)?;
             if name == first {
                 break;
@@ -216,13 +223,17 @@ impl<'a> Causes<'a> {
 
     // The error that one is told with, where it is told with a cause.
     fn of(&self, error: &'a Error) -> Option<usize> {
-        let words = words_of(error);
-        if let Some(term) = unusable_in(words) {
-            return self.terms.get(&term).copied();
+        match why_of(error)? {
+            Why::Named(term, Wrong::NoExtractor | Wrong::NoConstructor) => {
+                self.terms.get(&term.as_str()).copied()
+            }
+            Why::Recursion(way) => {
+                let (_, last) = way.rsplit_once(' ')?;
+                let cycle = self.cycles.get(&last).copied()?;
+                Some(self.leaders.get(cycle)?.number)
+            }
+            _ => None,
         }
-        let (_, last) = path_in(words)?.rsplit_once(" -> ")?;
-        let cycle = self.cycles.get(&last).copied()?;
-        Some(self.leaders.get(cycle)?.number)
     }
 }
 
@@ -241,11 +252,12 @@ fn leader_beside<'a>(
     let Some(pos) = place_of(error) else {
         return Ok(number);
     };
-    let words = words_of(error);
-    let cause = match code_of(words) {
-        "unknown-variable" => cause_of_unknown(alloc, defs, errors, number, pos)?,
-        "mismatched-types" => cause_of_mismatch(alloc, defs, causes, pos)?,
-        "forbidden-term" if is_of_impure(words) => match causes.unmade.get(&pos).copied() {
+    let cause = match why_of(error) {
+        Some(Why::Named(_, Wrong::UnknownVariable)) => {
+            cause_of_unknown(alloc, defs, errors, number, pos)?
+        }
+        Some(Why::Mismatch { .. }) => cause_of_mismatch(alloc, defs, causes, pos)?,
+        Some(Why::Named(_, Wrong::Impure)) => match causes.unmade.get(&pos).copied() {
             Some(unmade) => Some(unmade),
             None => first_impure(defs, errors, pos),
         },
@@ -315,7 +327,10 @@ fn source_of(names: &Mentions<'_>, pos: Pos) -> Option<Pos> {
 fn first_impure(defs: &[Def], errors: &[Error], pos: Pos) -> Option<usize> {
     let condition = condition_around(defs, pos)?;
     for (number, error) in errors.iter().enumerate() {
-        if let (Some(other), true) = (place_of(error), is_of_impure(words_of(error))) {
+        if let (Some(other), Some(Why::Named(_, Wrong::Impure))) = (
+            place_of(error),
+            why_of(error),
+        ) {
             if condition_around(defs, other) == Some(condition) {
                 return Some(number);
             }
@@ -354,42 +369,38 @@ fn is_between(place: Pos, begin: Pos, end: Pos) -> bool {
 // The error that one is told with, where the error beside it says the same: the one before it, or that behind it where a type
 // has the name of a built-in one. Else itself.
 fn beside(errors: &[Error], number: usize, leaders: &[usize]) -> usize {
-    let words = match errors.get(number) {
-        Some(error) => words_of(error),
-        None => "",
+    let Some((name, wrong)) = named_at(errors, number) else {
+        return number;
     };
     let next = number.saturating_add(1);
-    if let Some(behind) = errors.get(next) {
-        if is_of_builtin(words, words_of(behind)) {
+    if let (Wrong::TypeTwice, Some((behind, Wrong::TypeBuiltin))) = (
+        wrong,
+        named_at(errors, next),
+    ) {
+        if name == behind {
             return next;
         }
     }
     let last = number.saturating_sub(1);
-    match (errors.get(last), leaders.last()) {
-        (Some(before), Some(leader)) if *leader == last && says_again(words_of(before), words) => {
+    match (named_at(errors, last), leaders.last()) {
+        (Some(before), Some(leader)) if *leader == last && says_again(before, (name, wrong)) => {
             last
         }
         _ => number,
     }
 }
 
-// Whether an error says that a type is defined twice, and the next one that its name is a built-in type's.
-fn is_of_builtin(words: &str, next: &str) -> bool {
-    match (
-        words.strip_suffix("' defined more than once"),
-        next.strip_suffix("' is a built-in type"),
-    ) {
-        (Some(left), Some(right)) => left == right && left.starts_with("Type with name '"),
-        _ => false,
-    }
+// The name that the error of a number is of, and how it isn't right.
+fn named_at(errors: &[Error], number: usize) -> Option<(&str, Wrong)> {
+    why_of(errors.get(number)?)?.named()
 }
 
 // Whether an error tells the other place of what the one before it says.
-fn says_again(before: &str, words: &str) -> bool {
-    match words {
-        "Extractor was already defined here"
-        | "External extractor already defined"
-        | "Internal extractor macro body already defined" => true,
-        _ => before == words && words.starts_with("Duplicate decl for '"),
+fn says_again(before: (&str, Wrong), error: (&str, Wrong)) -> bool {
+    match (before, error) {
+        (_, (_, Wrong::FirstExtractor | Wrong::FirstTemplateOfExtractor | Wrong::FirstTemplate)) =>
+            true,
+        ((name, Wrong::TermTwice), (own, Wrong::TermTwice)) => name == own,
+        _ => false,
     }
 }

@@ -15,7 +15,6 @@ use std::alloc::{AllocError, Global};
 use text_reader::errors::{Mistake, Problem, TextError};
 use text_reader::heads::nearest;
 
-mod codes;
 mod conflicts;
 mod declarations;
 pub mod diagnosis;
@@ -29,7 +28,6 @@ mod nearest;
 mod repeats;
 pub mod reports;
 mod template_errors;
-mod terms_in_errors;
 pub mod undefined_terms;
 mod unknown;
 mod unmatched_templates;

@@ -1,62 +1,39 @@
 //! Where the two types of a mismatch come from.
 
 use crate::reports::Told;
-use crate::terms_in_errors::between;
+use core_why::{Typed, Why, Wrong};
 use report_names::definitions::{place_of_constant, place_of_made};
 use report_names::mentions::{Need, type_needed};
 use report_print::report::Report;
 use std::alloc::{AllocError, Global};
 
-// What stands before and behind the type that is needed, in the words of errors.
-const WANTED: [(&str, &str); 4] = [
-    (" but we need ", " in context"),
-    (" expects type '", "' but "),
-    ("expected non-integer type ", ", but found integer literal "),
-    (" has wrong type: expected ", ", but is actually "),
-];
-
-// What an error of a constant in a pattern says, without the types.
-const CONSTANT: &str = "Type mismatch for constant";
-
-// How an error begins of a variable that a pattern binds once more.
-const REBOUND: &str = "Re-bound variable name in LHS pattern: '";
-
 /// Adds the places that the two types of a mismatch come from: where the one is needed, and what has the other; and where a
 /// variable was bound that is bound once more.
 pub(crate) fn add_types(told: &Told<'_>, report: &mut Report) -> Result<(), AllocError> {
-    if told.msg.starts_with(REBOUND) {
-        return add_binding(told, report);
-    }
-    let wanted = wanted_in(told.msg);
-    if wanted.is_none() && told.msg != CONSTANT {
-        return Ok(());
-    }
-    add_need(told, report, told.names.need_at(told.pos), wanted)?;
-    add_own(told, report)
-}
-
-// The type that an error says is needed.
-fn wanted_in(msg: &str) -> Option<&str> {
-    for (before, behind) in WANTED {
-        if let Some((_, rest)) = msg.split_once(before) {
-            return between(rest, "", behind);
+    match told.why {
+        Why::Named(name, Wrong::Rebound) => add_binding(told, report, name),
+        Why::NoInteger { ty, .. } | Why::NoTruth { ty, .. } => add_need(told, report, ty),
+        Why::Mismatch {
+            what,
+            name,
+            want,
+            ..
+        } => {
+            add_need(told, report, want)?;
+            add_own(told, report, *what, name)
         }
+        _ => Ok(()),
     }
-    None
 }
 
-// Adds where a type is needed, if it is the one that an error speaks of. None is any type.
-fn add_need(
-    told: &Told<'_>,
-    report: &mut Report,
-    need: Need<'_>,
-    wanted: Option<&str>,
-) -> Result<(), AllocError> {
+// Adds where a type is needed, if it is the one that an error speaks of.
+fn add_need(told: &Told<'_>, report: &mut Report, wanted: &str) -> Result<(), AllocError> {
+    let need = told.names.need_at(told.pos);
     let Some(ty) = type_needed(told.defs, need) else {
         return Ok(());
     };
     let name = ty.0.as_str();
-    if wanted.unwrap_or(name) != name {
+    if wanted != name {
         return Ok(());
     }
     let text = need_text(told.alloc, need, name)?;
@@ -78,25 +55,26 @@ fn need_text(alloc: Global, need: Need<'_>, ty: &str) -> Result<String, AllocErr
 }
 
 // Adds where what has the other type is defined.
-fn add_own(told: &Told<'_>, report: &mut Report) -> Result<(), AllocError> {
-    let Some(mention) = told.names.at(told.pos) else {
+fn add_own(
+    told: &Told<'_>,
+    report: &mut Report,
+    what: Typed,
+    name: &str,
+) -> Result<(), AllocError> {
+    match what {
+        Typed::Extractor | Typed::Constructor => add_result(told, report, name),
+        Typed::Bound | Typed::Variable => add_binding(told, report, name),
+        Typed::MatchedConstant | Typed::Constant => add_constant(told, report, name),
+    }
+}
+
+// Adds where a constant is declared.
+fn add_constant(told: &Told<'_>, report: &mut Report, name: &str) -> Result<(), AllocError> {
+    let Some(place) = place_of_constant(told.defs, name) else {
         return Ok(());
     };
-    let name = mention.text();
-    let msg = told.msg;
-    if msg.contains(" but term has return type '") {
-        return add_result(told, report, name);
-    }
-    if msg.starts_with("Variable '") || msg.contains(" but already-bound var '") {
-        return add_binding(told, report);
-    }
-    if msg.starts_with("Constant '") || msg == CONSTANT {
-        if let Some(place) = place_of_constant(told.defs, name) {
-            let text = format!(in told.alloc; "`${name}` is declared here")?;
-            report.add_new_label(place, text)?;
-        }
-    }
-    Ok(())
+    let text = format!(in told.alloc; "`${name}` is declared here")?;
+    report.add_new_label(place, text)
 }
 
 // Adds where a term's result is declared.
@@ -113,9 +91,9 @@ fn add_result(told: &Told<'_>, report: &mut Report, term: &str) -> Result<(), Al
     Ok(())
 }
 
-// Adds where the variable is bound that stands at an error's place.
-fn add_binding(told: &Told<'_>, report: &mut Report) -> Result<(), AllocError> {
-    let (Some(name), Some(place)) = (told.subject_text(), told.names.binding_at(told.pos)) else {
+// Adds where the variable of this name is bound that stands at an error's place.
+fn add_binding(told: &Told<'_>, report: &mut Report, name: &str) -> Result<(), AllocError> {
+    let Some(place) = told.names.binding_at(told.pos) else {
         return Ok(());
     };
     let text = format!(in told.alloc; "`{name}` is bound here")?;

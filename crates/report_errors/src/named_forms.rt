@@ -1,5 +1,6 @@
-//! The library's words on rules that can't match, with names in the place of numbers.
+//! What the library says of rules that can't match, with names in the place of ids.
 
+use core_why::{Asked, Unreachable};
 use cranelift_isle::environments::environments_of;
 use cranelift_isle::sema::{Sym, TypeId, VariantId};
 use cranelift_isle::syntax::{Def, Fault, Pos};
@@ -7,18 +8,15 @@ use report_names::mentions::{LiteralValue, Mention, MentionKind, Mentions};
 use report_names::names::NameTables;
 use std::alloc::{AllocError, Global};
 
-// What the library says before the two constraints.
-const BEFORE: &str = "rule requires binding to match both ";
-
-/// The two forms that the library says a rule asks of one value, with the names of what has numbers there. None where it says
+/// The two forms that the library says a rule asks of one value, with the names of what has ids there. None where it says
 /// something else.
 pub(crate) fn named_forms(
     alloc: Global,
     defs: &[Def],
     expand: bool,
-    message: &str,
+    why: Unreachable,
 ) -> Result<Option<(String, String)>, AllocError> {
-    let Some((first, second)) = constraints_in(message) else {
+    let Unreachable::Conflict { first, second } = why else {
         return Ok(None);
     };
     match environments_of(alloc, defs, expand) {
@@ -36,34 +34,20 @@ pub(crate) fn named_forms(
     }
 }
 
-// The two constraints in the library's words.
-fn constraints_in(message: &str) -> Option<(&str, &str)> {
-    message.strip_prefix(BEFORE)?.split_once(" and ")
-}
-
-// A constraint by names.
-fn named(alloc: Global, names: NameTables<'_>, constraint: &str) -> Result<String, AllocError> {
-    let mut out = String::new(alloc);
-    push_named(&mut out, names, constraint)?;
-    Ok(out)
-}
-
-// Adds a constraint, as `variant 1 of type 2`, by names.
-fn push_named(out: &mut String, names: NameTables<'_>, constraint: &str) -> Result<(), AllocError> {
-    let mut words = constraint.split(' ');
-    let kind = words.next().unwrap_or("");
-    let value = words.next().unwrap_or("");
-    let ty = words.last().unwrap_or("");
-    match (kind, value.parse::<usize>(), ty.parse::<usize>()) {
-        ("variant", Ok(variant), Ok(ty)) => {
-            out.push_str(names.variant(TypeId(ty), VariantId(variant)))
+// What is asked, by names. Nothing, where any value will do.
+fn named(alloc: Global, names: NameTables<'_>, asked: Asked) -> Result<String, AllocError> {
+    match asked {
+        Asked::Variant { ty, variant } => {
+            String::from_str(alloc, names.variant(TypeId(ty), VariantId(variant)))
         }
-        ("struct", _, Ok(ty)) => out.push_str(names.ty(TypeId(ty))),
-        ("constant", Ok(name), _) => {
-            out.push('$')?;
-            out.push_str(names.sym(Sym(name)))
+        Asked::Struct { ty } => String::from_str(alloc, names.ty(TypeId(ty))),
+        Asked::Bool { val, .. } => format!(in alloc; "{val}"),
+        Asked::Int { val, .. } => format!(in alloc; "{val}"),
+        Asked::Prim { val } => {
+            let name = names.sym(Sym(val));
+            format!(in alloc; "${name}")
         }
-        _ => out.push_str(value),
+        Asked::Some => Ok(String::new(alloc)),
     }
 }
 

@@ -2,6 +2,7 @@
 
 use crate::reports::Told;
 use core_syntax::syntax::{Def, Extern, Pos, Rule};
+use core_why::{Why, Wrong};
 use report_names::definitions::{definition_around, is_struct, root_of, variant_in};
 use report_names::mentions::MentionKind;
 use std::alloc::AllocError;
@@ -27,22 +28,11 @@ enum Repeat<'a> {
     Field(&'a str),
 }
 
-// How errors begin whose words have the name that is defined more than once in quotes.
-const NAMED: [&str; 7] = [
-    "Type with name '",
-    "Duplicate decl for '",
-    "Duplicate enum variant constructor: '",
-    "Duplicate struct constructor: '",
-    "Duplicate rule name: '",
-    "Duplicate variant name in type: '",
-    "Duplicate field name '",
-];
-
 /// The other places of what an error says is defined more than once: a few of them.
 pub(crate) fn other_places(told: &Told<'_>) -> Result<Vec<Pos>, AllocError> {
     let (defs, pos) = (told.defs, told.pos);
     let mut places = Vec::new(told.alloc);
-    let Some(repeat) = repeat_in(told) else {
+    let Some(repeat) = repeat_in(told.why) else {
         return Ok(places);
     };
     add_inside(told, &mut places, repeat)?;
@@ -64,56 +54,32 @@ pub(crate) fn other_places(told: &Told<'_>) -> Result<Vec<Pos>, AllocError> {
 }
 
 // What an error says is defined more than once.
-fn repeat_in<'a>(told: &Told<'a>) -> Option<Repeat<'a>> {
-    let msg = told.msg;
-    if let Some(term) = msg.strip_prefix(
-        "External constructor declared on term that already has rules: ",
-    ) {
-        return Some(Repeat::Rules(term));
-    }
-    if let Some(types) = msg.strip_prefix("Converter already exists for this type pair: '") {
-        let (inner, outer) = types.strip_suffix("'")?.split_once("', '")?;
-        return Some(Repeat::Converter(inner, outer));
-    }
-    match msg {
-        "Duplicate external constructor definition" => {
-            Some(Repeat::Constructor(told.subject_text()?))
+fn repeat_in(why: &Why) -> Option<Repeat<'_>> {
+    match why {
+        Why::Named(name, wrong) => repeat_of(name, *wrong),
+        Why::FieldTwice { name, .. } => Some(Repeat::Field(name.as_str())),
+        Why::ConverterTwice { inner, outer } => {
+            Some(Repeat::Converter(inner.as_str(), outer.as_str()))
         }
-        "Duplicate extractor definition"
-        | "Duplicate external extractor definition"
-        | "Cannot define external extractor for term that already has an internal extractor macro body defined" =>
-            { Some(Repeat::Extractor(told.subject_text()?)) }
-        _ => named_in(msg),
+        _ => None,
     }
 }
 
-// The same, where the words have its name in quotes.
-fn named_in(msg: &str) -> Option<Repeat<'_>> {
-    for begin in NAMED {
-        if let Some(rest) = msg.strip_prefix(begin) {
-            let (name, _) = rest.rsplit_once("'")?;
-            return Some(repeat_of(begin, before_more(name)));
+// What of this name is defined more than once.
+fn repeat_of(name: &str, wrong: Wrong) -> Option<Repeat<'_>> {
+    match wrong {
+        Wrong::TypeTwice | Wrong::TypeBuiltin => Some(Repeat::Type(name)),
+        Wrong::VariantTwice => Some(Repeat::Variant(name)),
+        Wrong::TermTwice | Wrong::VariantTermTwice | Wrong::StructTermTwice => {
+            Some(Repeat::Term(name))
         }
-    }
-    None
-}
-
-// A name without the words that follow its quote. No name has a blank.
-fn before_more(name: &str) -> &str {
-    match name.split_once("' ") {
-        Some((name, _)) => name,
-        None => name,
-    }
-}
-
-// What of this name is defined more than once, by how the error begins.
-fn repeat_of<'a>(begin: &str, name: &'a str) -> Repeat<'a> {
-    match begin {
-        "Type with name '" => Repeat::Type(name),
-        "Duplicate rule name: '" => Repeat::Rule(name),
-        "Duplicate variant name in type: '" => Repeat::Variant(name),
-        "Duplicate field name '" => Repeat::Field(name),
-        _ => Repeat::Term(name),
+        Wrong::ConstructorOfRules => Some(Repeat::Rules(name)),
+        Wrong::ConstructorTwice => Some(Repeat::Constructor(name)),
+        Wrong::ExtractorTwice | Wrong::ExtractorOfTemplate | Wrong::TemplateTwice => {
+            Some(Repeat::Extractor(name))
+        }
+        Wrong::RuleTwice => Some(Repeat::Rule(name)),
+        _ => None,
     }
 }
 

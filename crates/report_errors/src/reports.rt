@@ -1,12 +1,12 @@
 //! The reports of type errors.
 
-use crate::codes::code_of;
 use crate::declarations::add_declaration;
 use crate::mismatches::add_types;
 use crate::repeats::other_places;
-use crate::terms_in_errors::{is_put_in, path_in, term_in};
-use crate::unknown::{Kind, add_question, unknown_in};
+use crate::undefined_terms::is_put_in;
+use crate::unknown::{add_question, unknown_in};
 use core_syntax::syntax::{Def, Ident, Pos};
+use core_why::{NameKind, Typed, Why, Wrong};
 use report_names::definitions::{
     constants_of, definition_around, place_of_template, place_of_term, subject_of,
 };
@@ -18,51 +18,11 @@ use std::alloc::{AllocError, Global};
 // How many extractors of a cycle are shown.
 const MOST_EXTRACTORS: usize = 5;
 
-// The words of errors that lack a name, and where it belongs.
-const NAMELESS: [(&str, &str, &str); 8] = [
-    ("Unknown constant", "Unknown constant '$", "'"),
-    (
-        "Type mismatch for constant",
-        "Type mismatch for constant '$",
-        "'",
-    ),
-    (
-        "Unknown type for constant",
-        "Unknown type '",
-        "' for constant",
-    ),
-    (
-        "Rule LHS root term is not defined",
-        "Rule LHS root term '",
-        "' is not defined",
-    ),
-    (
-        "Extractor macro body definition on a non-existent term",
-        "Extractor macro body definition on a non-existent term '",
-        "'",
-    ),
-    (
-        "Duplicate external constructor definition",
-        "Duplicate external constructor definition for '",
-        "'",
-    ),
-    (
-        "Duplicate external extractor definition",
-        "Duplicate external extractor definition for '",
-        "'",
-    ),
-    (
-        "Duplicate extractor definition",
-        "Duplicate extractor definition for '",
-        "'",
-    ),
-];
-
 /// A type error, and the names of the definition that it stands in.
 pub(crate) struct Told<'a> {
     pub alloc: Global,
     pub defs: &'a [Def],
-    pub msg: &'a str,
+    pub why: &'a Why,
     pub pos: Pos,
     pub names: Mentions<'a>,
 }
@@ -72,7 +32,7 @@ impl<'a> Drop for Told<'a> {
         let Told {
             alloc: _,
             defs: _,
-            msg: _,
+            why: _,
             pos: _,
             names: _,
         } = self;
@@ -91,13 +51,16 @@ impl<'a> Told<'a> {
         }
     }
 
-    /// The subject's text.
-    pub(crate) fn subject_text(&self) -> Option<&'a str> {
-        Some(self.subject()?.0.as_str())
+    /// Where a name stands: in the form at the place, or the place itself.
+    pub(crate) fn place_of(&self, name: &str) -> Pos {
+        match self.subject() {
+            Some(subject) if subject.0.as_str() == name => subject.1,
+            _ => self.pos,
+        }
     }
 }
 
-/// The report of a type error with these words at a place: with the names that its words lack. If it is explained, too, with the
+/// The report of a type error at a place: in its words, with the names that they lack. If it is explained, too, with the
 /// other places that it speaks of, and the names that may be meant in place of an unknown one.
 ///
 /// # Errors
@@ -106,26 +69,26 @@ impl<'a> Told<'a> {
 pub fn report_of(
     alloc: Global,
     defs: &[Def],
-    msg: &str,
+    why: &Why,
     pos: Pos,
     is_explained: bool,
 ) -> Result<Report, AllocError> {
     let told = Told {
         alloc,
         defs,
-        msg,
+        why,
         pos,
         names: Mentions::around(alloc, defs, pos)?,
     };
-    let mut message = worded(&told)?;
-    let term = term_in(&told);
+    let mut message = worded(alloc, why)?;
+    let term = why.term();
     if let Some(term) = term {
         if is_put_in(defs, &told.names, pos, term) {
             message.push_str(" (a conversion puts it in here)")?;
         }
     }
     let mut report = Report::new(alloc, Level::Error, "type", message);
-    report.code = code_of(msg);
+    report.code = why.code();
     report.add_label(pos, String::new(alloc))?;
     if is_explained {
         add_repeats(&told, &mut report)?;
@@ -138,26 +101,55 @@ pub fn report_of(
 }
 
 // The words of an error, with the name that they lack, and with the sign of a constant.
-fn worded(told: &Told<'_>) -> Result<String, AllocError> {
-    for (words, begin, end) in NAMELESS {
-        if told.msg == words {
-            if let Some(name) = told.subject_text() {
-                return format!(in told.alloc; "{begin}{name}{end}");
-            }
+fn worded(alloc: Global, why: &Why) -> Result<String, AllocError> {
+    match why {
+        Why::Named(name, wrong) => match around_name(*wrong) {
+            Some((before, behind)) => format!(in alloc; "{before}{name}{behind}"),
+            None => format!(in alloc; "{why}"),
+        },
+        Why::Mismatch {
+            what: Typed::MatchedConstant,
+            name,
+            ..
+        } => format!(in alloc; "Type mismatch for constant '${name}'"),
+        Why::Mismatch {
+            what: Typed::Constant,
+            name,
+            want,
+            has,
+        } => {
+            format!(in alloc;
+                "Constant '${name}' has wrong type: expected {want}, but is actually {has}"
+            )
         }
+        _ => format!(in alloc; "{why}"),
     }
-    match told.msg.strip_prefix("Constant '") {
-        Some(rest) => format!(in told.alloc; "Constant '${rest}"),
-        None => String::from_str(told.alloc, told.msg),
-    }
+}
+
+// What stands before and behind a name that upstream's words lack.
+fn around_name(wrong: Wrong) -> Option<(&'static str, &'static str)> {
+    Some(match wrong {
+        Wrong::UnknownConstant => ("Unknown constant '$", "'"),
+        Wrong::UnknownConstantType => ("Unknown type '", "' for constant"),
+        Wrong::UndeclaredRoot => ("Rule LHS root term '", "' is not defined"),
+        Wrong::UndeclaredTemplate => {
+            (
+                "Extractor macro body definition on a non-existent term '",
+                "'",
+            )
+        }
+        Wrong::ConstructorTwice => ("Duplicate external constructor definition for '", "'"),
+        Wrong::ExtractorTwice => ("Duplicate external extractor definition for '", "'"),
+        Wrong::TemplateTwice => ("Duplicate extractor definition for '", "'"),
+        _ => return None,
+    })
 }
 
 // Adds the other places of what is defined more than once.
 fn add_repeats(told: &Told<'_>, report: &mut Report) -> Result<(), AllocError> {
-    let text = if report.code == "constructor-of-rules" {
-        "has this rule"
-    } else {
-        "also defined here"
+    let text = match told.why.named() {
+        Some((_, Wrong::ConstructorOfRules)) => "has this rule",
+        _ => "also defined here",
     };
     for place in &other_places(told)? {
         report.add_new_label(*place, String::from_str(told.alloc, text)?)?;
@@ -179,10 +171,10 @@ fn add_term(told: &Told<'_>, report: &mut Report, term: Option<&str>) -> Result<
 
 // Adds where the other extractors of a cycle are defined: a few of them.
 fn add_cycle(told: &Told<'_>, report: &mut Report) -> Result<(), AllocError> {
-    let Some(path) = path_in(told.msg) else {
+    let Why::Recursion(way) = told.why else {
         return Ok(());
     };
-    for name in path.split(" -> ").take(MOST_EXTRACTORS) {
+    for name in way.split(' ').take(MOST_EXTRACTORS) {
         if let Some(place) = place_of_template(told.defs, name) {
             let text = format!(in told.alloc; "`{name}` is defined here")?;
             report.add_new_label(place, text)?;
@@ -203,10 +195,10 @@ fn add_meant(told: &Told<'_>, report: &mut Report) -> Result<(), AllocError> {
         Some(unknown) => {
             add_question(told, report, unknown)?;
             match unknown.kind {
-                Kind::Term | Kind::Declared => {
+                NameKind::Term | NameKind::Declared => {
                     add_declaration(told, report, unknown.name, unknown.pos)
                 }
-                Kind::Type | Kind::Constant | Kind::Variable => Ok(()),
+                NameKind::Type | NameKind::Constant | NameKind::Variable => Ok(()),
             }
         }
         None => Ok(()),

@@ -1,8 +1,8 @@
 //! Errors that stand in the template of an internal extractor: the rule that uses it, and so has the error.
 
-use crate::error_order::{place_of, words_of};
-use crate::terms_in_errors::is_of_multi;
+use crate::error_order::{place_of, why_of};
 use core_syntax::syntax::{Def, Error, Extractor, Pos, Rule};
+use core_why::Why;
 use report_names::definitions::{definition_around, root_of};
 use report_names::mentions::{MentionKind, Mentions};
 use report_print::report::{Label, Report};
@@ -23,7 +23,25 @@ pub(crate) struct TemplateUse<'a> {
     is_multi: bool,
 }
 
-/// Of each error the use that it comes from, if it stands in a template. Nothing where none does.
+/// An error in a template: the use that it comes from, and what it says there.
+#[derive(Clone, Copy)]
+pub(crate) struct UseError<'a> {
+    pub of: TemplateUse<'a>,
+    // The first error that says the same of the same place.
+    first: usize,
+    // Whether it says that the extractor's term is multi, and the rule's isn't.
+    is_of_multi: bool,
+}
+
+impl UseError<'_> {
+    // Whether it says the same as another one of the same place: on multi terms for a rule of the same term.
+    fn says_as(&self, other: &UseError<'_>) -> bool {
+        let is_of_term = !self.is_of_multi || root_of(self.of.rule) == root_of(other.of.rule);
+        self.first == other.first && is_of_term
+    }
+}
+
+/// Of each error what it says in a template, if it stands in one. Nothing where none does.
 ///
 /// The errors of rules stand in the order of the rules, and each use of an extractor has the errors of its template once more. So
 /// the errors that say the same of one place are those of the uses, one by one; what says that a term is multi is said where the
@@ -36,7 +54,7 @@ pub(crate) fn uses_behind<'a>(
     alloc: Global,
     defs: &'a [Def],
     errors: &[Error],
-) -> Result<Vec<Option<TemplateUse<'a>>>, AllocError> {
+) -> Result<Vec<Option<UseError<'a>>>, AllocError> {
     let mut behind = Vec::new(alloc);
     if !errors
         .iter()
@@ -45,21 +63,29 @@ pub(crate) fn uses_behind<'a>(
         return Ok(behind);
     }
     let uses = all_uses(alloc, defs)?;
-    // how many errors said the same of one place so far
+    // of errors that say the same of one place the first, and how many there are so far
     let mut counts = BTreeMap::new(alloc);
-    for error in errors {
-        let found = match (template_of(defs, error), place_of(error)) {
-            (Some(extractor), Some(pos)) => {
-                let said = (pos, words_of(error));
-                let before = counts.get(&said).copied().unwrap_or(0usize);
-                counts.insert(said, before.saturating_add(1))?;
-                use_of(&uses, extractor, error, before)
+    for (number, error) in errors.iter().enumerate() {
+        let found = match (template_of(defs, error), place_of(error), why_of(error)) {
+            (Some(extractor), Some(pos), Some(why)) => {
+                let said = (pos, said_by(alloc, why)?);
+                let (first, before) = counts.get(&said).copied().unwrap_or((number, 0usize));
+                counts.insert(said, (first, before.saturating_add(1)))?;
+                use_error(&uses, extractor, why, first, before)
             }
             _ => None,
         };
         behind.push(found)?;
     }
     Ok(behind)
+}
+
+// What an error says: the text, or the way of templates that name one another. That may be long, and isn't copied.
+fn said_by(alloc: Global, why: &Why) -> Result<(String, &str), AllocError> {
+    match why {
+        Why::Recursion(way) => Ok((String::new(alloc), way.as_str())),
+        _ => Ok((format!(in alloc; "{why}")?, "")),
+    }
 }
 
 // The extractor in whose template an error stands.
@@ -177,51 +203,42 @@ fn add_terms<'a>(
     Ok(())
 }
 
-// The use that an error comes from: of those of its extractor as many are before it as there are errors like it.
-fn use_of<'a>(
+// What an error says of the use that it comes from: of those of its extractor as many are before it as there are errors like it.
+fn use_error<'a>(
     uses: &[TemplateUse<'a>],
     extractor: &Extractor,
-    error: &Error,
+    why: &Why,
+    first: usize,
     before: usize,
-) -> Option<TemplateUse<'a>> {
-    let is_of_multi = is_of_multi(words_of(error));
-    uses.iter()
+) -> Option<UseError<'a>> {
+    let is_of_multi = why.is_of_multi();
+    let of = uses
+        .iter()
         .filter(|one| one.extractor.pos == extractor.pos && !(is_of_multi && one.is_multi))
         .nth(before)
-        .copied()
-}
-
-/// Whether two errors say the same of one place.
-pub(crate) fn is_like(left: &Error, right: &Error) -> bool {
-    place_of(left) == place_of(right) && words_of(left) == words_of(right)
+        .copied()?;
+    Some(UseError {
+        of,
+        first,
+        is_of_multi,
+    })
 }
 
 /// The first error that says the same as the one of a number, which stands in a template: of those on multi terms for a rule of the
 /// same term.
-pub(crate) fn first_like(
-    errors: &[Error],
-    uses: &[Option<TemplateUse<'_>>],
-    number: usize,
-) -> Option<usize> {
-    let error = errors.get(number)?;
+pub(crate) fn first_like(uses: &[Option<UseError<'_>>], number: usize) -> Option<usize> {
     let own = use_at(uses, number)?;
-    let is_by_term = is_of_multi(words_of(error));
-    for (other, before) in errors.iter().enumerate() {
-        if is_like(before, error) {
-            let same = use_at(uses, other)?;
-            if !is_by_term || root_of(same.rule) == root_of(own.rule) {
-                return Some(other);
-            }
-        }
-    }
-    None
+    uses.iter().position(|other| match other {
+        Some(other) => other.says_as(own),
+        None => false,
+    })
 }
 
-/// The use that the error of a number comes from.
+/// What the error of a number says in a template.
 pub(crate) fn use_at<'u, 'a>(
-    uses: &'u [Option<TemplateUse<'a>>],
+    uses: &'u [Option<UseError<'a>>],
     number: usize,
-) -> Option<&'u TemplateUse<'a>> {
+) -> Option<&'u UseError<'a>> {
     match uses.get(number) {
         Some(Some(found)) => Some(found),
         _ => None,

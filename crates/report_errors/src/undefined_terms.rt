@@ -1,8 +1,8 @@
-//! The uses of a term that isn't defined.
+//! The uses of a term that isn't defined, and those that nobody wrote.
 
-use crate::error_order::{Order, place_of, words_of};
-use crate::terms_in_errors::{is_put_in, undefined_in};
+use crate::error_order::{Order, place_of, why_of};
 use core_syntax::syntax::{Def, Error, Pos};
+use core_why::{Why, Wrong};
 use report_names::definitions::definition_around;
 use report_names::mentions::Mentions;
 use report_print::report::Report;
@@ -21,7 +21,7 @@ pub fn add_uses(
     let Some(error) = errors.get(number) else {
         return Ok(());
     };
-    let Some(term) = undefined_in(words_of(error)) else {
+    let Some(Why::Named(term, Wrong::Undefined)) = why_of(error) else {
         return Ok(());
     };
     let places = places_told_with(alloc, errors, order, number)?;
@@ -41,6 +41,21 @@ pub fn add_uses(
     let ending = if count == 1 { "" } else { "s" };
     let text = format!(in alloc; "used by {count} {word}{ending}")?;
     report.add_counted("note", text)
+}
+
+/// Whether a term is used at a place where nobody wrote it: a conversion puts it in.
+pub(crate) fn is_put_in(defs: &[Def], names: &Mentions<'_>, pos: Pos, term: &str) -> bool {
+    match names.at(pos) {
+        Some(mention) if mention.text() == term => false,
+        _ => defs.iter().any(|def| is_conversion_by(def, term)),
+    }
+}
+
+fn is_conversion_by(def: &Def, term: &str) -> bool {
+    match def {
+        Def::Converter(converter) => converter.term.0.as_str() == term,
+        _ => false,
+    }
 }
 
 // The places of the errors that are told with one.

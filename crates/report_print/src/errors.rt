@@ -3,6 +3,7 @@
 use crate::places::Places;
 use core_syntax::syntax::{Error, Span};
 use std::alloc::{AllocError, Global};
+use std::fmt::Display;
 use std::slice;
 use text_lines::LineTable;
 
@@ -35,24 +36,26 @@ fn push_error(out: &mut String, error: &Error, places: Places<'_>) -> Result<(),
     let kind = error.kind();
     write!(out, "{kind} at ")?;
     match error {
-        Error::TypeError { msg, span }
-        | Error::UnreachableError { msg, span }
-        | Error::LimitError { msg, span, .. } => {
-            push_placed(out, slice::from_ref(span), msg.as_str(), places)
+        Error::TypeError { msg, span } => push_placed(out, slice::from_ref(span), msg, places),
+        Error::UnreachableError { msg, span } => {
+            push_placed(out, slice::from_ref(span), msg, places)
         }
-        Error::OverlapError { msg, rules } => push_placed(out, rules, msg.as_str(), places),
+        Error::LimitError { msg, span, .. } => {
+            push_placed(out, slice::from_ref(span), msg, places)
+        }
+        Error::OverlapError { msg, rules } => push_placed(out, rules, msg, places),
         Error::ShadowedError { shadowed, mask } => push_shadowed(out, shadowed, *mask, places),
     }
 }
 
-fn push_placed(
+fn push_placed<M: Display>(
     out: &mut String,
     spans: &[Span],
-    text: &str,
+    msg: &M,
     places: Places<'_>,
 ) -> Result<(), AllocError> {
     push_places(out, spans, places)?;
-    write!(out, ": {text}")
+    write!(out, ": {msg}")
 }
 
 fn push_shadowed(

@@ -21,8 +21,8 @@ ghost use Rattle.core_syntax.specs.Positions.{NotesAt, expr_positions, iflet_pos
 use crate::term_env::TermEnv;
 use core_syntax::syntax::{Def, Error, Expr, Ident, IfLet, Pos, Rule};
 use core_typed as typed;
-use core_typed::reports::report_unmade;
-use core_types::{TermId, TypeEnv, TypeId, VarId};
+use core_types::{TermId, TypeEnv, TypeId, VarId, report_name};
+use core_why::Wrong;
 use std::alloc::AllocError;
 
 impl TermEnv {
@@ -44,7 +44,7 @@ impl TermEnv {
         if term.has_constructor() {
             return Ok(());
         }
-        report_unmade(errors, pos, name.0.as_str())
+        report_name(errors, pos, Wrong::NoConstructor, &name.0)
     }
 
     // The same of each of these uses.

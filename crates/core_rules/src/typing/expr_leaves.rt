@@ -6,7 +6,6 @@ ghost use Rattle.model.specs.lists.Syntax.{bool_expr, int_expr, prim_expr};
 ghost use Rattle.model.specs.lists.Tables.{Flags};
 ghost use Rattle.model.specs.lists.Setting.{is_expected};
 ghost use Rattle.core_types.specs.Envs.{IsInterned};
-ghost use Rattle.core_syntax.specs.NotedErrors.{NotesMore};
 ghost use Rattle.core_typed.specs.Elaborating.{Checks};
 ghost use Rattle.core_typed.specs.ExprViews.{expr_view};
 ghost use Rattle.core_rules.specs.ExprReadings.{expected, expr_reading};
@@ -21,8 +20,9 @@ use crate::typing::progress::{Progress, Stop};
 use core_syntax::syntax::{Error, Ident, Pos};
 use core_typed::Expr;
 use core_typed::checks::{check_bool, check_integer, constant_type, literal_number};
-use core_typed::reports::{expected_text, report, type_text};
-use core_types::{TypeEnv, TypeId};
+use core_typed::reports::report_mismatch;
+use core_types::{TypeEnv, TypeId, report, report_name};
+use core_why::{Typed, Why, Wrong};
 use std::alloc::AllocError;
 
 impl TermEnv {
@@ -60,11 +60,7 @@ impl TermEnv {
         ensures unlimited { NotLimited result }
     {
         let Some(ty) = expected_ty else {
-            report(
-                &mut work.errors,
-                pos,
-                "integer literal in a context that needs an explicit type",
-            )?;
+            report(&mut work.errors, pos, Why::UntypedInteger)?;
             return Ok(None);
         };
         check_integer(tyenv, &mut work.errors, pos, val, ty)?;
@@ -91,11 +87,19 @@ impl TermEnv {
     {
         let name = tyenv.intern_mut(val)?;
         let Some(ty) = constant_type(tyenv, name) else {
-            report(&mut work.errors, pos, "Unknown constant")?;
+            report_name(&mut work.errors, pos, Wrong::UnknownConstant, &val.0)?;
             return Ok(None);
         };
         if !meets_expected(ty, expected_ty) {
-            report_constant(tyenv, &mut work.errors, pos, val, ty, expected_ty)?;
+            report_mismatch(
+                tyenv,
+                &mut work.errors,
+                pos,
+                Typed::Constant,
+                val,
+                ty,
+                expected_ty,
+            )?;
             return Ok(None);
         }
         Ok(Some(Expr::ConstPrim(ty, name)))
@@ -118,25 +122,4 @@ fn check_truth(
         Some(ty) => check_bool(tyenv, errors, pos, val, ty),
         None => Ok(()),
     }
-}
-
-// Notes that a constant has another type than is expected.
-fn report_constant(
-    tyenv: &TypeEnv,
-    errors: &mut Vec<Error>,
-    pos: Pos,
-    val: &Ident,
-    has: TypeId,
-    want: Option<TypeId>,
-) -> Result<(), AllocError>
-    ensures noted { OnOk result (NotesMore errors.old.items errors.new.items) }
-    ensures places { OnOk result (NotesAt (position pos ∷ []) errors.old.items errors.new.items) }
-{
-    let name = val.0.as_str();
-    let want = expected_text(tyenv, want);
-    let has = type_text(tyenv, has);
-    let msg = format_args!(
-        "Constant '{name}' has wrong type: expected {want}, but is actually {has}"
-    );
-    report(errors, pos, msg)
 }

@@ -24,8 +24,9 @@ use core_syntax::syntax::{Error, Expr, Ident, Pos};
 use core_terms::{Term, TermFlags, TermKind};
 use core_typed::BoundVar;
 use core_typed::checks::check_count;
-use core_typed::reports::{check, expected_text, report, report_unmade, type_text};
-use core_types::{TypeEnv, TypeId};
+use core_typed::reports::report_mismatch;
+use core_types::{TypeEnv, TypeId, report_name};
+use core_why::{Typed, Wrong};
 use std::alloc::AllocError;
 
 /// What the use of a variable in an expression stands for.
@@ -100,7 +101,7 @@ impl TermEnv {
             (expr_view whole.now) flags (expected expected_ty) result }
     {
         let Some(bound) = find_var(tyenv, work, name) else {
-            report_variable(&mut work.errors, pos, name)?;
+            report_name(&mut work.errors, pos, Wrong::UnknownVariable, &name.0)?;
             return Ok(VarUse::Wrong);
         };
         if let Some(by) = self.expr_converter(bound.ty, expected_ty) {
@@ -109,10 +110,19 @@ impl TermEnv {
             return Ok(VarUse::Conversion(inside, left));
         }
         if let Some(by) = self.declared_converter(bound.ty, expected_ty) {
-            report_unmade(&mut work.errors, pos, tyenv.text_of(by.name))?;
+            let name = tyenv.text_of(by.name);
+            report_name(&mut work.errors, pos, Wrong::NoConstructor, name)?;
             return Ok(VarUse::Wrong);
         }
-        check_variable(tyenv, &mut work.errors, pos, name, bound.ty, expected_ty)?;
+        check_expected(
+            tyenv,
+            &mut work.errors,
+            pos,
+            Typed::Variable,
+            name,
+            bound.ty,
+            expected_ty,
+        )?;
         Ok(VarUse::Var(bound))
     }
 
@@ -149,7 +159,8 @@ impl TermEnv {
             return Ok(CallUse::Conversion(inside, left));
         }
         if let Some(by) = self.declared_converter(term.ret_ty, expected_ty) {
-            report_unmade(&mut work.errors, pos, tyenv.text_of(by.name))?;
+            let name = tyenv.text_of(by.name);
+            report_name(&mut work.errors, pos, Wrong::NoConstructor, name)?;
             return Ok(CallUse::Wrong);
         }
         check_call(tyenv, work, term, sym, args.len(), pos, expected_ty, flags)?;
@@ -180,12 +191,13 @@ fn find_var(tyenv: &TypeEnv, work: &Progress, name: &Ident) -> Option<BoundVar>
     work.lookup(sym)
 }
 
-// Whether a variable has the type that is expected, where one is; else this is noted.
+// Whether what has this name has the type that is expected, where one is; else this is noted.
 #[tactic(auto, using(core_syntax::proofs::Positioned::notes_nothing))]
-fn check_variable(
+fn check_expected(
     tyenv: &TypeEnv,
     errors: &mut Vec<Error>,
     pos: Pos,
+    what: Typed,
     name: &Ident,
     has: TypeId,
     want: Option<TypeId>,
@@ -196,11 +208,7 @@ fn check_variable(
     if meets_expected(has, want) {
         return Ok(());
     }
-    let name = name.0.as_str();
-    let wanted = expected_text(tyenv, want);
-    let own = type_text(tyenv, has);
-    let msg = format_args!("Variable '{name}' has type {own} but we need {wanted} in context");
-    report(errors, pos, msg)
+    report_mismatch(tyenv, errors, pos, what, name, has, want)
 }
 
 // Whether a call has the type that is expected, where one is, the flags in force allow it, and it has as many arguments as
@@ -221,36 +229,21 @@ fn check_call(
     ensures remains { Remains work.old work.new }
     ensures places { OnOk result (NotesAt (position pos ∷ []) work.old.errors.items work.new.errors.items) }
 {
-    check_type(tyenv, &mut work.errors, pos, term.ret_ty, expected_ty)?;
+    check_expected(
+        tyenv,
+        &mut work.errors,
+        pos,
+        Typed::Constructor,
+        sym,
+        term.ret_ty,
+        expected_ty,
+    )?;
     check_flags(&mut work.errors, pos, sym, term, flags)?;
     check_count(&mut work.errors, pos, sym, args, term.arg_tys.len())?;
     Ok(())
 }
 
-// Whether a call has the type that is expected, where one is; else this is noted.
-#[tactic(auto, using(core_syntax::proofs::Positioned::notes_nothing))]
-fn check_type(
-    tyenv: &TypeEnv,
-    errors: &mut Vec<Error>,
-    pos: Pos,
-    has: TypeId,
-    want: Option<TypeId>,
-) -> Result<(), AllocError>
-    ensures checks { OnOk result (Checks errors.old.items errors.new.items (is_expected (expected want) has.0 ≡ true)) }
-    ensures places { OnOk result (NotesAt (position pos ∷ []) errors.old.items errors.new.items) }
-{
-    if meets_expected(has, want) {
-        return Ok(());
-    }
-    let wanted = expected_text(tyenv, want);
-    let own = type_text(tyenv, has);
-    let msg = format_args!(
-        "Mismatched types: expression expects type '{wanted}' but term has return type '{own}'"
-    );
-    report(errors, pos, msg)
-}
-
-// Whether the flags in force allow a call; else each that forbids it is noted, with what helps.
+// Whether the flags in force allow a call; else each that forbids it is noted.
 #[tactic(auto, using(core_syntax::proofs::Positioned::notes_nothing, core_syntax::proofs::Positioned::notes_both))]
 fn check_flags(
     errors: &mut Vec<Error>,
@@ -265,26 +258,40 @@ fn check_flags(
     let TermKind::Decl { flags: own, .. } = &term.kind else {
         return Ok(());
     };
-    let name = sym.0.as_str();
-    let msg = format_args!("Used non-pure constructor '{name}' in pure expression context");
-    check(errors, pos, is_pure_enough(flags, *own), msg)?;
-    let msg = format_args!("Used multi-constructor '{name}' but this rule is not in a multi-term");
-    check(errors, pos, is_single_enough(flags, *own), msg)?;
-    let more = help_for_partial(flags);
-    let msg = format_args!(
-        "Rule can't use partial constructor '{name}' on RHS; try moving it to if-let{more}"
-    );
-    check(errors, pos, is_total_enough(flags, *own), msg)?;
+    let pure = is_pure_enough(flags, *own);
+    check_allowed(errors, pos, sym, pure, Wrong::Impure)?;
+    let single = is_single_enough(flags, *own);
+    check_allowed(errors, pos, sym, single, Wrong::MultiConstructor)?;
+    let total = is_total_enough(flags, *own);
+    check_allowed(errors, pos, sym, total, partial_under(flags))?;
     Ok(())
 }
 
-// What else helps where a term may give no value and the flags in force forbid that.
-fn help_for_partial(flags: TermFlags) -> &'static str {
+// What isn't right where a term may give no value and the flags in force forbid that.
+fn partial_under(flags: TermFlags) -> Wrong {
     if flags.multi {
-        ""
+        Wrong::PartialInMulti
     } else {
-        " or make this rule's term partial too"
+        Wrong::Partial
     }
+}
+
+// Notes what isn't right with a call, unless it is allowed.
+#[tactic(auto, using(core_syntax::proofs::Positioned::notes_nothing))]
+fn check_allowed(
+    errors: &mut Vec<Error>,
+    pos: Pos,
+    sym: &Ident,
+    is_allowed: bool,
+    wrong: Wrong,
+) -> Result<(), AllocError>
+    ensures checks { OnOk result (Checks errors.old.items errors.new.items (is_allowed ≡ true)) }
+    ensures places { OnOk result (NotesAt (position pos ∷ []) errors.old.items errors.new.items) }
+{
+    if is_allowed {
+        return Ok(());
+    }
+    report_name(errors, pos, wrong, &sym.0)
 }
 
 // Whether a term of flags of its own is pure where the flags in force ask for that.
@@ -308,15 +315,6 @@ fn is_total_enough(flags: TermFlags, own: TermFlags) -> bool
     flags.partial || !own.partial
 }
 
-// Notes that no variable has the name.
-fn report_variable(errors: &mut Vec<Error>, pos: Pos, name: &Ident) -> Result<(), AllocError>
-    ensures noted { OnOk result (NotesMore errors.old.items errors.new.items) }
-    ensures places { OnOk result (NotesAt (position pos ∷ []) errors.old.items errors.new.items) }
-{
-    let msg = format_args!("Unknown variable '{}'", name.0);
-    report(errors, pos, msg)
-}
-
 // Notes that no term has the name, which may be that of a variable.
 fn report_unknown(
     tyenv: &TypeEnv,
@@ -327,12 +325,11 @@ fn report_unknown(
     ensures noted { OnOk result (NotesMore work.old.errors.items work.new.errors.items) }
     ensures places { OnOk result (NotesAt (position pos ∷ []) work.old.errors.items work.new.errors.items) }
 {
-    let hint = match find_var(tyenv, work, sym) {
-        Some(_) => { ". Variable binding under this name exists; try removing the parens?" }
-        None => "",
+    let wrong = match find_var(tyenv, work, sym) {
+        Some(_) => Wrong::CalledVariable,
+        None => Wrong::UnknownConstructor,
     };
-    let msg = format_args!("Unknown term in expression: '{}'{hint}", sym.0);
-    report(&mut work.errors, pos, msg)
+    report_name(&mut work.errors, pos, wrong, &sym.0)
 }
 
 // Whether an expression of a type may stand where a type, or any type, is expected.

@@ -13,9 +13,9 @@ ghost use Rattle.core_syntax.specs.Positions.{NotesAt};
 
 use crate::typing::progress::Progress;
 use core_syntax::syntax::{Error, LetDef, Pos};
-use core_typed::reports::report;
 use core_typed::{BoundVar, Expr};
-use core_types::{Sym, TypeEnv, TypeId, VarId};
+use core_types::{Sym, TypeEnv, TypeId, VarId, report};
+use core_why::Why;
 use std::alloc::AllocError;
 
 /// The name and the type of a let's definition. A type that isn't known is noted.
@@ -45,8 +45,9 @@ fn report_type(errors: &mut Vec<Error>, pos: Pos, def: &LetDef) -> Result<(), Al
     ensures noted { OnOk result (NotesMore errors.old.items errors.new.items) }
     ensures places { OnOk result (NotesAt (position pos ∷ []) errors.old.items errors.new.items) }
 {
-    let msg = format_args!("Unknown type {} for variable '{}'", def.ty.0, def.var.0);
-    report(errors, pos, msg)
+    let ty = def.ty.0.clone()?;
+    let variable = def.var.0.clone()?;
+    report(errors, pos, Why::LetType { ty, variable })
 }
 
 /// Binds the name of a definition to its value, and keeps what the name stood for before.

@@ -15,11 +15,11 @@ ghost use Rattle.core_rules.specs.RulePositions.{StaysPlaced};
 
 use crate::term_env::TermEnv;
 use crate::typing::progress::{Progress, Stop};
-use core_syntax::syntax::{Error, Ident, Pos};
+use core_syntax::syntax::{Ident, Pos};
 use core_typed::Pattern;
 use core_typed::checks::{check_bool, check_integer, check_same, constant_type, literal_number};
-use core_typed::reports::{report, type_text};
-use core_types::{Sym, TypeEnv, TypeId};
+use core_types::{Sym, TypeEnv, TypeId, report, report_name};
+use core_why::{Typed, Why, Wrong};
 use std::alloc::AllocError;
 
 impl TermEnv {
@@ -46,7 +46,15 @@ impl TermEnv {
             let id = work.add_var(name, expected_ty)?;
             return Ok(Some(Pattern::BindPattern(expected_ty, id, of)));
         };
-        check_bound(tyenv, &mut work.errors, pos, var, bound.ty, expected_ty)?;
+        check_same(
+            tyenv,
+            &mut work.errors,
+            pos,
+            Typed::Bound,
+            var,
+            bound.ty,
+            expected_ty,
+        )?;
         Ok(Some(Pattern::Var(bound.ty, bound.id)))
     }
 
@@ -107,11 +115,18 @@ impl TermEnv {
     {
         let name = tyenv.intern_mut(val)?;
         let Some(ty) = constant_type(tyenv, name) else {
-            report(&mut work.errors, pos, "Unknown constant")?;
+            report_name(&mut work.errors, pos, Wrong::UnknownConstant, &val.0)?;
             return Ok(None);
         };
-        let msg = "Type mismatch for constant";
-        check_same(&mut work.errors, pos, ty, expected_ty, msg)?;
+        check_same(
+            tyenv,
+            &mut work.errors,
+            pos,
+            Typed::MatchedConstant,
+            val,
+            ty,
+            expected_ty,
+        )?;
         Ok(Some(Pattern::ConstPrim(ty, name)))
     }
 
@@ -154,38 +169,9 @@ impl TermEnv {
         ensures places { StaysPlaced (position pos ∷ []) work.old.errors.items work.new.errors.items result }
         ensures unlimited { NotLimited result }
     {
-        report(
-            &mut work.errors,
-            pos,
-            "macro argument outside of an extractor template",
-        )?;
+        report(&mut work.errors, pos, Why::MacroArgument(index))?;
         Ok(None)
     }
-}
-
-// Whether a variable that is bound has the type that is expected; else this is noted.
-#[tactic(auto, using(core_syntax::proofs::Positioned::notes_nothing))]
-fn check_bound(
-    tyenv: &TypeEnv,
-    errors: &mut Vec<Error>,
-    pos: Pos,
-    var: &Ident,
-    has: TypeId,
-    want: TypeId,
-) -> Result<(), AllocError>
-    ensures checks { OnOk result (Checks errors.old.items errors.new.items (has.0 ≡ want.0)) }
-    ensures places { OnOk result (NotesAt (position pos ∷ []) errors.old.items errors.new.items) }
-{
-    if has == want {
-        return Ok(());
-    }
-    let name = var.0.as_str();
-    let wanted = type_text(tyenv, want);
-    let own = type_text(tyenv, has);
-    let msg = format_args!(
-        "Mismatched types: pattern expects type '{wanted}' but already-bound var '{name}' has type '{own}'"
-    );
-    report(errors, pos, msg)
 }
 
 // Whether a name stands for no variable; else this is noted.
@@ -198,6 +184,5 @@ fn check_new(work: &mut Progress, name: Sym, var: &Ident, pos: Pos) -> Result<()
     if work.lookup(name).is_none() {
         return Ok(());
     }
-    let msg = format_args!("Re-bound variable name in LHS pattern: '{}'", var.0);
-    report(&mut work.errors, pos, msg)
+    report_name(&mut work.errors, pos, Wrong::Rebound, &var.0)
 }

@@ -7,7 +7,6 @@ ghost use Rattle.model.specs.lists.Syntax.{term_pattern};
 ghost use Rattle.core_terms.specs.Terms.{has_extractor_kind, has_extractor_term};
 ghost use Rattle.core_terms.specs.TermViews.{term_view};
 ghost use Rattle.core_types.specs.Envs.{IsInterned};
-ghost use Rattle.core_syntax.specs.NotedErrors.{NotesMore};
 ghost use Rattle.core_typed.specs.Elaborating.{Checks};
 ghost use Rattle.core_rules.specs.Progress.{Remains};
 ghost use Rattle.core_rules.specs.PatternUses.{found_term, found_converter, found_template, inside_term, UsesTerm};
@@ -20,9 +19,9 @@ use crate::term_env::TermEnv;
 use crate::typing::progress::{Progress, Stop};
 use core_syntax::syntax::{Error, Ident, Pattern, Pos};
 use core_terms::{ExtractorKind, Term, TermKind};
-use core_typed::checks::check_count;
-use core_typed::reports::{report, type_text};
-use core_types::{TypeEnv, TypeId};
+use core_typed::checks::{check_count, check_same};
+use core_types::{TypeEnv, TypeId, report_name};
+use core_why::{Typed, Wrong};
 use std::alloc::AllocError;
 
 /// What the use of a term in a pattern stands for.
@@ -99,7 +98,7 @@ impl TermEnv {
             (pattern_views args.now) expected_ty.0 result }
     {
         let Some(term) = self.find_term(tyenv, sym) else {
-            report_unknown(&mut work.errors, pos, sym)?;
+            report_name(&mut work.errors, pos, Wrong::UnknownExtractor, &sym.0)?;
             return Ok(PatternUse::Wrong);
         };
         if let Some(by) = self.pattern_converter(term.ret_ty, expected_ty) {
@@ -151,32 +150,17 @@ fn check_use(
     ensures remains { Remains work.old work.new }
     ensures places { OnOk result (NotesAt (position pos ∷ []) work.old.errors.items work.new.errors.items) }
 {
-    check_type(tyenv, &mut work.errors, pos, term.ret_ty, expected_ty)?;
+    check_same(
+        tyenv,
+        &mut work.errors,
+        pos,
+        Typed::Extractor,
+        sym,
+        term.ret_ty,
+        expected_ty,
+    )?;
     check_count(&mut work.errors, pos, sym, args, term.arg_tys.len())?;
     Ok(())
-}
-
-// Whether a term is of the type that is expected; else this is noted.
-#[tactic(auto, using(core_syntax::proofs::Positioned::notes_nothing))]
-fn check_type(
-    tyenv: &TypeEnv,
-    errors: &mut Vec<Error>,
-    pos: Pos,
-    has: TypeId,
-    want: TypeId,
-) -> Result<(), AllocError>
-    ensures checks { OnOk result (Checks errors.old.items errors.new.items (has.0 ≡ want.0)) }
-    ensures places { OnOk result (NotesAt (position pos ∷ []) errors.old.items errors.new.items) }
-{
-    if has == want {
-        return Ok(());
-    }
-    let wanted = type_text(tyenv, want);
-    let own = type_text(tyenv, has);
-    let msg = format_args!(
-        "Mismatched types: pattern expects type '{wanted}' but term has return type '{own}'"
-    );
-    report(errors, pos, msg)
 }
 
 // Whether a term has an extractor, and one that a rule may use whose term is multi or not; else this is noted.
@@ -191,18 +175,13 @@ fn check_extractor(
     ensures checks { OnOk result (Checks errors.old.items errors.new.items (is_matchable multi (term_view term.now).kind ≡ true)) }
     ensures places { OnOk result (NotesAt (position pos ∷ []) errors.old.items errors.new.items) }
 {
-    let name = sym.0.as_str();
     if !term.has_extractor() {
-        let msg = format_args!(
-            "Cannot use term '{name}' that does not have a defined extractor in a left-hand side pattern"
-        );
-        return report(errors, pos, msg);
+        return report_name(errors, pos, Wrong::NoExtractor, &sym.0);
     }
     if is_usable(term, multi) {
         return Ok(());
     }
-    let msg = format_args!("Used multi-extractor '{name}' but this rule is not in a multi-term");
-    report(errors, pos, msg)
+    report_name(errors, pos, Wrong::MultiExtractor, &sym.0)
 }
 
 // Whether a rule whose term is multi or not may use a term's extractor: those of multi terms give many answers.
@@ -214,13 +193,4 @@ fn is_usable(term: &Term, multi: bool) -> bool
         TermKind::Decl { flags: own, .. } => multi || !own.multi,
         TermKind::EnumVariant { .. } | TermKind::Struct => true,
     }
-}
-
-// Notes that no term has the name.
-fn report_unknown(errors: &mut Vec<Error>, pos: Pos, sym: &Ident) -> Result<(), AllocError>
-    ensures noted { OnOk result (NotesMore errors.old.items errors.new.items) }
-    ensures places { OnOk result (NotesAt (position pos ∷ []) errors.old.items errors.new.items) }
-{
-    let msg = format_args!("Unknown term in pattern: '{}'", sym.0);
-    report(errors, pos, msg)
 }

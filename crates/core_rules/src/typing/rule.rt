@@ -19,11 +19,11 @@ use crate::term_env::TermEnv;
 use crate::typing::progress::{Progress, Stop};
 use crate::typing::sides::RuleSides;
 use core_syntax::syntax;
-use core_syntax::syntax::{Error, Pos};
+use core_syntax::syntax::{Error, Ident, Pos};
 use core_terms::{Term, TermFlags, TermKind};
-use core_typed::reports::report;
 use core_typed::{BoundVar, Rule};
-use core_types::{RuleId, Sym, TypeEnv};
+use core_types::{RuleId, Sym, TypeEnv, report, report_name};
+use core_why::{Why, Wrong};
 use std::alloc::AllocError;
 
 impl TermEnv {
@@ -52,18 +52,15 @@ impl TermEnv {
         ensures stands { IfOk result (StandsIf (S.position rule.now.pos)) }
     {
         let Some(sym) = rule.pattern.root_term() else {
-            let what = "Rule does not have a term at the root of its left-hand side";
-            report(&mut work.errors, rule.pos, what)?;
+            report(&mut work.errors, rule.pos, Why::NoRoot)?;
             return Ok(None);
         };
         let Some(term) = self.find_term(tyenv, sym) else {
-            let what = "Cannot define a rule for an unknown term";
-            report(&mut work.errors, rule.pos, what)?;
+            report_name(&mut work.errors, rule.pos, Wrong::UndeclaredRoot, &sym.0)?;
             return Ok(None);
         };
         let Some(flags) = flags_of(term) else {
-            let what = "Cannot define a rule on a left-hand-side that is an enum variant";
-            report(&mut work.errors, rule.pos, what)?;
+            report_name(&mut work.errors, rule.pos, Wrong::RootOfVariant, &sym.0)?;
             return Ok(None);
         };
         let args = args_of(rule);
@@ -71,7 +68,7 @@ impl TermEnv {
         let Some(sides) = made else {
             return Ok(None);
         };
-        check_priority(&mut work.errors, rule.pos, rule.prio, flags)?;
+        check_priority(&mut work.errors, rule.pos, sym, rule.prio, flags)?;
         let whole = finish_rule(tyenv, &work.seen, rule, id, term, sides)?;
         Ok(Some(whole))
     }
@@ -108,6 +105,7 @@ fn flags_of(term: &Term) -> Option<TermFlags>
 fn check_priority(
     errors: &mut Vec<Error>,
     pos: Pos,
+    sym: &Ident,
     prio: Option<i64>,
     flags: TermFlags,
 ) -> Result<(), AllocError>
@@ -117,7 +115,7 @@ fn check_priority(
     if !(flags.multi && prio.is_some()) {
         return Ok(());
     }
-    report(errors, pos, "Cannot set rule priorities in multi-terms")
+    report_name(errors, pos, Wrong::PriorityInMulti, &sym.0)
 }
 
 // The rule of these sides and these variables. Its own name is met last.

@@ -12,10 +12,10 @@ ghost use Rattle.core_terms.specs.TermBreaches.{of_converters};
 ghost use Rattle.core_terms.specs.Signing.{ReadsTerms};
 ghost use Rattle.core_terms.specs.Converting.{ConvertersRead, ReadsConverter, ReadsIfConverter};
 
-use crate::reading::report_name;
 use crate::term_table::TermTable;
 use core_syntax::syntax::{Converter, Def, Error};
-use core_types::{TypeEnv, report};
+use core_types::{TypeEnv, report, report_name};
+use core_why::{Why, Wrong};
 use std::alloc::AllocError;
 
 impl TermTable {
@@ -77,19 +77,16 @@ impl TermTable {
         ensures terms { self.new.terms ≡ self.old.terms }
     {
         let Some(inner) = tyenv.get_type_by_name(&converter.inner_ty) else {
-            let what = "Unknown inner type for converter:";
             let name = &converter.inner_ty;
-            return report_name(errors, name.1, what, name);
+            return report_name(errors, name.1, Wrong::UnknownInner, &name.0);
         };
         let Some(outer) = tyenv.get_type_by_name(&converter.outer_ty) else {
-            let what = "Unknown outer type for converter:";
             let name = &converter.outer_ty;
-            return report_name(errors, name.1, what, name);
+            return report_name(errors, name.1, Wrong::UnknownOuter, &name.0);
         };
         let Some(term) = self.find_term(tyenv, &converter.term) else {
-            let what = "Unknown term for converter:";
             let name = &converter.term;
-            return report_name(errors, name.1, what, name);
+            return report_name(errors, name.1, Wrong::UnknownConverter, &name.0);
         };
         if self.converters.contains_key(&(inner, outer)) {
             return report_converted(errors, converter);
@@ -105,10 +102,7 @@ fn report_converted(errors: &mut Vec<Error>, converter: &Converter) -> Result<()
     ensures places { OnOk result (NotesAt (position converter.now.pos ∷ []) errors.old.items errors.new.items) }
     ensures told { OnOk result (Notes 1 (position converter.now.pos ∷ []) errors.old.items errors.new.items) }
 {
-    let alloc = *errors.allocator();
-    let msg = format!(in alloc;
-        "Converter already exists for this type pair: '{}', '{}'",
-        converter.inner_ty.0, converter.outer_ty.0
-    )?;
-    report(errors, converter.pos, msg.as_str())
+    let inner = converter.inner_ty.0.clone()?;
+    let outer = converter.outer_ty.0.clone()?;
+    report(errors, converter.pos, Why::ConverterTwice { inner, outer })
 }

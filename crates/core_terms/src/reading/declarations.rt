@@ -16,7 +16,8 @@ ghost use Rattle.core_terms.specs.TermPositions.{table_positions, IsPlacedAmong}
 use crate::reading::meet_name;
 use crate::term_table::TermTable;
 use core_syntax::syntax::{Decl, Def, Error};
-use core_types::{TypeEnv, report};
+use core_types::{TypeEnv, report_name};
+use core_why::Wrong;
 use std::alloc::AllocError;
 
 impl TermTable {
@@ -97,7 +98,5 @@ fn check_marks(errors: &mut Vec<Error>, decl: &Decl) -> Result<(), AllocError>
     if !(decl.multi && decl.partial) {
         return Ok(());
     }
-    let alloc = *errors.allocator();
-    let msg = format!(in alloc; "Term '{}' can't be both multi and partial", decl.term.0)?;
-    report(errors, decl.pos, msg.as_str())
+    report_name(errors, decl.pos, Wrong::MultiPartial, &decl.term.0)
 }

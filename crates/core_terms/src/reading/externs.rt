@@ -1,7 +1,7 @@
 //! How external constructors and extractors are read: functions from outside that make values of declared
 //! terms or take them apart.
 
-ghost use Rattle.std.specs.Prelude.{◌≡◌, [], ◌∷◌, ◌++◌, Contains, not, IfOk, OnOk};
+ghost use Rattle.std.specs.Prelude.{◌≡◌, [], ◌∷◌, ◌++◌, Contains, is_none, not, IfOk, OnOk};
 ghost use Rattle.model.specs.claims.Environments.{TypesRead, AreReadable, IsLeftByRefusal};
 ghost use Rattle.model.specs.lists.Tables.{external_constructor, external_extractor};
 ghost use Rattle.core_syntax.specs.Positions.{NotesAt, definition_positions, extern_positions, positions_of};
@@ -18,11 +18,12 @@ ghost use Rattle.core_terms.specs.TermBreaches.{of_externs, FirstStandsAt};
 ghost use Rattle.core_terms.specs.TermViews.{term_view};
 ghost use Rattle.core_terms.specs.TermPositions.{entry_positions, table_positions, taker_places, IsPlacedAmong};
 
-use crate::reading::{meet_name, report_name};
+use crate::reading::meet_name;
 use crate::term::{ConstructorKind, ExtractorKind, Term, TermKind};
 use crate::term_table::TermTable;
 use core_syntax::syntax::{Def, Error, Extern, Ident, Pos};
-use core_types::{Sym, TypeEnv, report};
+use core_types::{Sym, TypeEnv, report_name};
+use core_why::Wrong;
 use std::alloc::AllocError;
 
 impl TermTable {
@@ -124,7 +125,7 @@ impl TermTable {
         ensures placed { OnOk result (IsPlacedAmong (table_positions self.old) self.new) }
     {
         let Some(id) = self.find_term(tyenv, term) else {
-            return report_name(errors, pos, "Constructor declared on undefined term", term);
+            return report_name(errors, pos, Wrong::UndeclaredConstructor, &term.0);
         };
         if !may_have_constructor(errors, &self.terms[id.index()], term, pos)? {
             return Ok(());
@@ -152,7 +153,7 @@ impl TermTable {
         ensures placed { OnOk result (IsPlacedAmong (position pos ∷ table_positions self.old) self.new) }
     {
         let Some(id) = self.find_term(tyenv, term) else {
-            return report_name(errors, pos, "Extractor declared on undefined term", term);
+            return report_name(errors, pos, Wrong::UndeclaredExtractor, &term.0);
         };
         if !may_have_external(errors, &self.terms[id.index()], term, pos)? {
             return Ok(());
@@ -179,32 +180,33 @@ fn may_have_constructor(
     ensures noted { IfOk result (λ b. ReportsIf (not b) errors.old.items errors.new.items) }
     ensures places { OnOk result (NotesAt (position pos ∷ []) errors.old.items errors.new.items) }
 {
+    let Some(wrong) = why_no_constructor(entry) else {
+        return Ok(true);
+    };
+    report_name(errors, pos, wrong, &term.0)?;
+    Ok(false)
+}
+
+// What is against an external constructor of a term.
+fn why_no_constructor(entry: &Term) -> Option<Wrong>
+    ensures { is_none result ≡ lacks_constructor (term_view entry.now).kind }
+{
     match &entry.kind {
         TermKind::Decl {
             constructor_kind: None,
             ..
-        } => return Ok(true),
+        } => None,
         TermKind::Decl {
             constructor_kind: Some(ConstructorKind::InternalConstructor),
             ..
-        } => {
-            let what = "External constructor declared on term that already has rules:";
-            report_after(errors, pos, what, term)?;
-        }
+        } => Some(Wrong::ConstructorOfRules),
         TermKind::Decl {
             constructor_kind: Some(ConstructorKind::ExternalConstructor { .. }),
             ..
-        } => report(errors, pos, "Duplicate external constructor definition")?,
-        TermKind::EnumVariant { .. } => {
-            let what = "External constructor cannot be defined on enum variant:";
-            report_after(errors, pos, what, term)?;
-        }
-        TermKind::Struct => {
-            let what = "External constructor cannot be defined on a struct:";
-            report_after(errors, pos, what, term)?;
-        }
+        } => Some(Wrong::ConstructorTwice),
+        TermKind::EnumVariant { .. } => Some(Wrong::ConstructorOfVariant),
+        TermKind::Struct => Some(Wrong::ConstructorOfStruct),
     }
-    Ok(false)
 }
 
 // Whether a term can have an external extractor, which stands at this place: what is against it is noted.
@@ -219,6 +221,7 @@ fn may_have_external(
     ensures places { OnOk result (NotesAt (position pos ∷ entry_positions (term_view entry.now)) errors.old.items errors.new.items) }
     ensures begins { OnOk result (FirstStandsAt (position pos ∷ []) errors.old.items errors.new.items) }
 {
+    let name = term.0.as_str();
     match &entry.kind {
         TermKind::Decl {
             extractor_kind: None,
@@ -227,55 +230,37 @@ fn may_have_external(
         TermKind::Decl {
             extractor_kind: Some(earlier),
             ..
-        } => report_second(errors, pos, earlier)?,
-        TermKind::EnumVariant { .. } => {
-            let what = "Cannot define extractor for enum variant";
-            report_name(errors, pos, what, term)?;
-        }
-        TermKind::Struct => {
-            report_name(errors, pos, "Cannot define extractor for struct", term)?;
-        }
+        } => report_second(errors, pos, name, earlier, second_after(earlier))?,
+        TermKind::EnumVariant { .. } => report_name(errors, pos, Wrong::ExtractorOfVariant, name)?,
+        TermKind::Struct => report_name(errors, pos, Wrong::ExtractorOfStruct, name)?,
     }
     Ok(false)
 }
 
-// Notes an external extractor of a term that has an extractor already.
-fn report_second(
+// What isn't right with a second extractor, an external one, and what is said of the first.
+fn second_after(earlier: &ExtractorKind) -> (Wrong, Wrong) {
+    match earlier {
+        ExtractorKind::ExternalExtractor { .. } => (Wrong::ExtractorTwice, Wrong::FirstExtractor),
+        ExtractorKind::InternalExtractor { .. } => {
+            (Wrong::ExtractorOfTemplate, Wrong::FirstTemplateOfExtractor)
+        }
+    }
+}
+
+// Notes a second extractor of a term, and then the first: what isn't right with each is given.
+pub(crate) fn report_second(
     errors: &mut Vec<Error>,
     pos: Pos,
+    term: &str,
     earlier: &ExtractorKind,
+    wrong: (Wrong, Wrong),
 ) -> Result<(), AllocError>
     ensures noted { OnOk result (NotesMore errors.old.items errors.new.items) }
     ensures places { OnOk result (NotesAt (position pos ∷ taker_places earlier.now) errors.old.items errors.new.items) }
     ensures begins { OnOk result (FirstStandsAt (position pos ∷ []) errors.old.items errors.new.items) }
 {
-    let (second, first) = match earlier {
-        ExtractorKind::ExternalExtractor { .. } => (
-            "Duplicate external extractor definition",
-            "External extractor already defined",
-        ),
-        ExtractorKind::InternalExtractor { .. } => (
-            "Cannot define external extractor for term that already has an internal extractor macro body defined",
-            "Internal extractor macro body already defined",
-        ),
-    };
-    report(errors, pos, second)?;
-    report(errors, place_of(earlier), first)
-}
-
-// Notes at a place what is wrong with a name, without quotes.
-fn report_after(
-    errors: &mut Vec<Error>,
-    pos: Pos,
-    what: &str,
-    name: &Ident,
-) -> Result<(), AllocError>
-    ensures noted { OnOk result (NotesMore errors.old.items errors.new.items) }
-    ensures places { OnOk result (NotesAt (position pos ∷ []) errors.old.items errors.new.items) }
-{
-    let alloc = *errors.allocator();
-    let msg = format!(in alloc; "{what} {}", name.0)?;
-    report(errors, pos, msg.as_str())
+    report_name(errors, pos, wrong.0, term)?;
+    report_name(errors, place_of(earlier), wrong.1, term)
 }
 
 // Where an extractor is defined: an internal one at its template.

@@ -16,6 +16,7 @@ use crate::term::{ExtractorKind, Term, TermKind};
 use crate::term_table::TermTable;
 use core_syntax::syntax::{Error, Pos};
 use core_types::{TermId, TypeEnv, report};
+use core_why::Why;
 use std::alloc::{AllocError, Global};
 
 // How far a term is walked.
@@ -86,31 +87,29 @@ impl TermTable {
         let Some(pos) = template_pos(&self.terms[repeated.index()]) else {
             return Ok(());
         };
-        self.report_recursion(tyenv, errors, pos, root, &search.path)
+        self.report_recursion(tyenv, errors, pos, &search.path)
     }
 
-    // Notes recursion that is met from a root along a path, which begins with it.
+    // Notes recursion that is met along a path.
     fn report_recursion(
         &self,
         tyenv: &TypeEnv,
         errors: &mut Vec<Error>,
         pos: Pos,
-        root: TermId,
         path: &[TermId],
     ) -> Result<(), AllocError>
-        requires root { root.0 < length self.now.terms.items }
-        requires path { All (λ t. t.0 < length self.now.terms.items) path.now }
+        requires { All (λ t. t.0 < length self.now.terms.items) path.now }
         ensures noted { OnOk result (NotesMore errors.old.items errors.new.items) }
         ensures places { OnOk result (NotesAt (position pos ∷ []) errors.old.items errors.new.items) }
     {
-        let alloc = *errors.allocator();
-        let name = tyenv.text_of(self.terms[root.index()].name);
-        let mut msg = format!(in alloc; "`{name}` extractor definition is recursive: {name}")?;
-        for term in path.iter().skip(1) {
-            msg.push_str(" -> ")?;
-            msg.push_str(tyenv.text_of(self.terms[term.index()].name))?;
+        let mut way = String::new(*errors.allocator());
+        for term in path {
+            if !way.is_empty() {
+                way.push(' ')?;
+            }
+            way.push_str(tyenv.text_of(self.terms[term.index()].name))?;
         }
-        report(errors, pos, msg.as_str())
+        report(errors, pos, Why::Recursion(way))
     }
 }
 

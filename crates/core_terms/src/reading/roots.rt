@@ -15,7 +15,8 @@ use crate::reading::set_internal;
 use crate::term::{Term, TermKind};
 use crate::term_table::TermTable;
 use core_syntax::syntax::{Def, Error, Rule};
-use core_types::{TypeEnv, report};
+use core_types::{TypeEnv, report, report_name};
+use core_why::{Why, Wrong};
 use std::alloc::AllocError;
 
 impl TermTable {
@@ -76,14 +77,13 @@ impl TermTable {
         ensures placed { OnOk result (IsPlacedAmong (table_positions self.old) self.new) }
     {
         let Some(root) = rule.pattern.root_term() else {
-            let what = "Rule does not have a term at the LHS root";
-            return report(errors, rule.pos, what);
+            return report(errors, rule.pos, Why::NoRoot);
         };
         let Some(id) = self.find_term(tyenv, root) else {
-            return report(errors, rule.pos, "Rule LHS root term is not defined");
+            return report_name(errors, rule.pos, Wrong::UndeclaredRoot, &root.0);
         };
-        if let Some(what) = what_is_no_root(&self.terms[id.index()]) {
-            return report(errors, rule.pos, what);
+        if let Some(wrong) = why_no_root(&self.terms[id.index()]) {
+            return report_name(errors, rule.pos, wrong, &root.0);
         }
         set_internal(&mut self.terms[id.index()]);
         Ok(())
@@ -91,14 +91,12 @@ impl TermTable {
 }
 
 // Why a term can't have rules, or None where it can: it is a declared one.
-fn what_is_no_root(term: &Term) -> Option<&'static str>
+fn why_no_root(term: &Term) -> Option<Wrong>
     ensures { is_none result ≡ is_declared_kind (term_view term.now).kind }
 {
     match &term.kind {
         TermKind::Decl { .. } => None,
-        TermKind::EnumVariant { .. } => {
-            Some("Rule LHS root term is incorrect kind; cannot be enum variant")
-        }
-        TermKind::Struct => Some("Rule LHS root term is incorrect kind; cannot be struct"),
+        TermKind::EnumVariant { .. } => Some(Wrong::RootOfVariant),
+        TermKind::Struct => Some(Wrong::RootOfStruct),
     }
 }

@@ -14,13 +14,14 @@ ghost use Rattle.core_terms.specs.ReadTerms.{RootsRead};
 ghost use Rattle.core_terms.specs.TermBreaches.{of_definitions, FirstStandsAt};
 ghost use Rattle.core_terms.specs.TermViews.{term_view};
 ghost use Rattle.core_terms.specs.Templating.{AddsFound, AreArguments, AreCallees, AreFound, CantTakeTemplate, HaveUnknown, IsTemplate, IsWrongTemplate, NameNothing, ReadsIfTemplate, ReadsExtractor, SetsCallees, TakesTemplate, TemplatesRead, may_have_template};
-ghost use Rattle.core_terms.specs.TermPositions.{argument_places, entry_positions, table_positions, taker_places, IsPlacedAmong};
+ghost use Rattle.core_terms.specs.TermPositions.{argument_places, entry_positions, table_positions, IsPlacedAmong};
 
-use crate::reading::externs::place_of;
+use crate::reading::externs::report_second;
 use crate::term::{ExtractorKind, Term, TermFlags, TermKind};
 use crate::term_table::TermTable;
 use core_syntax::syntax::{Def, Error, Extractor, Ident, Pattern, Pos};
-use core_types::{TermId, TypeEnv, report};
+use core_types::{TermId, TypeEnv, report, report_name};
+use core_why::{Why, Wrong};
 use std::alloc::{AllocError, Global};
 
 impl TermTable {
@@ -123,8 +124,8 @@ impl TermTable {
         ensures placed { OnOk result (IsPlacedAmong (extractor_positions (extractor_view extractor.now) ++ table_positions self.old) self.new) }
     {
         let Some(id) = self.find_term(tyenv, &extractor.term) else {
-            let what = "Extractor macro body definition on a non-existent term";
-            report(errors, extractor.pos, what)?;
+            let name = &extractor.term.0;
+            report_name(errors, extractor.pos, Wrong::UndeclaredTemplate, name)?;
             return Ok(false);
         };
         self.read_template_of(tyenv, errors, callees, id, extractor)?;
@@ -155,9 +156,8 @@ impl TermTable {
         ensures placed { OnOk result (IsPlacedAmong (extractor_positions (extractor_view extractor.now) ++ table_positions self.old) self.new) }
     {
         let arguments = arguments_of(*errors.allocator(), &extractor.template)?;
-        if let Some((pos, _)) = arguments.first() {
-            let what = "macro argument outside of an extractor template";
-            return report(errors, *pos, what);
+        if let Some((pos, index)) = arguments.first() {
+            return report(errors, *pos, Why::MacroArgument(*index));
         }
         let named = self.terms_named(tyenv, errors, extractor)?;
         set_callees(callees, id, named);
@@ -253,12 +253,17 @@ impl TermTable {
         ensures begins { OnOk result (FirstStandsAt (position extractor.now.pos ∷ []) errors.old.items errors.new.items) }
         ensures placed { OnOk result (IsPlacedAmong (extractor_positions (extractor_view extractor.now) ++ table_positions self.old) self.new) }
     {
-        if !can_have_template(errors, &self.terms[id.index()], extractor.pos)? {
+        if !can_have_template(
+            errors,
+            &self.terms[id.index()],
+            &extractor.term,
+            extractor.pos,
+        )? {
             return Ok(());
         }
         let template = template_of(*errors.allocator(), extractor)?;
         let count = self.terms[id.index()].arg_tys.len();
-        check_arguments(errors, extractor.pos, &template, count)?;
+        check_arguments(errors, extractor.pos, &extractor.term, &template, count)?;
         let kind = ExtractorKind::InternalExtractor { template };
         self.terms[id.index()].set_extractor(kind);
         Ok(())
@@ -305,21 +310,24 @@ fn report_unknown(
     ensures noted { OnOk result (NotesMore errors.old.items errors.new.items) }
     ensures places { OnOk result (NotesAt (position pos ∷ []) errors.old.items errors.new.items) }
 {
-    let alloc = *errors.allocator();
-    let msg = format!(in alloc;
-        "`{}` extractor definition references unknown term `{}`",
-        term.0, name.0
-    )?;
-    report(errors, pos, msg.as_str())
+    let term = term.0.clone()?;
+    let unknown = name.0.clone()?;
+    report(errors, pos, Why::TemplateTerm { term, unknown })
 }
 
 // Whether a term can have an internal extractor, which stands at this place: what is against it is noted.
-fn can_have_template(errors: &mut Vec<Error>, entry: &Term, pos: Pos) -> Result<bool, AllocError>
+fn can_have_template(
+    errors: &mut Vec<Error>,
+    entry: &Term,
+    term: &Ident,
+    pos: Pos,
+) -> Result<bool, AllocError>
     ensures free { IfOk result (λ b. b ≡ may_have_template (term_view entry.now).kind) }
     ensures noted { IfOk result (λ b. ReportsIf (not b) errors.old.items errors.new.items) }
     ensures places { OnOk result (NotesAt (position pos ∷ entry_positions (term_view entry.now)) errors.old.items errors.new.items) }
     ensures begins { OnOk result (FirstStandsAt (position pos ∷ []) errors.old.items errors.new.items) }
 {
+    let name = term.0.as_str();
     match &entry.kind {
         TermKind::Decl {
             flags: TermFlags { multi: false, .. },
@@ -329,41 +337,19 @@ fn can_have_template(errors: &mut Vec<Error>, entry: &Term, pos: Pos) -> Result<
         TermKind::Decl {
             extractor_kind: None,
             ..
-        } => {
-            let what = "A term declared with `multi` cannot have an internal extractor.";
-            report(errors, pos, what)?;
-        }
+        } => report_name(errors, pos, Wrong::TemplateOfMulti, name)?,
         TermKind::Decl {
             extractor_kind: Some(earlier),
             ..
-        } => report_again(errors, pos, earlier)?,
-        TermKind::EnumVariant { .. } => {
-            let what =
-                "Extractor macro body defined on term of incorrect kind; cannot be an enum variant";
-            report(errors, pos, what)?;
-        }
-        TermKind::Struct => {
-            let what = "Extractor macro body defined on term of incorrect kind; cannot be a struct";
-            report(errors, pos, what)?;
-        }
+        } => report_second(errors, pos, name, earlier, AGAIN)?,
+        TermKind::EnumVariant { .. } => report_name(errors, pos, Wrong::TemplateOfVariant, name)?,
+        TermKind::Struct => report_name(errors, pos, Wrong::TemplateOfStruct, name)?,
     }
     Ok(false)
 }
 
-// Notes an internal extractor of a term that has an extractor already.
-fn report_again(
-    errors: &mut Vec<Error>,
-    pos: Pos,
-    earlier: &ExtractorKind,
-) -> Result<(), AllocError>
-    ensures noted { OnOk result (NotesMore errors.old.items errors.new.items) }
-    ensures places { OnOk result (NotesAt (position pos ∷ taker_places earlier.now) errors.old.items errors.new.items) }
-    ensures begins { OnOk result (FirstStandsAt (position pos ∷ []) errors.old.items errors.new.items) }
-{
-    report(errors, pos, "Duplicate extractor definition")?;
-    let what = "Extractor was already defined here";
-    report(errors, place_of(earlier), what)
-}
+// What isn't right with an internal extractor of a term that has an extractor, and what is said of that one.
+const AGAIN: (Wrong, Wrong) = (Wrong::TemplateTwice, Wrong::FirstTemplate);
 
 // Notes the greatest argument that a template uses, where it is past the arguments that the term is
 // declared with.
@@ -371,6 +357,7 @@ fn report_again(
 fn check_arguments(
     errors: &mut Vec<Error>,
     pos: Pos,
+    term: &Ident,
     template: &Pattern,
     count: usize,
 ) -> Result<(), AllocError>
@@ -384,13 +371,20 @@ fn check_arguments(
     let Some((_, greatest)) = greatest_argument(&arguments) else {
         return Ok(());
     };
-    if *greatest < count {
+    let greatest = *greatest;
+    if greatest < count {
         return Ok(());
     }
-    let msg = format!(in alloc;
-        "extractor template uses argument {greatest} but the term has {count}"
-    )?;
-    report(errors, pos, msg.as_str())
+    let term = term.0.clone()?;
+    report(
+        errors,
+        pos,
+        Why::TemplateArgument {
+            term,
+            greatest,
+            count,
+        },
+    )
 }
 
 fn greatest_argument(arguments: &[(Pos, usize)]) -> Option<&(Pos, usize)>

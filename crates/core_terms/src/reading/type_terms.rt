@@ -5,7 +5,6 @@ ghost use Rattle.model.specs.lists.TermTable.{made_by, terms_made, variant_as_te
 ghost use Rattle.core_syntax.specs.Positions.{NotesAt};
 ghost use Rattle.core_syntax.specs.SyntaxViews.{position};
 ghost use Rattle.core_types.specs.TypeViews.{fields_view, type_view, type_views, variant_view};
-ghost use Rattle.core_syntax.specs.NotedErrors.{NotesMore};
 ghost use Rattle.core_terms.specs.Reading.{IsWithin};
 ghost use Rattle.core_terms.specs.TermViews.{kind_view};
 ghost use Rattle.core_terms.specs.Signing.{AddsAllMade, AddsMade, PushesTerm, made_entry};
@@ -15,7 +14,8 @@ ghost use Rattle.core_types.specs.TypePositions.{entry_positions as type_entry_p
 use crate::term::{Term, TermKind};
 use crate::term_table::TermTable;
 use core_syntax::syntax::{Error, Pos};
-use core_types::{Fields, Sym, TermId, Type, TypeEnv, TypeId, Variant, report};
+use core_types::{Fields, Sym, TermId, Type, TypeEnv, TypeId, Variant, report_name};
+use core_why::Wrong;
 use std::alloc::AllocError;
 
 impl TermTable {
@@ -86,8 +86,8 @@ impl TermTable {
     {
         for variant in variants {
             if self.term_map.contains_key(&variant.fullname) {
-                let what = "Duplicate enum variant constructor:";
-                return report_taken(tyenv, errors, pos, what, variant.fullname);
+                let wrong = Wrong::VariantTermTwice;
+                return report_name(errors, pos, wrong, tyenv.text_of(variant.fullname));
             }
             self.push_variant(ty, variant)?;
         }
@@ -125,8 +125,8 @@ impl TermTable {
         ensures placed { OnOk result (IsPlacedAmong (position pos ∷ table_positions self.old) self.new) }
     {
         if self.term_map.contains_key(&name) {
-            let what = "Duplicate struct constructor:";
-            return report_taken(tyenv, errors, pos, what, name);
+            let wrong = Wrong::StructTermTwice;
+            return report_name(errors, pos, wrong, tyenv.text_of(name));
         }
         self.push_made(name, ty, fields, pos, TermKind::Struct)
     }
@@ -158,20 +158,4 @@ impl TermTable {
         self.term_map.insert(name, id)?;
         Ok(())
     }
-}
-
-// Notes that the name of what a type makes is a term's already.
-fn report_taken(
-    tyenv: &TypeEnv,
-    errors: &mut Vec<Error>,
-    pos: Pos,
-    what: &str,
-    name: Sym,
-) -> Result<(), AllocError>
-    ensures noted { OnOk result (NotesMore errors.old.items errors.new.items) }
-    ensures places { OnOk result (NotesAt (position pos ∷ []) errors.old.items errors.new.items) }
-{
-    let alloc = *errors.allocator();
-    let msg = format!(in alloc; "{what} '{}'", tyenv.text_of(name))?;
-    report(errors, pos, msg.as_str())
 }

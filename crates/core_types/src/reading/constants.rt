@@ -8,9 +8,10 @@ ghost use Rattle.core_types.specs.Stages.{FillsTypes, ReadsConstants};
 ghost use Rattle.core_types.specs.ToldErrors.{NotesEach};
 ghost use Rattle.core_types.specs.TypeErrors.{TellsOfConstant};
 
-use crate::reading::report;
+use crate::reading::report_name;
 use crate::type_env::TypeEnv;
 use core_syntax::syntax::{Def, Error, Extern, Ident, Pos};
+use core_why::Wrong;
 use std::alloc::AllocError;
 
 impl TypeEnv {
@@ -55,7 +56,7 @@ impl TypeEnv {
             self.old errors.old.items self.new errors.new.items) }
     {
         let Some(id) = self.get_type_by_name(ty) else {
-            return report(errors, pos, "Unknown type for constant");
+            return report_name(errors, pos, Wrong::UnknownConstantType, &ty.0);
         };
         let sym = self.intern_mut(name)?;
         self.const_types.insert(sym, id)?;

@@ -1,23 +1,24 @@
 //! How the types of definitions are read, after all names of types are known. In each type the first thing
 //! that is wrong is noted and ends the work on it.
 
-ghost use Rattle.std.specs.Prelude.{◌≡◌, ◌&&◌, [], ◌∷◌, map, option_map, OnOk, IfOk, string_bytes};
+ghost use Rattle.std.specs.Prelude.{◌≡◌, ◌&&◌, [], map, option_map, OnOk, IfOk, string_bytes};
 ghost use Rattle.model.specs.lists.Syntax.{enum_value, struct_value};
 ghost use Rattle.core_syntax.specs.SyntaxViews.{position, name_view, fields_view, variant_view, type_view, definition_view, definition_views};
 ghost use Rattle.core_types.specs.Envs.{names_of, IsInterned};
 ghost use Rattle.core_types.specs.Promises.{TypeIsRead, PrimitiveIsRead, ValueIsRead, VariantsAreRead, OneVariantIsRead, DefinitionIsFilled};
 ghost use Rattle.core_types.specs.Stages.{NamesTypes, FillsTypes};
-ghost use Rattle.core_types.specs.ToldErrors.{Notes, NotesEach};
+ghost use Rattle.core_types.specs.ToldErrors.{NotesEach};
 ghost use Rattle.core_types.specs.TypeErrors.{TellsOfType};
 ghost use Rattle.core_types.specs.VariantReading.{NotesIf, IsNumberOf};
 
 use crate::ids::{Sym, TypeId, VariantId};
-use crate::reading::report;
+use crate::reading::report_name;
 use crate::type_env::TypeEnv;
 use crate::types::{Type, Variant};
 use core_syntax::stablemapset::StableSet;
 use core_syntax::syntax;
 use core_syntax::syntax::{Def, Error, Ident, TypeValue};
+use core_why::Wrong;
 use std::alloc::AllocError;
 
 impl TypeEnv {
@@ -54,11 +55,11 @@ impl TypeEnv {
             self.old errors.old.items self.new errors.new.items) }
     {
         if ty.is_nodebug {
-            report(errors, ty.pos, "primitive types cannot be marked `nodebug`")?;
+            report_name(errors, ty.pos, Wrong::NodebugPrimitive, &ty.name.0)?;
             return Ok(None);
         }
         if ty.is_extern {
-            report(errors, ty.pos, "primitive types cannot be marked `extern`")?;
+            report_name(errors, ty.pos, Wrong::ExternPrimitive, &ty.name.0)?;
             return Ok(None);
         }
         let name = self.intern_mut(inner)?;
@@ -170,7 +171,7 @@ impl TypeEnv {
         let fullname = self.intern_mut(&full_name)?;
         let name = self.intern_mut(&variant.name)?;
         if !seen.insert(name)? {
-            report_duplicate_variant(errors, variant)?;
+            report_name(errors, variant.pos, Wrong::VariantTwice, &variant.name.0)?;
             return Ok(None);
         }
         let Some(fields) = self.read_fields(errors, &variant.fields, Some(&variant.name))? else {
@@ -225,18 +226,6 @@ fn has_both_marks(errors: &mut Vec<Error>, ty: &syntax::Type) -> Result<bool, Al
     if !(ty.is_extern && ty.is_nodebug) {
         return Ok(false);
     }
-    report(errors, ty.pos, "external types cannot be marked `nodebug`")?;
+    report_name(errors, ty.pos, Wrong::NodebugExtern, &ty.name.0)?;
     Ok(true)
-}
-
-// Notes that the name of a variant is an earlier one's.
-fn report_duplicate_variant(
-    errors: &mut Vec<Error>,
-    variant: &syntax::Variant,
-) -> Result<(), AllocError>
-    ensures { OnOk result (Notes 1 (position variant.now.pos ∷ []) errors.old.items errors.new.items) }
-{
-    let alloc = *errors.allocator();
-    let text = format!(in alloc; "Duplicate variant name in type: '{}'", variant.name.0)?;
-    report(errors, variant.pos, text.as_str())
 }

@@ -17,6 +17,7 @@ use crate::types::{Fields, StructField, StructFields, TupleField, TupleFields};
 use core_syntax::stablemapset::StableSet;
 use core_syntax::syntax;
 use core_syntax::syntax::{Error, Ident};
+use core_why::{FieldName, Why};
 use std::alloc::AllocError;
 
 impl TypeEnv {
@@ -90,9 +91,8 @@ impl TypeEnv {
             return Ok(None);
         }
         let Some(ty) = self.get_type_by_name(&field.ty) else {
-            let alloc = *self.syms.allocator();
-            let text = format!(in alloc; "field '{}'", field.name.0)?;
-            report_unknown_type(errors, &field.ty, text.as_str(), variant)?;
+            let name = FieldName::Text(field.name.0.clone()?);
+            report_unknown_type(errors, &field.ty, name, variant)?;
             return Ok(None);
         };
         Ok(Some(StructField { name, id, ty }))
@@ -130,9 +130,8 @@ impl TypeEnv {
         ensures reads { IfOk result (λ o. ReadsTupleField (tuple_field_view field.now) id.0 o self.now errors.old.items errors.new.items) }
     {
         let Some(ty) = self.get_type_by_name(&field.ty) else {
-            let alloc = *self.syms.allocator();
-            let text = format!(in alloc; "tuple field '{}'", field.index)?;
-            report_unknown_type(errors, &field.ty, text.as_str(), variant)?;
+            let name = FieldName::Number(field.index);
+            report_unknown_type(errors, &field.ty, name, variant)?;
             return Ok(None);
         };
         Ok(Some(TupleField { id, ty }))
@@ -147,38 +146,30 @@ fn report_duplicate_field(
 ) -> Result<(), AllocError>
     ensures { OnOk result (Notes 1 (position field.now.pos ∷ []) errors.old.items errors.new.items) }
 {
-    let alloc = *errors.allocator();
-    let name = &field.name.0;
-    let msg = match variant {
-        Some(variant) => {
-            format!(in alloc;
-                "Duplicate field name '{name}' in variant '{}' of type",
-                variant.0
-            )?
-        }
-        None => format!(in alloc; "Duplicate field name '{name}'")?,
-    };
-    report(errors, field.pos, msg.as_str())
+    let name = field.name.0.clone()?;
+    let variant = name_of(variant)?;
+    report(errors, field.pos, Why::FieldTwice { name, variant })
 }
 
 // Notes that a name isn't a type's, where this field has it for its type.
 fn report_unknown_type(
     errors: &mut Vec<Error>,
     ty: &Ident,
-    field: &str,
+    field: FieldName,
     variant: Option<&Ident>,
 ) -> Result<(), AllocError>
     ensures { OnOk result (Notes 1 (position ty.now.1 ∷ []) errors.old.items errors.new.items) }
 {
-    let alloc = *errors.allocator();
-    let msg = match variant {
-        Some(variant) => {
-            format!(in alloc;
-                "Unknown type '{}' for {field} in variant '{}'",
-                ty.0, variant.0
-            )?
-        }
-        None => format!(in alloc; "Unknown type '{}' for {field}", ty.0)?,
-    };
-    report(errors, ty.1, msg.as_str())
+    let pos = ty.1;
+    let ty = ty.0.clone()?;
+    let variant = name_of(variant)?;
+    report(errors, pos, Why::FieldType { ty, field, variant })
+}
+
+// The name of a variant, where there is one.
+fn name_of(variant: Option<&Ident>) -> Result<Option<String>, AllocError> {
+    match variant {
+        Some(variant) => Ok(Some(variant.0.clone()?)),
+        None => Ok(None),
+    }
 }

@@ -12,7 +12,7 @@ returns-in_default-clause-made c flags d =
     let none : ◌≡◌ {A = Option ℕ} None (constant_at c.intern_mut.new.self c.in_ok-name.name.0) = c.in_default.ensures in
     constant_unknown c.args.self.now (standing c.args.tyenv.now c.args.work.now) _ flags (name_view c.args.val.now) (position c.args.pos) (expected c.args.expected_ty) c.in_ok-name.ensures.names
     (none ∙ ap (λ t. option_map (λ i. i.0) (look_up same_symbol t (symbol c.in_ok-name.name.0))) c.intern_mut.ensures.const_types ∙ ap (constant_at c.args.tyenv.now) c.in_ok-name.ensures.number)
-    c.in_ok-report.ensures.noted
+    c.in_ok-report_name.ensures.noted
 
 pub returns-clause-made : goal.returns-clause-made
 returns-clause-made c flags d =

@@ -10,9 +10,9 @@ pub returns-in_default-clause-made : goal.returns-in_default-clause-made
 returns-in_default-clause-made c multi d =
     let none : ◌≡◌ {A = Option ℕ} None (constant_at c.intern_mut.new.self c.in_ok-name.name.0) = c.in_default.ensures in
     record {
-      errors = inr c.in_ok-report.ensures.noted;
+      errors = inr c.in_ok-report_name.ensures.noted;
       noted = λ e s is sh. record {
-        reports = c.in_ok-report.ensures.noted;
+        reports = c.in_ok-report_name.ensures.noted;
         none = prim_unknown c.args.self.now (standing c.args.tyenv.now c.args.work.now) (standing c.intern_mut.new.self c.args.work.now) (name_view c.args.val.now) (position c.args.pos) c.args.expected_ty.0 c.in_ok-name.ensures.names
             (none ∙ ap (λ t. option_map (λ i. i.0) (look_up same_symbol t (symbol c.in_ok-name.name.0))) c.intern_mut.ensures.const_types ∙ ap (constant_at c.args.tyenv.now) c.in_ok-name.ensures.number) multi e s is sh;
       };

@@ -20,12 +20,12 @@ returns-in_default-clause-made c =
 
 pub returns-in_default-find_term-clause-made : goal.returns-in_default-find_term-clause-made
 returns-in_default-find_term-clause-made c =
-    no_term c.args.self.now (standing c.args.tyenv.now c.args.work.now) c.requires (S.rule_view c.args.rule.now) c.args.id.0 (S.name_view c.in-Some.sym.now) c.in-Some.ensures _ c.in_default-find_term.ensures c.in_ok-report-2.ensures.noted
+    no_term c.args.self.now (standing c.args.tyenv.now c.args.work.now) c.requires (S.rule_view c.args.rule.now) c.args.id.0 (S.name_view c.in-Some.sym.now) c.in-Some.ensures _ c.in_default-find_term.ensures c.in_ok-report_name.ensures.noted
 
 pub returns-in_default-flags_of-clause-made : goal.returns-in_default-flags_of-clause-made
 returns-in_default-flags_of-clause-made c =
     not_declared c.args.self.now (standing c.args.tyenv.now c.args.work.now) c.requires (S.rule_view c.args.rule.now) c.args.id.0 (S.name_view c.in-Some.sym.now) c.in-Some.ensures (term_view c.in-Some-find_term.term.now) c.in-Some-find_term.ensures
-    _ c.in_default-flags_of.ensures c.in_ok-report-3.ensures.noted
+    _ c.in_default-flags_of.ensures c.in_ok-report_name-2.ensures.noted
 
 pub returns-in_err-made-clause-made : goal.returns-in_err-made-clause-made
 returns-in_err-made-clause-made c =
@@ -58,7 +58,7 @@ returns-in_default-find_term-clause-places c =
     let tree = S.rule_view c.args.rule.now in
     let all = with_templates env (rule_positions tree) in
     let here : OccurAmong (tree.at ∷ []) all = among_here env (tree.at ∷ []) (rule_positions tree) (rule_at tree) in
-    notes_among (tree.at ∷ []) all c.args.work.now.errors.items c.report-in_default-find_term.new.errors.items here c.in_ok-report-2.ensures.places
+    notes_among (tree.at ∷ []) all c.args.work.now.errors.items c.report_name.new.errors.items here c.in_ok-report_name.ensures.places
 
 pub returns-in_default-flags_of-clause-places : goal.returns-in_default-flags_of-clause-places
 returns-in_default-flags_of-clause-places c =
@@ -66,7 +66,7 @@ returns-in_default-flags_of-clause-places c =
     let tree = S.rule_view c.args.rule.now in
     let all = with_templates env (rule_positions tree) in
     let here : OccurAmong (tree.at ∷ []) all = among_here env (tree.at ∷ []) (rule_positions tree) (rule_at tree) in
-    notes_among (tree.at ∷ []) all c.args.work.now.errors.items c.report-in_default-flags_of.new.errors.items here c.in_ok-report-3.ensures.places
+    notes_among (tree.at ∷ []) all c.args.work.now.errors.items c.report_name-in_default-flags_of.new.errors.items here c.in_ok-report_name-2.ensures.places
 
 pub returns-in_err-made-clause-places : goal.returns-in_err-made-clause-places
 returns-in_err-made-clause-places c =

@@ -20,4 +20,4 @@ returns-in_default-clause-made c =
 pub returns-clause-made : goal.returns-clause-made
 returns-clause-made c =
     var_used c.args.self.now (standing c.args.tyenv.now c.args.work.now) _ (name_view c.args.var.now) (position c.args.pos) c.args.expected_ty.0 c.in_ok-name.ensures.names
-    (var_view c.in-Some.bound) (c.in-Some.ensures ∙ ap (newest c.args.work.now) c.in_ok-name.ensures.number) (record { vars = refl; names = λ k. refl; expansions = refl }) c.in_ok-check_bound.ensures.checks
+    (var_view c.in-Some.bound) (c.in-Some.ensures ∙ ap (newest c.args.work.now) c.in_ok-name.ensures.number) (record { vars = refl; names = λ k. refl; expansions = refl }) c.in_ok-check_same.ensures.checks

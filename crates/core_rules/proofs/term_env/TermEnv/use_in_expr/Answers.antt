@@ -48,7 +48,7 @@ pub returns-in-Some-declared_converter-clause-uses : goal.returns-in-Some-declar
 returns-in-Some-declared_converter-clause-uses c =
     rw c.requires.whole
     (call_unmade c.args.self.now (standing c.args.tyenv.now c.args.work.now) c.requires.inverse (name_view c.args.sym.now) (expr_views c.args.args.now) (position c.args.pos) (flags_view c.args.flags) (expected c.args.expected_ty)
-    (term_view c.in-Some.term.now) c.in-Some.ensures _ (term_view c.in-Some-declared_converter.by.now) c.in_default-expr_converter.ensures c.in-Some-declared_converter.ensures c.in_ok-report_unmade.ensures.noted)
+    (term_view c.in-Some.term.now) c.in-Some.ensures _ (term_view c.in-Some-declared_converter.by.now) c.in_default-expr_converter.ensures c.in-Some-declared_converter.ensures c.in_ok-report_name.ensures.noted)
 
 pub returns-in_err-left-clause-places : goal.returns-in_err-left-clause-places
 returns-in_err-left-clause-places c =

@@ -19,7 +19,7 @@ pub returns-in_default-clause-uses : goal.returns-in_default-clause-uses
 returns-in_default-clause-uses c =
     rw c.requires.whole
     (unknown_use c.args.multi c.args.self.now (standing c.args.tyenv.now c.args.work.now) c.requires.inverse (name_view c.args.sym.now) (pattern_views c.args.args.now) (position c.args.pos) c.args.expected_ty.0
-    _ c.in_default.ensures c.in_ok-report_unknown.ensures.noted)
+    _ c.in_default.ensures c.in_ok-report_name.ensures.noted)
 
 pub returns-in_err-left-clause-uses : goal.returns-in_err-left-clause-uses
 returns-in_err-left-clause-uses c =

@@ -20,7 +20,7 @@ pub returns-in_default-clause-uses : goal.returns-in_default-clause-uses
 returns-in_default-clause-uses c flags =
     rw c.requires.whole
     (var_unknown c.args.self.now (standing c.args.tyenv.now c.args.work.now) c.requires.inverse (name_view c.args.name.now) (position c.args.pos) flags (expected c.args.expected_ty)
-    _ c.in_default.ensures c.in_ok-report_variable.ensures.noted)
+    _ c.in_default.ensures c.in_ok-report_name.ensures.noted)
 
 pub returns-in_err-left-clause-uses : goal.returns-in_err-left-clause-uses
 returns-in_err-left-clause-uses c flags =
@@ -42,13 +42,13 @@ pub returns-clause-uses : goal.returns-clause-uses
 returns-clause-uses c flags =
     rw c.requires.whole
     (var_made c.args.self.now (standing c.args.tyenv.now c.args.work.now) c.requires.inverse (name_view c.args.name.now) (position c.args.pos) flags (expected c.args.expected_ty)
-    (var_view c.in-Some.bound) c.in-Some.ensures _ c.in_default-expr_converter.ensures refl (record { vars = refl; names = λ k. refl; expansions = refl }) c.in_ok-check_variable.ensures.checks c.args.nesting)
+    (var_view c.in-Some.bound) c.in-Some.ensures _ c.in_default-expr_converter.ensures refl (record { vars = refl; names = λ k. refl; expansions = refl }) c.in_ok-check_expected.ensures.checks c.args.nesting)
 
 pub returns-in-Some-declared_converter-clause-uses : goal.returns-in-Some-declared_converter-clause-uses
 returns-in-Some-declared_converter-clause-uses c flags =
     rw c.requires.whole
     (var_unmade c.args.self.now (standing c.args.tyenv.now c.args.work.now) c.requires.inverse (name_view c.args.name.now) (position c.args.pos) flags (expected c.args.expected_ty)
-    (var_view c.in-Some.bound) c.in-Some.ensures _ (term_view c.in-Some-declared_converter.by.now) c.in_default-expr_converter.ensures c.in-Some-declared_converter.ensures c.in_ok-report_unmade.ensures.noted)
+    (var_view c.in-Some.bound) c.in-Some.ensures _ (term_view c.in-Some-declared_converter.by.now) c.in_default-expr_converter.ensures c.in-Some-declared_converter.ensures c.in_ok-report_name-2.ensures.noted)
 
 pub returns-in_err-left-clause-places : goal.returns-in_err-left-clause-places
 returns-in_err-left-clause-places c =

@@ -7,6 +7,6 @@ use Rattle.core_rules.proofs.typing.expr_uses.check_flags.Goals as goal
 
 pub returns-clause-checks : goal.returns-clause-checks
 returns-clause-checks c =
-    subst (λ k. Checks c.args.errors.now.items c.check-3.new.errors.items (allowed (flags_view c.args.flags) (kind_view k) ≡ true)) (sym c.in-Decl.is)
-    (checks_and _ _ _ _ _ (subst (λ (b : Bool). Checks c.args.errors.now.items c.check.new.errors.items (b ≡ true)) c.is_pure_enough.ensures c.in_ok-check.ensures.checks)
-    (checks_and _ _ _ _ _ (subst (λ (b : Bool). Checks c.check.new.errors.items c.check-2.new.errors.items (b ≡ true)) c.is_single_enough.ensures c.in_ok-check-2.ensures.checks) (subst (λ (b : Bool). Checks c.check-2.new.errors.items c.check-3.new.errors.items (b ≡ true)) c.is_total_enough.ensures c.in_ok-check-3.ensures.checks)))
+    subst (λ k. Checks c.args.errors.now.items c.check_allowed-3.new.errors.items (allowed (flags_view c.args.flags) (kind_view k) ≡ true)) (sym c.in-Decl.is)
+    (checks_and _ _ _ _ _ (subst (λ (b : Bool). Checks c.args.errors.now.items c.check_allowed.new.errors.items (b ≡ true)) c.is_pure_enough-pure.ensures c.in_ok-check_allowed.ensures.checks)
+    (checks_and _ _ _ _ _ (subst (λ (b : Bool). Checks c.check_allowed.new.errors.items c.check_allowed-2.new.errors.items (b ≡ true)) c.is_single_enough-single.ensures c.in_ok-check_allowed-2.ensures.checks) (subst (λ (b : Bool). Checks c.check_allowed-2.new.errors.items c.check_allowed-3.new.errors.items (b ≡ true)) c.is_total_enough-total.ensures c.in_ok-check_allowed-3.ensures.checks)))

@@ -7,5 +7,5 @@ use Rattle.core_rules.proofs.typing.pattern_uses.check_use.Goals as goal
 pub returns-clause-checks : goal.returns-clause-checks
 returns-clause-checks c =
     let count : c.len.result ≡ length c.args.term.now.arg_tys.items = search rules in
-    checks_both _ _ _ _ _ c.in_ok-check_type.ensures.checks
-    (subst (λ (n : ℕ). Checks c.check_type.new.errors.items c.check_count.new.errors.items (c.args.args ≡ n)) (count ∙ sym (length-map c.args.term.now.arg_tys.items (λ ty. ty.0))) c.in_ok-check_count.ensures.checks)
+    checks_both _ _ _ _ _ c.in_ok-check_same.ensures.checks
+    (subst (λ (n : ℕ). Checks c.check_same.new.errors.items c.check_count.new.errors.items (c.args.args ≡ n)) (count ∙ sym (length-map c.args.term.now.arg_tys.items (λ ty. ty.0))) c.in_ok-check_count.ensures.checks)

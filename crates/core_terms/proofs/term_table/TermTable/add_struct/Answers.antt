@@ -12,7 +12,7 @@ use Rattle.core_terms.proofs.term_table.TermTable.add_struct.Goals as goal
 pub returns-then-contains_key-clause-adds : goal.returns-then-contains_key-clause-adds
 returns-then-contains_key-clause-adds c =
     let taken = some_mapped (λ t. t.0) _ (sym c.contains_key.ensures.value ∙ c.if-contains_key.true) in
-    on_ok_weaker c.report_taken.result (λ r. inr (r, taken_one c.args.name.0 [] taken.0 c.args.self.now taken.1)) c.report_taken.ensures.noted
+    on_ok_weaker c.report_name.result (λ r. inr (r, taken_one c.args.name.0 [] taken.0 c.args.self.now taken.1)) c.report_name.ensures.noted
 
 pub returns-clause-adds : goal.returns-clause-adds
 returns-clause-adds c =
@@ -25,4 +25,4 @@ returns-clause-placed c =
     on_ok_weaker c.push_made.result (λ p. placed_pushed c.args.self.now c.push_made.new.self _ at (at ∷ []) refl (in_head at []) p.terms) c.push_made.ensures.pushes
 
 pub returns-then-contains_key-clause-placed : goal.returns-then-contains_key-clause-placed
-returns-then-contains_key-clause-placed c = placed_still c.report_taken.result c.args.self.now _ (position c.args.pos ∷ []) refl
+returns-then-contains_key-clause-placed c = placed_still c.report_name.result c.args.self.now _ (position c.args.pos ∷ []) refl

@@ -16,10 +16,10 @@ use Rattle.core_terms.proofs.term_table.TermTable.add_variants.Goals as goal
 pub returns-then-contains_key-clause-adds : goal.returns-then-contains_key-clause-adds
 returns-then-contains_key-clause-adds c =
     let taken = some_mapped (λ t. t.0) _ (sym c.contains_key.ensures.value ∙ c.if-contains_key.true) in
-    on_ok_weaker c.report_taken.result (λ r. inr (
-      subst (λ l. NotesMore l c.report_taken.new.errors.items) c.loop-variant.invariant.1 r,
+    on_ok_weaker c.report_name.result (λ r. inr (
+      subst (λ l. NotesMore l c.report_name.new.errors.items) c.loop-variant.invariant.1 r,
       taken_variant c.args.ty.0 c.args.variants.now c.loop-variant.variant-index c.variant-item.result (search rules) c.variant-item.is c.args.self.now c.loop-variant.self taken.0 taken.1 c.loop-variant.invariant.2,
-    )) c.report_taken.ensures.noted
+    )) c.report_name.ensures.noted
 
 pub loop-variant-preserved : goal.loop-variant-preserved
 loop-variant-preserved c =
@@ -37,10 +37,10 @@ returns-clause-adds c =
 
 pub returns-then-contains_key-clause-places : goal.returns-then-contains_key-clause-places
 returns-then-contains_key-clause-places c =
-    on_ok_weaker c.report_taken.result (λ r. subst (λ l. NotesAt (position c.args.pos ∷ []) l c.report_taken.new.errors.items) c.loop-variant.invariant.1 r) c.report_taken.ensures.places
+    on_ok_weaker c.report_name.result (λ r. subst (λ l. NotesAt (position c.args.pos ∷ []) l c.report_name.new.errors.items) c.loop-variant.invariant.1 r) c.report_name.ensures.places
 
 pub returns-then-contains_key-clause-placed : goal.returns-then-contains_key-clause-placed
-returns-then-contains_key-clause-placed c = on_ok_weaker c.report_taken.result (λ _. c.loop-variant.invariant.3) c.report_taken.ensures.places
+returns-then-contains_key-clause-placed c = on_ok_weaker c.report_name.result (λ _. c.loop-variant.invariant.3) c.report_name.ensures.places
 
 pub returns-clause-places : goal.returns-clause-places
 returns-clause-places c = notes_nothing _ _ _ c.loop-variant.invariant.1

@@ -20,8 +20,8 @@ returns-clause-reads c =
 
 pub returns-then-ty-clause-reads : goal.returns-then-ty-clause-reads
 returns-then-ty-clause-reads c =
-    λ defs at. (ends_here _ _ _ _ (noted_there _ _ _ _ c.in_ok-report.ensures.told), λ right. false≢true (sym (right.unmarked refl).1 ∙ c.if-ty.true))
+    λ defs at. (ends_here _ _ _ _ (noted_there _ _ _ _ c.in_ok-report_name.ensures.told), λ right. false≢true (sym (right.unmarked refl).1 ∙ c.if-ty.true))
 
 pub returns-then-ty-2-clause-reads : goal.returns-then-ty-2-clause-reads
 returns-then-ty-2-clause-reads c =
-    λ defs at. (ends_here _ _ _ _ (noted_there _ _ _ _ c.in_ok-report-2.ensures.told), λ right. false≢true (sym (right.unmarked refl).0 ∙ c.if-ty-2.true))
+    λ defs at. (ends_here _ _ _ _ (noted_there _ _ _ _ c.in_ok-report_name-2.ensures.told), λ right. false≢true (sym (right.unmarked refl).0 ∙ c.if-ty-2.true))

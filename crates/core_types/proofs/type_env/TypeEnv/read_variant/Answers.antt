@@ -18,7 +18,7 @@ returns-then-not-branch-clause-reads c =
     let one = meet_one _ _ c.args.self.now c.intern_mut.new.self same f.names f.types f.type_map f.const_types f.errors in
     let two = meet_one _ _ c.intern_mut.new.self c.intern_mut-2.new.self refl n.names n.types n.type_map n.const_types n.errors in
     λ defs earlier s h. (
-      record { met = _; meets = both_met ty c.args.variant.now _ _ _ one two; notes = noted_there _ _ _ _ c.in_ok-report_duplicate_variant.ensures },
+      record { met = _; meets = both_met ty c.args.variant.now _ _ _ one two; notes = noted_there _ _ _ _ c.in_ok-report_name.ensures.told },
       λ none right. seen_twice ty c.args.variant.now _ _ _ one two c.args.seen.now earlier h c.in_ok-name.name n.number c.in_ok-insert.field-0 c.in_ok-insert.ensures.new c.if-not-branch.true none,
     )
 
