@@ -18,8 +18,9 @@ use crate::unread::{refusal_of_forms, refusal_of_texts};
 use crate::versions::answer_to_versions;
 use app_words::request::{Format, Request};
 use app_words::tasks::Task;
-use cranelift_isle::lower::{Lowered, lower};
-use cranelift_isle::syntax::{Def, Error, Fault, Files};
+use cranelift_isle::environments::Environments;
+use cranelift_isle::lower::{Lowered, Refused, lower_or_environments};
+use cranelift_isle::syntax::{Def, Error, Files};
 use report_compare::departures;
 use report_errors::diagnosis::{MOST_ERRORS, amount_wanted, reports_of};
 use report_json::documents::{
@@ -197,19 +198,23 @@ fn answer_to_defs<E: Write>(
 {
     teller.tell("lowering", "all terms");
     teller.check_stack(alloc, asked, files, defs)?;
-    match lower(alloc, defs, asked.expand) {
+    match lower_or_environments(alloc, defs, asked.expand) {
         Ok(lowered) => answer_to_lowered(alloc, asked, files, defs, &lowered, teller),
-        Err(Fault::Errors(errors)) => refused(alloc, asked, files, defs, &errors, teller),
-        Err(Fault::Memory(error)) => Err(error),
+        Err(Refused::Errors(errors, environments)) => {
+            let environments = environments.as_ref();
+            refused(alloc, asked, files, defs, environments, &errors, teller)
+        }
+        Err(Refused::Memory(error)) => Err(error),
     }
 }
 
-/// The answer where definitions have errors.
+/// The answer where definitions, which became these environments, have errors.
 pub(crate) fn refused<E: Write>(
     alloc: Global,
     asked: &Request<'_>,
     files: &Files,
     defs: &[Def],
+    environments: Option<&Environments>,
     errors: &[Error],
     teller: &mut Teller<'_, E>,
 ) -> Result<Answer, AllocError>
@@ -217,7 +222,7 @@ pub(crate) fn refused<E: Write>(
 {
     teller.tell("explaining", "errors");
     let amount = amount_wanted(asked.wants_all());
-    let found = reports_of(alloc, defs, asked.expand, errors, amount)?;
+    let found = reports_of(alloc, defs, environments, asked.expand, errors, amount)?;
     refusal(alloc, asked, files, &found.reports, found.rest.len())
 }
 

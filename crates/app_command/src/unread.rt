@@ -87,9 +87,22 @@ fn add_errors(
     ensures { OnOk result ((more : List Report) × (reports.new.items ≡ reports.old.items ++ more)) }
 {
     let mut lost = lost_parts(alloc, &files.texts, &found.errors)?;
-    let errors = errors_beside(alloc, files, &mut found.defs, &mut lost, asked.expand)?;
+    let (errors, environments) = errors_beside(
+        alloc,
+        files,
+        &mut found.defs,
+        &mut lost,
+        asked.expand,
+    )?;
     let amount = amount_wanted(asked.wants_all());
-    let mut told = reports_of(alloc, &found.defs, asked.expand, &errors, amount)?;
+    let mut told = reports_of(
+        alloc,
+        &found.defs,
+        environments.as_ref(),
+        asked.expand,
+        &errors,
+        amount,
+    )?;
     reports.append(&mut told.reports)?;
     Ok(told.rest.len())
 }

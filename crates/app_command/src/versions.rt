@@ -11,8 +11,8 @@ use crate::progress::Teller;
 use crate::reading::{Reading, reading_of};
 use crate::unread::refusal_of_texts;
 use app_words::request::Request;
-use cranelift_isle::lower::lower;
-use cranelift_isle::syntax::{Def, Fault, Files};
+use cranelift_isle::lower::{Refused, lower_or_environments};
+use cranelift_isle::syntax::{Def, Files};
 use report_print::lines::FileLines;
 use report_warnings::changes::changes;
 use report_warnings::versions::Version;
@@ -116,7 +116,7 @@ fn answer_to_old<E: Write>(
 {
     teller.tell("lowering", "the old version");
     teller.check_stack(alloc, asked, old.files, old.defs)?;
-    match lower(alloc, old.defs, asked.expand) {
+    match lower_or_environments(alloc, old.defs, asked.expand) {
         Ok(lowered) => {
             let lines = FileLines::new(alloc, old.files)?;
             let old = Version {
@@ -127,11 +127,20 @@ fn answer_to_old<E: Write>(
             let answer = answer_to_new_reading(alloc, asked, old, new, teller)?;
             Ok(answer)
         }
-        Err(Fault::Errors(errors)) => {
-            let answer = refused(alloc, asked, old.files, old.defs, &errors, teller)?;
+        Err(Refused::Errors(errors, environments)) => {
+            let environments = environments.as_ref();
+            let answer = refused(
+                alloc,
+                asked,
+                old.files,
+                old.defs,
+                environments,
+                &errors,
+                teller,
+            )?;
             Ok(answer)
         }
-        Err(Fault::Memory(error)) => Err(error),
+        Err(Refused::Memory(error)) => Err(error),
     }
 }
 
@@ -175,7 +184,7 @@ fn answer_to_new<E: Write>(
 {
     teller.tell("lowering", "the new version");
     teller.check_stack(alloc, asked, new.files, new.defs)?;
-    match lower(alloc, new.defs, asked.expand) {
+    match lower_or_environments(alloc, new.defs, asked.expand) {
         Ok(lowered) => {
             let lines = FileLines::new(alloc, new.files)?;
             let new = Version {
@@ -187,11 +196,20 @@ fn answer_to_new<E: Write>(
             let text = changes(alloc, old, new)?;
             Ok(answer_of_changes(alloc, text))
         }
-        Err(Fault::Errors(errors)) => {
-            let answer = refused(alloc, asked, new.files, new.defs, &errors, teller)?;
+        Err(Refused::Errors(errors, environments)) => {
+            let environments = environments.as_ref();
+            let answer = refused(
+                alloc,
+                asked,
+                new.files,
+                new.defs,
+                environments,
+                &errors,
+                teller,
+            )?;
             Ok(answer)
         }
-        Err(Fault::Memory(error)) => Err(error),
+        Err(Refused::Memory(error)) => Err(error),
     }
 }
 

@@ -15,8 +15,9 @@ use app_command::reading::Reading;
 use app_command::run::cannot_read;
 use app_command::unread::reports_of_texts;
 use app_words::conditions::{ConditionsRequest, WrittenTexts};
-use cranelift_isle::lower::{Lowered, lower};
-use cranelift_isle::syntax::{Def, Error, Fault, Files, Pos};
+use cranelift_isle::environments::Environments;
+use cranelift_isle::lower::{Lowered, Refused, lower_or_environments};
+use cranelift_isle::syntax::{Def, Error, Files, Pos};
 use report_errors::diagnosis::{Amount, reports_of};
 use report_print::layout::{Layout, push_reports};
 use report_print::lines::FileLines;
@@ -180,18 +181,26 @@ fn made_of_lowered(
     requires said { AreOfTexts none_without 0 (map string_bytes texts.now.files.texts.items) (definition_views defs.now) }
     ensures { IfOk result (IsMadeOf (map string_bytes texts.now.files.texts.items)) }
 {
-    match lower(alloc, defs, true) {
+    match lower_or_environments(alloc, defs, true) {
         Ok(lowered) => asked_of(alloc, asked, texts, defs, forms, &lowered),
-        Err(Fault::Errors(errors)) => refused(alloc, &texts.files, defs, &errors),
-        Err(Fault::Memory(error)) => Err(error),
+        Err(Refused::Errors(errors, environments)) => {
+            refused(alloc, &texts.files, defs, environments.as_ref(), &errors)
+        }
+        Err(Refused::Memory(error)) => Err(error),
     }
 }
 
-// What is wrong with definitions.
-fn refused(alloc: Global, files: &Files, defs: &[Def], errors: &[Error]) -> Result<Made, AllocError>
+// What is wrong with definitions, which became these environments.
+fn refused(
+    alloc: Global,
+    files: &Files,
+    defs: &[Def],
+    environments: Option<&Environments>,
+    errors: &[Error],
+) -> Result<Made, AllocError>
     ensures { IfOk result IsRefusal }
 {
-    let found = reports_of(alloc, defs, true, errors, Amount::Few)?;
+    let found = reports_of(alloc, defs, environments, true, errors, Amount::Few)?;
     Ok(Made::Wrong(text_of(alloc, files, &found.reports)?))
 }
 

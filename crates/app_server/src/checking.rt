@@ -4,7 +4,8 @@ use crate::readings::{Readings, parts_of};
 use app_answers::analysis::{Analysis, LostForms};
 use app_answers::diagnostics::{file_of, place_of};
 use app_answers::sources::Sources;
-use cranelift_isle::lower::{Lowered, lower};
+use cranelift_isle::environments::Environments;
+use cranelift_isle::lower::{Lowered, Refused, lower_or_environments};
 use cranelift_isle::sema::TypeEnv;
 use cranelift_isle::syntax::{Def, Error, Fault, Files, Pos};
 use report_errors::diagnosis::{Amount, Reports, begin_of_error, reports_of};
@@ -52,16 +53,17 @@ fn lowered_of(
     reports: &mut Vec<Report>,
 ) -> Result<Option<Lowered>, AllocError> {
     let parts = parts_of(alloc, lost)?;
-    match lower(alloc, defs, true) {
+    match lower_or_environments(alloc, defs, true) {
         Ok(lowered) => {
             add_warnings(alloc, files, defs, &parts, &lowered, reports)?;
             Ok(Some(lowered))
         }
-        Err(Fault::Errors(errors)) => {
-            add_errors(alloc, files, defs, &parts, &errors, reports)?;
+        Err(Refused::Errors(errors, environments)) => {
+            let environments = environments.as_ref();
+            add_errors(alloc, files, defs, &parts, environments, &errors, reports)?;
             Ok(None)
         }
-        Err(Fault::Memory(error)) => Err(error),
+        Err(Refused::Memory(error)) => Err(error),
     }
 }
 
@@ -112,17 +114,26 @@ fn add_errors(
     files: &Files,
     defs: &[Def],
     lost: &[LostPart],
+    environments: Option<&Environments>,
     errors: &[Error],
     reports: &mut Vec<Report>,
 ) -> Result<(), AllocError> {
     if !come_of_lost(alloc, files, defs, lost, errors)?.contains(&true) {
-        return add_reports(alloc, files, defs, lost, errors, reports);
+        return add_reports(alloc, files, defs, lost, environments, errors, reports);
     }
     let mut kept = copied(alloc, defs)?;
     let mut parts = Vec::new(alloc);
     parts.extend_from_slice(lost)?;
-    let errors = errors_beside(alloc, files, &mut kept, &mut parts, true)?;
-    add_reports(alloc, files, &kept, &parts, &errors, reports)
+    let (errors, environments) = errors_beside(alloc, files, &mut kept, &mut parts, true)?;
+    add_reports(
+        alloc,
+        files,
+        &kept,
+        &parts,
+        environments.as_ref(),
+        &errors,
+        reports,
+    )
 }
 
 fn copied(alloc: Global, defs: &[Def]) -> Result<Vec<Def>, AllocError> {
@@ -139,10 +150,11 @@ fn add_reports(
     files: &Files,
     defs: &[Def],
     lost: &[LostPart],
+    environments: Option<&Environments>,
     errors: &[Error],
     reports: &mut Vec<Report>,
 ) -> Result<(), AllocError> {
-    let mut found = reports_of(alloc, defs, true, errors, Amount::OfEachFile)?;
+    let mut found = reports_of(alloc, defs, environments, true, errors, Amount::OfEachFile)?;
     tell_rest(alloc, &mut found)?;
     let mut except = places_of_errors(alloc, defs, errors)?;
     add_places(defs, &found.reports, &mut except)?;

@@ -5,6 +5,7 @@ mod LowerLaws
 mod NamedErrors
 mod NamedPlaces
 mod OneAnswer
+mod RefusedAnswers
 mod TermsAscending
 mod TreesSoFar
 pub mod LoweredAnswers

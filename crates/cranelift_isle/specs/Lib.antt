@@ -3,6 +3,7 @@ pub mod Checks
 pub mod Environments
 pub mod LoweringErrors
 pub mod Lowerings
+pub mod Refusing
 pub mod SetsSoFar
 pub mod ShownPrograms
 pub use Rattle.core_syntax.specs.ErrorViews

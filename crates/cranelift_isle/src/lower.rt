@@ -1,12 +1,14 @@
 //! One call from definitions to trees of tests.
 
-ghost use Rattle.std.specs.Prelude.{◌≡◌, map, All, IfOk};
+ghost use Rattle.std.specs.Prelude.{◌≡◌, map, All, IfOk, None};
+ghost use Rattle.cranelift_isle.specs.declared.lower.Refused.TheVariants.{Memory};
 ghost use Rattle.core_syntax.specs.Answers.{Answers, OnErrors};
 ghost use Rattle.core_syntax.specs.SyntaxViews.{definition_views};
 ghost use Rattle.model.specs.trees.Best.{IsBestTree};
 ghost use Rattle.model.specs.claims.Layers.{IsBuiltForSome};
 ghost use Rattle.cranelift_isle.specs.BuiltSets.{term_set_views};
 ghost use Rattle.cranelift_isle.specs.LoweringErrors.{AreErrorsOfLowering};
+ghost use Rattle.cranelift_isle.specs.Refusing.{refused_by, as_lower, HandsOver};
 ghost use Rattle.cranelift_isle.specs.Lowerings.{lowered_views, set_of_term, AreAccepted, IsLowered, LoweringIsAFunction};
 
 use crate::environments::{Environments, environments_of};
@@ -14,7 +16,7 @@ use crate::overlap::check;
 use core_rule_sets::trie_again::RuleSet;
 use core_rules::TermEnv;
 use core_serialize::serialize::{Block, serialize};
-use core_syntax::syntax::{Def, Fault};
+use core_syntax::syntax::{Def, Error, Fault};
 use core_types::{TermId, TypeEnv};
 use laws_trees::best_trees_keep_the_headline;
 use std::alloc::{AllocError, Global};
@@ -59,6 +61,41 @@ impl Drop for Lowered {
     }
 }
 
+/// Why there are no trees of definitions, with what these became before that.
+#[derive(Drop)]
+pub enum Refused {
+    /// The allocator refused.
+    Memory(AllocError),
+    /// What is wrong with the definitions: at least one error. And their environments, if types and rules can be read.
+    Errors(Vec<Error>, Option<Environments>),
+}
+
+impl From<Fault> for Refused {
+    ghost from_gives = { λ f r. r ≡ refused_by f None };
+
+    fn from(fault: Fault) -> Refused {
+        refused_with(fault, None)
+    }
+}
+
+impl From<AllocError> for Refused {
+    ghost from_gives = { λ e r. r ≡ Memory e };
+
+    fn from(error: AllocError) -> Refused {
+        Refused::Memory(error)
+    }
+}
+
+// What is refused, with the environments that definitions became.
+fn refused_with(fault: Fault, environments: Option<Environments>) -> Refused
+    ensures { result ≡ refused_by fault environments }
+{
+    match fault {
+        Fault::Memory(error) => Refused::Memory(error),
+        Fault::Errors(errors) => Refused::Errors(errors, environments),
+    }
+}
+
 /// Makes the trees of all terms with rules. It reads types and terms, types the rules, builds rule sets and makes a tree of
 /// each set.
 ///
@@ -81,10 +118,34 @@ pub fn lower(alloc: Global, defs: &[Def], expand: bool) -> Result<Lowered, Fault
     // the errors say which pass refuses the definitions, where and why
     ensures refused { OnErrors result (AreErrorsOfLowering (definition_views defs.now) expand) }
 {
+    match lower_or_environments(alloc, defs, expand) {
+        Ok(lowered) => Ok(lowered),
+        Err(Refused::Memory(error)) => Err(Fault::Memory(error)),
+        Err(Refused::Errors(errors, _)) => Err(Fault::Errors(errors)),
+    }
+}
+
+/// What `lower` answers; where it answers errors, with the environments of definitions whose types and rules can be read, so that
+/// who tells the errors has the names of what has ids in them.
+///
+/// # Errors
+///
+/// `lower`'s.
+pub fn lower_or_environments(alloc: Global, defs: &[Def], expand: bool) -> Result<Lowered, Refused>
+    // what `lower` promises
+    ensures accepted { Answers (as_lower result) (AreAccepted (definition_views defs.now) expand) (IsLowered (definition_views defs.now) expand) }
+    ensures refused { OnErrors (as_lower result) (AreErrorsOfLowering (definition_views defs.now) expand) }
+
+    // the environments are those of the definitions, and none come with errors only if types or rules can't be read
+    ensures environments { HandsOver (definition_views defs.now) expand result }
+{
     // a law, without code: the best trees of accepted definitions keep the headline
     best_trees_keep_the_headline();
     let environments = environments_of(alloc, defs, expand)?;
-    let sets = check(alloc, &environments.termenv)?;
+    let sets = match check(alloc, &environments.termenv) {
+        Ok(sets) => sets,
+        Err(fault) => return Err(refused_with(fault, Some(environments))),
+    };
     let terms = trees_of(alloc, sets)?;
     let Environments { tyenv, termenv } = environments;
     Ok(Lowered {

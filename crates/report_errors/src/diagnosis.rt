@@ -8,6 +8,7 @@ use crate::template_errors::{UseError, add_use, use_at, uses_behind};
 use crate::undefined_terms::add_uses;
 use crate::unmatched_templates::{Templates, report_of_template};
 use core_why::Unreachable;
+use cranelift_isle::environments::Environments;
 use cranelift_isle::syntax::{Decl, Def, Error, Limit, Pos, Rule, Span};
 use report_names::definitions::{constants_of, declaration_of, root_of, rule_around};
 use report_names::meanings::meant_by;
@@ -47,6 +48,8 @@ const MOST_VALUES: usize = 3;
 struct Source<'a> {
     alloc: Global,
     defs: &'a [Def],
+    // What they became before their rules were compared, if types and rules can be read.
+    environments: Option<&'a Environments>,
     // Whether uses of internal extractors are replaced by their templates.
     expand: bool,
     // How many of the rules that overlap one are shown.
@@ -88,13 +91,14 @@ impl Drop for Reports {
     }
 }
 
-/// The reports of the errors of lowering these definitions. If all are wanted, each error has one, in order. Else those have
+/// The reports of the errors of lowering these definitions, which came with these environments. If all are wanted, each error has one, in order. Else those have
 /// none that say no more than another one, causes come before what follows from them, and rules that can't match only because of an
 /// internal extractor are told with the extractor, once; only the first ones are shown, and only the first 5 rules that overlap a
 /// rule. Overlaps are reported with what both rules match.
 pub fn reports_of(
     alloc: Global,
     defs: &[Def],
+    environments: Option<&Environments>,
     expand: bool,
     errors: &[Error],
     amount: Amount,
@@ -103,6 +107,7 @@ pub fn reports_of(
     let source = Source {
         alloc,
         defs,
+        environments,
         expand,
         most_rules: if all { usize::MAX } else { MOST_RULES },
         is_explained: true,
@@ -393,7 +398,7 @@ fn of_unreachable(
 // The report of a rule that can't match, by what the library says.
 fn of_asked(source: Source<'_>, why: Unreachable, span: Span) -> Result<Report, AllocError> {
     let alloc = source.alloc;
-    let Some((first, second)) = named_forms(alloc, source.defs, source.expand, why)? else {
+    let Some((first, second)) = named_forms(alloc, source.environments, why)? else {
         let message = format!(in alloc; "{why}")?;
         return of_rule(source, ("unreachable", message.as_str()), span, WAY_OUT);
     };

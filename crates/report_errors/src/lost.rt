@@ -7,8 +7,9 @@ ghost use Rattle.report_errors.specs.Places.{BeginsAt, BeginsAtError};
 use crate::error_order::place_of;
 use crate::lost_names::{FormSeen, LostNames};
 use crate::syntax_report;
-use cranelift_isle::lower::lower;
-use cranelift_isle::syntax::{Def, Error, Fault, Files, Pos};
+use cranelift_isle::environments::Environments;
+use cranelift_isle::lower::{Refused, lower_or_environments};
+use cranelift_isle::syntax::{Def, Error, Files, Pos};
 use report_names::definitions::definition_around;
 use report_names::extents::end_of_form;
 use report_names::lost_part::LostPart;
@@ -139,8 +140,8 @@ fn begin_of(error: &TextError, length: usize) -> Pos {
     }
 }
 
-/// The errors of definitions that could be read, but for those that come of lost parts. A definition with an error that does is
-/// taken away, and is a lost part too.
+/// The errors of definitions that could be read, but for those that come of lost parts, and the environments of the definitions. One
+/// with an error that does is taken away, and is a lost part too.
 ///
 /// # Errors
 ///
@@ -151,26 +152,30 @@ pub fn errors_beside(
     defs: &mut Vec<Def>,
     lost: &mut Vec<LostPart>,
     expand: bool,
-) -> Result<Vec<Error>, AllocError> {
+) -> Result<(Vec<Error>, Option<Environments>), AllocError> {
     for _ in 0..MOST_ROUNDS {
-        let errors = errors_of(alloc, defs.as_slice(), expand)?;
+        let (errors, environments) = errors_of(alloc, defs.as_slice(), expand)?;
         let come = come_of_lost(alloc, files, defs.as_slice(), lost.as_slice(), &errors)?;
         let more = forms_with(alloc, files, defs.as_slice(), &errors, &come)?;
         if more.is_empty() {
-            return without(alloc, errors, &come);
+            return Ok((without(alloc, errors, &come)?, environments));
         }
         take_away(alloc, defs, &more)?;
         lost.extend_from_slice(&more)?;
     }
-    Ok(Vec::new(alloc))
+    Ok((Vec::new(alloc), None))
 }
 
-// The errors of definitions.
-fn errors_of(alloc: Global, defs: &[Def], expand: bool) -> Result<Vec<Error>, AllocError> {
-    match lower(alloc, defs, expand) {
-        Ok(_) => Ok(Vec::new(alloc)),
-        Err(Fault::Errors(errors)) => Ok(errors),
-        Err(Fault::Memory(error)) => Err(error),
+// The errors of definitions, and what comes with them.
+fn errors_of(
+    alloc: Global,
+    defs: &[Def],
+    expand: bool,
+) -> Result<(Vec<Error>, Option<Environments>), AllocError> {
+    match lower_or_environments(alloc, defs, expand) {
+        Ok(_) => Ok((Vec::new(alloc), None)),
+        Err(Refused::Errors(errors, environments)) => Ok((errors, environments)),
+        Err(Refused::Memory(error)) => Err(error),
     }
 }
 

@@ -1,37 +1,30 @@
 //! What the library says of rules that can't match, with names in the place of ids.
 
 use core_why::{Asked, Unreachable};
-use cranelift_isle::environments::environments_of;
+use cranelift_isle::environments::Environments;
 use cranelift_isle::sema::{Sym, TypeId, VariantId};
-use cranelift_isle::syntax::{Def, Fault, Pos};
+use cranelift_isle::syntax::Pos;
 use report_names::mentions::{LiteralValue, Mention, MentionKind, Mentions};
 use report_names::names::NameTables;
 use std::alloc::{AllocError, Global};
 
-/// The two forms that the library says a rule asks of one value, with the names of what has ids there. None where it says
-/// something else.
+/// The two forms that the library says a rule asks of one value, with the names that the environments have for ids. None where it
+/// says something else, or there are no environments.
 pub(crate) fn named_forms(
     alloc: Global,
-    defs: &[Def],
-    expand: bool,
+    environments: Option<&Environments>,
     why: Unreachable,
 ) -> Result<Option<(String, String)>, AllocError> {
-    let Unreachable::Conflict { first, second } = why else {
+    let (Unreachable::Conflict { first, second }, Some(environments)) = (why, environments) else {
         return Ok(None);
     };
-    match environments_of(alloc, defs, expand) {
-        Ok(environments) => {
-            let names = NameTables {
-                tyenv: &environments.tyenv,
-                terms: &environments.termenv.terms,
-            };
-            let first = named(alloc, names, first)?;
-            let second = named(alloc, names, second)?;
-            Ok(Some((first, second)))
-        }
-        Err(Fault::Errors(_)) => Ok(None),
-        Err(Fault::Memory(error)) => Err(error),
-    }
+    let names = NameTables {
+        tyenv: &environments.tyenv,
+        terms: &environments.termenv.terms,
+    };
+    let first = named(alloc, names, first)?;
+    let second = named(alloc, names, second)?;
+    Ok(Some((first, second)))
 }
 
 // What is asked, by names. Nothing, where any value will do.
