@@ -21,17 +21,17 @@ fault_alone (Memory m) e = refl
 module _ (defs : List Definition) (expand : Bool) where
   -- accepted definitions have types and typed rules
   pub typed : AreAccepted defs expand → AreTyped defs expand
-  typed (rules, a) = (a.read.types, rules, a.read.elaborated)
+  typed (rules, a) = (a.read.types, (rules, a.read.elaborated))
 
   module _ (Says : Environments → Type 0) where
     -- what can't be read isn't accepted
     pub unread : (f : Fault) → Answers {A = Environments} (Err f) (AreTyped defs expand) Says → Answers {A = Lowered} (Err f) (AreAccepted defs expand) (IsLowered defs expand)
-    unread (Errors es) (some, no) = (some, λ accepted. no (typed accepted))
+    unread (Errors es) (some, lacks) = (some, λ accepted. lacks (typed accepted))
     unread (Memory m) h = tt
 
     -- and has no environments
     pub hands_nothing : (f : Fault) → Answers {A = Environments} (Err f) (AreTyped defs expand) Says → HandsOver defs expand (Err (refused_by f None))
-    hands_nothing (Errors es) (some, no) = no
+    hands_nothing (Errors es) (some, lacks) = lacks
     hands_nothing (Memory m) h = tt
 
   -- what was read has some

@@ -1,5 +1,5 @@
 -- What comes with errors: the environments of definitions whose types and rules can be read.
-use Rattle.std.specs.Prelude.{Bool, List, Option, Some, None, Result, Ok, Err, ⊤, ⊥}
+use Rattle.std.specs.Prelude.{Bool, List, Option, Some, None, Result, Ok, Err, ⊤}
 use Rattle.core_syntax.specs.declared.syntax.Fault.{Fault}
 use Rattle.core_syntax.specs.declared.syntax.Fault.TheVariants as Fault
 use Rattle.model.specs.lists.Syntax.{Definition}
@@ -12,7 +12,7 @@ use Rattle.cranelift_isle.specs.declared.lower.Refused.{Refused}
 use Rattle.cranelift_isle.specs.declared.lower.Refused.TheVariants.{Memory, Errors}
 
 -- a fault, with what definitions became
-pub refused_by : Fault → Option Environments → Refused
+abbrev pub refused_by : Fault → Option Environments → Refused
 refused_by (Fault.Memory e) environments = Memory e
 refused_by (Fault.Errors es) environments = Errors es environments
 
