@@ -1,0 +1,8 @@
+mod AppliedSteps
+mod CaseSteps
+mod OpeningSteps
+mod PairSteps
+mod ShapeSteps
+mod ShapedOperands
+mod SizedResults
+mod Standing

@@ -1,0 +1,20 @@
+//! What specs say of values, by cases of formulas.
+#![tactic(auto)]
+
+pub mod applied;
+pub mod arena;
+pub mod cases;
+pub mod choosing;
+pub mod deciding;
+pub mod facts;
+pub mod faults;
+pub mod following;
+pub mod forms;
+pub mod formulas;
+pub mod merging;
+pub mod opening;
+pub mod operators;
+mod order;
+pub mod results;
+pub mod shapes;
+pub mod sizes;
