@@ -6,3 +6,4 @@ mod ShapeSteps
 mod ShapedOperands
 mod SizedResults
 mod Standing
+mod VariantSteps

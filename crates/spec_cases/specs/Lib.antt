@@ -4,6 +4,8 @@ pub mod Following
 pub mod Merging
 pub mod Namings
 pub mod Opening
+pub mod Places
 pub mod Results
 pub mod Shapes
+pub mod Sorts
 pub mod Standing

@@ -143,4 +143,18 @@ impl Formulas {
             _ => Err(Fault::Foreign),
         }
     }
+
+    /// One layer of a place.
+    ///
+    /// # Errors
+    ///
+    /// `Foreign` where it isn't there.
+    pub fn layer_at(&self, place: PlaceId) -> Result<Place, Fault>
+        ensures { IfOk result (λ p. (v : _) → Names v self.now → v.place place.0 ≡ layer_of_place v p) }
+    {
+        match self.nodes.get(place.0 as usize) {
+            Some(Node::Place(layer)) => Ok(*layer),
+            _ => Err(Fault::Foreign),
+        }
+    }
 }

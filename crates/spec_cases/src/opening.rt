@@ -3,7 +3,7 @@ ghost use Rattle.std.specs.Prelude.{◌≡◌, ◌++◌, map, IfOk, OnOk};
 ghost use Rattle.model_questions.specs.Evaluated as E;
 ghost use Rattle.spec_cases.specs.CaseViews.{case_of, cases_of, form_cases};
 ghost use Rattle.spec_cases.specs.Namings.{fact_of, forms_of, layer_of_place, Makes};
-ghost use Rattle.spec_cases.specs.Opening.{place_in, sort_view};
+ghost use Rattle.spec_cases.specs.Opening.{forms_before, place_in};
 
 use crate::arena::Formulas;
 use crate::cases::{Case, Cases, one_case};
@@ -11,19 +11,6 @@ use crate::faults::Fault;
 use crate::forms::Form;
 use crate::formulas::{Fact, Integer, Place, PlaceId, Word};
 use core_types::{TypeId, VariantId};
-
-/// What values of a type stand for.
-#[derive(Drop)]
-pub enum Sort {
-    /// Truths.
-    Truths,
-    /// Integers.
-    Integers,
-    /// Words of a width.
-    Words(u32),
-    /// Words of any of these widths.
-    WordsAmong(Vec<u32>),
-}
 
 /// What has fields or arguments.
 #[derive(Clone, Copy)]
@@ -83,6 +70,30 @@ fn wide_case(guard: Fact, place: PlaceId, width: u32) -> Case<Form>
 }
 
 impl Formulas {
+    // Adds what stands at the fields from one on, by their types.
+    #[tactic(auto, using(crate::proofs::OpeningSteps::field_steps))]
+    fn add_fields(
+        &mut self,
+        around: Around,
+        first: usize,
+        types: &[TypeId],
+        out: &mut Vec<Form>,
+    ) -> Result<(), Fault>
+        ensures { OnOk result (Makes self.old self.new (λ v. forms_of v out.new.items ≡ forms_before v out.old.items (E.fields_at (place_in v around) first (map (λ t. t.0) types.now)))) }
+    {
+        match types {
+            [] => Ok(()),
+            [ty, rest @ ..] => {
+                let Some(next) = first.checked_add(1) else {
+                    return Err(Fault::Full);
+                };
+                let place = self.made_place(around.place(first))?;
+                out.push(Form::AnyOf { ty: *ty, place })?;
+                Ok(self.add_fields(around, next, rest, out)?)
+            }
+        }
+    }
+
     /// What stands at the fields of something, by their types.
     ///
     /// # Errors
@@ -92,10 +103,7 @@ impl Formulas {
         ensures { IfOk result (λ fs. Makes self.old self.new (λ v. forms_of v fs.items ≡ E.fields_at (place_in v around) 0 (map (λ t. t.0) types.now))) }
     {
         let mut out = Vec::new(self.alloc());
-        for (index, ty) in types.iter().enumerate() {
-            let place = self.made_place(around.place(index))?;
-            out.push(Form::AnyOf { ty: *ty, place })?;
-        }
+        self.add_fields(around, 0, types, &mut out)?;
         Ok(out)
     }
 
