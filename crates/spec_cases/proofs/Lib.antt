@@ -1,9 +1,17 @@
+mod AnsweringSteps
+mod AppliedLiterals
 mod AppliedSteps
 mod CaseSteps
+mod CombiningSteps
+mod ComputingSteps
+mod FittingSteps
+mod LiteralSteps
 mod OpeningSteps
 mod PairSteps
+mod PlaceSteps
 mod ShapeSteps
 mod ShapedOperands
 mod SizedResults
 mod Standing
 mod VariantSteps
+mod WordSteps

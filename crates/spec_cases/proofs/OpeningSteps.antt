@@ -1,12 +1,11 @@
 -- Steps of what opens places.
-use Rattle.std.proofs.Common.{◌≡◌, ℕ, ◌≤◌, List, [], ◌∷◌, ◌++◌, length, refl, ap, arith}
-use Rattle.std.proofs.lemmas.List.{append_assoc}
+use Rattle.std.proofs.Common.{◌≡◌, ℕ, ◌≤◌, List, [], ◌∷◌, ◌++◌, length, map, refl, ap, ◌∙◌, arith}
+use Rattle.std.proofs.lemmas.List.{append_assoc, map-append}
 use Rattle.model_questions.specs.Formulas as M
 use Rattle.model_questions.specs.Forms as MF
 use Rattle.model_questions.specs.Evaluated as E
 use Rattle.spec_cases.specs.declared.forms.Form.{Form}
 use Rattle.spec_cases.specs.Namings.{Naming, form_of, forms_of}
-use Rattle.spec_cases.specs.Opening.{forms_before}
 use Rattle.spec_cases.proofs.PairSteps.{cases_pushed}
 
 -- widths: there are more, or there are none
@@ -18,12 +17,17 @@ widths_more g w (x ∷ ws) at h = refl
 pub ruleset width_steps = (widths_more, cases_pushed, append_assoc)
 
 module _ (v : Naming) where
-  pub before_pushed : (fs : List Form) (f : Form) (rest : MF.Forms) → forms_before v (fs ++ f ∷ []) rest ≡ forms_before v fs (MF.form_and (form_of v f) rest)
-  before_pushed [] f rest = refl
-  before_pushed (g ∷ fs) f rest = ap (MF.form_and (form_of v g)) (before_pushed fs f rest)
+  pub forms_pushed : (out : List Form) (f : Form) → map (form_of v) (out ++ f ∷ []) ≡ map (form_of v) out ++ (form_of v f ∷ [])
+  forms_pushed out f = map-append (form_of v) out (f ∷ [])
 
-  pub before_none : (fs : List Form) → forms_of v fs ≡ forms_before v fs MF.no_form
-  before_none [] = refl
-  before_none (f ∷ fs) = ap (MF.form_and (form_of v f)) (before_none fs)
+  -- forms are those whose list it is
+  pub same_forms : (fs : List Form) (x : MF.Forms) → map (form_of v) fs ≡ MF.form_list x → forms_of v fs ≡ x
+  same_forms [] MF.no_form e = refl
+  same_forms [] (MF.form_and y x) e = cc
+  same_forms (f ∷ fs) MF.no_form e = cc
+  same_forms (f ∷ fs) (MF.form_and y x) e =
+      let first : form_of v f ≡ y = cc in
+      let later : map (form_of v) fs ≡ MF.form_list x = cc in
+      ap (λ g. MF.form_and g (forms_of v fs)) first ∙ ap (MF.form_and y) (same_forms fs x later)
 
-pub ruleset field_steps = (before_pushed, before_none)
+pub ruleset field_steps = (forms_pushed, append_assoc)

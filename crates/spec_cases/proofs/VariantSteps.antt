@@ -1,14 +1,19 @@
 -- Steps of what opens enums and structs.
-use Rattle.std.proofs.Common.{◌≡◌, ℕ, ◌≤◌, suc, List, [], ◌∷◌, length, map, refl, arith}
+use Rattle.std.proofs.Common.{◌≡◌, ℕ, ◌≤◌, suc, List, [], ◌∷◌, length, map, Some, refl, arith}
 use Rattle.std.proofs.lemmas.List.{append_assoc}
-use Rattle.model.specs.lists.Tables.{VariantEntry, FieldEntries, unit_entries, struct_entries, tuple_entries}
+use Rattle.laws_specs.specs.Specs.{Specs, sort_of}
+use Rattle.model.specs.lists.Tables.{FieldEntries, unit_entries, struct_entries, tuple_entries, builtin_type}
 use Rattle.model.specs.rules.Values.{field_types}
+use Rattle.core_types.specs.Builtin.{builtin_place}
+use Rattle.core_types.specs.declared.builtin.BuiltinType.TheVariants.{Int}
+use Rattle.core_types.specs.declared.builtin.IntType.{IntType}
+use Rattle.core_types.specs.declared.builtin.IntType.TheVariants.{U8, U16, U32, U64, U128, USize, I8, I16, I32, I64, I128, ISize}
 use Rattle.core_types.specs.Types.{entry_field_types}
 use Rattle.core_types.specs.declared.types.Variant.{Variant}
 use Rattle.core_types.specs.TypeViews.{variant_view}
 use Rattle.model_questions.specs.Formulas as M
 use Rattle.model_questions.specs.Evaluated as E
-use Rattle.spec_cases.proofs.AppliedSteps.{one_seen}
+use Rattle.spec_cases.proofs.AppliedSteps.{one_seen, anything_seen}
 use Rattle.spec_cases.proofs.PairSteps.{cases_pushed}
 
 -- the types of fields are said twice
@@ -25,5 +30,23 @@ variants_more g ty at i v [] h = absurd (omega arith)
 variants_more g ty at i v (w ∷ vs) h = refl
 
 pub ruleset variant_steps = (variants_more, cases_pushed, append_assoc)
+
+-- built-in integers have sorts
+module _ (s : Specs) (k : E.Known) (ty : ℕ) (at : M.Place) where
+  pub integers_at : (t : IntType) → E.at_type s k ty at (Some (builtin_type (builtin_place (Int t)))) ≡ E.at_sort k at (sort_of s ty)
+  integers_at U8 = refl
+  integers_at U16 = refl
+  integers_at U32 = refl
+  integers_at U64 = refl
+  integers_at U128 = refl
+  integers_at USize = refl
+  integers_at I8 = refl
+  integers_at I16 = refl
+  integers_at I32 = refl
+  integers_at I64 = refl
+  integers_at I128 = refl
+  integers_at ISize = refl
+
+pub ruleset entry_steps = (integers_at, one_seen, anything_seen)
 
 pub ruleset struct_steps = (types_seen, one_seen)

@@ -1,6 +1,10 @@
 pub mod Arenas
 pub mod CaseViews
+pub mod Combining
+pub mod Computing
+pub mod Fitting
 pub mod Following
+pub mod Literals
 pub mod Merging
 pub mod Namings
 pub mod Opening
@@ -9,3 +13,5 @@ pub mod Results
 pub mod Shapes
 pub mod Sorts
 pub mod Standing
+pub mod Tables
+pub mod Variants

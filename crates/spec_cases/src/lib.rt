@@ -1,17 +1,22 @@
 //! What specs say of values, by cases of formulas.
 #![tactic(auto)]
 
+pub mod answering;
 pub mod applied;
 pub mod arena;
 pub mod cases;
 pub mod choosing;
+pub mod combining;
+pub mod computing;
 pub mod deciding;
 pub mod facts;
 pub mod faults;
+pub mod fitting;
 pub mod following;
 pub mod forms;
 pub mod formulas;
 pub mod known;
+pub mod literals;
 pub mod merging;
 pub mod opening;
 pub mod operators;
@@ -21,5 +26,7 @@ pub mod results;
 pub mod shapes;
 pub mod sizes;
 pub mod sorts;
+pub mod tables;
 pub mod typed;
 pub mod variants;
+mod words;

@@ -1,9 +1,10 @@
 //! What stands at a place whose type is known, one layer of it.
 ghost use Rattle.std.specs.Prelude.{◌≡◌, ◌++◌, map, IfOk, OnOk};
 ghost use Rattle.model_questions.specs.Evaluated as E;
+ghost use Rattle.model_questions.specs.Forms as MF;
 ghost use Rattle.spec_cases.specs.CaseViews.{case_of, cases_of, form_cases};
-ghost use Rattle.spec_cases.specs.Namings.{fact_of, forms_of, layer_of_place, Makes};
-ghost use Rattle.spec_cases.specs.Opening.{forms_before, place_in};
+ghost use Rattle.spec_cases.specs.Namings.{fact_of, form_of, forms_of, layer_of_place, Makes};
+ghost use Rattle.spec_cases.specs.Opening.{place_in};
 
 use crate::arena::Formulas;
 use crate::cases::{Case, Cases, one_case};
@@ -79,7 +80,7 @@ impl Formulas {
         types: &[TypeId],
         out: &mut Vec<Form>,
     ) -> Result<(), Fault>
-        ensures { OnOk result (Makes self.old self.new (λ v. forms_of v out.new.items ≡ forms_before v out.old.items (E.fields_at (place_in v around) first (map (λ t. t.0) types.now)))) }
+        ensures { OnOk result (Makes self.old self.new (λ v. map (form_of v) out.new.items ≡ map (form_of v) out.old.items ++ MF.form_list (E.fields_at (place_in v around) first (map (λ t. t.0) types.now)))) }
     {
         match types {
             [] => Ok(()),
@@ -99,6 +100,7 @@ impl Formulas {
     /// # Errors
     ///
     /// As `made_fact`.
+    #[tactic(auto, using(crate::proofs::OpeningSteps::same_forms))]
     pub fn fields_at(&mut self, around: Around, types: &[TypeId]) -> Result<Vec<Form>, Fault>
         ensures { IfOk result (λ fs. Makes self.old self.new (λ v. forms_of v fs.items ≡ E.fields_at (place_in v around) 0 (map (λ t. t.0) types.now))) }
     {

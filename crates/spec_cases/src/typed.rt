@@ -5,11 +5,12 @@ ghost use Rattle.model_questions.specs.Evaluated as E;
 ghost use Rattle.model_questions.specs.Forms as MF;
 ghost use Rattle.model_questions.specs.Formulas as M;
 ghost use Rattle.std.specs.Bool.{◌==◌};
-ghost use Rattle.core_types.specs.TypeViews.{fields_view, type_view, type_views, variant_view};
+ghost use Rattle.core_types.specs.TypeViews.{fields_view, type_view, variant_view};
 ghost use Rattle.spec_cases.specs.CaseViews.{cases_of};
 ghost use Rattle.spec_cases.specs.Namings.{form_of, Makes};
 ghost use Rattle.spec_cases.specs.Places.{known_of, MakesApart};
-ghost use Rattle.spec_cases.specs.Sorts.{sort_view, specs_of, type_sorts};
+ghost use Rattle.spec_cases.specs.Sorts.{sort_view, type_sorts};
+ghost use Rattle.spec_cases.specs.Tables.{known_in, specs_in, types_in};
 ghost use Rattle.model.specs.rules.Values.{field_types};
 
 use crate::arena::Formulas;
@@ -20,6 +21,7 @@ use crate::formulas::{Fact, PlaceId, Word};
 use crate::known::Known;
 use crate::opening::Around;
 use crate::sorts::{Sort, TypeSort};
+use crate::tables::Tables;
 use core_types::{BuiltinType, Fields, Type, TypeId, Variant};
 
 impl Formulas {
@@ -71,20 +73,19 @@ impl Formulas {
     // A value of an enum.
     fn at_enum(
         &mut self,
-        sorts: &[TypeSort],
-        known: &Known,
+        tables: &Tables<'_>,
         is_extern: bool,
         ty: TypeId,
         place: PlaceId,
         variants: &[Variant],
     ) -> Result<Cases<Form>, Fault>
-        ensures { (functions : _) → IfOk result (λ cs. MakesApart self.old self.new (λ v. cases_of v cs
-            ≡ E.at_enum (specs_of sorts.now functions) (known_of v known.now) is_extern ty.0 (v.place place.0) (map variant_view variants.now))) }
+        ensures { IfOk result (λ cs. MakesApart self.old self.new (λ v. cases_of v cs
+            ≡ E.at_enum (specs_in tables.now) (known_in v tables.now) is_extern ty.0 (v.place place.0) (map variant_view variants.now))) }
     {
         match variants {
-            [] => Ok(self.at_type_sort(sorts, known, ty, place)?),
+            [] => Ok(self.at_type_sort(tables.sorts, tables.known, ty, place)?),
             [_, ..] => {
-                let told = self.found(&known.kinds, place)?;
+                let told = self.found(&tables.known.kinds, place)?;
                 Ok(self.at_variants(is_extern, ty, place, variants, told)?)
             }
         }
@@ -102,30 +103,29 @@ impl Formulas {
     }
 
     // A value of a type of the table.
-    #[tactic(auto, using(crate::proofs::AppliedSteps::case_steps))]
+    #[tactic(auto, using(crate::proofs::VariantSteps::entry_steps))]
     fn at_entry(
         &mut self,
-        sorts: &[TypeSort],
-        known: &Known,
+        tables: &Tables<'_>,
         ty: TypeId,
         place: PlaceId,
         entry: &Type,
     ) -> Result<Cases<Form>, Fault>
-        ensures { (functions : _) → IfOk result (λ cs. MakesApart self.old self.new (λ v. cases_of v cs
-            ≡ E.at_type (specs_of sorts.now functions) (known_of v known.now) ty.0 (v.place place.0) (Some (type_view entry.now)))) }
+        ensures { IfOk result (λ cs. MakesApart self.old self.new (λ v. cases_of v cs
+            ≡ E.at_type (specs_in tables.now) (known_in v tables.now) ty.0 (v.place place.0) (Some (type_view entry.now)))) }
     {
         match entry {
             Type::Builtin(BuiltinType::Bool) => {
                 Ok(one_case(self.alloc(), Form::Fact(Fact::At(place)))?)
             }
             Type::Builtin(BuiltinType::Int(_)) | Type::Primitive(_, _, _) => {
-                Ok(self.at_type_sort(sorts, known, ty, place)?)
+                Ok(self.at_type_sort(tables.sorts, tables.known, ty, place)?)
             }
             Type::Enum {
                 is_extern,
                 variants,
                 ..
-            } => Ok(self.at_enum(sorts, known, *is_extern, ty, place, variants)?),
+            } => Ok(self.at_enum(tables, *is_extern, ty, place, variants)?),
             Type::Struct { fields, .. } => Ok(self.struct_at(ty, place, fields)?),
         }
     }
@@ -138,18 +138,16 @@ impl Formulas {
     #[tactic(auto, using(crate::proofs::AppliedSteps::case_steps))]
     pub fn at_type(
         &mut self,
-        types: &[Type],
-        sorts: &[TypeSort],
-        known: &Known,
+        tables: &Tables<'_>,
         ty: TypeId,
         place: PlaceId,
     ) -> Result<Cases<Form>, Fault>
-        ensures { (functions : _) → IfOk result (λ cs. MakesApart self.old self.new (λ v. cases_of v cs
-            ≡ E.at_type (specs_of sorts.now functions) (known_of v known.now) ty.0 (v.place place.0) (slice_get (type_views types.now) ty.0))) }
+        ensures { IfOk result (λ cs. MakesApart self.old self.new (λ v. cases_of v cs
+            ≡ E.at_type (specs_in tables.now) (known_in v tables.now) ty.0 (v.place place.0) (slice_get (types_in tables.now) ty.0))) }
     {
-        match types.get(ty.0) {
+        match tables.types.get(ty.0) {
             None => Ok(anything(self.alloc())),
-            Some(entry) => Ok(self.at_entry(sorts, known, ty, place, entry)?),
+            Some(entry) => Ok(self.at_entry(tables, ty, place, entry)?),
         }
     }
 
@@ -161,16 +159,14 @@ impl Formulas {
     #[tactic(auto, using(crate::proofs::AppliedSteps::case_steps))]
     pub fn opened(
         &mut self,
-        types: &[Type],
-        sorts: &[TypeSort],
-        known: &Known,
+        tables: &Tables<'_>,
         form: Form,
     ) -> Result<Cases<Form>, Fault>
-        ensures { (functions : _) → IfOk result (λ cs. MakesApart self.old self.new (λ v. cases_of v cs
-            ≡ E.opened (type_views types.now) (specs_of sorts.now functions) (known_of v known.now) (form_of v form))) }
+        ensures { IfOk result (λ cs. MakesApart self.old self.new (λ v. cases_of v cs
+            ≡ E.opened (types_in tables.now) (specs_in tables.now) (known_in v tables.now) (form_of v form))) }
     {
         match form {
-            Form::AnyOf { ty, place } => Ok(self.at_type(types, sorts, known, ty, place)?),
+            Form::AnyOf { ty, place } => Ok(self.at_type(tables, ty, place)?),
             Form::SomeAt { .. } => Ok(anything(self.alloc())),
             Form::Fact(_)
             | Form::Integer(_)

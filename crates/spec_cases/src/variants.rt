@@ -1,8 +1,10 @@
 //! What stands at a place of an enum: its variants, each under the guard that it stands there.
-ghost use Rattle.std.specs.Prelude.{◌≡◌, ◌++◌, true, false, None, map, slice_get, IfOk, OnOk};
+ghost use Rattle.std.specs.Prelude.{◌≡◌, ◌++◌, ◌∷◌, [], true, false, None, map, slice_get, IfOk, OnOk};
 ghost use Rattle.model_questions.specs.Evaluated as E;
+ghost use Rattle.model_questions.specs.Formulas as M;
 ghost use Rattle.core_types.specs.TypeViews.{variant_view};
 ghost use Rattle.spec_cases.specs.CaseViews.{cases_of, form_cases};
+ghost use Rattle.spec_cases.specs.Variants.{under_guard};
 ghost use Rattle.spec_cases.specs.Namings.{fact_of, form_of, Makes};
 
 use crate::arena::Formulas;
@@ -40,6 +42,24 @@ impl Formulas {
         })
     }
 
+    // Adds a variant, under a guard.
+    #[tactic(auto, using(crate::proofs::PairSteps::cases_pushed))]
+    fn add_variant(
+        &mut self,
+        guard: Fact,
+        ty: TypeId,
+        place: PlaceId,
+        number: usize,
+        variant: &Variant,
+        out: &mut Vec<Case<Form>>,
+    ) -> Result<(), Fault>
+        ensures { OnOk result (Makes self.old self.new (λ v. form_cases v out.new.items ≡ form_cases v out.old.items ++ under_guard (fact_of v guard) (E.variant_at ty.0 (v.place place.0) number (variant_view variant.now)) ∷ [])) }
+    {
+        let gives = self.variant_at(ty, place, number, variant)?;
+        out.push(Case { guard, gives })?;
+        Ok(())
+    }
+
     // Adds the variants from one on, each under the guard that it stands there.
     #[tactic(auto, using(crate::proofs::VariantSteps::variant_steps))]
     fn add_each_variant(
@@ -58,11 +78,8 @@ impl Formulas {
                 let Some(next) = first.checked_add(1) else {
                     return Err(Fault::Full);
                 };
-                let gives = self.variant_at(ty, place, first, variant)?;
-                out.push(Case {
-                    guard: Fact::IsKind(place, VariantId(first)),
-                    gives,
-                })?;
+                let is = Fact::IsKind(place, VariantId(first));
+                self.add_variant(is, ty, place, first, variant, out)?;
                 Ok(self.add_each_variant(ty, place, next, rest, out)?)
             }
         }
@@ -90,6 +107,16 @@ impl Formulas {
         }
     }
 
+    // Where a variant stands, and where it doesn't.
+    fn guards(&mut self, guard: Fact, is: Fact) -> Result<(Fact, Fact), Fault>
+        ensures { IfOk result (λ gs. Makes self.old self.new (λ v. (fact_of v gs.0 ≡ M.both_of (fact_of v guard) (fact_of v is)) × (fact_of v gs.1 ≡ M.both_of (fact_of v guard) (M.none_of (fact_of v is))))) }
+    {
+        let here = self.both_of(guard, is)?;
+        let not = self.none_of(is)?;
+        let later = self.both_of(guard, not)?;
+        Ok((here, later))
+    }
+
     // Adds the variants from one on: the last one stands where no other does.
     #[tactic(auto, using(crate::proofs::VariantSteps::variant_steps))]
     fn add_one_variant(
@@ -105,21 +132,14 @@ impl Formulas {
     {
         match variants {
             [] => Ok(()),
-            [variant] => {
-                let gives = self.variant_at(ty, place, first, variant)?;
-                out.push(Case { guard, gives })?;
-                Ok(())
-            }
+            [variant] => Ok(self.add_variant(guard, ty, place, first, variant, out)?),
             [variant, rest @ ..] => {
                 let Some(next) = first.checked_add(1) else {
                     return Err(Fault::Full);
                 };
                 let is = Fact::IsKind(place, VariantId(first));
-                let gives = self.variant_at(ty, place, first, variant)?;
-                let here = self.both_of(guard, is)?;
-                let not = self.none_of(is)?;
-                let later = self.both_of(guard, not)?;
-                out.push(Case { guard: here, gives })?;
+                let (here, later) = self.guards(guard, is)?;
+                self.add_variant(here, ty, place, first, variant, out)?;
                 Ok(self.add_one_variant(later, ty, place, next, rest, out)?)
             }
         }
