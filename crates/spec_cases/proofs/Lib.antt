@@ -4,14 +4,17 @@ mod AppliedSteps
 mod CaseSteps
 mod CombiningSteps
 mod ComputingSteps
+mod EvaluatingSteps
 mod FittingSteps
 mod LiteralSteps
 mod OpeningSteps
 mod PairSteps
 mod PlaceSteps
+mod Sayings
 mod ShapeSteps
 mod ShapedOperands
 mod SizedResults
+mod SortSteps
 mod Standing
 mod VariantSteps
 mod WordSteps

@@ -2,6 +2,8 @@ pub mod Arenas
 pub mod CaseViews
 pub mod Combining
 pub mod Computing
+pub mod Evaluating
+pub mod Expressions
 pub mod Fitting
 pub mod Following
 pub mod Literals
@@ -10,6 +12,7 @@ pub mod Namings
 pub mod Opening
 pub mod Places
 pub mod Results
+pub mod Sayings
 pub mod Shapes
 pub mod Sorts
 pub mod Standing

@@ -9,6 +9,8 @@ pub mod choosing;
 pub mod combining;
 pub mod computing;
 pub mod deciding;
+pub mod evaluating;
+pub mod expressions;
 pub mod facts;
 pub mod faults;
 pub mod fitting;
