@@ -5,6 +5,7 @@ mod CaseSteps
 mod CombiningSteps
 mod ComputingSteps
 mod EvaluatingSteps
+mod ExpressionSteps
 mod FittingSteps
 mod LiteralSteps
 mod OpeningSteps

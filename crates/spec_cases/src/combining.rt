@@ -159,7 +159,8 @@ impl Formulas {
     pub(crate) fn no_forms(&mut self) -> Result<Cases<FieldsId>, Fault>
         ensures { IfOk result (λ cs. Makes self.old self.new (λ v. list_cases_of v cs ≡ MF.one_case MF.no_form)) }
     {
-        let none = self.made_fields(Vec::new(self.alloc()))?;
+        let list = Vec::new(self.alloc());
+        let none = self.made_fields(list)?;
         Ok(one_case(self.alloc(), none)?)
     }
 

@@ -64,7 +64,12 @@ impl Formulas {
         Ok(all)
     }
 
-    // An expression by its number.
+    /// What an expression comes to, by its number.
+    ///
+    /// # Errors
+    ///
+    /// `Foreign` where a number is no expression's or isn't made of smaller ones, `TooGreat` where a width or a number is too great, else
+    /// as `made_fact`.
     #[cycle(evaluating)]
     #[tactic(auto, using(crate::proofs::EvaluatingSteps::said_steps))]
     pub fn evaluated(

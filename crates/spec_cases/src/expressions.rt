@@ -96,6 +96,7 @@ impl Expr {
 }
 
 // The expression of a number, made of earlier ones.
+#[tactic(auto, using(crate::proofs::ExpressionSteps::said_at))]
 pub(crate) fn expr_at(exprs: &[Expr], expr: ExprId) -> Result<Expr, Fault>
     ensures said { IfOk result (λ x. (w : _) → AreSaid w exprs.now → IsSaid w expr.0 x) }
     ensures below { IfOk result (λ x. is_below expr.0 x ≡ true) }
