@@ -9,7 +9,7 @@ use Rattle.core_rules.specs.ShownEnvs.{environment_shown_by}
 use Rattle.core_types.specs.EnvViews.{environment_view}
 use Rattle.cranelift_isle.specs.Environments.{AreEnvironments, AreTyped}
 use Rattle.cranelift_isle.specs.Lowerings.{AreAccepted, IsLowered}
-use Rattle.cranelift_isle.specs.Refusing.{refused_by, as_lower, HandsOver}
+use Rattle.cranelift_isle.specs.Refusing.{refused_by, as_lower, ComesWithErrors}
 use Rattle.cranelift_isle.specs.declared.environments.Environments.{Environments}
 use Rattle.cranelift_isle.specs.declared.lower.Lowered.{Lowered}
 
@@ -30,12 +30,12 @@ module _ (defs : List Definition) (expand : Bool) where
     unread (Memory m) h = tt
 
     -- and has no environments
-    pub hands_nothing : (f : Fault) → Answers {A = Environments} (Err f) (AreTyped defs expand) Says → HandsOver defs expand (Err (refused_by f None))
+    pub hands_nothing : (f : Fault) → Answers {A = Environments} (Err f) (AreTyped defs expand) Says → ComesWithErrors defs expand (Err (refused_by f None))
     hands_nothing (Errors es) (some, lacks) = lacks
     hands_nothing (Memory m) h = tt
 
   -- what was read has some
   pub hands_over : (f : Fault) (e : Environments) → AreTyped defs expand → AreEnvironments defs expand (environment_view e.tyenv) (environment_shown_by e.termenv)
-      → HandsOver defs expand (Err (refused_by f (Some e)))
+      → ComesWithErrors defs expand (Err (refused_by f (Some e)))
   hands_over (Errors es) e t a = (t, a)
   hands_over (Memory m) e t a = tt

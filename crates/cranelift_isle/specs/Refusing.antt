@@ -23,8 +23,8 @@ as_lower (Err (Memory e)) = Err (Fault.Memory e)
 as_lower (Err (Errors es environments)) = Err (Fault.Errors es)
 
 -- the environments that come with errors are those of the definitions; where none come, types or rules can't be read
-abbrev pub HandsOver : List Definition → Bool → Result Lowered Refused → Type 0
-HandsOver defs expand (Ok x) = ⊤
-HandsOver defs expand (Err (Memory e)) = ⊤
-HandsOver defs expand (Err (Errors es None)) = AreTyped defs expand → ⊥
-HandsOver defs expand (Err (Errors es (Some e))) = AreTyped defs expand × AreEnvironments defs expand (environment_view e.tyenv) (environment_shown_by e.termenv)
+abbrev pub ComesWithErrors : List Definition → Bool → Result Lowered Refused → Type 0
+ComesWithErrors defs expand (Ok x) = ⊤
+ComesWithErrors defs expand (Err (Memory e)) = ⊤
+ComesWithErrors defs expand (Err (Errors es None)) = AreTyped defs expand → ⊥
+ComesWithErrors defs expand (Err (Errors es (Some e))) = AreTyped defs expand × AreEnvironments defs expand (environment_view e.tyenv) (environment_shown_by e.termenv)

@@ -8,7 +8,7 @@ ghost use Rattle.model.specs.trees.Best.{IsBestTree};
 ghost use Rattle.model.specs.claims.Layers.{IsBuiltForSome};
 ghost use Rattle.cranelift_isle.specs.BuiltSets.{term_set_views};
 ghost use Rattle.cranelift_isle.specs.LoweringErrors.{AreErrorsOfLowering};
-ghost use Rattle.cranelift_isle.specs.Refusing.{refused_by, as_lower, HandsOver};
+ghost use Rattle.cranelift_isle.specs.Refusing.{refused_by, as_lower, ComesWithErrors};
 ghost use Rattle.cranelift_isle.specs.Lowerings.{lowered_views, set_of_term, AreAccepted, IsLowered, LoweringIsAFunction};
 
 use crate::environments::{Environments, environments_of};
@@ -137,7 +137,7 @@ pub fn lower_or_environments(alloc: Global, defs: &[Def], expand: bool) -> Resul
     ensures refused { OnErrors (as_lower result) (AreErrorsOfLowering (definition_views defs.now) expand) }
 
     // the environments are those of the definitions, and none come with errors only if types or rules can't be read
-    ensures environments { HandsOver (definition_views defs.now) expand result }
+    ensures environments { ComesWithErrors (definition_views defs.now) expand result }
 {
     // a law, without code: the best trees of accepted definitions keep the headline
     best_trees_keep_the_headline();

@@ -3,7 +3,7 @@ use Rattle.std.specs.Prelude.{Some, None}
 use Rattle.core_syntax.specs.Answers.{Answers}
 use Rattle.core_syntax.specs.SyntaxViews.{definition_views}
 use Rattle.cranelift_isle.specs.Lowerings.{lowered_views, AreAccepted, IsLowered}
-use Rattle.cranelift_isle.specs.Refusing.{as_lower, refused_by, HandsOver}
+use Rattle.cranelift_isle.specs.Refusing.{as_lower, refused_by, ComesWithErrors}
 use Rattle.cranelift_isle.proofs.ErrorsOfReading.{handed_over}
 use Rattle.cranelift_isle.proofs.RefusedAnswers.{fault_alone, unread, hands_nothing, hands_over}
 use Rattle.cranelift_isle.proofs.LoweredAnswers.{were_read, of_elaborated, accepted, built_for_some, answers, refused_by_check, errors_of_check}
@@ -46,7 +46,7 @@ returns-in_err-environments-clause-environments c =
     let defs = definition_views c.args.defs.now in
     let fault = c.in_err-environments.field-0.0 in
     let e : c.from_residual.result ≡ Err (refused_by fault None) = search rules in
-    subst (HandsOver defs c.args.expand) (sym e) (hands_nothing defs c.args.expand _ fault c.in_err-environments.ensures.answers)
+    subst (ComesWithErrors defs c.args.expand) (sym e) (hands_nothing defs c.args.expand _ fault c.in_err-environments.ensures.answers)
 
 -- errors of the check
 pub returns-in-Err-clause-accepted : goal.returns-in-Err-clause-accepted
@@ -62,5 +62,5 @@ returns-in-Err-clause-refused c =
 pub returns-in-Err-clause-environments : goal.returns-in-Err-clause-environments
 returns-in-Err-clause-environments c =
     let defs = definition_views c.args.defs.now in
-    subst (λ r. HandsOver defs c.args.expand (Err r)) (sym c.refused_with.ensures)
+    subst (λ r. ComesWithErrors defs c.args.expand (Err r)) (sym c.refused_with.ensures)
     (hands_over defs c.args.expand c.in-Err.fault c.in_ok-environments.environments c.in_ok-environments.ensures.answers.0 c.in_ok-environments.ensures.answers.1)
