@@ -5,7 +5,7 @@ use core_syntax::syntax::{Def, Extern, Ident, Pos};
 use report_names::definitions::{constant_of, definition_around, result_of, root_of};
 use report_names::mentions::{LiteralValue, Mention, MentionKind, Need, type_needed};
 use report_print::report::{Place, Report};
-use std::alloc::AllocError;
+use std::alloc::{AllocError, Global};
 
 // A part of a declaration.
 #[derive(Clone, Copy, PartialEq, Eq)]
@@ -14,6 +14,59 @@ enum Part {
     Argument(usize),
     // The type of what the term gives.
     Result,
+}
+
+/// The terms that rules and functions outside make, and those that extractors and functions outside take apart, each in order.
+pub(crate) struct Sides<'a> {
+    made: Vec<&'a str>,
+    taken_apart: Vec<&'a str>,
+}
+
+impl<'a> Drop for Sides<'a> {
+    fn drop(self) {
+        let Sides {
+            made: _,
+            taken_apart: _,
+        } = self;
+    }
+}
+
+impl<'a> Sides<'a> {
+    pub(crate) fn of(alloc: Global, defs: &'a [Def]) -> Result<Sides<'a>, AllocError> {
+        let mut sides = Sides {
+            made: Vec::new(alloc),
+            taken_apart: Vec::new(alloc),
+        };
+        for def in defs {
+            sides.add(def)?;
+        }
+        sides.made.sort()?;
+        sides.taken_apart.sort()?;
+        Ok(sides)
+    }
+
+    fn add(&mut self, def: &'a Def) -> Result<(), AllocError> {
+        match def {
+            Def::Rule(rule) => self.made.push(root_of(rule))?,
+            Def::Extern(Extern::Constructor { term, .. }) => self.made.push(&term.0)?,
+            Def::Extractor(extractor) => self.taken_apart.push(&extractor.term.0)?,
+            Def::Extern(Extern::Extractor { term, .. }) => self.taken_apart.push(&term.0)?,
+            _ => {}
+        }
+        Ok(())
+    }
+
+    // Whether a rule or a function outside makes a term.
+    fn make(&self, term: &str) -> bool {
+        self.made.binary_search_by(|made| (*made).cmp(term)).is_ok()
+    }
+
+    // Whether an extractor or a function outside takes a term apart.
+    fn take_apart(&self, term: &str) -> bool {
+        self.taken_apart
+            .binary_search_by(|taken| (*taken).cmp(term))
+            .is_ok()
+    }
 }
 
 /// Adds the fix that declares a term which isn't known, before the rule or the extractor that uses it: with the types that are known
@@ -70,7 +123,7 @@ fn push_declaration(
     out: &mut String,
 ) -> Result<(), AllocError> {
     out.push_str("(decl ")?;
-    if !is_made(told.defs, term) && is_in_condition(told, def, term) {
+    if !told.defined.sides.make(term) && is_in_condition(told, def, term) {
         out.push_str("pure ")?;
     }
     out.push_str(term)?;
@@ -94,14 +147,14 @@ fn push_declaration(
 // Adds who makes a term and takes it apart, where a definition needs it and no other one says it.
 fn push_sides(told: &Told<'_>, def: &Def, term: &str, out: &mut String) -> Result<(), AllocError> {
     let uses = &told.names.names;
-    if !is_made(told.defs, term)
+    if !told.defined.sides.make(term)
         && uses.iter().any(|mention| is_use_of(mention, term)
             && !mention.in_pattern
             && !is_head(def, mention))
     {
         write!(out, "(extern constructor {term} {term})\n")?;
     }
-    if !is_taken_apart(told.defs, term)
+    if !told.defined.sides.take_apart(term)
         && uses.iter().any(|mention| is_use_of(mention, term)
             && mention.in_pattern
             && !is_head(def, mention))
@@ -132,24 +185,6 @@ fn is_in_condition(told: &Told<'_>, def: &Def, term: &str) -> bool {
     told.names.names.iter().any(|mention| is_use_of(mention, term)
         && !mention.in_pattern
         && mention.form < end)
-}
-
-// Whether a rule or a function outside makes a term.
-fn is_made(defs: &[Def], term: &str) -> bool {
-    defs.iter().any(|def| match def {
-        Def::Rule(rule) => root_of(rule) == term,
-        Def::Extern(Extern::Constructor { term: made, .. }) => made.0.as_str() == term,
-        _ => false,
-    })
-}
-
-// Whether an extractor or a function outside takes a term apart.
-fn is_taken_apart(defs: &[Def], term: &str) -> bool {
-    defs.iter().any(|def| match def {
-        Def::Extractor(extractor) => extractor.term.0.as_str() == term,
-        Def::Extern(Extern::Extractor { term: taken, .. }) => taken.0.as_str() == term,
-        _ => false,
-    })
 }
 
 // The name of a type of a term's declaration, by the forms that stand for it.

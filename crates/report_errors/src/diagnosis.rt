@@ -6,6 +6,7 @@ use crate::named_forms::{named_forms, only_place};
 use crate::reports::report_of as report_of_type_error;
 use crate::template_errors::{UseError, add_use, use_at, uses_behind};
 use crate::undefined_terms::add_uses;
+use crate::unknown::DefinedNames;
 use crate::unmatched_templates::{Templates, report_of_template};
 use core_why::Unreachable;
 use cranelift_isle::environments::Environments;
@@ -48,6 +49,8 @@ const MOST_VALUES: usize = 3;
 struct Source<'a> {
     alloc: Global,
     defs: &'a [Def],
+    // The names that may be meant in place of those that errors say aren't known.
+    defined: &'a DefinedNames<'a>,
     // What they became before their rules were compared, if types and rules can be read.
     environments: Option<&'a Environments>,
     // Whether uses of internal extractors are replaced by their templates.
@@ -91,10 +94,10 @@ impl Drop for Reports {
     }
 }
 
-/// The reports of the errors of lowering these definitions, which came with these environments. If all are wanted, each error has one, in order. Else those have
-/// none that say no more than another one, causes come before what follows from them, and rules that can't match only because of an
-/// internal extractor are told with the extractor, once; only the first ones are shown, and only the first 5 rules that overlap a
-/// rule. Overlaps are reported with what both rules match.
+/// The reports of the errors of lowering these definitions, which came with these environments. If all are wanted, each error has
+/// one, in order. Else those have none that say no more than another one, causes come before what follows from them, and rules that
+/// can't match only because of an internal extractor are told with the extractor, once; only the first ones are shown, and only the
+/// first 5 rules that overlap a rule. Overlaps are reported with what both rules match.
 pub fn reports_of(
     alloc: Global,
     defs: &[Def],
@@ -104,9 +107,11 @@ pub fn reports_of(
     amount: Amount,
 ) -> Result<Reports, AllocError> {
     let all = amount == Amount::All;
+    let defined = DefinedNames::for_errors(alloc, defs, errors)?;
     let source = Source {
         alloc,
         defs,
+        defined: &defined,
         environments,
         expand,
         most_rules: if all { usize::MAX } else { MOST_RULES },
@@ -365,6 +370,7 @@ fn report_of(
             report_of_type_error(
                 source.alloc,
                 source.defs,
+                source.defined,
                 msg,
                 span.from,
                 source.is_explained,

@@ -1,6 +1,6 @@
 //! Words that stand where only a few are known.
 
-use crate::nearest::Nearest;
+use crate::nearest::{KnownNames, Nearest};
 use core_syntax::syntax::Pos;
 use report_names::extents::end_of_form;
 use report_print::report::Report;
@@ -26,9 +26,11 @@ pub fn add_question_at(
         offset: text.len().saturating_sub(word.len()),
     };
     let end = end_of_form(word, 0);
-    let mut nearest = Nearest::new(alloc, "", word.get(..end).unwrap_or(""))?;
+    let mut names = KnownNames::new(alloc);
     for word in known {
-        nearest.offer(word)?;
+        names.push(word)?;
     }
+    let mut nearest = Nearest::new(alloc, "", word.get(..end).unwrap_or(""));
+    nearest.look_through(&names.in_order()?)?;
     nearest.add_to(report, pos)
 }

@@ -4,7 +4,7 @@ use crate::declarations::add_declaration;
 use crate::mismatches::add_types;
 use crate::repeats::other_places;
 use crate::undefined_terms::is_put_in;
-use crate::unknown::{add_question, unknown_in};
+use crate::unknown::{DefinedNames, add_question, unknown_in};
 use core_syntax::syntax::{Def, Ident, Pos};
 use core_why::{NameKind, Typed, Why, Wrong};
 use report_names::definitions::{
@@ -25,6 +25,8 @@ pub(crate) struct Told<'a> {
     pub why: &'a Why,
     pub pos: Pos,
     pub names: Mentions<'a>,
+    // The names that may be meant in place of one that isn't known.
+    pub defined: &'a DefinedNames<'a>,
 }
 
 impl<'a> Drop for Told<'a> {
@@ -35,6 +37,7 @@ impl<'a> Drop for Told<'a> {
             why: _,
             pos: _,
             names: _,
+            defined: _,
         } = self;
     }
 }
@@ -66,9 +69,10 @@ impl<'a> Told<'a> {
 /// # Errors
 ///
 /// Where memory is refused.
-pub fn report_of(
+pub(crate) fn report_of(
     alloc: Global,
     defs: &[Def],
+    defined: &DefinedNames<'_>,
     why: &Why,
     pos: Pos,
     is_explained: bool,
@@ -79,6 +83,7 @@ pub fn report_of(
         why,
         pos,
         names: Mentions::around(alloc, defs, pos)?,
+        defined,
     };
     let mut message = worded(alloc, why)?;
     let term = why.term();
