@@ -6,6 +6,7 @@ use report_names::definitions::{constant_of, definition_around, result_of, root_
 use report_names::mentions::{LiteralValue, Mention, MentionKind, Need, type_needed};
 use report_print::report::{Place, Report};
 use std::alloc::{AllocError, Global};
+use std::slice;
 
 // A part of a declaration.
 #[derive(Clone, Copy, PartialEq, Eq)]
@@ -16,37 +17,44 @@ enum Part {
     Result,
 }
 
-/// The terms that rules and functions outside make, and those that extractors and functions outside take apart, each in order.
-pub(crate) struct Sides<'a> {
+/// The terms that are declared, each with its first declaration, those that rules and functions outside make, and those that
+/// extractors and functions outside take apart, each in order.
+pub(crate) struct KnownTerms<'a> {
+    declared: Vec<(&'a str, &'a Def)>,
     made: Vec<&'a str>,
     taken_apart: Vec<&'a str>,
 }
 
-impl<'a> Drop for Sides<'a> {
+impl<'a> Drop for KnownTerms<'a> {
     fn drop(self) {
-        let Sides {
+        let KnownTerms {
+            declared: _,
             made: _,
             taken_apart: _,
         } = self;
     }
 }
 
-impl<'a> Sides<'a> {
-    pub(crate) fn of(alloc: Global, defs: &'a [Def]) -> Result<Sides<'a>, AllocError> {
-        let mut sides = Sides {
+impl<'a> KnownTerms<'a> {
+    pub(crate) fn of(alloc: Global, defs: &'a [Def]) -> Result<KnownTerms<'a>, AllocError> {
+        let mut terms = KnownTerms {
+            declared: Vec::new(alloc),
             made: Vec::new(alloc),
             taken_apart: Vec::new(alloc),
         };
         for def in defs {
-            sides.add(def)?;
+            terms.add(def)?;
         }
-        sides.made.sort()?;
-        sides.taken_apart.sort()?;
-        Ok(sides)
+        terms.declared.sort_by_key(|declared| declared.0)?;
+        terms.declared.dedup_by_key(|declared| declared.0);
+        terms.made.sort()?;
+        terms.taken_apart.sort()?;
+        Ok(terms)
     }
 
     fn add(&mut self, def: &'a Def) -> Result<(), AllocError> {
         match def {
+            Def::Decl(decl) => self.declared.push((&decl.term.0, def))?,
             Def::Rule(rule) => self.made.push(root_of(rule))?,
             Def::Extern(Extern::Constructor { term, .. }) => self.made.push(&term.0)?,
             Def::Extractor(extractor) => self.taken_apart.push(&extractor.term.0)?,
@@ -54,6 +62,15 @@ impl<'a> Sides<'a> {
             _ => {}
         }
         Ok(())
+    }
+
+    // The definition that declares a term.
+    fn declaration_of(&self, term: &str) -> Option<&'a Def> {
+        let place = self
+            .declared
+            .binary_search_by(|declared| declared.0.cmp(term))
+            .ok()?;
+        Some(self.declared.get(place)?.1)
     }
 
     // Whether a rule or a function outside makes a term.
@@ -123,7 +140,7 @@ fn push_declaration(
     out: &mut String,
 ) -> Result<(), AllocError> {
     out.push_str("(decl ")?;
-    if !told.defined.sides.make(term) && is_in_condition(told, def, term) {
+    if !told.defined.terms.make(term) && is_in_condition(told, def, term) {
         out.push_str("pure ")?;
     }
     out.push_str(term)?;
@@ -147,14 +164,14 @@ fn push_declaration(
 // Adds who makes a term and takes it apart, where a definition needs it and no other one says it.
 fn push_sides(told: &Told<'_>, def: &Def, term: &str, out: &mut String) -> Result<(), AllocError> {
     let uses = &told.names.names;
-    if !told.defined.sides.make(term)
+    if !told.defined.terms.make(term)
         && uses.iter().any(|mention| is_use_of(mention, term)
             && !mention.in_pattern
             && !is_head(def, mention))
     {
         write!(out, "(extern constructor {term} {term})\n")?;
     }
-    if !told.defined.sides.take_apart(term)
+    if !told.defined.terms.take_apart(term)
         && uses.iter().any(|mention| is_use_of(mention, term)
             && mention.in_pattern
             && !is_head(def, mention))
@@ -209,19 +226,40 @@ fn is_truth(value: LiteralValue) -> bool {
 // The type that a name says a part of a term has: what is needed where the term stands, and the type of what stands for the part.
 fn type_by<'a>(told: &Told<'a>, mention: &Mention<'a>, term: &str, part: Part) -> Option<&'a str> {
     if part == Part::Result && is_use_of(mention, term) {
-        return text_of(type_needed(told.defs, mention.need));
+        return text_of(type_by_need(told, mention.need));
     }
     if !is_for(mention.need, term, part) {
         return None;
     }
     match mention.kind {
-        MentionKind::Term => text_of(result_of(told.defs, mention.text())),
+        MentionKind::Term => {
+            let defs = definitions_of(told, mention.text());
+            text_of(result_of(defs, mention.text()))
+        }
         MentionKind::Constant => match constant_of(told.defs, mention.text())? {
             Extern::Const { ty, .. } => Some(ty.0.as_str()),
             _ => None,
         },
         MentionKind::Variable => type_of_variable(told, mention.home.1),
         _ => None,
+    }
+}
+
+// The type that is needed, where it is written.
+fn type_by_need<'a>(told: &Told<'a>, need: Need<'a>) -> Option<&'a Ident> {
+    let defs = match need {
+        Need::Argument(term, _) | Need::Parameter(term, _) => definitions_of(told, term),
+        Need::Answer(term) | Need::Given(term, _) => definitions_of(told, term),
+        Need::Nothing | Need::Binding(_) => told.defs,
+    };
+    type_needed(defs, need)
+}
+
+// The definitions that tell the types of a term: its declaration, or where it has none all.
+fn definitions_of<'a>(told: &Told<'a>, term: &str) -> &'a [Def] {
+    match told.defined.terms.declaration_of(term) {
+        Some(def) => slice::from_ref(def),
+        None => told.defs,
     }
 }
 
@@ -240,7 +278,7 @@ fn is_for(need: Need<'_>, term: &str, part: Part) -> bool {
 fn type_of_variable<'a>(told: &Told<'a>, home: Pos) -> Option<&'a str> {
     for mention in &told.names.names {
         if mention.kind == MentionKind::Variable && mention.home.1 == home {
-            if let Some(ty) = type_needed(told.defs, mention.need) {
+            if let Some(ty) = type_by_need(told, mention.need) {
                 return Some(ty.0.as_str());
             }
         }

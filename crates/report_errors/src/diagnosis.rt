@@ -46,11 +46,11 @@ const MOST_VALUES: usize = 3;
 
 // The definitions that errors are of, and how much is said of an error.
 #[derive(Clone, Copy)]
-struct Source<'a> {
+struct Source<'a, 'd> {
     alloc: Global,
     defs: &'a [Def],
     // The names that may be meant in place of those that errors say aren't known.
-    defined: &'a DefinedNames<'a>,
+    defined: &'d DefinedNames<'a>,
     // What they became before their rules were compared, if types and rules can be read.
     environments: Option<&'a Environments>,
     // Whether uses of internal extractors are replaced by their templates.
@@ -268,7 +268,7 @@ fn conflict_told<'a>(
 
 // Adds the report of the error of a number, which tells this conflict if there is one.
 fn add_report(
-    source: Source<'_>,
+    source: Source<'_, '_>,
     reports: &mut Vec<Report>,
     errors: &[Error],
     order: &Order,
@@ -309,7 +309,7 @@ fn add_report(
 }
 
 // Adds what to do where a rule uses a multi term and its own isn't multi. Rules of multi terms have no priorities.
-fn add_multi(source: Source<'_>, report: &mut Report, rule: &Rule) -> Result<(), AllocError> {
+fn add_multi(source: Source<'_, '_>, report: &mut Report, rule: &Rule) -> Result<(), AllocError> {
     let Some(decl) = declaration_of(source.defs, root_of(rule)) else {
         return Ok(());
     };
@@ -334,7 +334,7 @@ fn add_multi(source: Source<'_>, report: &mut Report, rule: &Rule) -> Result<(),
 }
 
 // The edits that make a term multi: its declaration gets the word, and its rules lose their priorities.
-fn multi_edits(source: Source<'_>, decl: &Decl) -> Result<Vec<Edit>, AllocError> {
+fn multi_edits(source: Source<'_, '_>, decl: &Decl) -> Result<Vec<Edit>, AllocError> {
     let mut edits = Vec::new(source.alloc);
     edits.push(Edit {
         place: Place::Before(decl.term.1),
@@ -361,7 +361,7 @@ fn place_of_priority(def: &Def, term: &str) -> Option<Place> {
 
 // The report of an error, which tells this conflict if there is one.
 fn report_of(
-    source: Source<'_>,
+    source: Source<'_, '_>,
     error: &Error,
     conflict: Option<Conflict<'_>>,
 ) -> Result<Report, AllocError> {
@@ -390,7 +390,7 @@ fn report_of(
 
 // The report of a rule that can't match.
 fn of_unreachable(
-    source: Source<'_>,
+    source: Source<'_, '_>,
     why: Unreachable,
     span: Span,
     conflict: Option<Conflict<'_>>,
@@ -402,7 +402,7 @@ fn of_unreachable(
 }
 
 // The report of a rule that can't match, by what the library says.
-fn of_asked(source: Source<'_>, why: Unreachable, span: Span) -> Result<Report, AllocError> {
+fn of_asked(source: Source<'_, '_>, why: Unreachable, span: Span) -> Result<Report, AllocError> {
     let alloc = source.alloc;
     let Some((first, second)) = named_forms(alloc, source.environments, why)? else {
         let message = format!(in alloc; "{why}")?;
@@ -433,7 +433,7 @@ const WAY_OUT: &str =
 
 // The report of a rule that demands two forms of one value, with the places of both.
 fn of_conflict(
-    source: Source<'_>,
+    source: Source<'_, '_>,
     span: Span,
     conflict: Conflict<'_>,
 ) -> Result<Report, AllocError> {
@@ -476,7 +476,7 @@ fn begun(alloc: Global, kind: &'static str, message: &str) -> Result<Report, All
 }
 
 fn of_rule(
-    source: Source<'_>,
+    source: Source<'_, '_>,
     (kind, message): (&'static str, &str),
     span: Span,
     help: &str,
@@ -505,7 +505,7 @@ fn way_below(limit: Limit) -> &'static str {
 }
 
 // A report of rules of one priority of which the first overlaps each of the others.
-fn overlap(source: Source<'_>, rules: &[Span]) -> Result<Report, AllocError> {
+fn overlap(source: Source<'_, '_>, rules: &[Span]) -> Result<Report, AllocError> {
     let alloc = source.alloc;
     let mut report = begun(
         alloc,
@@ -525,7 +525,11 @@ fn overlap(source: Source<'_>, rules: &[Span]) -> Result<Report, AllocError> {
 }
 
 // Adds the first variable of these rules' patterns that looks like something else: it matches any value, so more than is meant.
-fn add_suspect(source: Source<'_>, report: &mut Report, rules: &[Span]) -> Result<(), AllocError> {
+fn add_suspect(
+    source: Source<'_, '_>,
+    report: &mut Report,
+    rules: &[Span],
+) -> Result<(), AllocError> {
     if !source.is_explained {
         return Ok(());
     }
@@ -538,7 +542,11 @@ fn add_suspect(source: Source<'_>, report: &mut Report, rules: &[Span]) -> Resul
 }
 
 // Adds the first such variable of a rule: whether there is one.
-fn add_suspect_of(source: Source<'_>, report: &mut Report, rule: Pos) -> Result<bool, AllocError> {
+fn add_suspect_of(
+    source: Source<'_, '_>,
+    report: &mut Report,
+    rule: Pos,
+) -> Result<bool, AllocError> {
     let names = Mentions::around(source.alloc, source.defs, rule)?;
     let constants = constants_of(source.alloc, source.defs)?;
     for mention in names.names.iter().filter(|mention| mention.in_pattern) {
@@ -559,7 +567,7 @@ fn add_suspect_of(source: Source<'_>, report: &mut Report, rule: Pos) -> Result<
 
 // Adds the places of so many rules of which the first overlaps each of the others. How many of the others have its left side.
 fn add_overlapping(
-    source: Source<'_>,
+    source: Source<'_, '_>,
     report: &mut Report,
     rules: &[Span],
     shown: usize,
@@ -594,7 +602,7 @@ fn words_of_overlap(number: usize, is_alike: bool) -> (&'static str, &'static st
 
 // Adds what to do about rules of which the first overlaps each of the others, so many of which are alike.
 fn add_way_out(
-    source: Source<'_>,
+    source: Source<'_, '_>,
     report: &mut Report,
     rules: &[Span],
     alike: usize,
@@ -631,7 +639,7 @@ fn add_rest(alloc: Global, report: &mut Report, count: usize) -> Result<(), Allo
 }
 
 // A report of rules that another one shadows.
-fn shadow(source: Source<'_>, shadowed: &[Span], mask: Span) -> Result<Report, AllocError> {
+fn shadow(source: Source<'_, '_>, shadowed: &[Span], mask: Span) -> Result<Report, AllocError> {
     let alloc = source.alloc;
     let mut report = begun(alloc, "shadow", "a rule is never taken")?;
     add_suspect(source, &mut report, slice::from_ref(&mask))?;
@@ -670,7 +678,11 @@ fn shadow(source: Source<'_>, shadowed: &[Span], mask: Span) -> Result<Report, A
 const FIRST_TAKEN: &str = "give the rule that is never taken a greater priority, or remove it";
 
 // Adds what the first of some rules and each of the others match.
-fn add_values(source: Source<'_>, report: &mut Report, rules: &[Span]) -> Result<(), AllocError> {
+fn add_values(
+    source: Source<'_, '_>,
+    report: &mut Report,
+    rules: &[Span],
+) -> Result<(), AllocError> {
     let (Some(first), true) = (rules.first(), source.is_explained) else {
         return Ok(());
     };
@@ -682,7 +694,7 @@ fn add_values(source: Source<'_>, report: &mut Report, rules: &[Span]) -> Result
 
 // Adds what two rules match.
 fn add_value(
-    source: Source<'_>,
+    source: Source<'_, '_>,
     report: &mut Report,
     left: Pos,
     right: Pos,

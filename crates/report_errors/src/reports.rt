@@ -69,11 +69,11 @@ impl<'a> Told<'a> {
 /// # Errors
 ///
 /// Where memory is refused.
-pub(crate) fn report_of(
+pub(crate) fn report_of<'a>(
     alloc: Global,
-    defs: &[Def],
-    defined: &DefinedNames<'_>,
-    why: &Why,
+    defs: &'a [Def],
+    defined: &'a DefinedNames<'a>,
+    why: &'a Why,
     pos: Pos,
     is_explained: bool,
 ) -> Result<Report, AllocError> {

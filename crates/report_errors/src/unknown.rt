@@ -1,6 +1,6 @@
 //! The names that errors say aren't known, and those that may be meant.
 
-use crate::declarations::Sides;
+use crate::declarations::KnownTerms;
 use crate::error_order::why_of;
 use crate::nearest::{KnownNames, Nearest};
 use crate::reports::Told;
@@ -42,16 +42,16 @@ fn place_of_type(names: &Mentions<'_>, name: &str, pos: Pos) -> Option<Pos> {
     None
 }
 
-/// The names that definitions define, of each kind that a name has which an error says isn't known, and who makes terms and takes
-/// them apart.
+/// The names that definitions define, of each kind that a name has which an error says isn't known, and what is known of
+/// terms.
 pub(crate) struct DefinedNames<'a> {
     kinds: Vec<(NameKind, KnownNames)>,
-    pub sides: Sides<'a>,
+    pub terms: KnownTerms<'a>,
 }
 
 impl<'a> Drop for DefinedNames<'a> {
     fn drop(self) {
-        let DefinedNames { kinds: _, sides: _ } = self;
+        let DefinedNames { kinds: _, terms: _ } = self;
     }
 }
 
@@ -64,7 +64,7 @@ impl<'a> DefinedNames<'a> {
     ) -> Result<DefinedNames<'a>, AllocError> {
         let mut found = DefinedNames {
             kinds: Vec::new(alloc),
-            sides: Sides::of(alloc, defs)?,
+            terms: KnownTerms::of(alloc, defs)?,
         };
         for error in errors {
             if let Some((_, kind)) = why_of(error).and_then(Why::unknown) {
