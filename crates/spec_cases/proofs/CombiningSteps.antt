@@ -1,0 +1,70 @@
+-- Cases of lists, and cases of one value each.
+use Rattle.std.proofs.Common.{◌≡◌, ℕ, Bool, true, false, List, [], ◌∷◌, ◌++◌, map, refl, sym, ap, ◌∙◌}
+use Rattle.std.proofs.lemmas.List.{append_assoc, map-append}
+use Rattle.model_questions.specs.Formulas as M
+use Rattle.model_questions.specs.Forms as MF
+use Rattle.spec_cases.specs.declared.cases.Case.{Case}
+use Rattle.spec_cases.specs.declared.cases.Cases.{Cases}
+use Rattle.spec_cases.specs.declared.forms.FieldsId.{FieldsId}
+use Rattle.spec_cases.specs.Namings.{Naming, fact_of}
+use Rattle.spec_cases.specs.CaseViews.{guarded, guarded_case, guarded_each, list_cases_of, with_value, with_values}
+use Rattle.spec_cases.specs.Combining.{forms_cases}
+
+-- 1. lists
+module _ (v : Naming) where
+  abbrev forms_at : FieldsId → MF.Forms
+  forms_at l = v.fields l.0
+
+  mapped_under : (g : M.Fact) (cs : List (MF.Case FieldsId)) → map (with_value forms_at) (MF.each_under g cs) ≡ MF.each_under g (map (with_value forms_at) cs)
+  mapped_under g [] = refl
+  mapped_under g (c ∷ cs) = ap (λ l. record { guard = M.both_of g c.guard; gives = forms_at c.gives } ∷ l) (mapped_under g cs)
+
+  pub list_under : (g : M.Fact) (cs out : Cases FieldsId) → guarded v out ≡ MF.under g (guarded v cs) → list_cases_of v out ≡ MF.under g (list_cases_of v cs)
+  list_under g cs out e = ap (with_values forms_at) e ∙ ap (λ l. record { cases = l; rest = M.both_of g (fact_of v cs.rest) }) (mapped_under g (guarded_each v cs.cases.items))
+
+  pub list_joined : (a b out : Cases FieldsId) → guarded v out ≡ MF.joined_cases (guarded v a) (guarded v b) → list_cases_of v out ≡ MF.joined_cases (list_cases_of v a) (list_cases_of v b)
+  list_joined a b out e =
+      ap (with_values forms_at) e
+      ∙ ap (λ l. record { cases = l; rest = M.one_of (fact_of v a.rest) (fact_of v b.rest) }) (map-append (with_value forms_at) (guarded_each v a.cases.items) (guarded_each v b.cases.items))
+
+  pub list_nothing : (cs : Cases FieldsId) → guarded v cs ≡ MF.nothing_said → list_cases_of v cs ≡ MF.nothing_said
+  list_nothing cs e = ap (with_values forms_at) e
+
+  pub list_one : (cs : Cases FieldsId) (x : FieldsId) → guarded v cs ≡ MF.one_case x → list_cases_of v cs ≡ MF.one_case (v.fields x.0)
+  list_one cs x e = ap (with_values forms_at) e
+
+  pub lists_pushed : (out : List (Case FieldsId)) (c : Case FieldsId) → forms_cases v (out ++ c ∷ []) ≡ forms_cases v out ++ (with_value forms_at (guarded_case v c) ∷ [])
+  lists_pushed out c = ap (map (with_value forms_at)) (map-append (guarded_case v) out (c ∷ [])) ∙ map-append (with_value forms_at) (guarded_each v out) (guarded_case v c ∷ [])
+
+pub ruleset list_under_steps = (list_under, list_joined)
+
+pub ruleset prefix_steps = (lists_pushed, append_assoc)
+
+-- 2. one value for each
+both_true : (g : M.Fact) → M.both_of g (M.known true) ≡ g
+both_true (M.known true) = refl
+both_true (M.known false) = refl
+both_true _ = refl
+
+both_false : (g : M.Fact) → M.both_of g (M.known false) ≡ M.known false
+both_false (M.known true) = refl
+both_false (M.known false) = refl
+both_false _ = refl
+
+one_false : (g : M.Fact) → M.one_of g (M.known false) ≡ g
+one_false (M.known true) = refl
+one_false (M.known false) = refl
+one_false _ = refl
+
+module _ {X Y : Type 0} (f : X → Y) where
+  each_one : (cs : List (MF.Case X)) → MF.from_each cs (λ x. MF.one_case (f x)) ≡ record { cases = map (with_value f) cs; rest = M.known false }
+  each_one [] = refl
+  each_one (c ∷ cs) =
+      ap (λ r. MF.joined_cases (MF.under c.guard (MF.one_case (f c.gives))) r) (each_one cs)
+      ∙ ap (λ g. record { cases = record { guard = g; gives = f c.gives } ∷ map (with_value f) cs; rest = M.one_of (M.both_of c.guard (M.known false)) (M.known false) }) (both_true c.guard)
+      ∙ ap (λ g. record { cases = record { guard = c.guard; gives = f c.gives } ∷ map (with_value f) cs; rest = M.one_of g (M.known false) }) (both_false c.guard)
+
+  pub then_one : (cs : MF.Cases X) → MF.then_cases cs (λ x. MF.one_case (f x)) ≡ with_values f cs
+  then_one cs =
+      ap (λ r. record { cases = r.cases; rest = M.one_of cs.rest r.rest }) (each_one cs.cases)
+      ∙ ap (λ g. record { cases = map (with_value f) cs.cases; rest = g }) (one_false cs.rest)
