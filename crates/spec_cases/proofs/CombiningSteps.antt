@@ -3,12 +3,15 @@ use Rattle.std.proofs.Common.{◌≡◌, ℕ, Bool, true, false, List, [], ◌�
 use Rattle.std.proofs.lemmas.List.{append_assoc, map-append}
 use Rattle.model_questions.specs.Formulas as M
 use Rattle.model_questions.specs.Forms as MF
+use Rattle.model_questions.specs.Evaluated as E
+use Rattle.laws_specs.specs.Specs.{Specs}
+use Rattle.model.specs.lists.Tables.{TypeEntry}
 use Rattle.spec_cases.specs.declared.cases.Case.{Case}
 use Rattle.spec_cases.specs.declared.cases.Cases.{Cases}
 use Rattle.spec_cases.specs.declared.forms.FieldsId.{FieldsId}
 use Rattle.spec_cases.specs.Namings.{Naming, fact_of}
 use Rattle.spec_cases.specs.CaseViews.{guarded, guarded_case, guarded_each, list_cases_of, with_value, with_values}
-use Rattle.spec_cases.specs.Combining.{forms_cases}
+use Rattle.spec_cases.specs.Combining.{forms_cases, rest_with}
 
 -- 1. lists
 module _ (v : Naming) where
@@ -68,3 +71,22 @@ module _ {X Y : Type 0} (f : X → Y) where
   then_one cs =
       ap (λ r. record { cases = r.cases; rest = M.one_of cs.rest r.rest }) (each_one cs.cases)
       ∙ ap (λ g. record { cases = map (with_value f) cs.cases; rest = g }) (one_false cs.rest)
+
+-- a form before the forms of each list
+pub prefixed_seen : (v : Naming) (f : MF.Form) (r : M.Fact) (later out : List (Case FieldsId))
+    → forms_cases v out ≡ map (with_value (MF.form_and f)) (forms_cases v later)
+    → record { cases = forms_cases v out; rest = r } ≡ MF.then_cases (record { cases = forms_cases v later; rest = r }) (λ gs. MF.one_case (MF.form_and f gs))
+prefixed_seen v f r later out e = ap (λ l. record { cases = l; rest = r }) e ∙ sym (then_one (MF.form_and f) (record { cases = forms_cases v later; rest = r }))
+
+-- 3. values, one before others
+pub opened_more : (types : List TypeEntry) (specs : Specs) (k : E.Known) (f : MF.Form) (rest : MF.Forms) (first : MF.Cases MF.Form) (later cs : MF.Cases MF.Forms)
+    → first ≡ E.opened types specs k f → later ≡ E.opened_each types specs k rest → cs ≡ MF.then_cases first (λ g. MF.then_cases later (λ gs. MF.one_case (MF.form_and g gs)))
+    → cs ≡ E.opened_each types specs k (MF.form_and f rest)
+opened_more types specs k f rest first later cs h e made =
+    made ∙ ap (λ c. MF.then_cases c (λ g. MF.then_cases later (λ gs. MF.one_case (MF.form_and g gs)))) h
+    ∙ ap (λ c. MF.then_cases (E.opened types specs k f) (λ g. MF.then_cases c (λ gs. MF.one_case (MF.form_and g gs)))) e
+
+-- what comes of cases, with their rest
+pub then_seen : {X Y : Type 0} (values xs : MF.Cases X) (each cs : MF.Cases Y) (k : X → MF.Cases Y)
+    → values ≡ xs → each ≡ MF.from_each values.cases k → cs ≡ rest_with values.rest each → cs ≡ MF.then_cases xs k
+then_seen values xs each cs k e h made = made ∙ ap (rest_with values.rest) h ∙ ap (λ c. MF.then_cases c k) e

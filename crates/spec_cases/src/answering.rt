@@ -1,12 +1,13 @@
 //! What an unknown function answers: a value of its sort, on operands of its sorts.
-ghost use Rattle.std.specs.Prelude.{◌≡◌, ◌∷◌, ◌&&◌, map, IfOk};
+ghost use Rattle.std.specs.Prelude.{◌≡◌, ◌∷◌, ◌&&◌, map, Some, IfOk};
 ghost use Rattle.std.specs.Bool.{◌==◌};
+ghost use Rattle.std.specs.List.{list_any};
 ghost use Rattle.laws_specs.specs.Specs as L;
 ghost use Rattle.model.specs.rules.Meaning.{look};
 ghost use Rattle.model_questions.specs.Evaluated as E;
 ghost use Rattle.spec_cases.specs.CaseViews.{cases_of};
 ghost use Rattle.spec_cases.specs.Namings.{forms_of, operand_and, operands_of, word_of, Makes};
-ghost use Rattle.spec_cases.specs.Sorts.{function_sorts, sort_view};
+ghost use Rattle.spec_cases.specs.Sorts.{function_sort, function_sorts, sort_view};
 
 use crate::arena::Formulas;
 use crate::cases::{Cases, anything, one_case};
@@ -15,6 +16,16 @@ use crate::fitting::operands;
 use crate::forms::Form;
 use crate::formulas::{FactNode, IntegerNode, Operand, Word, WordNode};
 use crate::sorts::{FunctionSort, Sort};
+
+// Whether a width is one of these.
+fn is_listed(width: u32, widths: &[u32]) -> bool
+    ensures { result ≡ list_any (λ w. width == w) widths.now }
+{
+    match widths {
+        [] => false,
+        [first, rest @ ..] => width == *first || is_listed(width, rest),
+    }
+}
 
 impl Sort {
     // Whether it has the truths.
@@ -43,7 +54,7 @@ impl Sort {
     {
         match self {
             Sort::Words(own) => width == *own,
-            Sort::WordsAmong(widths) => widths.iter().any(|own| width == *own),
+            Sort::WordsAmong(widths) => is_listed(width, widths),
             Sort::Truths | Sort::Integers => false,
         }
     }
@@ -80,6 +91,7 @@ impl Operand {
 }
 
 // Whether operands are of sorts, one by one.
+#[tactic(auto, using(crate::proofs::AnsweringSteps::operand_steps))]
 fn are_operands_of(sorts: &[Sort], operands: &[Operand]) -> bool
     ensures { (v : _) → result ≡ E.are_operands_of (map sort_view sorts.now) (operands_of v operands.now) }
 {
@@ -124,7 +136,24 @@ impl Formulas {
         }
     }
 
-    // An answer by the function's sort.
+    // An answer by a function's sort, on operands of its sorts.
+    #[tactic(auto, using(crate::proofs::AppliedSteps::case_steps))]
+    fn answered_by(
+        &mut self,
+        function: u32,
+        operands: &[Operand],
+        own: &FunctionSort,
+    ) -> Result<Cases<Form>, Fault>
+        ensures { IfOk result (λ cs. Makes self.old self.new (λ v. cases_of v cs ≡ E.answered_as_sorted function (operands_of v operands.now) (Some (function_sort own.now).1))) }
+    {
+        if are_operands_of(&own.takes, operands) {
+            Ok(self.answer_of_sort(function, operands, &own.gives)?)
+        } else {
+            Ok(anything(self.alloc()))
+        }
+    }
+
+    // An answer by the function's sort, where it has one.
     #[tactic(auto, using(crate::proofs::AppliedSteps::case_steps))]
     fn answered_as_sorted(
         &mut self,
@@ -137,13 +166,10 @@ impl Formulas {
         match functions {
             [] => Ok(anything(self.alloc())),
             [first, rest @ ..] => {
-                if first.function != function {
-                    return Ok(self.answered_as_sorted(rest, function, operands)?);
-                }
-                if are_operands_of(&first.takes, operands) {
-                    Ok(self.answer_of_sort(function, operands, &first.gives)?)
+                if first.function == function {
+                    Ok(self.answered_by(function, operands, first)?)
                 } else {
-                    Ok(anything(self.alloc()))
+                    Ok(self.answered_as_sorted(rest, function, operands)?)
                 }
             }
         }

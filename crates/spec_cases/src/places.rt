@@ -48,7 +48,7 @@ impl Place {
     }
 
     // With an output.
-    #[tactic(auto, using(crate::proofs::PlaceSteps::output_same))]
+    #[tactic(auto, using(crate::proofs::PlaceSteps::output_steps))]
     fn beside_output(self, site: u32, index: usize) -> bool
         ensures { (v : _) → AreApart v → result ≡ M.place_eq (M.output_at (v.site site) index) (layer_of_place v self) }
     {
