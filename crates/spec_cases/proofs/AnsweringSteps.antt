@@ -1,12 +1,17 @@
--- Words that are made of others aren't formed for sure, and operands are as many as sorts.
-use Rattle.std.proofs.Common.{◌≡◌, ℕ, ◌<◌, ◌≤◌, false, true, List, [], ◌∷◌, length, refl, sym, arith}
-use Rattle.std.proofs.lemmas.Bool.{false≢true}
+-- Words that are made of others aren't formed for sure, operands are as many as sorts, and the sort of a function is looked for.
+use Rattle.std.proofs.Common.{◌≡◌, ◌≢◌, ℕ, ◌<◌, ◌≤◌, ◌&&◌, Bool, false, true, List, [], ◌∷◌, drop, get_or, length, map, Some, if◌then◌else◌, refl, sym, ap, ◌∙◌, arith}
+use Rattle.std.proofs.lemmas.Bool.{false≢true, ne_eqb}
+use Rattle.std.specs.Bool.{◌==◌}
+use Rattle.model.specs.rules.Meaning.{look}
 use Rattle.model_questions.specs.Formulas as M
 use Rattle.model_questions.specs.Evaluated as E
 use Rattle.laws_specs.specs.Specs.{Sort}
+use Rattle.spec_cases.specs.declared.sorts.FunctionSort.{FunctionSort}
+use Rattle.spec_cases.specs.declared.sorts.Sort as Own
+use Rattle.spec_cases.specs.Sorts.{function_sort, function_sorts, sort_view}
 use Rattle.spec_cases.specs.declared.formulas.Operand.{Operand}
 use Rattle.spec_cases.specs.declared.formulas.Operand.TheVariants as O
-use Rattle.spec_cases.specs.Namings.{Naming, is_plain_word, operands_of}
+use Rattle.spec_cases.specs.Namings.{Naming, is_plain_word, operand_and, operands_of}
 
 formed_other : (w : ℕ) (t : M.Word) → is_plain_word t ≡ false → E.is_surely_formed w t ≡ false
 formed_other w (M.written n) h = absurd (false≢true (sym h))
@@ -30,3 +35,23 @@ module _ (v : Naming) where
   too_few s sorts (o ∷ l) h = absurd (omega arith)
 
 pub ruleset operand_steps = (too_many, too_few)
+
+-- one operand, and the later ones
+pub operands_more : (v : Naming) (sorts : List Own.Sort) (l : List Operand) (s : Own.Sort) (o : Operand) (first later : Bool)
+    → 1 ≤ length sorts → 1 ≤ length l → s ≡ get_or sorts 0 s → o ≡ get_or l 0 o
+    → E.are_operands_of (sort_view s ∷ map sort_view (drop 1 sorts)) (operand_and v o (operands_of v (drop 1 l))) ≡ first && E.are_operands_of (map sort_view (drop 1 sorts)) (operands_of v (drop 1 l))
+    → later ≡ E.are_operands_of (map sort_view (drop 1 sorts)) (operands_of v (drop 1 l))
+    → (first && later) ≡ E.are_operands_of (map sort_view sorts) (operands_of v l)
+operands_more v [] l s o first later h k e f made more = absurd (omega arith)
+operands_more v (t ∷ sorts) [] s o first later h k e f made more = absurd (omega arith)
+operands_more v (t ∷ sorts) (p ∷ l) s o first later h k e f made more =
+    ap (λ b. first && b) more ∙ sym made
+    ∙ ap (λ z. E.are_operands_of (sort_view z ∷ map sort_view sorts) (operand_and v o (operands_of v l))) e
+    ∙ ap (λ z. E.are_operands_of (sort_view t ∷ map sort_view sorts) (operand_and v z (operands_of v l))) f
+
+-- another function is passed over
+pub sorted_later : (f : ℕ) (l : List FunctionSort) (x : FunctionSort) → 1 ≤ length l → x ≡ get_or l 0 x → x.function ≢ f
+    → look (λ n. n == f) (function_sorts (drop 1 l)) ≡ look (λ n. n == f) (function_sorts l)
+sorted_later f [] x h at other = absurd (omega arith)
+sorted_later f (y ∷ l) x h at other =
+    ap (λ b. if b then Some (function_sort y).1 else look (λ n. n == f) (function_sorts l)) (sym (ap (λ z. z.function == f) (sym at) ∙ ne_eqb x.function f other))

@@ -1,5 +1,5 @@
 -- Cases of lists, and cases of one value each.
-use Rattle.std.proofs.Common.{◌≡◌, ℕ, Bool, true, false, List, [], ◌∷◌, ◌++◌, map, refl, sym, ap, ◌∙◌}
+use Rattle.std.proofs.Common.{◌≡◌, ℕ, ◌≤◌, Bool, true, false, List, [], ◌∷◌, ◌++◌, drop, get_or, length, map, refl, sym, ap, ◌∙◌, arith}
 use Rattle.std.proofs.lemmas.List.{append_assoc, map-append}
 use Rattle.model_questions.specs.Formulas as M
 use Rattle.model_questions.specs.Forms as MF
@@ -9,7 +9,8 @@ use Rattle.model.specs.lists.Tables.{TypeEntry}
 use Rattle.spec_cases.specs.declared.cases.Case.{Case}
 use Rattle.spec_cases.specs.declared.cases.Cases.{Cases}
 use Rattle.spec_cases.specs.declared.forms.FieldsId.{FieldsId}
-use Rattle.spec_cases.specs.Namings.{Naming, fact_of}
+use Rattle.spec_cases.specs.declared.forms.Form.{Form}
+use Rattle.spec_cases.specs.Namings.{Naming, fact_of, form_of, forms_of}
 use Rattle.spec_cases.specs.CaseViews.{guarded, guarded_case, guarded_each, list_cases_of, with_value, with_values}
 use Rattle.spec_cases.specs.Combining.{forms_cases, rest_with}
 
@@ -85,6 +86,14 @@ pub opened_more : (types : List TypeEntry) (specs : Specs) (k : E.Known) (f : MF
 opened_more types specs k f rest first later cs h e made =
     made ∙ ap (λ c. MF.then_cases c (λ g. MF.then_cases later (λ gs. MF.one_case (MF.form_and g gs)))) h
     ∙ ap (λ c. MF.then_cases (E.opened types specs k f) (λ g. MF.then_cases c (λ gs. MF.one_case (MF.form_and g gs)))) e
+
+-- the same of a list
+pub opened_list : (v : Naming) (types : List TypeEntry) (specs : Specs) (k : E.Known) (l : List Form) (f : Form) (first : MF.Cases MF.Form) (later cs : MF.Cases MF.Forms)
+    → 1 ≤ length l → f ≡ get_or l 0 f → first ≡ E.opened types specs k (form_of v f) → later ≡ E.opened_each types specs k (forms_of v (drop 1 l))
+    → cs ≡ MF.then_cases first (λ g. MF.then_cases later (λ gs. MF.one_case (MF.form_and g gs))) → cs ≡ E.opened_each types specs k (forms_of v l)
+opened_list v types specs k [] f first later cs h at e m made = absurd (omega arith)
+opened_list v types specs k (x ∷ l) f first later cs h at e m made =
+    opened_more types specs k (form_of v x) (forms_of v l) first later cs (e ∙ ap (λ y. E.opened types specs k (form_of v y)) at) m made
 
 -- what comes of cases, with their rest
 pub then_seen : {X Y : Type 0} (values xs : MF.Cases X) (each cs : MF.Cases Y) (k : X → MF.Cases Y)
