@@ -1,5 +1,5 @@
 -- Words that are made of others aren't formed for sure, operands are as many as sorts, and the sort of a function is looked for.
-use Rattle.std.proofs.Common.{◌≡◌, ◌≢◌, ℕ, ◌<◌, ◌≤◌, ◌&&◌, Bool, false, true, List, [], ◌∷◌, drop, get_or, length, map, Some, if◌then◌else◌, refl, sym, ap, ◌∙◌, arith}
+use Rattle.std.proofs.Common.{◌≡◌, ◌≢◌, ℕ, ◌<◌, ◌≤◌, false, true, List, [], ◌∷◌, drop, get_or, length, map, Some, if◌then◌else◌, refl, sym, ap, ◌∙◌, arith}
 use Rattle.std.proofs.lemmas.Bool.{false≢true, ne_eqb}
 use Rattle.std.specs.Bool.{◌==◌}
 use Rattle.model.specs.rules.Meaning.{look}
@@ -34,20 +34,16 @@ module _ (v : Naming) where
   too_few s sorts [] h = refl
   too_few s sorts (o ∷ l) h = absurd (omega arith)
 
-pub ruleset operand_steps = (too_many, too_few)
-
 -- one operand, and the later ones
-pub operands_more : (v : Naming) (sorts : List Own.Sort) (l : List Operand) (s : Own.Sort) (o : Operand) (first later : Bool)
-    → 1 ≤ length sorts → 1 ≤ length l → s ≡ get_or sorts 0 s → o ≡ get_or l 0 o
-    → E.are_operands_of (sort_view s ∷ map sort_view (drop 1 sorts)) (operand_and v o (operands_of v (drop 1 l))) ≡ first && E.are_operands_of (map sort_view (drop 1 sorts)) (operands_of v (drop 1 l))
-    → later ≡ E.are_operands_of (map sort_view (drop 1 sorts)) (operands_of v (drop 1 l))
-    → (first && later) ≡ E.are_operands_of (map sort_view sorts) (operands_of v l)
-operands_more v [] l s o first later h k e f made more = absurd (omega arith)
-operands_more v (t ∷ sorts) [] s o first later h k e f made more = absurd (omega arith)
-operands_more v (t ∷ sorts) (p ∷ l) s o first later h k e f made more =
-    ap (λ b. first && b) more ∙ sym made
-    ∙ ap (λ z. E.are_operands_of (sort_view z ∷ map sort_view sorts) (operand_and v o (operands_of v l))) e
-    ∙ ap (λ z. E.are_operands_of (sort_view t ∷ map sort_view sorts) (operand_and v z (operands_of v l))) f
+pub operands_first : (v : Naming) (sorts : List Own.Sort) (l : List Operand) (s : Own.Sort) (o : Operand) → 1 ≤ length sorts → 1 ≤ length l → s ≡ get_or sorts 0 s → o ≡ get_or l 0 o
+    → E.are_operands_of (map sort_view sorts) (operands_of v l) ≡ E.are_operands_of (sort_view s ∷ map sort_view (drop 1 sorts)) (operand_and v o (operands_of v (drop 1 l)))
+operands_first v [] l s o h k e f = absurd (omega arith)
+operands_first v (t ∷ sorts) [] s o h k e f = absurd (omega arith)
+operands_first v (t ∷ sorts) (p ∷ l) s o h k e f =
+    ap (λ z. E.are_operands_of (sort_view z ∷ map sort_view sorts) (operand_and v p (operands_of v l))) (sym e)
+    ∙ ap (λ z. E.are_operands_of (sort_view s ∷ map sort_view sorts) (operand_and v z (operands_of v l))) (sym f)
+
+pub ruleset operand_steps = (too_many, too_few, operands_first)
 
 -- another function is passed over
 pub sorted_later : (f : ℕ) (l : List FunctionSort) (x : FunctionSort) → 1 ≤ length l → x ≡ get_or l 0 x → x.function ≢ f
