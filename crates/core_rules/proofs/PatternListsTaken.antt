@@ -1,5 +1,6 @@
 -- How lists of patterns are read on, part by part.
-use Rattle.std.proofs.Common.{◌≡◌, ℕ, zero, suc, ◌+◌, ◌<◌, ◌≤◌, Bool, List, [], ◌∷◌, ◌++◌, length, map, drop, get_or, Option, Some, None, option_map, Ok, Err, append-nil, inl, inr, ◌⊎◌, refl, sym, ap, subst, ◌∙◌, arith}
+use Rattle.std.proofs.Common.{◌≡◌, ℕ, zero, suc, ◌+◌, ◌<◌, ◌≤◌, min, nat_le, Bool, List, [], ◌∷◌, ◌++◌, length, map, drop, get_or, Option, Some, None, option_map, Ok, Err, append-nil, inl, inr, ◌⊎◌, refl, sym, ap, subst, ◌∙◌, arith}
+use Rattle.std.proofs.lemmas.Bool.{cases_Bool, leb-true, leb-false}
 use Rattle.std.proofs.lemmas.List.{drop_more, drop_all}
 use Rattle.std.specs.Option.{option_to_list}
 use Rattle.core_syntax.specs.declared.syntax.Pattern as T
@@ -101,9 +102,9 @@ module _ (multi : Bool) (args : List T.Pattern) (d i : ℕ) (p : T.Pattern) (w :
         one_on with_part env old mid new keeps whole (pattern_steps multi (S.pattern_view p) ty d) (each_from multi args ty d i) (each_from multi args ty d (i + 1)) (each_law ty) (after_made ps) on
         (option_map pattern_view o) (after_made (ps ++ option_to_list o)) (one_after ps o) h
 
-    pub each_stops : (ty : ℕ) → LeadsOn env old mid whole (each_from multi args ty d i) (after_made ps)
+    pub rest_each_stops : (ty : ℕ) → LeadsOn env old mid whole (each_from multi args ty d i) (after_made ps)
         → (stop : Stop) → StopsBy env mid new (pattern_steps multi (S.pattern_view p) ty d) stop → StopsBy env old new whole stop
-    each_stops ty on stop h =
+    rest_each_stops ty on stop h =
         one_stops with_part env old mid new keeps whole (pattern_steps multi (S.pattern_view p) ty d) (each_from multi args ty d i) (each_from multi args ty d (i + 1)) (each_law ty) (after_made ps) on
         (λ l. refl) stop h
 
@@ -114,9 +115,13 @@ no_more multi (p ∷ ps) [] d e n u h = refl
 no_more multi (p ∷ ps) (t ∷ ts) d e n u (inl h) = absurd (cc)
 no_more multi (p ∷ ps) (t ∷ ts) d e n u (inr h) = absurd (cc)
 
-pub args_read : (multi : Bool) (args : List T.Pattern) (tys : List TypeId) (d i : ℕ) → (length args ≤ i) ⊎ (length tys ≤ i) → (e : Setting) (n : ℕ) (u : Scope) → args_from multi args tys d i e n u ≡ here no_typed_pattern u
-args_read multi args tys d i (inl w) e n u = no_more multi (drop i args) (drop i tys) d e n u (inl (ap length (drop_all i args w)))
-args_read multi args tys d i (inr w) e n u = no_more multi (drop i args) (drop i tys) d e n u (inr (ap length (drop_all i tys w)))
+pub args_read : (multi : Bool) (args : List T.Pattern) (tys : List TypeId) (d i : ℕ) → min (length args) (length tys) ≤ i → (e : Setting) (n : ℕ) (u : Scope) → args_from multi args tys d i e n u ≡ here no_typed_pattern u
+args_read multi args tys d i few e n u = elim (cases_Bool (nat_le (length args) i)) [
+  | inl t ↦ no_more multi (drop i args) (drop i tys) d e n u (inl (ap length (drop_all i args (leb-true (length args) i t))))
+  | inr f ↦
+      let past = leb-false (length args) i f in
+      no_more multi (drop i args) (drop i tys) d e n u (inr (ap length (drop_all i tys (omega (arith, past, few)))))
+]
 
 pub each_read : (multi : Bool) (args : List T.Pattern) (ty d i : ℕ) → length args ≤ i → (e : Setting) (n : ℕ) (u : Scope) → each_from multi args ty d i e n u ≡ here no_typed_pattern u
 each_read multi args ty d i w e n u = ap (λ ps. each_steps multi (S.pattern_views ps) ty d e n u) (drop_all i args w)

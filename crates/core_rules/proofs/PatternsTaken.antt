@@ -1,5 +1,5 @@
 -- What patterns without parts do as their steps say, and a name around a pattern.
-use Rattle.std.proofs.Common.{◌≡◌, ℕ, ℤ, ◌+◌, Bool, true, false, not, nat_eq, List, [], ◌∷◌, ◌++◌, length, Option, Some, None, is_some, slice_get, Ok, Err, refl, sym, ap, subst, ◌∙◌, arith}
+use Rattle.std.proofs.Common.{◌≡◌, ℕ, ℤ, ◌+◌, Bool, true, false, not, nat_eq, List, [], ◌∷◌, ◌++◌, length, Option, Some, None, is_some, option_map, slice_get, Result, Ok, Err, refl, sym, ap, subst, ◌∙◌, arith}
 use Rattle.std.proofs.lemmas.Option.{none-some, same_Some}
 use Rattle.model.specs.lists.Syntax.{Position, Name, var_pattern, bool_pattern, int_pattern, prim_pattern, macro_arg, wildcard_pattern, PatternTree, bind_pattern}
 use Rattle.model.specs.lists.Names.{number, with_name}
@@ -16,6 +16,8 @@ use Rattle.core_types.specs.Envs.{names_of, constant_at}
 use Rattle.core_types.specs.TypeViews.{type_views}
 use Rattle.core_typed.specs.Elaborating.{place_unless, NotesEachAt}
 use Rattle.core_typed.proofs.NotedErrors.{none_at}
+use Rattle.core_typed.specs.declared.patterns.Pattern.{Pattern}
+use Rattle.core_typed.specs.PatternViews.{pattern_view}
 use Rattle.core_rules.specs.declared.term_env.TermEnv.{TermEnv}
 use Rattle.core_rules.specs.declared.typing.progress.Stop.{Stop}
 use Rattle.core_rules.specs.declared.typing.progress.Stop.TheVariants.{Memory, Nesting, Expansions}
@@ -136,3 +138,10 @@ module _ (env : TermEnv) (old mid : Standing) (multi : Bool) (x : Name) (of : Pa
   around_stops (Memory a) h = tt
   around_stops Nesting h = around_ended of_nesting h
   around_stops Expansions h = around_ended of_expansions h
+
+  pub around_takes : (new : Standing) → Keeps old.tyenv mid.tyenv → (q : TypedPattern) → EndsAs env old mid (pattern_steps multi of ty d) (Ok (Some q)) → (r : Result (Option Pattern) Stop)
+      → Takes env mid new (around_steps x.text at q) (option_map pattern_view) r → Takes env old new (pattern_steps multi (bind_pattern x of at) ty d) (option_map pattern_view) r
+  around_takes new keeps q h (Ok m) k = around_ends new keeps q (Ok (option_map pattern_view m)) h k
+  around_takes new keeps q h (Err (Memory a)) k = tt
+  around_takes new keeps q h (Err Nesting) k = around_ends new keeps q (Err of_nesting) h k
+  around_takes new keeps q h (Err Expansions) k = around_ends new keeps q (Err of_expansions) h k

@@ -125,10 +125,10 @@ module _ {P Q : Type 0} (f : P → Q) (env : TermEnv) (old new : Standing) (step
   pub made_ends : (r : Ending P) → EndsAs env old new steps r → EndsAs env old new (λ e n s. made_step f (steps e n s)) (made_end f r)
   made_ends r h e s is sh = made f old new (steps e old.work.expansions s) r (h e s is sh)
 
-  pub made_stops : (stop : Stop) → StopsBy env old new steps stop → StopsBy env old new (λ e n s. made_step f (steps e n s)) stop
-  made_stops (Memory a) h = tt
-  made_stops Nesting h = made_ends (Err of_nesting) h
-  made_stops Expansions h = made_ends (Err of_expansions) h
+  pub all_stops : (stop : Stop) → StopsBy env old new steps stop → StopsBy env old new (λ e n s. made_step f (steps e n s)) stop
+  all_stops (Memory a) h = tt
+  all_stops Nesting h = made_ends (Err of_nesting) h
+  all_stops Expansions h = made_ends (Err of_expansions) h
 
 -- the rest was done
 module _ {P Q : Type 0} (env : TermEnv) (old mid new : Standing) (same : mid.tyenv ≡ old.tyenv) (whole : Stepping Q) (rest : Stepping P) (as : Ending P → Ending Q) (on : LeadsOn env old mid whole rest as) where
