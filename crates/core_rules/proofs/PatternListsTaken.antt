@@ -43,9 +43,12 @@ part_between : (ps : List Pattern) (o : Option Pattern) (qs : TypedPatterns)
 part_between ps None qs = ap (λ zs. appended (pattern_parts (pattern_views zs)) qs) (sym (append-nil ps))
 part_between ps (Some p) qs = one_between ps p qs
 
+abbrev something : TypedPatterns → Ending TypedPatterns
+something qs = Ok (Some qs)
+
 one_after : (ps : List Pattern) (o : Option Pattern) (r : Ending TypedPatterns) → after_made ps (joined_end with_part (option_map pattern_view o) r) ≡ after_made (ps ++ option_to_list o) r
 one_after ps o (Ok None) = refl
-one_after ps o (Ok (Some qs)) = ap (λ (zs : TypedPatterns). Ok (Some zs)) (part_between ps o qs)
+one_after ps o (Ok (Some qs)) = ap something (part_between ps o qs)
 one_after ps o (Err l) = refl
 
 -- nothing is read yet
@@ -84,27 +87,27 @@ module _ (multi : Bool) (args : List T.Pattern) (d i : ℕ) (p : T.Pattern) (w :
   each_law ty e n u = ap (λ ps. each_steps multi (S.pattern_views ps) ty d e n u) rest_is
 
   module _ (env : TermEnv) (old mid new : Standing) (keeps : Keeps old.tyenv mid.tyenv) (whole : Stepping TypedPatterns) (ps : List Pattern) where
-    pub next_arg : (tys : List TypeId) (ty : TypeId) → i < length tys → ty ≡ get_or tys i ty → LeadsOn env old mid whole (args_from multi args tys d i) (after_made ps)
+    pub arg_goes_on : (tys : List TypeId) (ty : TypeId) → i < length tys → ty ≡ get_or tys i ty → LeadsOn env old mid whole (args_from multi args tys d i) (after_made ps)
         → (o : Option Pattern) → EndsAs env mid new (pattern_steps multi (S.pattern_view p) ty.0 d) (Ok (option_map pattern_view o)) → LeadsOn env old new whole (args_from multi args tys d (i + 1)) (after_made (ps ++ option_to_list o))
-    next_arg tys ty v ty_is on o h =
+    arg_goes_on tys ty v ty_is on o h =
         one_on with_part env old mid new keeps whole (pattern_steps multi (S.pattern_view p) ty.0 d) (args_from multi args tys d i) (args_from multi args tys d (i + 1)) (args_law tys ty v ty_is) (after_made ps) on
         (option_map pattern_view o) (after_made (ps ++ option_to_list o)) (one_after ps o) h
 
-    pub arg_stops : (tys : List TypeId) (ty : TypeId) → i < length tys → ty ≡ get_or tys i ty → LeadsOn env old mid whole (args_from multi args tys d i) (after_made ps)
+    pub arg_stops_all : (tys : List TypeId) (ty : TypeId) → i < length tys → ty ≡ get_or tys i ty → LeadsOn env old mid whole (args_from multi args tys d i) (after_made ps)
         → (stop : Stop) → StopsBy env mid new (pattern_steps multi (S.pattern_view p) ty.0 d) stop → StopsBy env old new whole stop
-    arg_stops tys ty v ty_is on stop h =
+    arg_stops_all tys ty v ty_is on stop h =
         one_stops with_part env old mid new keeps whole (pattern_steps multi (S.pattern_view p) ty.0 d) (args_from multi args tys d i) (args_from multi args tys d (i + 1)) (args_law tys ty v ty_is) (after_made ps) on
         (λ l. refl) stop h
 
-    pub next_each : (ty : ℕ) → LeadsOn env old mid whole (each_from multi args ty d i) (after_made ps)
+    pub each_goes_on : (ty : ℕ) → LeadsOn env old mid whole (each_from multi args ty d i) (after_made ps)
         → (o : Option Pattern) → EndsAs env mid new (pattern_steps multi (S.pattern_view p) ty d) (Ok (option_map pattern_view o)) → LeadsOn env old new whole (each_from multi args ty d (i + 1)) (after_made (ps ++ option_to_list o))
-    next_each ty on o h =
+    each_goes_on ty on o h =
         one_on with_part env old mid new keeps whole (pattern_steps multi (S.pattern_view p) ty d) (each_from multi args ty d i) (each_from multi args ty d (i + 1)) (each_law ty) (after_made ps) on
         (option_map pattern_view o) (after_made (ps ++ option_to_list o)) (one_after ps o) h
 
-    pub rest_each_stops : (ty : ℕ) → LeadsOn env old mid whole (each_from multi args ty d i) (after_made ps)
+    pub each_stops_all : (ty : ℕ) → LeadsOn env old mid whole (each_from multi args ty d i) (after_made ps)
         → (stop : Stop) → StopsBy env mid new (pattern_steps multi (S.pattern_view p) ty d) stop → StopsBy env old new whole stop
-    rest_each_stops ty on stop h =
+    each_stops_all ty on stop h =
         one_stops with_part env old mid new keeps whole (pattern_steps multi (S.pattern_view p) ty d) (each_from multi args ty d i) (each_from multi args ty d (i + 1)) (each_law ty) (after_made ps) on
         (λ l. refl) stop h
 

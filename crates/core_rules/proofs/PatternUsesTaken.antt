@@ -8,7 +8,7 @@ use Rattle.model.specs.lists.Elaborated.{most_expansions}
 use Rattle.model.specs.lists.Setting.{Setting, Scope, is_matchable, kind_template, template_in, pattern_converter}
 use Rattle.model.specs.rules.Typed.{TypedPattern, TypedPatterns, match_term}
 use Rattle.model.specs.claims.Refusals.{of_nesting, of_expansions}
-use Rattle.laws_errors.specs.Steps.{extractor_type, argument_count, Step, went_on, stopped, unless, noting, made_step, counted_step}
+use Rattle.laws_errors.specs.Steps.{unknown_extractor, extractor_type, argument_count, Step, went_on, stopped, unless, noting, made_step, counted_step}
 use Rattle.laws_errors.specs.PatternSteps.{template_step, why_not_matched, term_step, use_step, converted_step, found_step, deeper_step}
 use Rattle.core_types.specs.Envs.{names_of, IsInterned}
 use Rattle.core_terms.specs.Terms.{has_extractor_kind}
@@ -94,7 +94,7 @@ module _ (multi : Bool) (env : TermEnv) (old : Standing) (inv : IsInterned old.t
       → NotesEachAt (at ∷ []) old.work.errors.items new.work.errors.items → EndsAs env old new (pattern_steps multi whole ty d) (Ok None)
   unknown_used new none same r n e s is sh =
       subst (λ o. Took old new (found_step e multi (deeper e) name args at ty old.work.expansions s (parts e old.work.expansions s) o) (Ok None)) (sym (found_so env old inv name.text None none e s is sh))
-      (took None s 0 _ n (still old new s same r sh) (let k = r.expansions in omega (arith, k)))
+      (took None s 0 (record { why = unknown_extractor name.text; at = at } ∷ []) n (still old new s same r sh) (let k = r.expansions in omega (arith, k)))
 
   module _ (t : TermEntry) (known : Some t ≡ found_term env old.tyenv name.text) where
     known_steps : (e : Setting) (n : ℕ) (s : Scope) → IsSettingOf old.tyenv env e → Shows old s
@@ -155,18 +155,18 @@ module _ (multi : Bool) (env : TermEnv) (old : Standing) (inv : IsInterned old.t
           (subst (λ (k : ℕ). NotesEachAt (place_unless (eqb t.ret_ty ty) at ++ place_unless (eqb k (length t.arg_tys)) at) old.work.errors.items mid.work.errors.items) as_many checks)
 
       -- behind what was checked
-      checked : (new : Standing) (e : Setting) (s : Scope) → IsSettingOf old.tyenv env e → Shows old s → (end : Ending TypedPattern) → Took mid new (itself e old.work.expansions s) end
-          → Took old new (pattern_steps multi whole ty d e old.work.expansions s) end
-      checked new e s is sh end h = elim (cases_Bool (eqb t.ret_ty ty)) [
+      checked : (new : Standing) (e : Setting) (s : Scope) → IsSettingOf old.tyenv env e → Shows old s → (z : Ending TypedPattern) → Took mid new (itself e old.work.expansions s) z
+          → Took old new (pattern_steps multi whole ty d e old.work.expansions s) z
+      checked new e s is sh z h = elim (cases_Bool (eqb t.ret_ty ty)) [
         | inl alike ↦
-            subst (λ t. Took old new t end) (sym (right_type e old.work.expansions s is sh alike))
+            subst (λ t. Took old new t z) (sym (right_type e old.work.expansions s is sh alike))
             (noted old mid new (unless (eqb (length (pattern_list args)) (length t.arg_tys)) (argument_count name.text (length (pattern_list args)) (length t.arg_tys)) at)
             (unless_at (eqb (length (pattern_list args)) (length t.arg_tys)) (argument_count name.text (length (pattern_list args)) (length t.arg_tys)) at old.work.errors.items mid.work.errors.items (counted_checks true alike))
-            r.expansions (itself e old.work.expansions s) end h)
+            r.expansions (itself e old.work.expansions s) z h)
         | inr ne ↦
-            subst (λ t. Took old new t end) (sym (wrong_type e old.work.expansions s is sh ne))
+            subst (λ t. Took old new t z) (sym (wrong_type e old.work.expansions s is sh ne))
             (noted_twice old mid new (record { why = extractor_type name.text ty t.ret_ty; at = at }) (unless (eqb (length (pattern_list args)) (length t.arg_tys)) (argument_count name.text (length (pattern_list args)) (length t.arg_tys)) at)
-            (both_wrong (eqb (length (pattern_list args)) (length t.arg_tys)) (counted_checks false ne)) r.expansions (itself e old.work.expansions s) end h)
+            (both_wrong (eqb (length (pattern_list args)) (length t.arg_tys)) (counted_checks false ne)) r.expansions (itself e old.work.expansions s) z h)
       ]
         where
           both_wrong : (b : Bool) → NotesEachAt (at ∷ place_unless b at) old.work.errors.items mid.work.errors.items
@@ -181,14 +181,14 @@ module _ (multi : Bool) (env : TermEnv) (old : Standing) (inv : IsInterned old.t
       pub parts_lead : None ≡ found_template env t → (new : Standing) → names_of new.tyenv ≡ names_of mid.tyenv → Remains mid.work new.work
           → NotesEachAt (place_unless (is_matchable multi t.kind) at) mid.work.errors.items new.work.errors.items
           → LeadsOn env old new (pattern_steps multi whole ty d) (parts_steps multi args t.arg_tys d) (made_end (match_term t.ret_ty t.id))
-      parts_lead no_template new here q usable e s is sh after end rest =
-          let from_old : Took new after (parts e old.work.expansions s t.arg_tys) end =
-          subst (λ (n : ℕ). Took new after (parts e n s t.arg_tys) end) (q.expansions ∙ r.expansions) (rest s (still mid new s here q (still old mid s same r sh))) in
-          checked none None no_template mid count as_many same r checks after e s is sh (made_end (match_term t.ret_ty t.id) end)
+      parts_lead no_template new here q usable e s is sh after z rest =
+          let from_old : Took new after (parts e old.work.expansions s t.arg_tys) z =
+          subst (λ (n : ℕ). Took new after (parts e n s t.arg_tys) z) (q.expansions ∙ r.expansions) (rest s (still mid new s here q (still old mid s same r sh))) in
+          checked none None no_template mid count as_many same r checks after e s is sh (made_end (match_term t.ret_ty t.id) z)
           (noted mid new after (unless (is_matchable multi t.kind) (why_not_matched name.text t.kind) at)
           (unless_at (is_matchable multi t.kind) (why_not_matched name.text t.kind) at mid.work.errors.items new.work.errors.items usable) q.expansions
-          (made_step (match_term t.ret_ty t.id) (parts e old.work.expansions s t.arg_tys)) (made_end (match_term t.ret_ty t.id) end)
-          (made (match_term t.ret_ty t.id) new after (parts e old.work.expansions s t.arg_tys) end from_old))
+          (made_step (match_term t.ret_ty t.id) (parts e old.work.expansions s t.arg_tys)) (made_end (match_term t.ret_ty t.id) z)
+          (made (match_term t.ret_ty t.id) new after (parts e old.work.expansions s t.arg_tys) z from_old))
 
       -- of its template
       module _ (template : PatternTree) (there : Some template ≡ found_template env t) where
@@ -202,16 +202,16 @@ module _ (multi : Bool) (env : TermEnv) (old : Standing) (inv : IsInterned old.t
         module _ (p : PatternTree) (is_made : Some p ≡ substituted (pattern_list args) template) where
           pub template_leads : (new : Standing) (left : ℕ) → names_of new.tyenv ≡ names_of mid.tyenv → suc left ≡ d → CountsOne mid.work new.work
               → LeadsOn env old new (pattern_steps multi whole ty d) (pattern_steps multi p ty left) (λ r. r)
-          template_leads new left here nests one e s is sh after end rest =
-              checked none (Some template) there mid count as_many same r checks after e s is sh end
-              (subst (λ o. Took mid after (template_step (deeper e) ty old.work.expansions s o) end) is_made
-              (went_deeper e multi p ty s mid new after d left old.work.expansions nests (sym r.expansions) (one.expansions ∙ ap (λ (k : ℕ). k + 1) r.expansions) one.errors end
+          template_leads new left here nests one e s is sh after z rest =
+              checked none (Some template) there mid count as_many same r checks after e s is sh z
+              (subst (λ o. Took mid after (template_step (deeper e) ty old.work.expansions s o) z) is_made
+              (went_deeper e multi p ty s mid new after d left old.work.expansions nests (sym r.expansions) (one.expansions ∙ ap (λ (k : ℕ). k + 1) r.expansions) one.errors z
               (rest s (counted_shows mid new s here one (still old mid s same r sh)))))
 
           pub template_stops : (new : Standing) → new.tyenv ≡ mid.tyenv → (stop : Stop) → Counts d mid.work new.work (Err stop) → StopsBy env old new (pattern_steps multi whole ty d) stop
           template_stops new here stop x =
               expansion_stops env old mid new multi p ty d (pattern_steps multi whole ty d) here same r.expansions
-              (λ e s is sh end h.
-              checked none (Some template) there mid count as_many same r checks mid e s is sh end
-              (subst (λ o. Took mid mid (template_step (deeper e) ty old.work.expansions s o) end) is_made h))
+              (λ e s is sh z h.
+              checked none (Some template) there mid count as_many same r checks mid e s is sh z
+              (subst (λ o. Took mid mid (template_step (deeper e) ty old.work.expansions s o) z) is_made h))
               stop x

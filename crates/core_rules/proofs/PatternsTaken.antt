@@ -10,7 +10,7 @@ use Rattle.model.specs.rules.Values.{is_atom_type}
 use Rattle.model.specs.rules.Typed.{TypedPattern, TypedVar, match_bind, match_var, match_bool, match_int, match_prim, match_any}
 use Rattle.model.specs.claims.Refusals.{NamedLimit, of_nesting, of_expansions}
 use Rattle.model.proofs.Names.{known_name}
-use Rattle.laws_errors.specs.Steps.{bound_type, matched_constant_type, no_truth, no_integer, rebound, Step, went_on, stopped, unless, here, noting}
+use Rattle.laws_errors.specs.Steps.{unknown_constant, macro_argument, bound_type, matched_constant_type, no_truth, no_integer, rebound, Step, went_on, stopped, unless, here, noting}
 use Rattle.laws_errors.specs.PatternSteps.{var_step, bind_step, constant_step}
 use Rattle.core_types.specs.Envs.{names_of, constant_at}
 use Rattle.core_types.specs.TypeViews.{type_views}
@@ -28,7 +28,7 @@ use Rattle.core_rules.specs.Translating.{Standing, Keeps, Shows, Wherever}
 use Rattle.core_rules.proofs.PatternLeaves.{constant_is}
 use Rattle.core_rules.proofs.Readings.{keep_setting}
 use Rattle.core_rules.proofs.Scopes.{is_met, still, met_shows, as_many, var_is, var_met, bound_shows}
-use Rattle.core_rules.proofs.Taken.{Goes, seen, goes, noted, tested, later, unless_at}
+use Rattle.core_rules.proofs.Taken.{Goes, seen, taken_as, noted, tested, later, unless_at}
 
 -- a name
 module _ (env : TermEnv) (old new : Standing) (x : Name) (at : Position) (ty : ℕ) (names : names_of new.tyenv ≡ with_name (names_of old.tyenv) x.text) where
@@ -42,7 +42,7 @@ module _ (env : TermEnv) (old new : Standing) (x : Name) (at : Position) (ty : �
       → EndsAs env old new (leaf_steps (var_pattern x at) ty) (Ok (Some (match_bind ty id (match_any ty))))
   new_taken none b id place e s is sh =
       subst (λ o. Took old new (var_step ty x.text at s o) (Ok (Some (match_bind ty id (match_any ty))))) (sym (var_is old s x.text None sh none))
-      (goes old new (Some (match_bind ty (length s.vars) (match_any ty))) (Some (match_bind ty id (match_any ty))) (bound s x.text ty) 0 []
+      (taken_as old new (Some (match_bind ty (length s.vars) (match_any ty))) (Some (match_bind ty id (match_any ty))) (bound s x.text ty) 0 []
       (ap (λ (i : ℕ). Some (match_bind ty i (match_any ty))) (sym (place ∙ as_many old s sh)))
       (none_at old.work.errors.items new.work.errors.items b.errors) (bound_shows old new s x.text ty sh names b) (let k = b.expansions in omega (arith, k)))
 
@@ -51,7 +51,7 @@ module _ (env : TermEnv) (old new : Standing) (x : Name) (at : Position) (ty : �
       → EndsAs env old new (leaf_steps (prim_pattern x at) ty) (Ok None)
   unknown_taken none r n e s is sh =
       subst (λ o. Took old new (constant_step ty x.text at s o) (Ok None)) (sym (constant_is env old x e s is sh None none))
-      (took None (met s x.text) 0 _ n (met_shows old new s x.text names r sh) (let k = r.expansions in omega (arith, k)))
+      (took None (met s x.text) 0 (record { why = unknown_constant x.text; at = at } ∷ []) n (met_shows old new s x.text names r sh) (let k = r.expansions in omega (arith, k)))
 
   pub constant_taken : (own name : ℕ) → Some own ≡ constant_at old.tyenv (number (names_of old.tyenv) x.text) → name ≡ number (names_of old.tyenv) x.text → Remains old.work new.work
       → NotesEachAt (place_unless (nat_eq own ty) at) old.work.errors.items new.work.errors.items → EndsAs env old new (leaf_steps (prim_pattern x at) ty) (Ok (Some (match_prim own name)))
@@ -72,13 +72,13 @@ module _ (env : TermEnv) (old new : Standing) (x : Name) (at : Position) (ty : �
     pub around_taken : NotesEachAt (place_unless (not (is_some (newest old.work (number (names_of old.tyenv) x.text)))) at) old.work.errors.items mid.work.errors.items
         → EndsAs env old new (around_steps x.text at q) (Ok (Some (match_bind (pattern_type q) id q)))
     around_taken n e s is sh =
-        let here = still old mid s same_names r sh in
-        let tested : NotesEachAt (place_unless (not (is_some (var_of s x.text))) at) old.work.errors.items new.work.errors.items =
+        let before = still old mid s same_names r sh in
+        let wrong : NotesEachAt (place_unless (not (is_some (var_of s x.text))) at) old.work.errors.items new.work.errors.items =
         subst (λ o. NotesEachAt (place_unless (not (is_some o)) at) old.work.errors.items new.work.errors.items) (sym (var_is old s x.text (newest old.work (number (names_of old.tyenv) x.text)) sh refl))
         (subst (NotesEachAt (place_unless (not (is_some (newest old.work (number (names_of old.tyenv) x.text)))) at) old.work.errors.items) (sym b.errors) n) in
-        goes old new (Some (match_bind (pattern_type q) (length s.vars) q)) (Some (match_bind (pattern_type q) id q)) (bound s x.text (pattern_type q)) 0 (unless (not (is_some (var_of s x.text))) (rebound x.text) at)
-        (ap (λ (i : ℕ). Some (match_bind (pattern_type q) i q)) (sym (place ∙ as_many mid s here)))
-        (unless_at (not (is_some (var_of s x.text))) (rebound x.text) at old.work.errors.items new.work.errors.items tested)
+        taken_as old new (Some (match_bind (pattern_type q) (length s.vars) q)) (Some (match_bind (pattern_type q) id q)) (bound s x.text (pattern_type q)) 0 (unless (not (is_some (var_of s x.text))) (rebound x.text) at)
+        (ap (λ (i : ℕ). Some (match_bind (pattern_type q) i q)) (sym (place ∙ as_many mid s before)))
+        (unless_at (not (is_some (var_of s x.text))) (rebound x.text) at old.work.errors.items new.work.errors.items wrong)
         (shown s sh) (let k = b.expansions in let l = r.expansions in omega (arith, k, l))
 
 -- literals, anything, and a template's argument
@@ -96,7 +96,7 @@ module _ (env : TermEnv) (old new : Standing) (same : names_of new.tyenv ≡ nam
       (still old new s same r sh) r.expansions
 
   pub refused_taken : (i : ℕ) → NotesEachAt (at ∷ []) old.work.errors.items new.work.errors.items → EndsAs env old new (leaf_steps (macro_arg i at) ty) (Ok None)
-  refused_taken i n e s is sh = took None s 0 _ n (still old new s same r sh) (let k = r.expansions in omega (arith, k))
+  refused_taken i n e s is sh = took None s 0 (record { why = macro_argument i; at = at } ∷ []) n (still old new s same r sh) (let k = r.expansions in omega (arith, k))
 
 pub any_taken : (env : TermEnv) (old : Standing) (at : Position) (ty : ℕ) → EndsAs env old old (leaf_steps (wildcard_pattern at) ty) (Ok (Some (match_any ty)))
 any_taken env old at ty e s is sh = took (Some (match_any ty)) s 0 [] (none_at old.work.errors.items old.work.errors.items refl) sh (omega arith)

@@ -41,9 +41,9 @@ module _ {Q : Type 0} where
   seen old new _ _ (took m s k ws n sh c) = (refl, n, sh, c)
   seen old new _ _ (ended l s ws n names) = (refl, n, names)
 
-  pub goes : (old new : Standing) (m r : Option Q) (s : Scope) (k : ℕ) (ws : List Mistake) → m ≡ r → NotesEachAt (places_of ws) old.work.errors.items new.work.errors.items → Shows new s
+  pub taken_as : (old new : Standing) (m r : Option Q) (s : Scope) (k : ℕ) (ws : List Mistake) → m ≡ r → NotesEachAt (places_of ws) old.work.errors.items new.work.errors.items → Shows new s
       → new.work.expansions ≡ old.work.expansions + k → Took old new (went_on m s k ws) (Ok r)
-  goes old new m r s k ws same n sh c = subst (λ (x : Option Q). Took old new (went_on m s k ws) (Ok x)) same (took m s k ws n sh c)
+  taken_as old new m r s k ws same n sh c = subst (λ (x : Option Q). Took old new (went_on m s k ws) (Ok x)) same (took m s k ws n sh c)
 
   -- 3. at once
   -- what is wrong first
@@ -63,7 +63,7 @@ module _ {Q : Type 0} where
   pub tested : (old new : Standing) (b : Bool) (why : Why) (at : Position) (q r : Q) (s : Scope) → q ≡ r → NotesEachAt (place_unless b at) old.work.errors.items new.work.errors.items → Shows new s
       → new.work.expansions ≡ old.work.expansions → Took old new (noting (unless b why at) (here q s)) (Ok (Some r))
   tested old new b why at q r s same n sh c =
-      goes old new (Some q) (Some r) s 0 (unless b why at ++ []) (ap Some same)
+      taken_as old new (Some q) (Some r) s 0 (unless b why at ++ []) (ap Some same)
       (subst (λ ws. NotesEachAt (places_of ws) old.work.errors.items new.work.errors.items) (sym (append-nil (unless b why at))) (unless_at b why at old.work.errors.items new.work.errors.items n))
       sh (omega (arith, c))
 
@@ -76,7 +76,7 @@ module _ {Q : Type 0} where
   pub later : (old mid new : Standing) (m : Option Q) (u : Scope) (k : ℕ) (ws es : List Mistake) → NotesEachAt (places_of ws) old.work.errors.items mid.work.errors.items → mid.work.expansions ≡ old.work.expansions + k
       → (r : Ending Q) → Goes mid new (went_on m u 0 es) r → Took old new (went_on m u k (ws ++ es)) r
   later old mid new m u k ws es h xs (Ok o) y =
-      goes old new m o u k (ws ++ es) y.0 (behind ws es old.work.errors.items mid.work.errors.items new.work.errors.items h y.1) y.2 (let c = y.3 in omega (arith, xs, c))
+      taken_as old new m o u k (ws ++ es) y.0 (behind ws es old.work.errors.items mid.work.errors.items new.work.errors.items h y.1) y.2 (let c = y.3 in omega (arith, xs, c))
   later old mid new m u k ws es h xs (Err l) y = absurd y
 
 -- the same of what was made
@@ -125,17 +125,17 @@ module _ {P Q : Type 0} (f : P → Q) (env : TermEnv) (old new : Standing) (step
   pub made_ends : (r : Ending P) → EndsAs env old new steps r → EndsAs env old new (λ e n s. made_step f (steps e n s)) (made_end f r)
   made_ends r h e s is sh = made f old new (steps e old.work.expansions s) r (h e s is sh)
 
-  pub all_stops : (stop : Stop) → StopsBy env old new steps stop → StopsBy env old new (λ e n s. made_step f (steps e n s)) stop
-  all_stops (Memory a) h = tt
-  all_stops Nesting h = made_ends (Err of_nesting) h
-  all_stops Expansions h = made_ends (Err of_expansions) h
+  pub made_stopped : (stop : Stop) → StopsBy env old new steps stop → StopsBy env old new (λ e n s. made_step f (steps e n s)) stop
+  made_stopped (Memory a) h = tt
+  made_stopped Nesting h = made_ends (Err of_nesting) h
+  made_stopped Expansions h = made_ends (Err of_expansions) h
 
 -- the rest was done
-module _ {P Q : Type 0} (env : TermEnv) (old mid new : Standing) (same : mid.tyenv ≡ old.tyenv) (whole : Stepping Q) (rest : Stepping P) (as : Ending P → Ending Q) (on : LeadsOn env old mid whole rest as) where
-  pub rest_ends : (r : Ending P) → EndsAs env mid new rest r → EndsAs env old new whole (as r)
+module _ {P Q : Type 0} (env : TermEnv) (old mid new : Standing) (same : mid.tyenv ≡ old.tyenv) (whole : Stepping Q) (rest : Stepping P) (become : Ending P → Ending Q) (on : LeadsOn env old mid whole rest become) where
+  pub rest_ends : (r : Ending P) → EndsAs env mid new rest r → EndsAs env old new whole (become r)
   rest_ends r h e s is sh = on e s is sh new r (λ u shown. h e u (subst (λ k. IsSettingOf k env e) (sym same) is) shown)
 
-  pub rest_stops : ((l : NamedLimit) → as (Err l) ≡ Err l) → (stop : Stop) → StopsBy env mid new rest stop → StopsBy env old new whole stop
+  pub rest_stops : ((l : NamedLimit) → become (Err l) ≡ Err l) → (stop : Stop) → StopsBy env mid new rest stop → StopsBy env old new whole stop
   rest_stops ends (Memory a) h = tt
   rest_stops ends Nesting h = subst (EndsAs env old new whole) (ends of_nesting) (rest_ends (Err of_nesting) h)
   rest_stops ends Expansions h = subst (EndsAs env old new whole) (ends of_expansions) (rest_ends (Err of_expansions) h)
@@ -147,22 +147,22 @@ expansion_done env old mid new same whole made view on (Err stop) h = rest_stops
 
 -- a list is read on by one part
 module _ {X Y Z : Type 0} (g : Option X → Y → Y) (env : TermEnv) (old mid new : Standing) (keeps : Keeps old.tyenv mid.tyenv) (whole : Stepping Z) (first : Stepping X) (rest later : Stepping Y)
-    (law : (e : Setting) (n : ℕ) (u : Scope) → rest e n u ≡ then_step g (first e n u) (λ m t k. later e (n + k) t)) (as : Ending Y → Ending Z) (so_far : LeadsOn env old mid whole rest as) where
-  pub one_on : (m : Option X) (then_as : Ending Y → Ending Z) → ((r : Ending Y) → as (joined_end g m r) ≡ then_as r) → EndsAs env mid new first (Ok m) → LeadsOn env old new whole later then_as
+    (law : (e : Setting) (n : ℕ) (u : Scope) → rest e n u ≡ then_step g (first e n u) (λ m t k. later e (n + k) t)) (become : Ending Y → Ending Z) (so_far : LeadsOn env old mid whole rest become) where
+  pub one_on : (m : Option X) (then_as : Ending Y → Ending Z) → ((r : Ending Y) → become (joined_end g m r) ≡ then_as r) → EndsAs env mid new first (Ok m) → LeadsOn env old new whole later then_as
   one_on m then_as grows h e s is sh after r more =
       subst (Took old after (whole e old.work.expansions s)) (grows r)
       (so_far e s is sh after (joined_end g m r)
       (λ u shown. subst (λ t. Took mid after t (joined_end g m r)) (sym (law e mid.work.expansions u))
       (in_order g mid new after (λ o n t. later e n t) m r more (first e mid.work.expansions u) (h e u (keep_setting env old.tyenv mid.tyenv e keeps is) shown))))
 
-  one_ends : (l : NamedLimit) → as (Err l) ≡ Err l → EndsAs env mid new first (Err l) → EndsAs env old new whole (Err l)
+  one_ends : (l : NamedLimit) → become (Err l) ≡ Err l → EndsAs env mid new first (Err l) → EndsAs env old new whole (Err l)
   one_ends l ends h e s is sh =
       subst (Took old new (whole e old.work.expansions s)) ends
       (so_far e s is sh new (Err l)
       (λ u shown. subst (λ t. Took mid new t (Err l)) (sym (law e mid.work.expansions u))
       (first_stops g mid new (λ m t k. later e (mid.work.expansions + k) t) l (first e mid.work.expansions u) (h e u (keep_setting env old.tyenv mid.tyenv e keeps is) shown))))
 
-  pub one_stops : ((l : NamedLimit) → as (Err l) ≡ Err l) → (stop : Stop) → StopsBy env mid new first stop → StopsBy env old new whole stop
+  pub one_stops : ((l : NamedLimit) → become (Err l) ≡ Err l) → (stop : Stop) → StopsBy env mid new first stop → StopsBy env old new whole stop
   one_stops ends (Memory a) h = tt
   one_stops ends Nesting h = one_ends of_nesting (ends of_nesting) h
   one_stops ends Expansions h = one_ends of_expansions (ends of_expansions) h

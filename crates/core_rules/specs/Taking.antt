@@ -49,5 +49,5 @@ Takes env old new steps view (Err stop) = StopsBy env old new steps stop
 -- as far as the work came, the whole did what is said of it if the rest does what is said of that from here on: it comes to the same,
 -- but for what is made of it
 abbrev pub LeadsOn : {P Q : Type 0} → TermEnv → Standing → Standing → Stepping Q → Stepping P → (Ending P → Ending Q) → Type 0
-LeadsOn {P} env old mid whole rest as =
-    Wherever env old (λ e s. (new : Standing) (r : Ending P) → ((u : Scope) → Shows mid u → Took mid new (rest e mid.work.expansions u) r) → Took old new (whole e old.work.expansions s) (as r))
+LeadsOn {P} env old mid whole rest become =
+    Wherever env old (λ e s. (new : Standing) (r : Ending P) → ((u : Scope) → Shows mid u → Took mid new (rest e mid.work.expansions u) r) → Took old new (whole e old.work.expansions s) (become r))

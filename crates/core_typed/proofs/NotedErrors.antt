@@ -1,5 +1,5 @@
 -- Errors that are noted in order, each at a place.
-use Rattle.std.proofs.Common.{◌≡◌, Bool, true, false, List, [], ◌∷◌, ◌++◌, length, map, All, Contains, true≢false, append_assoc, append-nil, refl, sym, ap, ◌∙◌, subst, arith}
+use Rattle.std.proofs.Common.{◌≡◌, Bool, true, false, List, [], ◌∷◌, ◌++◌, length, map, All, Contains, Result, Ok, Err, OnOk, true≢false, append_assoc, append-nil, refl, sym, ap, ◌∙◌, subst, arith}
 use Rattle.std.proofs.lemmas.List.{map-append}
 use Rattle.std.proofs.lemmas.List.Elements.{All-nil, All-cons, All-head, All-append}
 use Rattle.model.specs.lists.Syntax.{Position}
@@ -52,3 +52,11 @@ right_at false at old new h same = absurd (true≢false (sym h))
 pub wrong_at : (b : Bool) (at : Position) (old new : List Error) → b ≡ false → NotesEachAt (at ∷ []) old new → NotesEachAt (place_unless b at) old new
 wrong_at true at old new h noted = absurd (true≢false h)
 wrong_at false at old new h noted = noted
+
+-- where memory wasn't refused
+module _ {X E : Type 0} (r : Result X E) (at : Position) (old new : List Error) where
+  pub told_when : OnOk r (Notes 1 (at ∷ []) old new) → OnOk r (NotesEachAt (at ∷ []) old new)
+  told_when n = elim r as (λ q. OnOk q (Notes 1 (at ∷ []) old new) → OnOk q (NotesEachAt (at ∷ []) old new)) [ Ok x ↦ λ m. told_at at old new m | Err e ↦ λ m. m ] n
+
+  pub wrong_when : (b : Bool) → b ≡ false → OnOk r (NotesEachAt (at ∷ []) old new) → OnOk r (NotesEachAt (place_unless b at) old new)
+  wrong_when b h n = elim r as (λ q. OnOk q (NotesEachAt (at ∷ []) old new) → OnOk q (NotesEachAt (place_unless b at) old new)) [ Ok x ↦ λ m. wrong_at b at old new h m | Err e ↦ λ m. m ] n

@@ -196,8 +196,8 @@ fn check_new(work: &mut Progress, name: Sym, var: &Ident, pos: Pos) -> Result<()
     ensures places { OnOk result (NotesAt (position pos ∷ []) work.old.errors.items work.new.errors.items) }
     ensures exact { OnOk result (NotesEachAt (place_unless (not (is_some (newest work.old name.0))) (position pos)) work.old.errors.items work.new.errors.items) }
 {
-    if work.lookup(name).is_none() {
+    let Some(_) = work.lookup(name) else {
         return Ok(());
-    }
+    };
     report_name(&mut work.errors, pos, Wrong::Rebound, &var.0)
 }

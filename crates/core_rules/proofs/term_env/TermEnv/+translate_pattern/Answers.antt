@@ -26,9 +26,9 @@ use Rattle.core_rules.specs.ReachedLimits.{pattern_limits, each_limits}
 use Rattle.core_rules.proofs.LimitSteps.{not_limited, same_ends}
 use Rattle.core_rules.proofs.PatternLimits.{expanded_meets, parts_end, parts_none, next_part_none, part_ends, all_parts_none, next_each_none, each_ends, all_each_none}
 use Rattle.core_rules.specs.PatternTaking.{pattern_steps, parts_steps, each_steps, made_end}
-use Rattle.core_rules.proofs.PatternListsTaken.{args_from, each_from, none_read, all_read, next_arg, arg_stops, next_each, rest_each_stops, args_read, each_read}
+use Rattle.core_rules.proofs.PatternListsTaken.{args_from, each_from, none_read, all_read, arg_goes_on, arg_stops_all, each_goes_on, each_stops_all, args_read, each_read}
 use Rattle.core_rules.proofs.PatternsTaken.{any_taken, around_stops, around_nothing, around_takes}
-use Rattle.core_rules.proofs.Taken.{expansion_done, rest_ends, rest_stops, made_ends, all_stops}
+use Rattle.core_rules.proofs.Taken.{expansion_done, rest_ends, rest_stops, made_ends, made_stopped}
 use Rattle.core_rules.proofs.term_env.TermEnv.+translate_pattern.Goals as goal
 
 pub translate_pattern-returns-in_err-made-in-BindPattern-clause-made : goal.translate_pattern-returns-in_err-made-in-BindPattern-clause-made
@@ -210,7 +210,7 @@ translate_args-loop-i-preserved t c =
           c.args.args.now c.args.tys.now c.loop-i.i c.index-args-i.result ty w v c.index-args-i.is (same_default c.args.tys.now c.loop-i.i (record { 0 = 0 }) ty v) c.loop-i.invariant.0
           c.loop-i.parts.items c.loop-i.invariant.1 c.loop-i.invariant.3 c.in_ok-part.ensures.limits,
       rw pushed
-          (next_arg c.args.multi c.args.args.now c.args.nesting c.loop-i.i c.index-args-i.result w c.index-args-i.is
+          (arg_goes_on c.args.multi c.args.args.now c.args.nesting c.loop-i.i c.index-args-i.result w c.index-args-i.is
           c.args.self.now (standing c.args.tyenv.now c.args.work.now) (standing c.loop-i.tyenv c.loop-i.work) (standing c.translate_pattern.new.tyenv c.translate_pattern.new.work) c.loop-i.invariant.0
           (parts_steps c.args.multi (S.pattern_views c.args.args.now) (map (λ t. t.0) c.args.tys.now) c.args.nesting) c.loop-i.parts.items c.args.tys.now ty v (same_default c.args.tys.now c.loop-i.i (record { 0 = 0 }) ty v) c.loop-i.invariant.4 c.in_ok-part.part c.in_ok-part.ensures.reads),
     )
@@ -249,7 +249,7 @@ translate_each-loop-subpat-preserved t c =
           c.args.subpats.now c.args.expected_ty.0 c.loop-subpat.subpat-index c.subpat-item.result c.loop-subpat-test.true c.subpat-item.is c.loop-subpat.invariant.0
           c.loop-subpat.parts.items c.loop-subpat.invariant.1 c.loop-subpat.invariant.3 c.in_ok-part.ensures.limits,
       rw pushed
-          (next_each c.args.multi c.args.subpats.now c.args.nesting c.loop-subpat.subpat-index c.subpat-item.result c.loop-subpat-test.true c.subpat-item.is
+          (each_goes_on c.args.multi c.args.subpats.now c.args.nesting c.loop-subpat.subpat-index c.subpat-item.result c.loop-subpat-test.true c.subpat-item.is
           c.args.self.now (standing c.args.tyenv.now c.args.work.now) (standing c.loop-subpat.tyenv c.loop-subpat.work) (standing c.translate_pattern.new.tyenv c.translate_pattern.new.work) c.loop-subpat.invariant.0
           (each_steps c.args.multi (S.pattern_views c.args.subpats.now) c.args.expected_ty.0 c.args.nesting) c.loop-subpat.parts.items c.args.expected_ty.0 c.loop-subpat.invariant.4 c.in_ok-part.part c.in_ok-part.ensures.reads),
     )
@@ -590,7 +590,7 @@ translate_pattern-returns-in_ok-parts-in-Parts-clause-reads t c =
 pub translate_pattern-returns-in_err-parts-in-And-clause-reads : goal.translate_pattern-returns-in_err-parts-in-And-clause-reads
 translate_pattern-returns-in_err-parts-in-And-clause-reads t c =
     rw (stop_is c.from_residual-in_err-parts-in-And.result c.in_err-parts-in-And.field-0.0 c.from_residual-in_err-parts-in-And.ensures, seen_and c.args.pat.now c.in-And.subpats c.in-And.pos c.deref-in-And.result.now c.in-And.is c.deref-in-And.ensures.value)
-    (all_stops (match_and c.args.expected_ty.0) c.args.self.now (standing c.args.tyenv.now c.args.work.now) (standing c.translate_each.new.tyenv c.translate_each.new.work) (each_steps c.args.multi (S.pattern_views c.deref-in-And.result.now) c.args.expected_ty.0 c.args.nesting)
+    (made_stopped (match_and c.args.expected_ty.0) c.args.self.now (standing c.args.tyenv.now c.args.work.now) (standing c.translate_each.new.tyenv c.translate_each.new.work) (each_steps c.args.multi (S.pattern_views c.deref-in-And.result.now) c.args.expected_ty.0 c.args.nesting)
     c.in_err-parts-in-And.field-0.0 c.in_err-parts-in-And.ensures.reads)
 
 pub translate_pattern-returns-in_ok-parts-in-And-clause-reads : goal.translate_pattern-returns-in_ok-parts-in-And-clause-reads
@@ -605,7 +605,7 @@ translate_args-returns-in_err-part-clause-reads t c =
     let v : c.loop-i.i < length c.args.tys.now = search rules in
     let ty : TypeId = get_or c.args.tys.now c.loop-i.i (record { 0 = 0 }) in
     rw (stop_is c.from_residual-in_err-part.result c.in_err-part.field-0.0 c.from_residual-in_err-part.ensures)
-    (arg_stops c.args.multi c.args.args.now c.args.nesting c.loop-i.i c.index-args-i.result w c.index-args-i.is
+    (arg_stops_all c.args.multi c.args.args.now c.args.nesting c.loop-i.i c.index-args-i.result w c.index-args-i.is
           c.args.self.now (standing c.args.tyenv.now c.args.work.now) (standing c.loop-i.tyenv c.loop-i.work) (standing c.translate_pattern.new.tyenv c.translate_pattern.new.work) c.loop-i.invariant.0
           (parts_steps c.args.multi (S.pattern_views c.args.args.now) (map (λ t. t.0) c.args.tys.now) c.args.nesting) c.loop-i.parts.items c.args.tys.now ty v (same_default c.args.tys.now c.loop-i.i (record { 0 = 0 }) ty v) c.loop-i.invariant.4 c.in_err-part.field-0.0 c.in_err-part.ensures.reads)
 
@@ -618,7 +618,7 @@ translate_args-returns-clause-reads t c =
 pub translate_each-returns-in_err-part-clause-reads : goal.translate_each-returns-in_err-part-clause-reads
 translate_each-returns-in_err-part-clause-reads t c =
     rw (stop_is c.from_residual-in_err-part.result c.in_err-part.field-0.0 c.from_residual-in_err-part.ensures)
-    (rest_each_stops c.args.multi c.args.subpats.now c.args.nesting c.loop-subpat.subpat-index c.subpat-item.result c.loop-subpat-test.true c.subpat-item.is
+    (each_stops_all c.args.multi c.args.subpats.now c.args.nesting c.loop-subpat.subpat-index c.subpat-item.result c.loop-subpat-test.true c.subpat-item.is
           c.args.self.now (standing c.args.tyenv.now c.args.work.now) (standing c.loop-subpat.tyenv c.loop-subpat.work) (standing c.translate_pattern.new.tyenv c.translate_pattern.new.work) c.loop-subpat.invariant.0
           (each_steps c.args.multi (S.pattern_views c.args.subpats.now) c.args.expected_ty.0 c.args.nesting) c.loop-subpat.parts.items c.args.expected_ty.0 c.loop-subpat.invariant.4 c.in_err-part.field-0.0 c.in_err-part.ensures.reads)
 
