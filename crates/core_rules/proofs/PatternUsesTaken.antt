@@ -69,11 +69,11 @@ pub expansion_stops : (env : TermEnv) (old mid new : Standing) (multi : Bool) (p
     → Wherever env old (λ e s. (r : Ending TypedPattern) → Took mid mid (deeper_step e multi d p ty old.work.expansions s) r → Took old mid (whole e old.work.expansions s) r)
     → (stop : Stop) → Counts d mid.work new.work (Err stop) → StopsBy env old new whole stop
 expansion_stops env old mid new multi p ty d whole same names count lift (Memory a) x = absurd x
-expansion_stops env old mid new multi p ty d whole same names count lift Nesting x e s is sh =
+expansion_stops env old mid new multi p ty d whole same names count lift Nesting x = λ e s is sh.
     let moved : mid ≡ new = λ i. record { tyenv = sym same i; work = sym x.1 i } in
     subst (λ (at : Standing). Took old at (whole e old.work.expansions s) (Err of_nesting)) moved
     (lift e s is sh (Err of_nesting) (too_deep e multi p ty s mid d old.work.expansions x.0 (names ∙ sh.names)))
-expansion_stops env old mid new multi p ty d whole same names count lift Expansions x e s is sh =
+expansion_stops env old mid new multi p ty d whole same names count lift Expansions x = λ e s is sh.
     let moved : mid ≡ new = λ i. record { tyenv = sym same i; work = sym x.1 i } in
     subst (λ (at : Standing). Took old at (whole e old.work.expansions s) (Err of_expansions)) moved
     (lift e s is sh (Err of_expansions) (too_many e multi p ty s mid d old.work.expansions x.2 (let m = x.0 in omega (arith, m, count)) (names ∙ sh.names)))

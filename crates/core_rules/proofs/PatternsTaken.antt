@@ -119,7 +119,7 @@ module _ (x : List ℕ) (at : Position) (old mid : Standing) where
 
   bound_ended : (l : NamedLimit) (t : Step TypedPattern) → Goes old mid t (Err l) → Took old mid (bind_step x at t) (Err l)
   bound_ended l (went_on m u k ws) y = absurd y
-  bound_ended l (stopped j u ws) y = subst (λ (i : NamedLimit). Took old mid (stopped j u ws) (Err i)) y.0 (ended j u ws y.1 y.2)
+  bound_ended l (stopped j u ws) y = subst (λ (i : NamedLimit). Took {Q = TypedPattern} old mid (stopped j u ws) (Err i)) y.0 (ended j u ws y.1 y.2)
 
 module _ (env : TermEnv) (old mid : Standing) (multi : Bool) (x : Name) (of : PatternTree) (at : Position) (ty d : ℕ) where
   pub around_ends : (new : Standing) → Keeps old.tyenv mid.tyenv → (q : TypedPattern) (r : Ending TypedPattern) → EndsAs env old mid (pattern_steps multi of ty d) (Ok (Some q))

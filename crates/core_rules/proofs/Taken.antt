@@ -114,7 +114,7 @@ module _ {X Y Z : Type 0} (g : Option X → Y → Z) where
   -- the first part ended the work
   first_ended : (old new : Standing) (next : Option X → Scope → ℕ → Step Y) (l : NamedLimit) (t : Step X) → Goes old new t (Err l) → Took old new (then_step g t next) (Err l)
   first_ended old new next l (went_on o u k ws) x = absurd x
-  first_ended old new next l (stopped j u ws) x = subst (λ (i : NamedLimit). Took old new (stopped j u ws) (Err i)) x.0 (ended j u ws x.1 x.2)
+  first_ended old new next l (stopped j u ws) x = subst (λ (i : NamedLimit). Took {Q = Z} old new (stopped j u ws) (Err i)) x.0 (ended j u ws x.1 x.2)
 
   pub first_stops : (old new : Standing) (next : Option X → Scope → ℕ → Step Y) (l : NamedLimit) (t : Step X) → Took old new t (Err l) → Took old new (then_step g t next) (Err l)
   first_stops old new next l t h = first_ended old new next l t (seen old new t (Err l) h)
