@@ -1,13 +1,13 @@
 -- How lists of patterns are read on, part by part.
-use Rattle.std.proofs.Common.{◌≡◌, ℕ, zero, suc, ◌+◌, ◌<◌, ◌≤◌, min, nat_le, Bool, List, [], ◌∷◌, ◌++◌, length, map, drop, get_or, Option, Some, None, option_map, Ok, Err, append-nil, inl, inr, ◌⊎◌, refl, sym, ap, subst, ◌∙◌, arith}
+use Rattle.std.proofs.Common.{◌≡◌, ℕ, ◌+◌, ◌<◌, ◌≤◌, min, nat_le, Bool, List, [], ◌∷◌, ◌++◌, length, map, drop, get_or, Option, Some, None, option_map, Ok, Err, append-nil, inl, inr, ◌⊎◌, refl, sym, ap, subst, ◌∙◌, arith}
 use Rattle.std.proofs.lemmas.Bool.{cases_Bool, leb-true, leb-false}
 use Rattle.std.proofs.lemmas.List.{drop_more, drop_all}
 use Rattle.std.specs.Option.{option_to_list}
 use Rattle.core_syntax.specs.declared.syntax.Pattern as T
 use Rattle.core_syntax.specs.SyntaxViews as S
 use Rattle.model.specs.lists.Setting.{Setting, Scope}
-use Rattle.model.specs.rules.Typed.{TypedPattern, TypedPatterns, no_typed_pattern, typed_pattern_and}
-use Rattle.laws_errors.specs.Steps.{Step, here, then_step}
+use Rattle.model.specs.rules.Typed.{TypedPatterns, no_typed_pattern, typed_pattern_and}
+use Rattle.laws_errors.specs.Steps.{here, then_step}
 use Rattle.laws_errors.specs.PatternSteps.{with_part}
 use Rattle.core_types.specs.declared.ids.TypeId.{TypeId}
 use Rattle.core_typed.specs.declared.patterns.Pattern.{Pattern}
@@ -17,7 +17,7 @@ use Rattle.core_rules.specs.declared.term_env.TermEnv.{TermEnv}
 use Rattle.core_rules.specs.declared.typing.progress.Stop.{Stop}
 use Rattle.core_rules.specs.PatternTaking.{pattern_steps, parts_steps, each_steps, made_end}
 use Rattle.core_rules.specs.Taking.{Stepping, Ending, Took, took, EndsAs, StopsBy, LeadsOn}
-use Rattle.core_rules.specs.Translating.{Standing, Keeps, Shows}
+use Rattle.core_rules.specs.Translating.{Standing, Keeps}
 use Rattle.core_rules.proofs.PatternLists.{appended}
 use Rattle.core_rules.proofs.Taken.{joined_end, one_on, one_stops}
 

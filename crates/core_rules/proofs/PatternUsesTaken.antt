@@ -3,19 +3,18 @@ use Rattle.std.proofs.Common.{◌≡◌, ℕ, zero, suc, ◌+◌, ◌<◌, ◌�
 use Rattle.std.proofs.lemmas.Bool.{cases_Bool, lt-leb, le-leb}
 use Rattle.model.specs.lists.Syntax.{Position, Name, PatternTree, PatternTrees, no_pattern, pattern_and, term_pattern, pattern_list}
 use Rattle.model.specs.lists.Tables.{TermEntry}
-use Rattle.model.specs.lists.Expansions.{substituted, wrapped_pattern}
+use Rattle.model.specs.lists.Expansions.{substituted}
 use Rattle.model.specs.lists.Elaborated.{most_expansions}
 use Rattle.model.specs.lists.Setting.{Setting, Scope, is_matchable, kind_template, template_in, pattern_converter}
 use Rattle.model.specs.rules.Typed.{TypedPattern, TypedPatterns, match_term}
 use Rattle.model.specs.claims.Refusals.{of_nesting, of_expansions}
-use Rattle.laws_errors.specs.Steps.{unknown_extractor, extractor_type, argument_count, Step, went_on, stopped, unless, noting, made_step, counted_step}
+use Rattle.laws_errors.specs.Steps.{unknown_extractor, extractor_type, argument_count, Step, stopped, unless, noting, made_step, counted_step}
 use Rattle.laws_errors.specs.PatternSteps.{template_step, why_not_matched, term_step, use_step, converted_step, found_step, deeper_step}
 use Rattle.core_types.specs.Envs.{names_of, IsInterned}
 use Rattle.core_terms.specs.Terms.{has_extractor_kind}
 use Rattle.core_typed.specs.Elaborating.{place_unless, NotesEachAt}
 use Rattle.core_typed.proofs.NotedErrors.{none_at}
 use Rattle.core_rules.specs.declared.term_env.TermEnv.{TermEnv}
-use Rattle.core_rules.specs.declared.typing.progress.Progress.{Progress}
 use Rattle.core_rules.specs.declared.typing.progress.Stop.{Stop}
 use Rattle.core_rules.specs.declared.typing.progress.Stop.TheVariants.{Memory, Nesting, Expansions}
 use Rattle.core_rules.specs.Progress.{Remains, CountsOne, Counts}

@@ -1,16 +1,16 @@
 -- What patterns without parts do as their steps say, and a name around a pattern.
-use Rattle.std.proofs.Common.{◌≡◌, ℕ, ℤ, ◌+◌, Bool, true, false, not, nat_eq, List, [], ◌∷◌, ◌++◌, length, Option, Some, None, is_some, option_map, slice_get, Result, Ok, Err, refl, sym, ap, subst, ◌∙◌, arith}
+use Rattle.std.proofs.Common.{◌≡◌, ℕ, ℤ, Bool, not, nat_eq, List, [], ◌∷◌, length, Option, Some, None, is_some, option_map, slice_get, Result, Ok, Err, refl, sym, ap, subst, ◌∙◌, arith}
 use Rattle.std.proofs.lemmas.Option.{none-some, same_Some}
 use Rattle.model.specs.lists.Syntax.{Position, Name, var_pattern, bool_pattern, int_pattern, prim_pattern, macro_arg, wildcard_pattern, PatternTree, bind_pattern}
 use Rattle.model.specs.lists.Names.{number, with_name}
 use Rattle.model.specs.lists.Ranges.{reduced}
 use Rattle.model.specs.lists.Formed.{pattern_type}
-use Rattle.model.specs.lists.Setting.{Setting, Scope, met, bound, var_of, type_of_constant}
+use Rattle.model.specs.lists.Setting.{Scope, met, bound, var_of}
 use Rattle.model.specs.rules.Values.{is_atom_type}
 use Rattle.model.specs.rules.Typed.{TypedPattern, TypedVar, match_bind, match_var, match_bool, match_int, match_prim, match_any}
 use Rattle.model.specs.claims.Refusals.{NamedLimit, of_nesting, of_expansions}
 use Rattle.model.proofs.Names.{known_name}
-use Rattle.laws_errors.specs.Steps.{unknown_constant, macro_argument, bound_type, matched_constant_type, no_truth, no_integer, rebound, Step, went_on, stopped, unless, here, noting}
+use Rattle.laws_errors.specs.Steps.{unknown_constant, macro_argument, bound_type, matched_constant_type, no_truth, no_integer, rebound, Step, went_on, stopped, unless, here}
 use Rattle.laws_errors.specs.PatternSteps.{var_step, bind_step, constant_step}
 use Rattle.core_types.specs.Envs.{names_of, constant_at}
 use Rattle.core_types.specs.TypeViews.{type_views}
@@ -23,12 +23,12 @@ use Rattle.core_rules.specs.declared.typing.progress.Stop.{Stop}
 use Rattle.core_rules.specs.declared.typing.progress.Stop.TheVariants.{Memory, Nesting, Expansions}
 use Rattle.core_rules.specs.Progress.{newest, BindsNext, Remains}
 use Rattle.core_rules.specs.PatternTaking.{pattern_steps, leaf_steps, around_steps}
-use Rattle.core_rules.specs.Taking.{Ending, places_of, Took, took, ended, EndsAs, StopsBy, Takes}
-use Rattle.core_rules.specs.Translating.{Standing, Keeps, Shows, Wherever}
+use Rattle.core_rules.specs.Taking.{Ending, Took, took, ended, EndsAs, StopsBy, Takes}
+use Rattle.core_rules.specs.Translating.{Standing, Keeps, Shows}
 use Rattle.core_rules.proofs.PatternLeaves.{constant_is}
 use Rattle.core_rules.proofs.Readings.{keep_setting}
 use Rattle.core_rules.proofs.Scopes.{is_met, still, met_shows, as_many, var_is, var_met, bound_shows}
-use Rattle.core_rules.proofs.Taken.{Goes, seen, taken_as, noted, tested, later, unless_at}
+use Rattle.core_rules.proofs.Taken.{Goes, seen, taken_as, tested, later, unless_at}
 
 -- a name
 module _ (env : TermEnv) (old new : Standing) (x : Name) (at : Position) (ty : ℕ) (names : names_of new.tyenv ≡ with_name (names_of old.tyenv) x.text) where

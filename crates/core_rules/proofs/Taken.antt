@@ -1,7 +1,6 @@
 -- What the work does as steps say, by each way in which a step goes on.
 use Rattle.std.proofs.Common.{◌≡◌, ℕ, suc, ◌+◌, Bool, true, false, List, [], ◌∷◌, ◌++◌, Option, Some, None, option_map, Result, Ok, Err, append-nil, refl, sym, ap, subst, ◌∙◌, arith}
 use Rattle.std.proofs.lemmas.List.{map-append}
-use Rattle.std.proofs.lemmas.Option.{none-some, same_Some}
 use Rattle.model.specs.lists.Syntax.{Position}
 use Rattle.model.specs.lists.Setting.{Setting, Scope}
 use Rattle.model.specs.claims.Refusals.{NamedLimit, of_nesting, of_expansions}

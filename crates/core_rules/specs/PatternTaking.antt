@@ -1,5 +1,5 @@
 -- How patterns are read step by step, and what the use of a term in a pattern leads to.
-use Rattle.std.specs.Prelude.{ℕ, Bool, false, List, Option, None, option_map, Result, Ok, Err}
+use Rattle.std.specs.Prelude.{ℕ, Bool, false, List, None, option_map, Result, Ok, Err}
 use Rattle.core_syntax.specs.SyntaxViews as S
 use Rattle.model.specs.lists.Syntax.{Position, PatternTree, PatternTrees}
 use Rattle.model.specs.rules.Typed.{TypedPattern, match_term, TypedPatterns}
