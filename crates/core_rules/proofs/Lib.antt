@@ -29,8 +29,12 @@ mod PatternForms
 mod PatternLeaves
 mod PatternLimits
 mod PatternLists
+mod PatternListsTaken
 mod PatternSizes
+mod PatternUsesTaken
 mod PatternUsing
+mod PatternsRead
+mod PatternsTaken
 mod PlacesAtEnd
 mod Readings
 mod RuleBreachSteps
@@ -47,6 +51,8 @@ mod Scopes
 mod ShownSettings
 mod SidesForms
 mod SubstitutedPlaces
+mod Taken
+mod TakenReadings
 mod TemplateUses
 mod TermCopies
 mod TermPlaces
