@@ -5,15 +5,9 @@ use Rattle.std.proofs.lemmas.Bool.{cases_Bool, and_parts, eqb-true}
 use Rattle.std.proofs.lemmas.Option.{slice_get-map}
 use Rattle.model.specs.rules.Meaning.{look}
 use Rattle.model.specs.rules.Outcome.{then_option}
-use Rattle.model.specs.lists.Tables.{Flags, TermKindEntry, variant_term, struct_term, declared_term, TermEntry}
-use Rattle.model.specs.lists.Setting.{Setting, Scope, entry_named, term_of, that, has_constructor, is_callable, expr_converter}
-use Rattle.core_rules.specs.ExprUses.{allowed}
-use Rattle.core_rules.specs.ExprReadings.{made_kind, made_entry, all_made}
-
-pub callable_made : (flags : Flags) (k : TermKindEntry) → is_callable flags (made_kind k) ≡ allowed flags k
-callable_made flags (variant_term variant) = refl
-callable_made flags struct_term = refl
-callable_made flags (declared_term own constructor_kind extractor_kind) = refl
+use Rattle.model.specs.lists.Tables.{TermKindEntry, variant_term, struct_term, declared_term, TermEntry}
+use Rattle.model.specs.lists.Setting.{Setting, Scope, entry_named, term_of, that, has_constructor, expr_converter}
+use Rattle.laws_errors.specs.AllMade.{made_kind, made_entry, all_made}
 
 constructed : (k : TermKindEntry) → has_constructor (made_kind k) ≡ true
 constructed (variant_term variant) = refl

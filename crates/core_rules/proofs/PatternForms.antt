@@ -7,8 +7,6 @@ use Rattle.core_syntax.specs.declared.syntax.Pattern as T
 use Rattle.core_syntax.specs.SyntaxViews as S
 use Rattle.core_syntax.proofs.PatternViews as V
 use Rattle.model.specs.lists.Syntax.{bind_pattern, term_pattern, and_pattern}
-use Rattle.core_typed.specs.declared.patterns.Pattern.{Pattern}
-use Rattle.core_typed.specs.PatternViews.{pattern_view, pattern_views}
 
 -- what the view of a pattern is
 pub seen_bind : (q : T.Pattern) (x : Ident) (of : Box T.Pattern Global) (p : Pos) (sub : T.Pattern) → q ≡ T.BindPattern x of p → sub ≡ of.value → S.pattern_view q ≡ bind_pattern (S.name_view x) (S.pattern_view sub) (S.position p)

@@ -1,34 +1,27 @@
 -- The use of a term in a pattern, step by step as it is looked at.
-use Rattle.std.proofs.Common.{◌≡◌, ℕ, zero, suc, ◌≤◌, Bool, true, false, cond, eqb, List, [], ◌∷◌, length, map, Option, Some, None, option_and_then, slice_get, Err, refl, sym, ap, subst, ◌∙◌, inl, inr, ◌⊎◌, ⊎_elim, arith}
+use Rattle.std.proofs.Common.{◌≡◌, ℕ, suc, Bool, true, false, cond, eqb, List, [], ◌∷◌, length, map, Option, Some, None, option_and_then, slice_get, refl, sym, ap, subst, ◌∙◌, inl, inr}
 use Rattle.std.proofs.lemmas.Bool.{cases_Bool}
 use Rattle.std.proofs.lemmas.Option.{none-some}
 use Rattle.core_syntax.specs.declared.syntax.Error.{Error}
 use Rattle.core_syntax.specs.declared.syntax.Pattern.{Pattern}
 use Rattle.core_syntax.specs.SyntaxViews as S
-use Rattle.model.specs.lists.Syntax.{Position, Name, PatternTree, PatternTrees, no_pattern, pattern_and, term_pattern, pattern_list}
+use Rattle.model.specs.lists.Syntax.{Position, Name, PatternTree, PatternTrees, term_pattern, pattern_list}
 use Rattle.model.specs.lists.Names.{number}
 use Rattle.model.specs.lists.Tables.{TermKindEntry, variant_term, struct_term, declared_term, TermEntry}
 use Rattle.model.specs.lists.Expansions.{substituted}
 use Rattle.model.specs.lists.Setting.{Setting, Scope, entry_named, term_of, that, has_extractor, kind_template, pattern_converter}
-use Rattle.model.specs.lists.Typings.{Typing, followed, counted}
-use Rattle.model.specs.lists.Elaborated.{elaborated_pattern, elaborated_parts}
 use Rattle.model.specs.rules.Outcome.{then_option}
-use Rattle.model.specs.rules.Typed.{typed_pattern_and}
 use Rattle.model.proofs.Options.{then_some}
-use Rattle.laws_typing.proofs.Typings.{counted_gives}
 use Rattle.core_types.specs.Envs.{symbol_of, IsInterned}
-use Rattle.core_syntax.specs.NotedErrors.{NotesMore, MayNoteMore}
+use Rattle.core_syntax.specs.NotedErrors.{NotesMore}
 use Rattle.core_syntax.proofs.NotedErrors.{both}
 use Rattle.core_terms.specs.Terms.{has_extractor_kind}
 use Rattle.core_terms.specs.TermViews.{term_views}
 use Rattle.core_rules.specs.declared.term_env.TermEnv.{TermEnv}
-use Rattle.core_rules.specs.declared.typing.progress.Stop.{Stop}
-use Rattle.core_rules.specs.declared.typing.progress.Stop.TheVariants.{Memory, Nesting, Expansions}
 use Rattle.core_typed.specs.Elaborating.{Checks}
-use Rattle.core_rules.specs.Progress.{Counts}
 use Rattle.core_rules.specs.TermEnvs.{term_in_env}
 use Rattle.core_rules.specs.PatternUses.{found_term, found_converter, found_template, IsExpansionOf}
-use Rattle.core_rules.specs.Translating.{Standing, Reading, IsSettingOf, Shows, Wherever, Stops, converter_in, expanding}
+use Rattle.core_rules.specs.Translating.{Standing, IsSettingOf, Shows, converter_in}
 use Rattle.core_rules.proofs.TermsFound.{found_named}
 
 -- one fact after another is checked
@@ -38,27 +31,6 @@ checks_both a b c P Q (inl x) (inr y) = inr (subst (λ es. NotesMore es c) x.0 y
 checks_both a b c P Q (inr x) (inl y) = inr (subst (NotesMore a) (sym y.0) x.0, λ h. x.1 h.0)
 checks_both a b c P Q (inr x) (inr y) = inr (both a b c x.0 y.0, λ h. x.1 h.0)
 
--- what an expansion makes takes one at least
-pub takes_one : {Q : Type 0} (o : ℕ → Option (Typing Q)) (c : ℕ) (a : Typing Q) → expanding o c ≡ Some a → 1 ≤ a.expansions
-takes_one o zero a h = absurd (none-some a h)
-takes_one o (suc c) a h = let m = counted_gives (o c) h in let n : suc m.0.expansions ≡ a.expansions = ap (λ v. v.expansions) m.2 in omega (arith, n)
-
--- where no expansion can be counted the work stops: the whole is nothing, or one expansion more
-module _ {Q : Type 0} (env : TermEnv) (old mid new : Standing) (d : ℕ) (whole : Reading Q) (made : Setting → Scope → ℕ → Option (Typing Q)) where
-  pub expansion_stops : Wherever env old (λ e s. (c : ℕ) → (whole e c s ≡ None) ⊎ (whole e c s ≡ expanding (made e s) c))
-      → mid.work.expansions ≡ old.work.expansions → MayNoteMore old.work.errors.items mid.work.errors.items → (stop : Stop) → Counts d mid.work new.work (Err stop) → Stops env old new d whole stop
-  expansion_stops law same may (Memory a) x = absurd x
-  expansion_stops law same may Nesting x = (
-    subst (λ w. MayNoteMore old.work.errors.items w.errors.items) (sym x.1) may,
-    λ e s is sh. subst (λ c. whole e c s ≡ None) (sym x.0) (⊎_elim (λ h. h) (λ h. h) (law e s is sh 0)),
-  )
-  expansion_stops law same may Expansions x = (
-    subst (λ w. MayNoteMore old.work.errors.items w.errors.items) (sym x.1) may,
-    λ e s is sh c a h.
-        let m = x.0 in
-        ⊎_elim (λ k. absurd (none-some a (sym k ∙ h))) (λ k. let l = takes_one (made e s) c a (sym k ∙ h) in omega (arith, l, m, same)) (law e s is sh c),
-  )
-
 -- lists of patterns
 pub list_is : (ps : List Pattern) → pattern_list (S.pattern_views ps) ≡ map S.pattern_view ps
 list_is [] = refl
@@ -67,18 +39,6 @@ list_is (p ∷ ps) = ap (λ qs. S.pattern_view p ∷ qs) (list_is ps)
 pub list_length : (ps : List Pattern) → length (pattern_list (S.pattern_views ps)) ≡ length ps
 list_length [] = refl
 list_length (p ∷ ps) = ap suc (list_length ps)
-
-pub followed_none : {P Q R : Type 0} (f : P → Q → R) (o : Option (Typing P)) (next : Typing P → Option (Typing Q)) → ((a : Typing P) → next a ≡ None) → followed f o next ≡ None
-followed_none f None next h = refl
-followed_none f (Some a) next h = rw (h a) refl
-
--- patterns for arguments are as many as these
-pub parts_count : (e : Setting) (multi : Bool) (c : ℕ) (ps : PatternTrees) (tys : List ℕ) (s : Scope) → (length (pattern_list ps) ≡ length tys → ⊥) → elaborated_parts e multi c ps tys s ≡ None
-parts_count e multi c no_pattern [] s h = absurd (h refl)
-parts_count e multi c no_pattern (ty ∷ tys) s h = refl
-parts_count e multi c (pattern_and p ps) [] s h = refl
-parts_count e multi c (pattern_and p ps) (ty ∷ tys) s h =
-    followed_none typed_pattern_and (elaborated_pattern e multi c p ty s) (λ a. elaborated_parts e multi c ps tys a.scope) (λ a. parts_count e multi c ps tys a.scope (λ k. h (ap suc k)))
 
 -- extractors
 same_extractor : (k : TermKindEntry) → has_extractor k ≡ has_extractor_kind k

@@ -33,6 +33,7 @@ use Rattle.core_typed.proofs.FirstErrors.{begins_as}
 use Rattle.core_terms.specs.TermBreaches.{FirstBreaksTerms}
 use Rattle.core_rules.specs.RuleBreaches.{BreaksReading, BeginsWrong, BreaksRules, of_terms, of_rules, FirstBreaksRules}
 use Rattle.core_rules.proofs.RuleBreaches.{of_list}
+use Rattle.core_rules.specs.RuleListTaking.{BeginsAsSteps, SaysSteps}
 use Rattle.core_rules.specs.RulesTold.{TellsStages, TellsAll, TellsReading}
 use Rattle.core_rules.specs.ShownEnvs.{terms_shown_by}
 use Rattle.core_rules.specs.Translating.{IsSettingOf}
@@ -85,10 +86,11 @@ module _ (e : TypesRead) (r : AreReadable e) (defs : List Definition) (table : T
       ]
 
   -- what is said rule by rule
-  pub all_said : TellsAll env old (rule_trees defs) errors → TellsReading e defs expand errors
-  all_said told = record {
+  pub all_said : TellsAll env old (rule_trees defs) errors → SaysSteps env old (rule_trees defs) errors → TellsReading e defs expand errors
+  all_said told said = record {
     terms = λ no. absurd (no a.valid);
     rules = λ valid. subst (λ ns. TellsStages (setting_of e defs expand) (rule_trees defs) ns errors) a.types.names (told (setting_of e defs expand) is);
+    steps = λ valid. subst (λ ns. BeginsAsSteps (setting_of e defs expand) (rule_trees defs) ns (error_views errors)) a.types.names (said (setting_of e defs expand) is);
   }
 
   pub past_limits_named : NamesPastLimits env old (rule_trees defs) errors → NamesTypedPastLimits e defs expand (error_views errors)
@@ -123,7 +125,7 @@ pub terms_said : {X : Type 0} (e : TypesRead) (defs : List Definition) (expand :
     → OnErrors {A = TermTable} (Err f) (λ es. RefusesTerms e defs (error_views es)) → OnErrors {A = TermTable} (Err f) (AreErrorsOfTerms e defs) → OnErrors r (TellsReading e defs expand)
 terms_said e defs expand r f h refused told =
     passed_on (λ es. RefusesTerms e defs (error_views es) × AreErrorsOfTerms e defs es) (TellsReading e defs expand)
-    (λ es t. record { terms = λ no. t.1; rules = λ valid. absurd (t.0.not_valid valid) }) r f h
+    (λ es t. record { terms = λ no. t.1; rules = λ valid. absurd (t.0.not_valid valid); steps = λ valid. absurd (t.0.not_valid valid) }) r f h
     (both_said (λ es. RefusesTerms e defs (error_views es)) (AreErrorsOfTerms e defs) f refused told)
 
 -- without terms there are no rules

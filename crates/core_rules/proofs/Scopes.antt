@@ -5,14 +5,12 @@ use Rattle.std.proofs.lemmas.List.{length-map}
 use Rattle.model.specs.lists.Names.{number, has_name, with_name}
 use Rattle.model.specs.rules.Typed.{TypedVar}
 use Rattle.model.specs.lists.Setting.{Scope, new_var, var_named, met, bound, var_of}
-use Rattle.model.specs.lists.Typings.{Typing, plain}
 use Rattle.model.proofs.Names.{last, known_name, number_new, has_new, number_below}
 use Rattle.core_types.proofs.WellFormedEnvs.{longer}
 use Rattle.core_types.specs.Envs.{names_of}
 use Rattle.core_typed.specs.RuleViews.{var_view}
 use Rattle.core_rules.specs.Progress.{newest, vars_of, next_var, BindsNext, Remains}
-use Rattle.core_rules.specs.Translating.{Standing, Shows, IsTranslatedAt}
-use Rattle.core_rules.proofs.Readings.{becomes_plain, becomes_same}
+use Rattle.core_rules.specs.Translating.{Standing, Shows}
 
 -- a text whose number is that of a name that was met is this name
 pub is_met : (ns : List (List ℕ)) (x : List ℕ) → number ns x < length ns → has_name ns x ≡ true
@@ -88,13 +86,3 @@ module _ (old new : Standing) (s : Scope) (x : List ℕ) (ty : ℕ) (sh : Shows 
               omega (arith, l, m)
         ] refl (sym (b.names k) ∙ h));
   }
-
--- what is made without an expansion, however many may nest
-pub plain_made : {Q : Type 0} (o : ℕ → Option (Typing Q)) (d : ℕ) (q : Q) (old new : Standing) (t : Scope) → ((c : ℕ) → o c ≡ Some (plain q t)) → Shows new t → new.work.expansions ≡ old.work.expansions → IsTranslatedAt o d q old new
-plain_made o d q old new t is sh same = record {
-  typing = plain q t;
-  becomes = becomes_same (λ c. Some (plain q t)) o d (plain q t) is (becomes_plain (plain q t) d);
-  made = refl;
-  shows = sh;
-  expansions = omega (arith, same);
-}

@@ -15,19 +15,8 @@ use Rattle.core_rules.specs.declared.typing.progress.Stop.TheVariants.{Memory, N
 use Rattle.core_rules.specs.LimitStops.{ComesTo, EndsByLimit, StopEnds, MeetsLimits}
 use Rattle.core_rules.specs.ReachedLimits.{Limits}
 use Rattle.core_rules.specs.Taking.{Stepping, places_of, EndsAs, StopsBy, Takes}
-use Rattle.core_rules.specs.Translating.{Standing, Reading, Wherever, IsTranslatedAt, IsTranslated, IsNoted, IsReported, KeepsNoted, StaysNoted, Stops, Translates, MayTranslate}
+use Rattle.core_rules.specs.Translating.{Standing, Reading, Wherever, IsTranslatedAt, IsTranslated, IsNoted, IsReported, Stops, MayTranslate}
 use Rattle.core_rules.proofs.Taken.{Goes, seen}
-
--- the errors so far stay
-module _ {Q : Type 0} (env : TermEnv) (old new : Standing) (steps : Stepping Q) where
-  pub stop_notes : (stop : Stop) → StopsBy env old new steps stop → KeepsNoted old new stop
-  stop_notes (Memory a) h = tt
-  stop_notes Nesting h = h.0
-  stop_notes Expansions h = h.0
-
-  pub stays_noted : {X : Type 0} (view : X → Option Q) (r : Result X Stop) → Takes env old new steps view r → StaysNoted old new r
-  stays_noted view (Ok x) h = h.0
-  stays_noted view (Err stop) h = stop_notes stop h
 
 -- 1. what one step says
 module _ {Q : Type 0} (old new : Standing) (d : ℕ) (o : ℕ → Option (Typing Q)) where
@@ -131,10 +120,6 @@ module _ {Q : Type 0} (env : TermEnv) (old new : Standing) (d : ℕ) (steps : St
   may_translate view (Ok (Some x)) h = translated (view x) h
   may_translate view (Ok None) h = reported h
   may_translate view (Err stop) h = stops_reading stop h
-
-  pub translates : {X : Type 0} (view : X → Q) (r : Result X Stop) → Takes env old new steps (λ x. Some (view x)) r → Translates env old new d reading view r
-  translates view (Ok x) h = translated (view x) h
-  translates view (Err stop) h = stops_reading stop h
 
   -- and the limits
   module _ (limits : Limits) (first : Wherever env old (λ e s. first_limit (steps e old.work.expansions s) ≡ limits e d old.work.expansions s)) where

@@ -9,7 +9,7 @@ use Rattle.model.specs.lists.Syntax.{Position, DeclTree, ExtractorTree, Definiti
 use Rattle.model.specs.lists.Names.{number, has_name}
 use Rattle.model.specs.lists.Tables.{TypeEntry, builtin_type, primitive_type, enum_type, struct_type, internal_extractor, external_extractor, TermEntry}
 use Rattle.model.specs.lists.KnownTypes.{KnownTypes}
-use Rattle.model.specs.lists.TermTable.{ExternalTree, decl_of, decl_trees, extractor_of, extractor_trees, external_extractor_of, external_trees, internal_extractors, template, extractor_template, extractor_kind, decl_as_term, variant_as_term, struct_as_term, terms_made, terms_in_order, term_table, term_names_met}
+use Rattle.model.specs.lists.TermTable.{ExternalTree, decl_of, decl_trees, extractor_of, extractor_trees, external_extractor_of, external_trees, internal_extractors, extractor_template, extractor_kind, decl_as_term, variant_as_term, struct_as_term, terms_made, terms_in_order, term_table, term_names_met}
 use Rattle.model.proofs.Members.{nothing_in, in_head, in_tail, in_alone, in_map, from_map, from_flat_map}
 use Rattle.core_syntax.specs.Positions.{OccurAmong, pattern_positions, name_positions, extractor_positions, definition_positions, positions_of}
 use Rattle.core_syntax.proofs.Positioned.{among_same, among_both, among_left, among_right, among_rest, among_first, among_one, among_each, among_none, among_join}

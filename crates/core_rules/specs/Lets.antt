@@ -1,5 +1,5 @@
 -- The scopes of lets: what their names stood for before.
-use Rattle.std.specs.Prelude.{◌≡◌, ◌⊎◌, ⊤, ℕ, nat_eq, List, [], ◌∷◌, length, Option, Some, None, option_map, Result, Ok, Err, Box, Vec, if◌then◌else◌}
+use Rattle.std.specs.Prelude.{◌≡◌, ◌⊎◌, ⊤, ℕ, nat_eq, List, [], ◌∷◌, length, Option, Some, None, option_map, Result, Ok, Err, Box, if◌then◌else◌}
 use Rattle.std.specs.declared.alloc.Global.{Global}
 use Rattle.model.specs.lists.Syntax.{Name, LetTrees, let_and}
 use Rattle.core_syntax.specs.declared.syntax.LetDef.{LetDef}
@@ -16,12 +16,11 @@ use Rattle.core_syntax.specs.declared.syntax.Error.{Error}
 use Rattle.core_typed.specs.declared.exprs.Expr.{Expr}
 use Rattle.core_typed.specs.declared.rules.BoundVar.{BoundVar}
 use Rattle.core_rules.specs.declared.typing.progress.Progress.{Progress}
-use Rattle.core_rules.specs.declared.typing.progress.Stop.{Stop}
-use Rattle.core_typed.specs.ExprViews.{let_view, let_views, let_parts}
+use Rattle.core_typed.specs.ExprViews.{let_view}
 use Rattle.core_rules.specs.declared.term_env.TermEnv.{TermEnv}
 use Rattle.core_typed.specs.RuleViews.{var_view}
 use Rattle.core_rules.specs.Progress.{newest, vars_of, BindsNext}
-use Rattle.core_rules.specs.Translating.{Standing, Reading, Wherever, IsTranslated, IsReported, Stops}
+use Rattle.core_rules.specs.Translating.{Standing, Reading, Wherever, IsTranslated, IsReported}
 
 -- one definition before others
 abbrev pub with_let : LetDef → LetTrees → LetTrees
@@ -41,11 +40,11 @@ abbrev pub Defines : TermEnv → Standing → Standing → ℕ → Reading Typed
 Defines env old new d reading made earlier hidden =
     (IsTranslated env old new d reading made × Wherever env old (λ e s. HidesAs hidden new earlier old)) ⊎ IsReported env old new reading
 
--- the name and the type of a definition: the type is known, or it was noted that it isn't
+-- the name and the type of a definition: the type is known, or it was noted that it isn't. The name is met either way
 abbrev pub Begins : {E : Type 0} → TypeEnv → TypeEnv → List Error → List Error → Name → Name → Result (Option (Sym × TypeId)) E → Type 0
 Begins old new before after name ty (Ok (Some (x, t))) =
     (after ≡ before) × (names_of new ≡ with_name (names_of old) name.text) × (x.0 ≡ number (names_of old) name.text) × (Some t.0 ≡ type_of_name old ty.text)
-Begins old new before after name ty (Ok None) = NotesMore before after × (None ≡ type_of_name old ty.text)
+Begins old new before after name ty (Ok None) = NotesMore before after × (None ≡ type_of_name old ty.text) × (names_of new ≡ with_name (names_of old) name.text)
 Begins old new before after name ty (Err e) = ⊤
 
 -- a definition's name is bound to its value, and what it stood for before comes last among what is hidden
@@ -65,14 +64,3 @@ pub record Closes (hidden : List (Sym × Option BoundVar)) (old new : Progress) 
   pub names : (k : ℕ) → newest new k ≡ before_all hidden k (newest old k)
   pub expansions : new.expansions ≡ old.expansions
   pub errors : new.errors.items ≡ old.errors.items
-
--- what definitions become, or why the work stopped
-abbrev pub DefinesAll : TermEnv → Standing → Standing → ℕ → Reading TypedLets → List (Sym × Option BoundVar) → List (Sym × Option BoundVar) → Result (Vec (VarId × TypeId × Box Expr Global) Global) Stop → Type 0
-DefinesAll env old new d reading earlier hidden (Ok v) = Defines env old new d reading (let_parts (let_views v.items)) earlier hidden
-DefinesAll env old new d reading earlier hidden (Err stop) = Stops env old new d reading stop
-
--- likewise one definition, for which something is given only if it can be told what it would be
-abbrev pub DefinesOne : TermEnv → Standing → Standing → ℕ → Reading TypedLets → List (Sym × Option BoundVar) → List (Sym × Option BoundVar) → Result (Option (VarId × TypeId × Box Expr Global)) Stop → Type 0
-DefinesOne env old new d reading earlier hidden (Ok (Some b)) = Defines env old new d reading (let_parts (let_views (b ∷ []))) earlier hidden
-DefinesOne env old new d reading earlier hidden (Ok None) = IsReported env old new reading
-DefinesOne env old new d reading earlier hidden (Err stop) = Stops env old new d reading stop

@@ -1,6 +1,8 @@
 pub mod Constructors
 pub mod ExprReadings
+pub mod ExprTaking
 pub mod ExprUses
+pub mod LetTaking
 pub mod Lets
 pub mod LimitStops
 pub mod LimitsNamed
@@ -11,9 +13,11 @@ pub mod Progress
 pub mod ReachedLimits
 pub mod RuleBreaches
 pub mod RuleErrors
+pub mod RuleListTaking
 pub mod RuleLists
 pub mod RulePositions
 pub mod RuleReadings
+pub mod RuleTaking
 pub mod RulesRead
 pub mod RulesTold
 pub mod ShownEnvs

@@ -1,9 +1,7 @@
 -- Which limit ends the work on a part of a rule, in the words of what its reading comes to: the limit that comes before anything
 -- is wrong, and then nothing was noted; or something that is wrong was noted first.
-use Rattle.std.specs.Prelude.{◌≡◌, ◌⊎◌, ℕ, ⊤, List, Option, Some, None, Result, Ok, Err}
+use Rattle.std.specs.Prelude.{◌≡◌, ◌⊎◌, ℕ, ⊤, Option, Some, None, Result, Ok, Err}
 use Rattle.model.specs.claims.Refusals.{NamedLimit, of_nesting, of_expansions}
-use Rattle.core_syntax.specs.declared.syntax.Error.{Error}
-use Rattle.core_syntax.specs.NotedErrors.{NotesMore}
 use Rattle.core_rules.specs.declared.term_env.TermEnv.{TermEnv}
 use Rattle.core_rules.specs.declared.typing.progress.Stop.{Stop}
 use Rattle.core_rules.specs.declared.typing.progress.Stop.TheVariants.{Memory, Nesting, Expansions}
@@ -28,20 +26,3 @@ StopEnds env old new d reading limits Expansions = EndsByLimit env old new d rea
 abbrev pub MeetsLimits : {X Q : Type 0} → TermEnv → Standing → Standing → ℕ → Reading Q → Limits → Result X Stop → Type 0
 MeetsLimits env old new d reading limits (Ok x) = ComesTo env old d limits None
 MeetsLimits env old new d reading limits (Err stop) = StopEnds env old new d reading limits stop
-
--- no limit ended the work
-abbrev pub NotLimited : {X : Type 0} → Result X Stop → Type 0
-NotLimited (Ok x) = ⊤
-NotLimited (Err (Memory e)) = ⊤
-NotLimited (Err Nesting) = ⊥
-NotLimited (Err Expansions) = ⊥
-
--- the whole comes to what is read in its place, behind these errors and so many expansions, and nothing was noted; or something
--- was, and it comes to no limit
-abbrev pub Leads : TermEnv → Standing → List Error → ℕ → ℕ → Limits → ℕ → Limits → Type 0
-Leads env old errors expansions d whole left made =
-    Wherever env old (λ e s. ((errors ≡ old.work.errors.items) × (whole e d old.work.expansions s ≡ made e left expansions s)) ⊎ (NotesMore old.work.errors.items errors × (whole e d old.work.expansions s ≡ None)))
-
--- the same from where the work stands now
-abbrev pub LeadsTo : TermEnv → Standing → Standing → ℕ → Limits → ℕ → Limits → Type 0
-LeadsTo env old new d whole left made = Leads env old new.work.errors.items new.work.expansions d whole left made

@@ -3,7 +3,7 @@
 -- and else only behind what is.
 use Rattle.std.specs.Prelude.{◌≡◌, ◌≢◌, ◌⊎◌, ℕ, Bool, List, [], ◌∷◌, ◌++◌, All, Some, None}
 use Rattle.core_syntax.specs.declared.syntax.Error.{Error}
-use Rattle.core_syntax.specs.ErrorViews.{error_view}
+use Rattle.core_syntax.specs.ErrorViews.{error_view, error_views}
 use Rattle.core_syntax.specs.NotedErrors.{AreIllTyped}
 use Rattle.core_syntax.specs.Positions.{ErrorStandsAt, rule_positions}
 use Rattle.model.specs.lists.Syntax.{Position, RuleTree, Definition}
@@ -17,6 +17,7 @@ use Rattle.model.specs.claims.Refusals.{NamedLimit, past_limit}
 use Rattle.core_terms.specs.TermErrors.{AreErrorsOfTerms}
 use Rattle.core_types.specs.declared.type_env.TypeEnv.{TypeEnv}
 use Rattle.core_types.specs.Envs.{names_of}
+use Rattle.core_rules.specs.RuleListTaking.{RulesErrAs}
 use Rattle.core_rules.specs.declared.term_env.TermEnv.{TermEnv}
 use Rattle.core_rules.specs.ReachedLimits.{reached_limit}
 use Rattle.core_rules.specs.RuleLists.{rule_within}
@@ -59,7 +60,9 @@ pub record TellsStages (e : Setting) (trees : List RuleTree) (names : List (List
 abbrev pub TellsAll : TermEnv → TypeEnv → List RuleTree → List Error → Type 0
 TellsAll env old trees errors = (e : Setting) → IsSettingOf old env e → TellsStages e trees (names_of old) errors
 
--- what the errors of a whole list tell: of its terms, where these aren't valid, else of its rules
+-- what the errors of a whole list tell: of its terms, where these aren't valid, else of its rules. These are exactly those of the
+-- steps of its rules, before all others
 pub record TellsReading (e : TypesRead) (defs : List Definition) (expand : Bool) (errors : List Error) : Type 0 where
   pub terms : (IsValidTerms e.known defs → ⊥) → AreErrorsOfTerms e defs errors
   pub rules : IsValidTerms e.known defs → TellsStages (setting_of e defs expand) (rule_trees defs) (term_names_met e.known defs) errors
+  pub steps : RulesErrAs e defs expand (error_views errors)

@@ -1,6 +1,6 @@
 -- What translating a part of a rule gives: what the function of typing gives, or a report and that it gives nothing, or that
 -- a limit was passed. It is said of each setting and scope that the tables and the work show.
-use Rattle.std.specs.Prelude.{◌≡◌, ℕ, zero, suc, ◌+◌, ◌<◌, ◌⊎◌, true, ◌&&◌, List, ◌++◌, length, Option, Some, None, option_map, is_some, slice_get, Result, Ok, Err, ⊤}
+use Rattle.std.specs.Prelude.{◌≡◌, ℕ, ◌+◌, ◌<◌, ◌⊎◌, true, ◌&&◌, List, ◌++◌, length, Option, Some, None, option_map, is_some, slice_get, Result, Ok, Err, ⊤}
 use Rattle.std.specs.Bool.{◌==◌}
 use Rattle.std.specs.List.{position_from}
 use Rattle.core_syntax.specs.Stable.{look_up}
@@ -11,7 +11,7 @@ use Rattle.model.specs.lists.Syntax.{PatternTree}
 use Rattle.model.specs.lists.Tables.{TermEntry}
 use Rattle.model.specs.lists.Expansions.{substituted}
 use Rattle.model.specs.lists.Setting.{Setting, Scope, var_named, entry_named, kind_template}
-use Rattle.model.specs.lists.Typings.{Typing, counted}
+use Rattle.model.specs.lists.Typings.{Typing}
 use Rattle.model.specs.lists.Elaborated.{most_expansions}
 use Rattle.core_types.specs.declared.type_env.TypeEnv.{TypeEnv}
 use Rattle.core_types.specs.Envs.{names_of, type_at, constant_at, IsInterned}
@@ -111,42 +111,14 @@ IsTooDeep env old d reading = Wherever env old (λ e s. reading e d s ≡ None)
 abbrev pub IsTooLong : {Q : Type 0} → TermEnv → Standing → Reading Q → Type 0
 IsTooLong {Q} env old reading = Wherever env old (λ e s. (c : ℕ) (a : Typing Q) → reading e c s ≡ Some a → most_expansions < old.work.expansions + a.expansions)
 
--- what was noted stays, unless memory was refused
-abbrev pub KeepsNoted : Standing → Standing → Stop → Type 0
-KeepsNoted old new (Memory e) = ⊤
-KeepsNoted old new Nesting = MayNoteMore old.work.errors.items new.work.errors.items
-KeepsNoted old new Expansions = MayNoteMore old.work.errors.items new.work.errors.items
-
--- the same, however the work ended
-abbrev pub StaysNoted : {X : Type 0} → Standing → Standing → Result X Stop → Type 0
-StaysNoted old new (Ok x) = MayNoteMore old.work.errors.items new.work.errors.items
-StaysNoted old new (Err stop) = KeepsNoted old new stop
-
 -- why the work stopped. At a limit what was noted stays
 abbrev pub Stops : {Q : Type 0} → TermEnv → Standing → Standing → ℕ → Reading Q → Stop → Type 0
 Stops env old new d reading (Memory e) = ⊤
 Stops env old new d reading Nesting = MayNoteMore old.work.errors.items new.work.errors.items × IsTooDeep env old d reading
 Stops env old new d reading Expansions = MayNoteMore old.work.errors.items new.work.errors.items × IsTooLong env old reading
 
--- what is given is what the reading says, or that it says nothing was noted; or the work stopped
-abbrev pub Translates : {X Q : Type 0} → TermEnv → Standing → Standing → ℕ → Reading Q → (X → Q) → Result X Stop → Type 0
-Translates env old new d reading view (Ok x) = IsTranslated env old new d reading (view x) ⊎ IsReported env old new reading
-Translates env old new d reading view (Err stop) = Stops env old new d reading stop
-
 -- likewise where something is given only if it can be told what it would be
 abbrev pub MayTranslate : {X Q : Type 0} → TermEnv → Standing → Standing → ℕ → Reading Q → (X → Q) → Result (Option X) Stop → Type 0
 MayTranslate env old new d reading view (Ok (Some x)) = IsTranslated env old new d reading (view x) ⊎ IsReported env old new reading
 MayTranslate env old new d reading view (Ok None) = IsReported env old new reading
 MayTranslate env old new d reading view (Err stop) = Stops env old new d reading stop
-
--- what one more expansion gives of what it makes
-abbrev pub expanding : {Q : Type 0} → (ℕ → Option (Typing Q)) → ℕ → Option (Typing Q)
-expanding o zero = None
-expanding o (suc d) = counted (o d)
-
--- one expansion more is counted, and what it makes is read in the place of the whole
-pub record ExpandsTo {Q : Type 0} (env : TermEnv) (old new : Standing) (whole made : Reading Q) : Type 0 where
-  pub errors : new.work.errors.items ≡ old.work.errors.items
-  pub expansions : new.work.expansions ≡ old.work.expansions + 1
-  pub shows : Wherever env old (λ e s. Shows new s)
-  pub becomes : Wherever env old (λ e s. (c : ℕ) → whole e c s ≡ expanding (λ d. made e d s) c)

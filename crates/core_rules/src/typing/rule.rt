@@ -6,12 +6,12 @@ ghost use Rattle.model.specs.lists.Elaborated.{root_parts, rule_of_sides, with_o
 ghost use Rattle.model.specs.lists.Setting.{declared_flags};
 ghost use Rattle.core_terms.specs.TermViews.{flags_view, term_view};
 ghost use Rattle.core_types.specs.Envs.{names_of, IsInterned};
-ghost use Rattle.core_typed.specs.Elaborating.{Checks};
-ghost use Rattle.core_rules.specs.RuleReadings.{rule_reading, sides_view, scope_of};
+ghost use Rattle.core_typed.specs.Elaborating.{Checks, place_unless, NotesEachAt};
+ghost use Rattle.core_rules.specs.RuleReadings.{sides_view, scope_of};
+ghost use Rattle.core_rules.specs.RuleTaking.{rule_steps};
+ghost use Rattle.core_rules.specs.Taking.{Takes};
 ghost use Rattle.core_typed.specs.RuleViews.{rule_view};
-ghost use Rattle.core_rules.specs.LimitStops.{MeetsLimits};
-ghost use Rattle.core_rules.specs.ReachedLimits.{rule_limits};
-ghost use Rattle.core_rules.specs.Translating.{standing, Keeps, MayTranslate};
+ghost use Rattle.core_rules.specs.Translating.{standing, Keeps};
 ghost use Rattle.core_syntax.specs.Positions.{NotesAt, rule_positions};
 ghost use Rattle.core_rules.specs.RulePositions.{with_templates, StaysPlaced, StandsIf};
 
@@ -44,11 +44,9 @@ impl TermEnv {
     ) -> Result<Option<Rule>, Stop>
         requires { IsInterned tyenv.old }
         ensures keeps { Keeps tyenv.old tyenv.new }
-        ensures made { MayTranslate self.now (standing tyenv.old work.old) (standing tyenv.new work.new) nesting
-            (rule_reading (S.rule_view rule.now) id.0) rule_view result }
         ensures places { StaysPlaced (with_templates self.now (rule_positions (S.rule_view rule.now))) work.old.errors.items work.new.errors.items result }
-        ensures limits { MeetsLimits self.now (standing tyenv.old work.old) (standing tyenv.new work.new) nesting
-            (rule_reading (S.rule_view rule.now) id.0) (rule_limits (S.rule_view rule.now)) result }
+        ensures reads { Takes self.now (standing tyenv.old work.old) (standing tyenv.new work.new)
+            (rule_steps (S.rule_view rule.now) id.0 nesting) (option_map rule_view) result }
         ensures stands { IfOk result (StandsIf (S.position rule.now.pos)) }
     {
         let Some(sym) = rule.pattern.root_term() else {
@@ -111,6 +109,7 @@ fn check_priority(
 ) -> Result<(), AllocError>
     ensures checks { OnOk result (Checks errors.old.items errors.new.items (not (flags.multi && is_some prio) ≡ true)) }
     ensures places { OnOk result (NotesAt (S.position pos ∷ []) errors.old.items errors.new.items) }
+    ensures exact { OnOk result (NotesEachAt (place_unless (not (flags.multi && is_some prio)) (S.position pos)) errors.old.items errors.new.items) }
 {
     if !(flags.multi && prio.is_some()) {
         return Ok(());

@@ -1,18 +1,17 @@
 //! How the if-lets of rules, their arguments and their right sides are typed.
 
-ghost use Rattle.std.specs.Prelude.{◌≡◌, ◌∷◌, ◌++◌, OnOk, map, length};
+ghost use Rattle.std.specs.Prelude.{◌≡◌, ◌∷◌, ◌++◌, OnOk, map, Some, option_map};
 ghost use Rattle.std.specs.Option.{option_to_list};
 ghost use Rattle.core_syntax.specs.SyntaxViews as S;
 ghost use Rattle.model.specs.lists.Elaborated.{root_parts};
 ghost use Rattle.core_terms.specs.TermViews.{flags_view, term_view};
 ghost use Rattle.core_types.specs.Envs.{IsInterned};
-ghost use Rattle.core_rules.specs.PatternReadings.{parts_reading};
 ghost use Rattle.core_typed.specs.PatternViews.{pattern_views, pattern_parts};
-ghost use Rattle.core_rules.specs.RuleReadings.{iflet_reading, iflets_reading, sides_reading, sides_view};
+ghost use Rattle.core_rules.specs.RuleReadings.{sides_view};
+ghost use Rattle.core_rules.specs.RuleTaking.{iflet_steps, iflets_steps, root_steps, sides_steps};
+ghost use Rattle.core_rules.specs.Taking.{Takes};
 ghost use Rattle.core_typed.specs.RuleViews.{iflet_view};
-ghost use Rattle.core_rules.specs.LimitStops.{MeetsLimits};
-ghost use Rattle.core_rules.specs.ReachedLimits.{iflet_limits, iflets_limits, root_limits, sides_limits};
-ghost use Rattle.core_rules.specs.Translating.{standing, Keeps, MayTranslate, Translates};
+ghost use Rattle.core_rules.specs.Translating.{standing, Keeps};
 ghost use Rattle.std.specs.List.{flat_map};
 ghost use Rattle.core_syntax.specs.Positions.{patterns_positions, iflet_positions, rule_positions};
 ghost use Rattle.core_rules.specs.RulePositions.{with_templates, StaysPlaced};
@@ -52,11 +51,9 @@ impl TermEnv {
     ) -> Result<Option<IfLet>, Stop>
         requires { IsInterned tyenv.old }
         ensures keeps { Keeps tyenv.old tyenv.new }
-        ensures made { MayTranslate self.now (standing tyenv.old work.old) (standing tyenv.new work.new) nesting
-            (iflet_reading (S.iflet_view iflet.now) (flags_view flags)) iflet_view result }
         ensures places { StaysPlaced (with_templates self.now (iflet_positions (S.iflet_view iflet.now))) work.old.errors.items work.new.errors.items result }
-        ensures limits { MeetsLimits self.now (standing tyenv.old work.old) (standing tyenv.new work.new) nesting
-            (iflet_reading (S.iflet_view iflet.now) (flags_view flags)) (iflet_limits (S.iflet_view iflet.now) (flags_view flags)) result }
+        ensures reads { Takes self.now (standing tyenv.old work.old) (standing tyenv.new work.new)
+            (iflet_steps (S.iflet_view iflet.now) (flags_view flags) nesting) (option_map iflet_view) result }
     {
         let value = self.translate_expr(tyenv, work, &iflet.expr, None, flags.on_lhs(), nesting)?;
         let Some(rhs) = value else {
@@ -85,12 +82,10 @@ impl TermEnv {
     ) -> Result<Vec<IfLet>, Stop>
         requires { IsInterned tyenv.old }
         ensures keeps { Keeps tyenv.old tyenv.new }
-        ensures made { Translates self.now (standing tyenv.old work.old) (standing tyenv.new work.new) nesting
-            (iflets_reading (map S.iflet_view iflets.now) (flags_view flags)) (λ v. map iflet_view v.items) result }
         ensures places { StaysPlaced (with_templates self.now (flat_map iflet_positions
             (map S.iflet_view iflets.now))) work.old.errors.items work.new.errors.items result }
-        ensures limits { MeetsLimits self.now (standing tyenv.old work.old) (standing tyenv.new work.new) nesting
-            (iflets_reading (map S.iflet_view iflets.now) (flags_view flags)) (iflets_limits (map S.iflet_view iflets.now) (flags_view flags)) result }
+        ensures reads { Takes self.now (standing tyenv.old work.old) (standing tyenv.new work.new)
+            (iflets_steps (map S.iflet_view iflets.now) (flags_view flags) nesting) (λ v. Some (map iflet_view v.items)) result }
     {
         let mut made = Vec::new(*self.terms.allocator());
         for iflet in iflets {
@@ -114,12 +109,10 @@ impl TermEnv {
     ) -> Result<Vec<Pattern>, Stop>
         requires { IsInterned tyenv.old }
         ensures keeps { Keeps tyenv.old tyenv.new }
-        ensures made { Translates self.now (standing tyenv.old work.old) (standing tyenv.new work.new) nesting
-            (parts_reading multi (S.pattern_views args.now) (map (λ t. t.0) tys.now)) (λ v. pattern_parts (pattern_views v.items)) result }
         ensures places { StaysPlaced (with_templates self.now (S.position pos ∷ patterns_positions
             (S.pattern_views args.now))) work.old.errors.items work.new.errors.items result }
-        ensures limits { MeetsLimits self.now (standing tyenv.old work.old) (standing tyenv.new work.new) nesting
-            (parts_reading multi (S.pattern_views args.now) (map (λ t. t.0) tys.now)) (root_limits multi (S.pattern_views args.now) (map (λ t. t.0) tys.now)) result }
+        ensures reads { Takes self.now (standing tyenv.old work.old) (standing tyenv.new work.new)
+            (root_steps multi (S.pattern_views args.now) (map (λ t. t.0) tys.now) (S.name_view sym.now) (S.position pos) nesting) (λ v. Some (pattern_parts (pattern_views v.items))) result }
     {
         check_count(&mut work.errors, pos, sym, args.len(), tys.len())?;
         self.translate_args(tyenv, work, args, tys, multi, nesting)
@@ -144,11 +137,9 @@ impl TermEnv {
         requires inverse { IsInterned tyenv.old }
         requires root { root_parts (S.pattern_view rule.now.pattern) ≡ S.pattern_views args.now }
         ensures keeps { Keeps tyenv.old tyenv.new }
-        ensures made { MayTranslate self.now (standing tyenv.old work.old) (standing tyenv.new work.new) nesting
-            (sides_reading (S.rule_view rule.now) (flags_view flags) (term_view term.now)) sides_view result }
         ensures places { StaysPlaced (with_templates self.now (rule_positions (S.rule_view rule.now))) work.old.errors.items work.new.errors.items result }
-        ensures limits { MeetsLimits self.now (standing tyenv.old work.old) (standing tyenv.new work.new) nesting
-            (sides_reading (S.rule_view rule.now) (flags_view flags) (term_view term.now)) (sides_limits (S.rule_view rule.now) (flags_view flags) (term_view term.now)) result }
+        ensures reads { Takes self.now (standing tyenv.old work.old) (standing tyenv.new work.new)
+            (sides_steps (S.rule_view rule.now) (S.name_view sym.now) (term_view term.now) (flags_view flags) nesting) (option_map sides_view) result }
     {
         let tys = term.arg_tys.as_slice();
         let parts = self.translate_root(

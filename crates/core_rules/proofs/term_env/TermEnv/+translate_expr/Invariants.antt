@@ -1,16 +1,15 @@
-use Rattle.std.proofs.Common.{suc, ◌+◌, ◌∷◌, map, take, None}
+use Rattle.std.proofs.Common.{suc, ◌+◌, ◌∷◌, map}
 use Rattle.core_syntax.specs.SyntaxViews as S
 use Rattle.core_syntax.specs.Positions.{NotesAt, exprs_positions, lets_positions}
 use Rattle.core_terms.specs.TermViews.{flags_view}
-use Rattle.core_rules.specs.ExprReadings.{args_reading, lets_reading}
-use Rattle.core_typed.specs.ExprViews.{let_views, let_parts}
-use Rattle.core_rules.specs.Lets.{Defines}
-use Rattle.core_rules.specs.ReachedLimits.{args_limits, lets_limits}
-use Rattle.core_rules.specs.LimitStops.{ComesTo}
+use Rattle.core_rules.specs.LetTaking.{lets_steps}
 use Rattle.core_rules.specs.Translating.{standing, Keeps}
-use Rattle.core_rules.proofs.ExprLists.{SoFar}
 use Rattle.core_rules.proofs.ExprSizes.{expr_size, exprs_size, lets_size}
+use Rattle.core_rules.proofs.LetsTaken.{DefinesSoFar, defs_from}
 use Rattle.core_rules.proofs.PatternSizes.{grown}
+use Rattle.core_rules.specs.ExprTaking.{args_steps}
+use Rattle.core_rules.specs.Taking.{LeadsOn}
+use Rattle.core_rules.proofs.ExprListsTaken.{after_made, args_from}
 use Rattle.core_rules.proofs.term_env.TermEnv.+translate_expr.Given as goal
 
 abbrev pub decreases-translate_expr : goal.decreases-translate_expr
@@ -31,13 +30,12 @@ decreases-translate_def l = grown 4 l.nesting (suc (expr_size (S.expr_view l.def
 abbrev pub invariant-translate_exprs-loop-i : goal.invariant-translate_exprs-loop-i
 invariant-translate_exprs-loop-i l =
     Keeps l.fn.tyenv l.tyenv
-    × SoFar l.self (standing l.fn.tyenv l.fn.work) (standing l.tyenv l.work) l.nesting (args_reading (S.expr_views (take l.i l.args)) (flags_view l.flags) (map (λ t. t.0) (take l.i l.tys))) l.parts.items
     × NotesAt (exprs_positions (S.expr_views l.args)) l.fn.work.errors.items l.work.errors.items
-    × ComesTo l.self (standing l.fn.tyenv l.fn.work) l.nesting (args_limits (S.expr_views (take l.i l.args)) (flags_view l.flags) (map (λ t. t.0) (take l.i l.tys))) None
+    × LeadsOn l.self (standing l.fn.tyenv l.fn.work) (standing l.tyenv l.work) (args_steps (S.expr_views l.args) (flags_view l.flags) (map (λ t. t.0) l.tys) l.nesting) (args_from (flags_view l.flags) l.args l.tys l.nesting l.i) (after_made l.parts.items)
 
 abbrev pub invariant-translate_defs-loop-def : goal.invariant-translate_defs-loop-def
 invariant-translate_defs-loop-def l =
     Keeps l.fn.tyenv l.tyenv
-    × Defines l.self (standing l.fn.tyenv l.fn.work) (standing l.tyenv l.work) l.nesting (lets_reading (S.let_views (take l.def-index l.defs)) (flags_view l.flags)) (let_parts (let_views l.bindings.items)) l.fn.hidden.items l.hidden.items
     × NotesAt (S.position l.pos ∷ lets_positions (S.let_views l.defs)) l.fn.work.errors.items l.work.errors.items
-    × ComesTo l.self (standing l.fn.tyenv l.fn.work) l.nesting (lets_limits (S.let_views (take l.def-index l.defs)) (flags_view l.flags)) None
+    × DefinesSoFar l.self (standing l.fn.tyenv l.fn.work) (standing l.tyenv l.work) (lets_steps (S.let_views l.defs) (flags_view l.flags) (S.position l.pos) l.nesting) (defs_from l.defs (flags_view l.flags) (S.position l.pos) l.nesting l.def-index)
+    l.bindings.items l.fn.hidden.items l.hidden.items

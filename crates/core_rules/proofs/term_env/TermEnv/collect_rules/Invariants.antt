@@ -1,4 +1,4 @@
-use Rattle.std.proofs.Common.{drop}
+use Rattle.std.proofs.Common.{[], drop}
 use Rattle.core_syntax.specs.SyntaxViews.{definition_views}
 use Rattle.model.specs.lists.TermTable.{rule_trees}
 use Rattle.core_syntax.specs.Positions.{NotesAt, OccurAmong, positions_of}
@@ -7,6 +7,7 @@ use Rattle.core_typed.specs.RuleNaming.{rules_at}
 use Rattle.core_rules.specs.RulePositions.{with_templates}
 use Rattle.core_rules.specs.LimitsNamed.{NamesPastLimits}
 use Rattle.core_rules.specs.RuleErrors.{NotesOfRules}
+use Rattle.core_rules.specs.RuleListTaking.{DoesRules}
 use Rattle.core_rules.specs.RulesTold.{TellsTyping}
 use Rattle.core_rules.specs.Translating.{Keeps}
 use Rattle.core_rules.proofs.NamedLimits.{rules_before}
@@ -24,3 +25,4 @@ invariant-loop-def l =
     × OccurAmong (rules_at (rule_views l.rules.items)) (positions_of (definition_views l.defs))
     × TypedUpTo l.self l.fn.tyenv l.tyenv (rule_trees (definition_views l.defs)) (rules_before l.defs l.def-index) l.rules.items l.fn.work.errors.items l.work.errors.items
     × TellsTyping l.self l.fn.tyenv l.tyenv (rules_before l.defs l.def-index) l.fn.work.errors.items l.work.errors.items
+    × DoesRules l.self l.fn.tyenv l.tyenv (rules_before l.defs l.def-index) [] (rule_views l.rules.items) l.fn.work.errors.items l.work.errors.items

@@ -98,7 +98,7 @@ returns-in_err-table-clause-breach g c =
 pub returns-then-not-is_empty-clause-told : goal.returns-then-not-is_empty-clause-told
 returns-then-not-is_empty-clause-told g c =
     all_said g.read c.requires.0 (definition_views c.args.defs.now) c.in_ok-table.table c.from_ast.new.tyenv c.in_ok-table.ensures.answers.1 c.with_terms-env.result c.with_terms-env.ensures.terms c.args.expand_internal_extractors c.with_terms-env.ensures.expand
-    c.in_ok-errors.errors.items c.in_ok-errors.ensures.tells
+    c.in_ok-errors.errors.items c.in_ok-errors.ensures.tells c.in_ok-errors.ensures.exact
 
 pub returns-in_err-table-clause-told : goal.returns-in_err-table-clause-told
 returns-in_err-table-clause-told g c =

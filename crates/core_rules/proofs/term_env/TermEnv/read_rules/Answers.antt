@@ -24,7 +24,9 @@ use Rattle.core_rules.specs.RulePositions.{templates_positions, with_templates}
 use Rattle.core_terms.specs.TermPositions.{terms_positions}
 use Rattle.core_rules.proofs.SubstitutedPlaces.{templates_inside}
 use Rattle.core_rules.proofs.PartPlaces.{named_places, declared_inside}
+use Rattle.core_rules.specs.RuleListTaking.{DoesRules}
 use Rattle.core_rules.specs.RulesTold.{TellsTyping}
+use Rattle.core_rules.proofs.RuleListsTaken.{done_to_the_end}
 use Rattle.core_rules.proofs.RulesTold.{told_to_the_end}
 use Rattle.core_rules.proofs.term_env.TermEnv.read_rules.Goals as goal
 
@@ -152,4 +154,23 @@ returns-clause-tells c =
     let names = mapped_noted found named rules by_name mapped in
     let told = subst (λ es. TellsTyping env old c.collect_rules.new.tyenv (rule_trees defs) es found) (c.new-work.ensures.errors ∙ c.new.ensures.items) c.in_ok-rules.ensures.tells in
     told_to_the_end env old c.collect_rules.new.tyenv (rule_trees defs) found last told
+    (may_both found named last names (may_both named defined last (may_check c.in_ok-check_defined.ensures.checks) c.in_ok-check_constructors.ensures.notes))
+
+pub returns-clause-exact : goal.returns-clause-exact
+returns-clause-exact c =
+    let trees = rule_trees (definition_views c.args.defs.now) in
+    let env = c.args.self.now in
+    let old = c.args.tyenv.now in
+    let new = c.collect_rules.new.tyenv in
+    let typed = rule_views c.in_ok-rules.rules.items in
+    let found = c.collect_rules.new.work.errors.items in
+    let named = c.map_names.new.errors.items in
+    let defined = c.check_defined.new.errors.items in
+    let last = c.check_constructors.new.errors.items in
+    let by_name = c.in_ok-rule_map.rule_map in
+    let rules = rule_views c.deref-3.result.now in
+    let mapped = subst (λ es. MapsNames es named rules by_name) (ap (λ v. v.items) c.replace-errors.ensures.value) c.in_ok-rule_map.ensures.maps in
+    let names = mapped_noted found named rules by_name mapped in
+    let done = subst (λ es. DoesRules env old new trees [] typed es found) (c.new-work.ensures.errors ∙ c.new.ensures.items) c.in_ok-rules.ensures.exact in
+    done_to_the_end env old new trees typed found last done
     (may_both found named last names (may_both named defined last (may_check c.in_ok-check_defined.ensures.checks) c.in_ok-check_constructors.ensures.notes))

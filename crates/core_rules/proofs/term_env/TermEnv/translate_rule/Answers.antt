@@ -5,44 +5,14 @@ use Rattle.core_rules.specs.RuleReadings.{sides_view}
 use Rattle.core_typed.specs.RuleViews.{rule_view}
 use Rattle.core_rules.specs.Translating.{standing}
 use Rattle.core_rules.proofs.Readings.{stop_is}
-use Rattle.core_rules.proofs.RuleForms.{no_root, no_term, not_declared, no_sides, rule_stops, rule_done}
 use Rattle.core_syntax.specs.Positions.{OccurAmong, rule_positions}
 use Rattle.core_syntax.proofs.Positioned.{among_same, notes_among, notes_parts}
 use Rattle.core_rules.specs.RulePositions.{with_templates}
 use Rattle.core_rules.proofs.ErrorPositions.{among_here}
 use Rattle.core_rules.proofs.PartPlaces.{rule_at}
-use Rattle.core_rules.proofs.RuleLimits.{no_root_comes, no_term_comes, not_declared_comes, rule_none, rule_ends}
+use Rattle.core_typed.proofs.NotedErrors.{told_at}
+use Rattle.core_rules.proofs.RulesTaken.{rootless, root_unknown, root_undeclared, sides_not_made, sides_stop_all, rule_made}
 use Rattle.core_rules.proofs.term_env.TermEnv.translate_rule.Goals as goal
-
-pub returns-in_default-clause-made : goal.returns-in_default-clause-made
-returns-in_default-clause-made c =
-    no_root c.args.self.now (standing c.args.tyenv.now c.args.work.now) c.requires (S.rule_view c.args.rule.now) c.args.id.0 _ c.in_default.ensures c.in_ok-report.ensures.noted
-
-pub returns-in_default-find_term-clause-made : goal.returns-in_default-find_term-clause-made
-returns-in_default-find_term-clause-made c =
-    no_term c.args.self.now (standing c.args.tyenv.now c.args.work.now) c.requires (S.rule_view c.args.rule.now) c.args.id.0 (S.name_view c.in-Some.sym.now) c.in-Some.ensures _ c.in_default-find_term.ensures c.in_ok-report_name.ensures.noted
-
-pub returns-in_default-flags_of-clause-made : goal.returns-in_default-flags_of-clause-made
-returns-in_default-flags_of-clause-made c =
-    not_declared c.args.self.now (standing c.args.tyenv.now c.args.work.now) c.requires (S.rule_view c.args.rule.now) c.args.id.0 (S.name_view c.in-Some.sym.now) c.in-Some.ensures (term_view c.in-Some-find_term.term.now) c.in-Some-find_term.ensures
-    _ c.in_default-flags_of.ensures c.in_ok-report_name-2.ensures.noted
-
-pub returns-in_err-made-clause-made : goal.returns-in_err-made-clause-made
-returns-in_err-made-clause-made c =
-    rw (stop_is c.from_residual-in_err-made.result c.in_err-made.field-0.0 c.from_residual-in_err-made.ensures)
-    (rule_stops c.args.self.now (standing c.args.tyenv.now c.args.work.now) c.requires (S.rule_view c.args.rule.now) c.args.id.0 (S.name_view c.in-Some.sym.now) c.in-Some.ensures (term_view c.in-Some-find_term.term.now) c.in-Some-find_term.ensures
-    (flags_view c.in-Some-flags_of.flags) c.in-Some-flags_of.ensures (standing c.translate_sides.new.tyenv c.translate_sides.new.work) c.args.nesting c.in_err-made.field-0.0 c.in_err-made.ensures.made)
-
-pub returns-in_default-made-clause-made : goal.returns-in_default-made-clause-made
-returns-in_default-made-clause-made c =
-    no_sides c.args.self.now (standing c.args.tyenv.now c.args.work.now) c.requires (S.rule_view c.args.rule.now) c.args.id.0 (S.name_view c.in-Some.sym.now) c.in-Some.ensures (term_view c.in-Some-find_term.term.now) c.in-Some-find_term.ensures
-    (flags_view c.in-Some-flags_of.flags) c.in-Some-flags_of.ensures (standing c.translate_sides.new.tyenv c.translate_sides.new.work) (rw c.in_default-made.is at c.in_ok-made.ensures.made)
-
-pub returns-clause-made : goal.returns-clause-made
-returns-clause-made c =
-    rule_done c.args.self.now (standing c.args.tyenv.now c.args.work.now) c.requires (S.rule_view c.args.rule.now) c.args.id.0 (S.name_view c.in-Some.sym.now) c.in-Some.ensures (term_view c.in-Some-find_term.term.now) c.in-Some-find_term.ensures
-    (flags_view c.in-Some-flags_of.flags) c.in-Some-flags_of.ensures c.args.nesting (standing c.translate_sides.new.tyenv c.translate_sides.new.work) (standing c.translate_sides.new.tyenv _) _ (sides_view c.in-Some-made.sides) (rule_view c.in_ok-whole.whole) c.translate_sides.new.work.seen.items
-    (rw c.in-Some-made.is at c.in_ok-made.ensures.made) refl (record { vars = refl; names = λ k. refl; expansions = refl }) c.in_ok-check_priority.ensures.checks refl c.finish_rule.ensures.keeps c.in_ok-whole.ensures.names refl c.in_ok-whole.ensures.view
 
 pub returns-in_default-clause-places : goal.returns-in_default-clause-places
 returns-in_default-clause-places c =
@@ -88,31 +58,34 @@ pub returns-clause-stands : goal.returns-clause-stands
 returns-clause-stands c =
     ap (λ r. r.at) c.in_ok-whole.ensures.view
 
-pub returns-in_default-clause-limits : goal.returns-in_default-clause-limits
-returns-in_default-clause-limits c =
-    no_root_comes c.args.self.now (standing c.args.tyenv.now c.args.work.now) c.requires (S.rule_view c.args.rule.now) c.args.id.0 c.args.nesting c.in_default.ensures
+pub returns-in_default-clause-reads : goal.returns-in_default-clause-reads
+returns-in_default-clause-reads c =
+    rootless c.args.self.now (standing c.args.tyenv.now c.args.work.now) c.requires (S.rule_view c.args.rule.now) c.args.id.0 c.args.nesting
+    (standing c.args.tyenv.now _) c.in_default.ensures refl (record { vars = refl; names = λ k. refl; expansions = refl }) (told_at _ _ _ c.in_ok-report.ensures.told)
 
-pub returns-in_default-find_term-clause-limits : goal.returns-in_default-find_term-clause-limits
-returns-in_default-find_term-clause-limits c =
-    no_term_comes c.args.self.now (standing c.args.tyenv.now c.args.work.now) c.requires (S.rule_view c.args.rule.now) c.args.id.0 c.args.nesting (S.name_view c.in-Some.sym.now) c.in-Some.ensures c.in_default-find_term.ensures
+pub returns-in_default-find_term-clause-reads : goal.returns-in_default-find_term-clause-reads
+returns-in_default-find_term-clause-reads c =
+    root_unknown c.args.self.now (standing c.args.tyenv.now c.args.work.now) c.requires (S.rule_view c.args.rule.now) c.args.id.0 c.args.nesting (S.name_view c.in-Some.sym.now) c.in-Some.ensures
+    (standing c.args.tyenv.now _) c.in_default-find_term.ensures refl (record { vars = refl; names = λ k. refl; expansions = refl }) (told_at _ _ _ c.in_ok-report_name.ensures.told)
 
-pub returns-in_default-flags_of-clause-limits : goal.returns-in_default-flags_of-clause-limits
-returns-in_default-flags_of-clause-limits c =
-    not_declared_comes c.args.self.now (standing c.args.tyenv.now c.args.work.now) c.requires (S.rule_view c.args.rule.now) c.args.id.0 c.args.nesting (S.name_view c.in-Some.sym.now) c.in-Some.ensures (term_view c.in-Some-find_term.term.now) c.in-Some-find_term.ensures c.in_default-flags_of.ensures
+pub returns-in_default-flags_of-clause-reads : goal.returns-in_default-flags_of-clause-reads
+returns-in_default-flags_of-clause-reads c =
+    root_undeclared c.args.self.now (standing c.args.tyenv.now c.args.work.now) c.requires (S.rule_view c.args.rule.now) c.args.id.0 c.args.nesting (S.name_view c.in-Some.sym.now) c.in-Some.ensures (term_view c.in-Some-find_term.term.now) c.in-Some-find_term.ensures
+    (standing c.args.tyenv.now _) c.in_default-flags_of.ensures refl (record { vars = refl; names = λ k. refl; expansions = refl }) (told_at _ _ _ c.in_ok-report_name-2.ensures.told)
 
-pub returns-in_err-made-clause-limits : goal.returns-in_err-made-clause-limits
-returns-in_err-made-clause-limits c =
+pub returns-in_err-made-clause-reads : goal.returns-in_err-made-clause-reads
+returns-in_err-made-clause-reads c =
     rw (stop_is c.from_residual-in_err-made.result c.in_err-made.field-0.0 c.from_residual-in_err-made.ensures)
-    (rule_ends c.args.self.now (standing c.args.tyenv.now c.args.work.now) c.requires (S.rule_view c.args.rule.now) c.args.id.0 c.args.nesting (S.name_view c.in-Some.sym.now) c.in-Some.ensures (term_view c.in-Some-find_term.term.now) c.in-Some-find_term.ensures
-    (flags_view c.in-Some-flags_of.flags) c.in-Some-flags_of.ensures
-    (standing c.translate_sides.new.tyenv c.translate_sides.new.work) c.in_err-made.field-0.0 c.in_err-made.ensures.limits)
+    (sides_stop_all c.args.self.now (standing c.args.tyenv.now c.args.work.now) c.requires (S.rule_view c.args.rule.now) c.args.id.0 c.args.nesting (S.name_view c.in-Some.sym.now) c.in-Some.ensures (term_view c.in-Some-find_term.term.now) c.in-Some-find_term.ensures
+    (flags_view c.in-Some-flags_of.flags) c.in-Some-flags_of.ensures (standing c.translate_sides.new.tyenv c.translate_sides.new.work) c.in_err-made.field-0.0 c.in_err-made.ensures.reads)
 
-pub returns-in_default-made-clause-limits : goal.returns-in_default-made-clause-limits
-returns-in_default-made-clause-limits c =
-    rule_none c.args.self.now (standing c.args.tyenv.now c.args.work.now) c.requires (S.rule_view c.args.rule.now) c.args.id.0 c.args.nesting (S.name_view c.in-Some.sym.now) c.in-Some.ensures (term_view c.in-Some-find_term.term.now) c.in-Some-find_term.ensures
-    (flags_view c.in-Some-flags_of.flags) c.in-Some-flags_of.ensures c.in_ok-made.ensures.limits
+pub returns-in_default-made-clause-reads : goal.returns-in_default-made-clause-reads
+returns-in_default-made-clause-reads c =
+    sides_not_made c.args.self.now (standing c.args.tyenv.now c.args.work.now) c.requires (S.rule_view c.args.rule.now) c.args.id.0 c.args.nesting (S.name_view c.in-Some.sym.now) c.in-Some.ensures (term_view c.in-Some-find_term.term.now) c.in-Some-find_term.ensures
+    (flags_view c.in-Some-flags_of.flags) c.in-Some-flags_of.ensures (standing c.translate_sides.new.tyenv c.translate_sides.new.work) (rw c.in_default-made.is at c.in_ok-made.ensures.reads)
 
-pub returns-clause-limits : goal.returns-clause-limits
-returns-clause-limits c =
-    rule_none c.args.self.now (standing c.args.tyenv.now c.args.work.now) c.requires (S.rule_view c.args.rule.now) c.args.id.0 c.args.nesting (S.name_view c.in-Some.sym.now) c.in-Some.ensures (term_view c.in-Some-find_term.term.now) c.in-Some-find_term.ensures
-    (flags_view c.in-Some-flags_of.flags) c.in-Some-flags_of.ensures c.in_ok-made.ensures.limits
+pub returns-clause-reads : goal.returns-clause-reads
+returns-clause-reads c =
+    rule_made c.args.self.now (standing c.args.tyenv.now c.args.work.now) c.requires (S.rule_view c.args.rule.now) c.args.id.0 c.args.nesting (S.name_view c.in-Some.sym.now) c.in-Some.ensures (term_view c.in-Some-find_term.term.now) c.in-Some-find_term.ensures
+    (flags_view c.in-Some-flags_of.flags) c.in-Some-flags_of.ensures (standing c.translate_sides.new.tyenv c.translate_sides.new.work) (standing c.translate_sides.new.tyenv _) _ (sides_view c.in-Some-made.sides) (rule_view c.in_ok-whole.whole) c.translate_sides.new.work.seen.items
+    (rw c.in-Some-made.is at c.in_ok-made.ensures.reads) refl (record { vars = refl; names = λ k. refl; expansions = refl }) c.in_ok-check_priority.ensures.exact refl c.finish_rule.ensures.keeps c.in_ok-whole.ensures.names refl c.in_ok-whole.ensures.view

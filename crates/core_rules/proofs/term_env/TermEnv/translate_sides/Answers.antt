@@ -1,12 +1,11 @@
-use Rattle.std.proofs.Common.{map, List, ◌∷◌, Some}
+use Rattle.std.proofs.Common.{map, List, ◌∷◌, Some, None}
 use Rattle.core_syntax.specs.SyntaxViews as S
 use Rattle.core_terms.specs.TermViews.{flags_view, term_view}
 use Rattle.core_typed.specs.ExprViews.{expr_view}
 use Rattle.core_typed.specs.PatternViews.{pattern_views, pattern_parts}
 use Rattle.core_typed.specs.RuleViews.{iflet_view}
 use Rattle.core_rules.specs.Translating.{standing}
-use Rattle.core_rules.proofs.Readings.{stop_is, stop_keeps, stays_on, may_report}
-use Rattle.core_rules.proofs.SidesForms.{sides_first_stops, sides_second_stops, sides_third_stops, sides_reported, sides_done}
+use Rattle.core_rules.proofs.Readings.{stop_is}
 use Rattle.std.specs.List.{flat_map}
 use Rattle.model.specs.lists.Syntax.{Position}
 use Rattle.core_syntax.specs.Positions.{OccurAmong, patterns_positions, expr_positions, iflet_positions, rule_positions}
@@ -14,49 +13,8 @@ use Rattle.core_syntax.proofs.Positioned.{among_same, notes_parts}
 use Rattle.core_rules.specs.RulePositions.{with_templates}
 use Rattle.core_rules.proofs.ErrorPositions.{among_here, among_with, stop_among, stop_step}
 use Rattle.core_rules.proofs.PartPlaces.{rule_root, rule_iflets, rule_value}
-use Rattle.core_rules.specs.ExprReadings.{expr_reading}
-use Rattle.core_rules.specs.RuleReadings.{iflets_reading}
-use Rattle.core_rules.proofs.RuleLimits.{sides_first_ends, sides_second_ends, sides_third_ends, sides_none}
+use Rattle.core_rules.proofs.SidesTaken.{sides_root_stops, sides_iflets_stop, sides_value_stops, sides_end}
 use Rattle.core_rules.proofs.term_env.TermEnv.translate_sides.Goals as goal
-
-pub returns-in_err-parts-clause-made : goal.returns-in_err-parts-clause-made
-returns-in_err-parts-clause-made c =
-    rw (stop_is c.from_residual.result c.in_err-parts.field-0.0 c.from_residual.ensures)
-    (sides_first_stops c.args.self.now (standing c.args.tyenv.now c.args.work.now) (standing c.translate_root.new.tyenv c.translate_root.new.work) (standing c.translate_root.new.tyenv c.translate_root.new.work) (standing c.translate_root.new.tyenv c.translate_root.new.work) c.args.nesting
-    (S.rule_view c.args.rule.now) (S.pattern_views c.args.args.now) (flags_view c.args.flags) (term_view c.args.term.now) c.requires.root c.in_err-parts.field-0.0 (rw c.as_slice-tys.ensures.value at c.in_err-parts.ensures.made))
-
-pub returns-in_err-iflets-clause-made : goal.returns-in_err-iflets-clause-made
-returns-in_err-iflets-clause-made c =
-    let first = rw c.as_slice-tys.ensures.value at c.in_ok-parts.ensures.made in
-    rw (stop_is c.from_residual-in_err-iflets.result c.in_err-iflets.field-0.0 c.from_residual-in_err-iflets.ensures)
-    (sides_second_stops c.args.self.now (standing c.args.tyenv.now c.args.work.now) (standing c.translate_root.new.tyenv c.translate_root.new.work) (standing c.translate_iflets.new.tyenv c.translate_iflets.new.work) (standing c.translate_iflets.new.tyenv c.translate_iflets.new.work) c.args.nesting
-    (S.rule_view c.args.rule.now) (S.pattern_views c.args.args.now) (flags_view c.args.flags) (term_view c.args.term.now) c.requires.root (pattern_parts (pattern_views c.in_ok-parts.parts.items)) first c.translate_root.ensures.keeps
-    c.in_err-iflets.field-0.0 (rw c.deref.ensures.value at c.in_err-iflets.ensures.made))
-
-pub returns-in_err-value-clause-made : goal.returns-in_err-value-clause-made
-returns-in_err-value-clause-made c =
-    let first = rw c.as_slice-tys.ensures.value at c.in_ok-parts.ensures.made in
-    let second = rw c.deref.ensures.value at c.in_ok-iflets.ensures.made in
-    rw (stop_is c.from_residual-in_err-value.result c.in_err-value.field-0.0 c.from_residual-in_err-value.ensures)
-    (sides_third_stops c.args.self.now (standing c.args.tyenv.now c.args.work.now) (standing c.translate_root.new.tyenv c.translate_root.new.work) (standing c.translate_iflets.new.tyenv c.translate_iflets.new.work) (standing c.translate_expr.new.tyenv c.translate_expr.new.work) c.args.nesting
-    (S.rule_view c.args.rule.now) (S.pattern_views c.args.args.now) (flags_view c.args.flags) (term_view c.args.term.now) c.requires.root (pattern_parts (pattern_views c.in_ok-parts.parts.items)) first c.translate_root.ensures.keeps
-    (map iflet_view c.in_ok-iflets.iflets.items) second c.translate_iflets.ensures.keeps c.in_err-value.field-0.0 c.in_err-value.ensures.made)
-
-pub returns-in_default-clause-made : goal.returns-in_default-clause-made
-returns-in_default-clause-made c =
-    let first = rw c.as_slice-tys.ensures.value at c.in_ok-parts.ensures.made in
-    let second = rw c.deref.ensures.value at c.in_ok-iflets.ensures.made in
-    sides_reported c.args.self.now (standing c.args.tyenv.now c.args.work.now) (standing c.translate_root.new.tyenv c.translate_root.new.work) (standing c.translate_iflets.new.tyenv c.translate_iflets.new.work) (standing c.translate_expr.new.tyenv c.translate_expr.new.work) c.args.nesting
-    (S.rule_view c.args.rule.now) (S.pattern_views c.args.args.now) (flags_view c.args.flags) (term_view c.args.term.now) c.requires.root (pattern_parts (pattern_views c.in_ok-parts.parts.items)) first c.translate_root.ensures.keeps
-    (map iflet_view c.in_ok-iflets.iflets.items) second c.translate_iflets.ensures.keeps (rw c.in_default.is at c.in_ok-value.ensures.made)
-
-pub returns-clause-made : goal.returns-clause-made
-returns-clause-made c =
-    let first = rw c.as_slice-tys.ensures.value at c.in_ok-parts.ensures.made in
-    let second = rw c.deref.ensures.value at c.in_ok-iflets.ensures.made in
-    sides_done c.args.self.now (standing c.args.tyenv.now c.args.work.now) (standing c.translate_root.new.tyenv c.translate_root.new.work) (standing c.translate_iflets.new.tyenv c.translate_iflets.new.work) (standing c.translate_expr.new.tyenv c.translate_expr.new.work) c.args.nesting
-    (S.rule_view c.args.rule.now) (S.pattern_views c.args.args.now) (flags_view c.args.flags) (term_view c.args.term.now) c.requires.root (pattern_parts (pattern_views c.in_ok-parts.parts.items)) first c.translate_root.ensures.keeps
-    (map iflet_view c.in_ok-iflets.iflets.items) second c.translate_iflets.ensures.keeps (expr_view c.in-Some.rhs) (rw c.in-Some.is at c.in_ok-value.ensures.made)
 
 pub returns-in_err-parts-clause-places : goal.returns-in_err-parts-clause-places
 returns-in_err-parts-clause-places c =
@@ -123,52 +81,49 @@ returns-clause-places c =
     let before = notes_parts (with_templates env args) (with_templates env iflets) all c.args.work.now.errors.items c.translate_root.new.work.errors.items c.translate_iflets.new.work.errors.items first second c.in_ok-parts.ensures.places (rw c.deref.ensures.value at c.in_ok-iflets.ensures.places) in
     notes_parts all value all c.args.work.now.errors.items c.translate_iflets.new.work.errors.items c.translate_expr.new.work.errors.items (among_same all) third before c.in_ok-value.ensures.places
 
-pub returns-in_err-parts-clause-limits : goal.returns-in_err-parts-clause-limits
-returns-in_err-parts-clause-limits c =
+pub returns-in_err-parts-clause-reads : goal.returns-in_err-parts-clause-reads
+returns-in_err-parts-clause-reads c =
     rw (stop_is c.from_residual.result c.in_err-parts.field-0.0 c.from_residual.ensures)
-    (sides_first_ends c.args.self.now (standing c.args.tyenv.now c.args.work.now) (standing c.translate_root.new.tyenv c.translate_root.new.work) (standing c.translate_root.new.tyenv c.translate_root.new.work) (standing c.translate_root.new.tyenv c.translate_root.new.work) c.args.nesting
-    (S.rule_view c.args.rule.now) (S.pattern_views c.args.args.now) (flags_view c.args.flags) (term_view c.args.term.now) c.requires.root
-    c.in_err-parts.field-0.0 (rw c.as_slice-tys.ensures.value at c.in_err-parts.ensures.limits))
+    (sides_root_stops c.args.self.now (S.rule_view c.args.rule.now) (S.pattern_views c.args.args.now) c.requires.root (S.name_view c.args.sym.now) (term_view c.args.term.now) (flags_view c.args.flags) c.args.nesting
+    (standing c.args.tyenv.now c.args.work.now) (standing c.translate_root.new.tyenv c.translate_root.new.work)
+    c.in_err-parts.field-0.0 (rw c.as_slice-tys.ensures.value at c.in_err-parts.ensures.reads))
 
-pub returns-in_err-iflets-clause-limits : goal.returns-in_err-iflets-clause-limits
-returns-in_err-iflets-clause-limits c =
-    let first = rw c.as_slice-tys.ensures.value at c.in_ok-parts.ensures.made in
-    let before = rw c.as_slice-tys.ensures.value at c.in_ok-parts.ensures.limits in
+pub returns-in_err-iflets-clause-reads : goal.returns-in_err-iflets-clause-reads
+returns-in_err-iflets-clause-reads c =
+    let first = rw c.as_slice-tys.ensures.value at c.in_ok-parts.ensures.reads in
     rw (stop_is c.from_residual-in_err-iflets.result c.in_err-iflets.field-0.0 c.from_residual-in_err-iflets.ensures)
-    (sides_second_ends c.args.self.now (standing c.args.tyenv.now c.args.work.now) (standing c.translate_root.new.tyenv c.translate_root.new.work) (standing c.translate_iflets.new.tyenv c.translate_iflets.new.work) (standing c.translate_iflets.new.tyenv c.translate_iflets.new.work) c.args.nesting
-    (S.rule_view c.args.rule.now) (S.pattern_views c.args.args.now) (flags_view c.args.flags) (term_view c.args.term.now) c.requires.root (pattern_parts (pattern_views c.in_ok-parts.parts.items)) first c.translate_root.ensures.keeps before
-    c.in_err-iflets.field-0.0 (stop_keeps c.args.self.now (standing c.translate_root.new.tyenv c.translate_root.new.work) (standing c.translate_iflets.new.tyenv c.translate_iflets.new.work) c.args.nesting (iflets_reading (map S.iflet_view c.args.rule.now.iflets.items) (flags_view c.args.flags)) c.in_err-iflets.field-0.0 (rw c.deref.ensures.value at c.in_err-iflets.ensures.made)) (rw c.deref.ensures.value at c.in_err-iflets.ensures.limits))
+    (sides_iflets_stop c.args.self.now (S.rule_view c.args.rule.now) (S.pattern_views c.args.args.now) c.requires.root (S.name_view c.args.sym.now) (term_view c.args.term.now) (flags_view c.args.flags) c.args.nesting
+    (standing c.args.tyenv.now c.args.work.now) (standing c.translate_root.new.tyenv c.translate_root.new.work)
+    (standing c.translate_iflets.new.tyenv c.translate_iflets.new.work) c.translate_root.ensures.keeps (pattern_parts (pattern_views c.in_ok-parts.parts.items)) first
+    c.in_err-iflets.field-0.0 (rw c.deref.ensures.value at c.in_err-iflets.ensures.reads))
 
-pub returns-in_err-value-clause-limits : goal.returns-in_err-value-clause-limits
-returns-in_err-value-clause-limits c =
-    let first = rw c.as_slice-tys.ensures.value at c.in_ok-parts.ensures.made in
-    let before = rw c.as_slice-tys.ensures.value at c.in_ok-parts.ensures.limits in
-    let second = rw c.deref.ensures.value at c.in_ok-iflets.ensures.made in
-    let between = rw c.deref.ensures.value at c.in_ok-iflets.ensures.limits in
-    let may = stop_keeps c.args.self.now (standing c.translate_iflets.new.tyenv c.translate_iflets.new.work) (standing c.translate_expr.new.tyenv c.translate_expr.new.work) c.args.nesting (expr_reading (S.expr_view c.args.rule.now.expr) (flags_view c.args.flags) (Some c.args.term.now.ret_ty.0)) c.in_err-value.field-0.0 c.in_err-value.ensures.made in
-    let both = stays_on (standing c.translate_root.new.tyenv c.translate_root.new.work) (standing c.translate_iflets.new.tyenv c.translate_iflets.new.work) (standing c.translate_expr.new.tyenv c.translate_expr.new.work) c.in_err-value.field-0.0 (may_report c.args.self.now (standing c.translate_root.new.tyenv c.translate_root.new.work) (standing c.translate_iflets.new.tyenv c.translate_iflets.new.work) c.args.nesting (iflets_reading (map S.iflet_view c.args.rule.now.iflets.items) (flags_view c.args.flags)) _ second) may in
+pub returns-in_err-value-clause-reads : goal.returns-in_err-value-clause-reads
+returns-in_err-value-clause-reads c =
+    let first = rw c.as_slice-tys.ensures.value at c.in_ok-parts.ensures.reads in
+    let second = rw c.deref.ensures.value at c.in_ok-iflets.ensures.reads in
     rw (stop_is c.from_residual-in_err-value.result c.in_err-value.field-0.0 c.from_residual-in_err-value.ensures)
-    (sides_third_ends c.args.self.now (standing c.args.tyenv.now c.args.work.now) (standing c.translate_root.new.tyenv c.translate_root.new.work) (standing c.translate_iflets.new.tyenv c.translate_iflets.new.work) (standing c.translate_expr.new.tyenv c.translate_expr.new.work) c.args.nesting
-    (S.rule_view c.args.rule.now) (S.pattern_views c.args.args.now) (flags_view c.args.flags) (term_view c.args.term.now) c.requires.root (pattern_parts (pattern_views c.in_ok-parts.parts.items)) first c.translate_root.ensures.keeps before
-    (map iflet_view c.in_ok-iflets.iflets.items) second c.translate_iflets.ensures.keeps between
-    c.in_err-value.field-0.0 both may c.in_err-value.ensures.limits)
+    (sides_value_stops c.args.self.now (S.rule_view c.args.rule.now) (S.pattern_views c.args.args.now) c.requires.root (S.name_view c.args.sym.now) (term_view c.args.term.now) (flags_view c.args.flags) c.args.nesting
+    (standing c.args.tyenv.now c.args.work.now) (standing c.translate_root.new.tyenv c.translate_root.new.work)
+    (standing c.translate_iflets.new.tyenv c.translate_iflets.new.work) c.translate_root.ensures.keeps (pattern_parts (pattern_views c.in_ok-parts.parts.items)) first
+    (standing c.translate_expr.new.tyenv c.translate_expr.new.work) c.translate_iflets.ensures.keeps (map iflet_view c.in_ok-iflets.iflets.items) second
+    c.in_err-value.field-0.0 c.in_err-value.ensures.reads)
 
-pub returns-in_default-clause-limits : goal.returns-in_default-clause-limits
-returns-in_default-clause-limits c =
-    let first = rw c.as_slice-tys.ensures.value at c.in_ok-parts.ensures.made in
-    let before = rw c.as_slice-tys.ensures.value at c.in_ok-parts.ensures.limits in
-    let second = rw c.deref.ensures.value at c.in_ok-iflets.ensures.made in
-    let between = rw c.deref.ensures.value at c.in_ok-iflets.ensures.limits in
-    sides_none c.args.self.now (standing c.args.tyenv.now c.args.work.now) (standing c.translate_root.new.tyenv c.translate_root.new.work) (standing c.translate_iflets.new.tyenv c.translate_iflets.new.work) (standing c.translate_expr.new.tyenv c.translate_expr.new.work) c.args.nesting
-    (S.rule_view c.args.rule.now) (S.pattern_views c.args.args.now) (flags_view c.args.flags) (term_view c.args.term.now) c.requires.root (pattern_parts (pattern_views c.in_ok-parts.parts.items)) first c.translate_root.ensures.keeps before
-    (map iflet_view c.in_ok-iflets.iflets.items) second c.translate_iflets.ensures.keeps between c.in_ok-value.ensures.limits
+pub returns-in_default-clause-reads : goal.returns-in_default-clause-reads
+returns-in_default-clause-reads c =
+    let first = rw c.as_slice-tys.ensures.value at c.in_ok-parts.ensures.reads in
+    let second = rw c.deref.ensures.value at c.in_ok-iflets.ensures.reads in
+    sides_end c.args.self.now (S.rule_view c.args.rule.now) (S.pattern_views c.args.args.now) c.requires.root (S.name_view c.args.sym.now) (term_view c.args.term.now) (flags_view c.args.flags) c.args.nesting
+    (standing c.args.tyenv.now c.args.work.now) (standing c.translate_root.new.tyenv c.translate_root.new.work)
+    (standing c.translate_iflets.new.tyenv c.translate_iflets.new.work) c.translate_root.ensures.keeps (pattern_parts (pattern_views c.in_ok-parts.parts.items)) first
+    (standing c.translate_expr.new.tyenv c.translate_expr.new.work) c.translate_iflets.ensures.keeps (map iflet_view c.in_ok-iflets.iflets.items) second
+    None (rw c.in_default.is at c.in_ok-value.ensures.reads)
 
-pub returns-clause-limits : goal.returns-clause-limits
-returns-clause-limits c =
-    let first = rw c.as_slice-tys.ensures.value at c.in_ok-parts.ensures.made in
-    let before = rw c.as_slice-tys.ensures.value at c.in_ok-parts.ensures.limits in
-    let second = rw c.deref.ensures.value at c.in_ok-iflets.ensures.made in
-    let between = rw c.deref.ensures.value at c.in_ok-iflets.ensures.limits in
-    sides_none c.args.self.now (standing c.args.tyenv.now c.args.work.now) (standing c.translate_root.new.tyenv c.translate_root.new.work) (standing c.translate_iflets.new.tyenv c.translate_iflets.new.work) (standing c.translate_expr.new.tyenv c.translate_expr.new.work) c.args.nesting
-    (S.rule_view c.args.rule.now) (S.pattern_views c.args.args.now) (flags_view c.args.flags) (term_view c.args.term.now) c.requires.root (pattern_parts (pattern_views c.in_ok-parts.parts.items)) first c.translate_root.ensures.keeps before
-    (map iflet_view c.in_ok-iflets.iflets.items) second c.translate_iflets.ensures.keeps between c.in_ok-value.ensures.limits
+pub returns-clause-reads : goal.returns-clause-reads
+returns-clause-reads c =
+    let first = rw c.as_slice-tys.ensures.value at c.in_ok-parts.ensures.reads in
+    let second = rw c.deref.ensures.value at c.in_ok-iflets.ensures.reads in
+    sides_end c.args.self.now (S.rule_view c.args.rule.now) (S.pattern_views c.args.args.now) c.requires.root (S.name_view c.args.sym.now) (term_view c.args.term.now) (flags_view c.args.flags) c.args.nesting
+    (standing c.args.tyenv.now c.args.work.now) (standing c.translate_root.new.tyenv c.translate_root.new.work)
+    (standing c.translate_iflets.new.tyenv c.translate_iflets.new.work) c.translate_root.ensures.keeps (pattern_parts (pattern_views c.in_ok-parts.parts.items)) first
+    (standing c.translate_expr.new.tyenv c.translate_expr.new.work) c.translate_iflets.ensures.keeps (map iflet_view c.in_ok-iflets.iflets.items) second
+    (Some (expr_view c.in-Some.rhs)) (rw c.in-Some.is at c.in_ok-value.ensures.reads)

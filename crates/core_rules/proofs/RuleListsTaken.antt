@@ -1,0 +1,247 @@
+-- The errors of rules, exactly as their steps say: of one rule, then of rules one after another, then of a whole list.
+use Rattle.std.proofs.Common.{◌≡◌, ℕ, suc, ◌+◌, ◌<◌, ◌≤◌, List, [], ◌∷◌, ◌++◌, length, map, get_or, All, Contains, Option, Some, None, option_map, Ok, Err, append-nil, append_assoc, inl, inr, ⊎_elim, refl, sym, ap, subst, ◌∙◌, arith}
+use Rattle.std.proofs.lemmas.List.{map-append, length-map, take_all}
+use Rattle.std.proofs.lemmas.List.Elements.{All-nil, All-append, Contains-append_right}
+use Rattle.std.specs.Option.{option_to_list}
+use Rattle.core_syntax.specs.declared.syntax.Def.{Def}
+use Rattle.core_syntax.specs.declared.syntax.Error.{Error}
+use Rattle.core_syntax.specs.declared.syntax.Limit.{Limit}
+use Rattle.core_syntax.specs.declared.syntax.Limit.TheVariants.{Nesting, Expansions}
+use Rattle.core_syntax.specs.declared.syntax.Rule as T
+use Rattle.core_syntax.specs.ErrorViews.{limit_view, error_view, error_views}
+use Rattle.core_syntax.specs.NotedErrors.{MayNoteMore}
+use Rattle.core_syntax.specs.Positions.{HasSingleSpans, NotesAt}
+use Rattle.core_syntax.specs.SyntaxViews as S
+use Rattle.core_syntax.proofs.NotedErrors.{forms_of}
+use Rattle.model.specs.lists.Syntax.{Position, RuleTree}
+use Rattle.model.specs.lists.TermTable.{rule_of, rule_trees}
+use Rattle.model.specs.lists.Setting.{Setting, Scope, new_scope}
+use Rattle.model.specs.lists.Elaborated.{most_nested}
+use Rattle.model.specs.rules.Typed.{TypedRule}
+use Rattle.model.specs.claims.Refusals.{NamedLimit, of_nesting, of_expansions, ill_typed, past_limit, IsIllTyped}
+use Rattle.model.proofs.Members.{all_members}
+use Rattle.laws_errors.specs.Steps.{Mistake, Step, went_on, stopped}
+use Rattle.laws_errors.specs.RuleSteps.{RuleError, is_wrong, passes, errors_of, refusal_of_error, rule_step, step_of_rule, RulesStep, behind, with_rule, then_rules, rules_step}
+use Rattle.core_types.specs.declared.type_env.TypeEnv.{TypeEnv}
+use Rattle.core_types.specs.Envs.{names_of}
+use Rattle.core_typed.specs.declared.rules.Rule.{Rule}
+use Rattle.core_typed.specs.RuleViews.{rule_view, rule_views}
+use Rattle.core_typed.specs.Elaborating.{NotesEachAt}
+use Rattle.core_rules.specs.declared.term_env.TermEnv.{TermEnv}
+use Rattle.core_rules.specs.declared.typing.progress.Progress.{Progress}
+use Rattle.core_rules.specs.declared.typing.progress.Stop.{Stop}
+use Rattle.core_rules.specs.declared.typing.progress.Stop.TheVariants as V
+use Rattle.core_rules.specs.Progress.{IsFresh}
+use Rattle.core_rules.specs.RuleListTaking.{made_in, names_in, NotesErrors, IsDoneAs, DoesRule, AreDoneAs, DoesRules, SaysSteps}
+use Rattle.core_rules.specs.RuleLists.{NotesLimit, NotesStop}
+use Rattle.core_rules.specs.RuleTaking.{rule_steps}
+use Rattle.core_rules.specs.Taking.{MadeOrLimit, places_of, EndsAs, StopsBy}
+use Rattle.core_rules.specs.Translating.{Standing, standing, Keeps, IsSettingOf}
+use Rattle.core_rules.proofs.NamedLimits.{rules_before, one_more}
+use Rattle.core_rules.proofs.Readings.{keep_setting}
+use Rattle.core_rules.proofs.RuleEnds.{starts}
+use Rattle.core_rules.proofs.Taken.{Goes, seen}
+
+-- 1. errors
+pub no_error : (es : List Error) → NotesErrors [] es es
+no_error es = record { more = []; added = sym (append-nil es); views = refl; single = All-nil HasSingleSpans }
+
+both_errors : (xs ys : List RuleError) (a b c : List Error) → NotesErrors xs a b → NotesErrors ys b c → NotesErrors (xs ++ ys) a c
+both_errors xs ys a b c n m = record {
+  more = n.more ++ m.more;
+  added = m.added ∙ ap (λ es. es ++ m.more) n.added ∙ append_assoc a n.more m.more;
+  views = map-append error_view n.more m.more ∙ ap (λ vs. vs ++ error_views m.more) n.views ∙ ap (λ vs. map refusal_of_error xs ++ vs) m.views ∙ sym (map-append refusal_of_error xs ys);
+  single = All-append HasSingleSpans n.more m.more n.single m.single;
+}
+
+-- behind errors of earlier rules
+errors_behind : (xs : List RuleError) (errors mid : List Error) → NotesErrors xs [] mid → NotesErrors xs errors (errors ++ mid)
+errors_behind xs errors mid n = record { more = n.more; added = ap (λ es. errors ++ es) n.added; views = n.views; single = n.single }
+
+-- what a step finds wrong
+wrong_views : (ws : List Mistake) → map ill_typed (places_of ws) ≡ map refusal_of_error (map is_wrong ws)
+wrong_views [] = refl
+wrong_views (w ∷ ws) = ap (λ vs. ill_typed w.at ∷ vs) (wrong_views ws)
+
+-- errors behind none each have single spans where they stand at positions
+single_among : (ps : List Position) (old new more : List Error) → old ≡ [] → NotesAt ps old new → new ≡ old ++ more → All HasSingleSpans more
+single_among ps old new more none placed added =
+    all_members HasSingleSpans more (λ x h.
+    ⊎_elim
+    (λ was. absurd (let l = (subst (λ es. Contains es x) none was).1 in omega (arith, l)))
+    (λ there. there.single)
+    (placed.each x (subst (λ es. Contains es x) (sym added) (Contains-append_right old more x h))))
+
+-- 2. one rule, on which nothing was done
+module _ (env : TermEnv) (tyenv : TypeEnv) (fresh : Progress) (found : List Error) (f : IsFresh fresh found) (id : ℕ) (r : T.Rule) (new : Standing) where
+  abbrev begun : Standing
+  begun = standing tyenv fresh
+
+  abbrev tree : RuleTree
+  tree = S.rule_view r
+
+  abbrev start : Scope
+  start = new_scope (names_of tyenv)
+
+  abbrev does : Setting → Step TypedRule
+  does e = step_of_rule e id tree (names_of tyenv)
+
+  -- it went on from there
+  from_here : (e : Setting) → IsSettingOf tyenv env e → (m : MadeOrLimit TypedRule) → EndsAs env begun new (rule_steps tree id most_nested) m → Goes begun new (does e) m
+  from_here e is m h =
+      subst (λ (n : ℕ). Goes begun new (rule_step e most_nested id tree n start) m) f.expansions
+      (seen begun new (rule_step e most_nested id tree fresh.expansions start) m (h.1 e start is (starts env tyenv fresh found f id r)))
+
+  -- what was noted before the end
+  wrong_noted : (ws : List Mistake) → NotesEachAt (places_of ws) fresh.errors.items new.work.errors.items → NotesErrors (map is_wrong ws) found new.work.errors.items
+  wrong_noted ws n = record { more = n.more; added = n.added ∙ ap (λ es. es ++ n.more) f.errors; views = n.views ∙ wrong_views ws; single = n.single }
+
+  at_end : (t : Step TypedRule) (m : Option TypedRule) → Goes begun new t (Ok m) → IsDoneAs t tree.at (names_of new.tyenv) m found new.work.errors.items
+  at_end (went_on o s k ws) m x = record { errors = wrong_noted ws x.1; made = sym x.0; names = x.2.names }
+  at_end (stopped l s ws) m x = absurd x
+
+  pub done_at_end : (o : Option Rule) → EndsAs env begun new (rule_steps tree id most_nested) (Ok (option_map rule_view o)) → DoesRule env tyenv new.tyenv tree id (option_map rule_view o) found new.work.errors.items
+  done_at_end o h e is = at_end (does e) (option_map rule_view o) (from_here e is (Ok (option_map rule_view o)) h)
+
+  -- a limit was noted last
+  module _ (after : List Error) (empty : found ≡ []) (ps : List Position) (placed : NotesAt ps found after) where
+    limit_last : (ws : List Mistake) (l : NamedLimit) (limit : Limit) → limit_view limit ≡ l → NotesEachAt (places_of ws) fresh.errors.items new.work.errors.items → NotesLimit limit r.pos new.work.errors.items after
+        → NotesErrors (map is_wrong ws ++ passes l tree.at ∷ []) found after
+    limit_last ws l limit is n last =
+        let added : after ≡ found ++ (n.more ++ last.error ∷ []) = last.last ∙ ap (λ es. es ++ last.error ∷ []) (n.added ∙ ap (λ es. es ++ n.more) f.errors) ∙ append_assoc found n.more (last.error ∷ []) in
+        record {
+          more = n.more ++ last.error ∷ [];
+          added = added;
+          views = map-append error_view n.more (last.error ∷ [])
+              ∙ ap (λ vs. vs ++ error_view last.error ∷ []) (n.views ∙ wrong_views ws)
+              ∙ ap (λ v. map refusal_of_error (map is_wrong ws) ++ v ∷ []) (last.says ∙ ap (λ k. past_limit k tree.at) is)
+              ∙ sym (map-append refusal_of_error (map is_wrong ws) (passes l tree.at ∷ []));
+          single = single_among ps found after (n.more ++ last.error ∷ []) empty placed added;
+        }
+
+    at_limit : (t : Step TypedRule) (l : NamedLimit) (limit : Limit) → limit_view limit ≡ l → Goes begun new t (Err l) → NotesLimit limit r.pos new.work.errors.items after → IsDoneAs t tree.at (names_of new.tyenv) None found after
+    at_limit (went_on o s k ws) l limit is x last = absurd x
+    at_limit (stopped j s ws) l limit is x last = record { errors = limit_last ws j limit (is ∙ sym x.0) x.1 last; made = refl; names = x.2 }
+
+    pub done_at_stop : (stop : Stop) → StopsBy env begun new (rule_steps tree id most_nested) stop → NotesStop stop r.pos new.work.errors.items after → DoesRule env tyenv new.tyenv tree id None found after
+    done_at_stop (V.Memory refused) h last e is = absurd last
+    done_at_stop V.Nesting h last e is = at_limit (does e) of_nesting Nesting refl (from_here e is (Err of_nesting) h) last
+    done_at_stop V.Expansions h last e is = at_limit (does e) of_expansions Expansions refl (from_here e is (Err of_expansions) h) last
+
+-- behind the errors of earlier rules
+pub rule_behind : (env : TermEnv) (old new : TypeEnv) (r : RuleTree) (id : ℕ) (made : Option TypedRule) (errors mid : List Error) → DoesRule env old new r id made [] mid → DoesRule env old new r id made errors (errors ++ mid)
+rule_behind env before new r id made errors mid h e is =
+    let d = h e is in
+    record { errors = errors_behind (errors_of r.at (step_of_rule e id r (names_of before))) errors mid d.errors; made = d.made; names = d.names }
+
+-- 3. the rule that a definition is
+pub nothing_done : (env : TermEnv) (tyenv : TypeEnv) (before : List TypedRule) (errors : List Error) → DoesRules env tyenv tyenv [] before before errors errors
+nothing_done env tyenv before errors e is = record { errors = no_error errors; made = sym (append-nil before); names = refl }
+
+-- what the steps of one rule come to
+alone : (e : Setting) (at : Position) (id : ℕ) (t : Step TypedRule) → then_rules at id t (rules_step e []) ≡ record { rules = option_to_list (made_in t); names = names_in t; errors = errors_of at t }
+alone e at id (went_on None s k es) = ap (λ (xs : List RuleError). record { rules = []; names = s.names; errors = xs }) (append-nil (map is_wrong es))
+alone e at id (went_on (Some q) s k es) = ap (λ (xs : List RuleError). record { rules = q ∷ []; names = s.names; errors = xs }) (append-nil (map is_wrong es))
+alone e at id (stopped l s es) = ap (λ (xs : List RuleError). record { rules = []; names = s.names; errors = xs }) (append-nil (map is_wrong es ++ passes l at ∷ []))
+
+pub rule_done : (env : TermEnv) (old new : TypeEnv) (r : RuleTree) (id : ℕ) (made : Option TypedRule) (before rules : List TypedRule) (errors after : List Error)
+    → id ≡ length before → rules ≡ before ++ option_to_list made → DoesRule env old new r id made errors after → DoesRules env old new (r ∷ []) before rules errors after
+rule_done env old new r id made before rules errors after at added h e is =
+    let d = h e is in
+    let t = step_of_rule e id r (names_of old) in
+    let here : AreDoneAs (record { rules = option_to_list (made_in t); names = names_in t; errors = errors_of r.at t }) (names_of new) before rules errors after =
+    record { errors = d.errors; made = added ∙ ap (λ m. before ++ option_to_list m) d.made; names = d.names } in
+    subst (λ k. AreDoneAs (rules_step e (r ∷ []) k (names_of old)) (names_of new) before rules errors after) at
+    (subst (λ l. AreDoneAs l (names_of new) before rules errors after) (sym (alone e r.at id t)) here)
+
+-- by the rules themselves
+same_length : (rules : List Rule) → length rules ≡ length (rule_views rules)
+same_length rules = sym (length-map rules rule_view)
+
+pub rule_added : (env : TermEnv) (old new : TypeEnv) (r : RuleTree) (id : ℕ) (made : Option Rule) (q : Rule) (before rules : List Rule) (errors after : List Error)
+    → id ≡ length before → made ≡ Some q → rules ≡ before ++ q ∷ [] → DoesRule env old new r id (option_map rule_view made) errors after → DoesRules env old new (r ∷ []) (rule_views before) (rule_views rules) errors after
+rule_added env old new r id made q before rules errors after at is items h =
+    rule_done env old new r id (option_map rule_view made) (rule_views before) (rule_views rules) errors after (at ∙ same_length before)
+    (ap rule_views items ∙ map-append rule_view before (q ∷ []) ∙ ap (λ m. rule_views before ++ option_to_list (option_map rule_view m)) (sym is)) h
+
+pub rule_left_out : (env : TermEnv) (old new : TypeEnv) (r : RuleTree) (id : ℕ) (made : Option Rule) (before : List Rule) (errors after : List Error)
+    → id ≡ length before → made ≡ None → DoesRule env old new r id (option_map rule_view made) errors after → DoesRules env old new (r ∷ []) (rule_views before) (rule_views before) errors after
+rule_left_out env old new r id made before errors after at is h =
+    rule_done env old new r id (option_map rule_view made) (rule_views before) (rule_views before) errors after (at ∙ same_length before)
+    (sym (append-nil (rule_views before)) ∙ ap (λ m. rule_views before ++ option_to_list (option_map rule_view m)) (sym is)) h
+
+-- 4. rules one after another
+-- what the steps of rules come to, then those of the rules that follow
+abbrev joined_rules : RulesStep → RulesStep → RulesStep
+joined_rules l m = record { rules = l.rules ++ m.rules; names = m.names; errors = l.errors ++ m.errors }
+
+module _ (e : Setting) (qs : List RuleTree) where
+  -- the rules that follow, from where others end, the first of which has this id
+  abbrev from : ℕ → RulesStep → RulesStep
+  from id l = rules_step e qs (id + length l.rules) l.names
+
+  behind_joined : (es : List RuleError) (l m : RulesStep) → behind es (joined_rules l m) ≡ joined_rules (behind es l) m
+  behind_joined es l m = ap (λ (xs : List RuleError). record { rules = l.rules ++ m.rules; names = m.names; errors = xs }) (sym (append_assoc es l.errors m.errors))
+
+  next_id : (id : ℕ) (q : TypedRule) (l : RulesStep) → from (suc id) l ≡ from id (with_rule q l)
+  next_id id q l = ap (λ k. rules_step e qs k l.names) (omega arith)
+
+  module _ (rs : List RuleTree) (follow : (id : ℕ) (names : List (List ℕ)) → rules_step e (rs ++ qs) id names ≡ joined_rules (rules_step e rs id names) (from id (rules_step e rs id names))) (at : Position) (id : ℕ) where
+    after_step : (t : Step TypedRule) → then_rules at id t (rules_step e (rs ++ qs)) ≡ joined_rules (then_rules at id t (rules_step e rs)) (from id (then_rules at id t (rules_step e rs)))
+    after_step (went_on None s k es) =
+        let l = rules_step e rs id s.names in
+        ap (behind (map is_wrong es)) (follow id s.names) ∙ behind_joined (map is_wrong es) l (from id l)
+    after_step (went_on (Some q) s k es) =
+        let l = rules_step e rs (suc id) s.names in
+        ap (λ x. behind (map is_wrong es) (with_rule q x)) (follow (suc id) s.names ∙ ap (joined_rules l) (next_id id q l)) ∙ behind_joined (map is_wrong es) (with_rule q l) (from id (with_rule q l))
+    after_step (stopped j s es) =
+        let l = rules_step e rs id s.names in
+        ap (behind (map is_wrong es ++ passes j at ∷ [])) (follow id s.names) ∙ behind_joined (map is_wrong es ++ passes j at ∷ []) l (from id l)
+
+  steps_after : (rs : List RuleTree) (id : ℕ) (names : List (List ℕ)) → rules_step e (rs ++ qs) id names ≡ joined_rules (rules_step e rs id names) (from id (rules_step e rs id names))
+  steps_after [] id names = ap (λ k. rules_step e qs k names) (omega arith)
+  steps_after (r ∷ rs) id names = after_step rs (steps_after rs) r.at id (step_of_rule e id r names)
+
+then_done : (l m : RulesStep) (now names : List (List ℕ)) (before mid rules : List TypedRule) (a b c : List Error) → AreDoneAs l now before mid a b → AreDoneAs m names mid rules b c → AreDoneAs (joined_rules l m) names before rules a c
+then_done l m now names before mid rules a b c x y = record {
+  errors = both_errors l.errors m.errors a b c x.errors y.errors;
+  made = y.made ∙ ap (λ qs. qs ++ m.rules) x.made ∙ append_assoc before l.rules m.rules;
+  names = y.names;
+}
+
+-- nothing is read yet
+pub none_done : (env : TermEnv) (tyenv : TypeEnv) (errors : List Error) (rules : List Rule) → rules ≡ [] → DoesRules env tyenv tyenv [] [] (rule_views rules) errors errors
+none_done env tyenv errors rules none = subst (λ (rs : List Rule). DoesRules env tyenv tyenv [] [] (rule_views rs) errors errors) (sym none) (nothing_done env tyenv [] errors)
+
+-- after the definition at i
+pub next_done : (env : TermEnv) (old now new : TypeEnv) → Keeps old now → (errors mid after : List Error) (defs : List Def) (i : ℕ) (d : Def) → i < length defs → d ≡ get_or defs i d → (before rules : List TypedRule)
+    → DoesRules env old now (rules_before defs i) [] before errors mid → DoesRules env now new (rule_of (S.definition_view d)) before rules mid after → DoesRules env old new (rules_before defs (i + 1)) [] rules errors after
+next_done env old now new keeps errors mid after defs i d within at before rules first next e is =
+    let qs = rule_of (S.definition_view d) in
+    let l = rules_step e (rules_before defs i) 0 (names_of old) in
+    let a = first e is in
+    let b = next e (keep_setting env old now e keeps is) in
+    let there : rules_step e qs (length before) (names_of now) ≡ from e qs 0 l =
+    ap (λ ps. rules_step e qs (length ps) (names_of now)) a.made ∙ ap (rules_step e qs (length l.rules)) a.names ∙ ap (λ k. rules_step e qs k l.names) (omega arith) in
+    let second = subst (λ m. AreDoneAs m (names_of new) before rules mid after) there b in
+    let both = then_done l (from e qs 0 l) (names_of now) (names_of new) [] before rules errors mid after a second in
+    subst (λ rs. AreDoneAs (rules_step e rs 0 (names_of old)) (names_of new) [] rules errors after) (sym (one_more defs i d within at))
+    (subst (λ m. AreDoneAs m (names_of new) [] rules errors after) (sym (steps_after e qs (rules_before defs i) 0 (names_of old))) both)
+
+-- after the last
+pub all_done : (env : TermEnv) (old new : TypeEnv) (errors after : List Error) (defs : List Def) (i : ℕ) → length defs ≤ i → (rules : List TypedRule)
+    → DoesRules env old new (rules_before defs i) [] rules errors after → DoesRules env old new (rule_trees (S.definition_views defs)) [] rules errors after
+all_done env old new errors after defs i past rules done = subst (λ ds. DoesRules env old new (rule_trees (S.definition_views ds)) [] rules errors after) (take_all i defs past) done
+
+-- 5. and what later stages note
+pub done_to_the_end : (env : TermEnv) (old new : TypeEnv) (trees : List RuleTree) (rules : List TypedRule) (found after : List Error) → DoesRules env old new trees [] rules [] found → MayNoteMore found after → SaysSteps env old trees after
+done_to_the_end env old new trees rules found after done (inl same) e is =
+    let n = (done e is).errors in
+    record { later = []; stages = ap error_views (same ∙ n.added) ∙ n.views ∙ sym (append-nil _); forms = All-nil IsIllTyped }
+done_to_the_end env old new trees rules found after done (inr m) e is =
+    let n = (done e is).errors in
+    record {
+      later = error_views m.more;
+      stages = ap error_views (m.added ∙ ap (λ es. es ++ m.more) n.added) ∙ map-append error_view n.more m.more ∙ ap (λ vs. vs ++ error_views m.more) n.views;
+      forms = forms_of m.more m.forms;
+    }
