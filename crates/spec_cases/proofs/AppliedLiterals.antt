@@ -1,5 +1,5 @@
 -- Operators on literals, by their shape.
-use Rattle.std.proofs.Common.{◌≡◌, ℕ, Bool, true, false, List, [], ◌∷◌, None, ◌⊎◌, inl, inr, refl, sym, ap, ◌∙◌}
+use Rattle.std.proofs.Common.{◌≡◌, ℕ, pos, negsuc, Bool, true, false, List, [], ◌∷◌, None, ◌⊎◌, inl, inr, refl, sym, ap, ◌∙◌}
 use Rattle.std.proofs.lemmas.Bool.{false≢true}
 use Rattle.laws_specs.specs.Words as D
 use Rattle.spec_cases.specs.declared.literals.Literal.{Literal}
@@ -91,6 +91,16 @@ applied_other D.equals (D.denoted_and (D.struct_of ty fields) (D.denoted_and y D
 applied_other D.equals (D.denoted_and x (D.denoted_and (D.variant_of ty i fields) D.no_denoted)) h = absurd (false≢true h)
 applied_other D.equals (D.denoted_and x (D.denoted_and (D.struct_of ty fields) D.no_denoted)) h = absurd (false≢true h)
 applied_other (D.field i) (D.denoted_and (D.struct_of ty fields) D.no_denoted) h = absurd (false≢true h)
+applied_other D.bits (D.denoted_and (D.an_integer (pos n)) (D.denoted_and (D.an_integer (pos m)) rest)) h = refl
+applied_other D.bits (D.denoted_and (D.an_integer (pos n)) (D.denoted_and (D.an_integer (negsuc m)) rest)) h = refl
+applied_other D.bits (D.denoted_and (D.an_integer (pos n)) rest) h = refl
+applied_other D.bits (D.denoted_and (D.an_integer (negsuc n)) rest) h = refl
+applied_other D.widened (D.denoted_and (D.an_integer (pos n)) rest) h = refl
+applied_other D.widened (D.denoted_and (D.an_integer (negsuc n)) rest) h = refl
+applied_other D.widened_signed (D.denoted_and (D.an_integer (pos n)) rest) h = refl
+applied_other D.widened_signed (D.denoted_and (D.an_integer (negsuc n)) rest) h = refl
+applied_other D.as_word (D.denoted_and (D.an_integer (pos n)) rest) h = refl
+applied_other D.as_word (D.denoted_and (D.an_integer (negsuc n)) rest) h = refl
 applied_other _ _ h = refl
 
 -- literals are those of their shape

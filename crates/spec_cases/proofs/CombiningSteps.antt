@@ -1,6 +1,6 @@
 -- Cases of lists, and cases of one value each.
-use Rattle.std.proofs.Common.{◌≡◌, ℕ, ◌≤◌, Bool, true, false, List, [], ◌∷◌, ◌++◌, drop, get_or, length, map, refl, sym, ap, ◌∙◌, arith}
-use Rattle.std.proofs.lemmas.List.{append_assoc, map-append}
+use Rattle.std.proofs.Common.{◌≡◌, ℕ, ◌-◌, ◌≤◌, Bool, true, false, List, [], ◌∷◌, ◌++◌, drop, get_or, length, map, take, refl, sym, ap, ◌∙◌, arith}
+use Rattle.std.proofs.lemmas.List.{append_assoc, map-append, take_all}
 use Rattle.model_questions.specs.Formulas as M
 use Rattle.model_questions.specs.Forms as MF
 use Rattle.model_questions.specs.Evaluated as E
@@ -11,7 +11,7 @@ use Rattle.spec_cases.specs.declared.cases.Cases.{Cases}
 use Rattle.spec_cases.specs.declared.forms.FieldsId.{FieldsId}
 use Rattle.spec_cases.specs.declared.forms.Form.{Form}
 use Rattle.spec_cases.specs.Namings.{Naming, fact_of, form_of, forms_of}
-use Rattle.spec_cases.specs.CaseViews.{guarded, guarded_case, guarded_each, list_cases_of, with_value, with_values}
+use Rattle.spec_cases.specs.CaseViews.{form_cases, guarded, guarded_case, guarded_each, list_cases_of, with_value, with_values}
 use Rattle.spec_cases.specs.Combining.{forms_cases, rest_with}
 
 -- 1. lists
@@ -87,13 +87,23 @@ opened_more types specs k f rest first later cs h e made =
     made ∙ ap (λ c. MF.then_cases c (λ g. MF.then_cases later (λ gs. MF.one_case (MF.form_and g gs)))) h
     ∙ ap (λ c. MF.then_cases (E.opened types specs k f) (λ g. MF.then_cases c (λ gs. MF.one_case (MF.form_and g gs)))) e
 
--- the same of a list
-pub opened_list : (v : Naming) (types : List TypeEntry) (specs : Specs) (k : E.Known) (l : List Form) (f : Form) (first : MF.Cases MF.Form) (later cs : MF.Cases MF.Forms)
-    → 1 ≤ length l → f ≡ get_or l 0 f → first ≡ E.opened types specs k (form_of v f) → later ≡ E.opened_each types specs k (forms_of v (drop 1 l))
+-- the same of a list; d stands where there is none
+pub opened_list : (v : Naming) (types : List TypeEntry) (specs : Specs) (k : E.Known) (l : List Form) (d : Form) (first : MF.Cases MF.Form) (later cs : MF.Cases MF.Forms)
+    → 1 ≤ length l → first ≡ E.opened types specs k (form_of v (get_or l 0 d)) → later ≡ E.opened_each types specs k (forms_of v (take (length l - 1) (drop 1 l)))
     → cs ≡ MF.then_cases first (λ g. MF.then_cases later (λ gs. MF.one_case (MF.form_and g gs))) → cs ≡ E.opened_each types specs k (forms_of v l)
-opened_list v types specs k [] f first later cs h at e m made = absurd (omega arith)
-opened_list v types specs k (x ∷ l) f first later cs h at e m made =
-    opened_more types specs k (form_of v x) (forms_of v l) first later cs (e ∙ ap (λ y. E.opened types specs k (form_of v y)) at) m made
+opened_list v types specs k [] d first later cs h e m made = absurd (omega arith)
+opened_list v types specs k (x ∷ l) d first later cs h e m made =
+    opened_more types specs k (form_of v x) (forms_of v l) first later cs e (m ∙ ap (λ r. E.opened_each types specs k (forms_of v r)) (take_all (length (x ∷ l) - 1) l (omega arith))) made
+
+-- what comes of the first case, and of the later ones
+pub each_first : {Y : Type 0} (v : Naming) (l : List (Case Form)) (d : Case Form) (k : MF.Form → MF.Cases Y) (here later cs : MF.Cases Y)
+    → 1 ≤ length l → here ≡ k (form_of v (get_or l 0 d).gives) → later ≡ MF.from_each (form_cases v (take (length l - 1) (drop 1 l))) k
+    → cs ≡ MF.joined_cases (MF.under (fact_of v (get_or l 0 d).guard) here) later → cs ≡ MF.from_each (form_cases v l) k
+each_first v [] d k here later cs h e m made = absurd (omega arith)
+each_first v (x ∷ l) d k here later cs h e m made =
+    made
+    ∙ ap (λ c. MF.joined_cases (MF.under (fact_of v x.guard) c) later) e
+    ∙ ap (λ c. MF.joined_cases (MF.under (fact_of v x.guard) (k (form_of v x.gives))) c) (m ∙ ap (λ r. MF.from_each (form_cases v r) k) (take_all (length (x ∷ l) - 1) l (omega arith)))
 
 -- what comes of cases, with their rest
 pub then_seen : {X Y : Type 0} (values xs : MF.Cases X) (each cs : MF.Cases Y) (k : X → MF.Cases Y)

@@ -10,6 +10,6 @@ returns-in_ok-paired-in-len1-up t c = λ v names apart.
     let first = c.in_ok-first-in-len1-up.ensures v later.0 apart in
     let tables = c.args.tables.now in (
       first.0,
-      opened_list v (types_in tables) (specs_in tables) (known_in v tables) c.args.forms.now c.form-item.result (cases_of v c.in_ok-first-in-len1-up.first) (list_cases_of v c.in_ok-later-in-len1-up.later) _ c.in-len1-up.len_at_least
-          c.form-item.is first.1 later.1 last.1,
+      opened_list v (types_in tables) (specs_in tables) (known_in v tables) c.args.forms.now _ (cases_of v c.in_ok-first-in-len1-up.first) (list_cases_of v c.in_ok-later-in-len1-up.later) _ c.in-len1-up.len_at_least
+          first.1 later.1 last.1,
     )
