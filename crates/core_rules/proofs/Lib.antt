@@ -30,7 +30,10 @@ mod PatternLeaves
 mod PatternLimits
 mod PatternLists
 mod PatternSizes
+mod PatternListsTaken
+mod PatternUsesTaken
 mod PatternUsing
+mod PatternsTaken
 mod PlacesAtEnd
 mod Readings
 mod RuleBreachSteps
@@ -47,6 +50,7 @@ mod Scopes
 mod ShownSettings
 mod SidesForms
 mod SubstitutedPlaces
+mod Taken
 mod TemplateUses
 mod TermCopies
 mod TermPlaces

@@ -5,6 +5,7 @@ pub mod Lets
 pub mod LimitStops
 pub mod LimitsNamed
 pub mod PatternReadings
+pub mod PatternTaking
 pub mod PatternUses
 pub mod Progress
 pub mod ReachedLimits
@@ -16,6 +17,7 @@ pub mod RuleReadings
 pub mod RulesRead
 pub mod RulesTold
 pub mod ShownEnvs
+pub mod Taking
 pub mod TermEnvs
 pub mod Translating
 pub mod UseLimits

@@ -13,6 +13,7 @@ pub mod Defaults
 pub mod ExprBridges
 pub mod ExprRunForms
 pub mod FirstErrors
+pub mod NotedErrors
 pub mod PatternBridges
 pub mod PatternRunForms
 pub mod PatternRunSteps

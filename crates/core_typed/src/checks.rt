@@ -1,5 +1,6 @@
 //! What is checked of literals and of counts, in patterns and in expressions alike. What is wrong is noted.
 
+ghost use Rattle.std.specs.Bool.{◌==◌};
 ghost use Rattle.std.specs.Prelude.{◌≡◌, true, [], ◌∷◌, OnOk, Some, option_map, slice_get};
 ghost use Rattle.core_syntax.specs.Positions.{NotesAt};
 ghost use Rattle.core_syntax.specs.SyntaxViews.{position};
@@ -7,7 +8,7 @@ ghost use Rattle.model.specs.lists.Ranges.{reduced};
 ghost use Rattle.model.specs.rules.Values.{is_atom_type};
 ghost use Rattle.core_types.specs.Envs.{constant_at};
 ghost use Rattle.core_types.specs.TypeViews.{type_view, type_views};
-ghost use Rattle.core_typed.specs.Elaborating.{Checks};
+ghost use Rattle.core_typed.specs.Elaborating.{Checks, NotesEachAt, place_unless};
 
 use crate::reports::{report_mismatch, type_text};
 use core_syntax::syntax::{Error, Ident, Pos};
@@ -26,6 +27,7 @@ pub fn check_integer(
 ) -> Result<(), AllocError>
     ensures checks { OnOk result (Checks errors.old.items errors.new.items (is_atom_type (slice_get (type_views tyenv.now.types.items) ty.0) ≡ true)) }
     ensures places { OnOk result (NotesAt (position pos ∷ []) errors.old.items errors.new.items) }
+    ensures exact { OnOk result (NotesEachAt (place_unless (is_atom_type (slice_get (type_views tyenv.now.types.items) ty.0)) (position pos)) errors.old.items errors.new.items) }
 {
     if has_integers(tyenv, ty) {
         return Ok(());
@@ -79,6 +81,7 @@ pub fn check_bool(
 ) -> Result<(), AllocError>
     ensures checks { OnOk result (Checks errors.old.items errors.new.items (ty.0 ≡ 0)) }
     ensures places { OnOk result (NotesAt (position pos ∷ []) errors.old.items errors.new.items) }
+    ensures exact { OnOk result (NotesEachAt (place_unless (ty.0 == 0) (position pos)) errors.old.items errors.new.items) }
 {
     if ty == TypeId::BOOL {
         return Ok(());
@@ -100,6 +103,7 @@ pub fn check_same(
 ) -> Result<(), AllocError>
     ensures checks { OnOk result (Checks errors.old.items errors.new.items (has.0 ≡ want.0)) }
     ensures places { OnOk result (NotesAt (position pos ∷ []) errors.old.items errors.new.items) }
+    ensures exact { OnOk result (NotesEachAt (place_unless (has.0 == want.0) (position pos)) errors.old.items errors.new.items) }
 {
     if has == want {
         return Ok(());
@@ -118,6 +122,7 @@ pub fn check_count(
 ) -> Result<(), AllocError>
     ensures checks { OnOk result (Checks errors.old.items errors.new.items (got ≡ expect)) }
     ensures places { OnOk result (NotesAt (position pos ∷ []) errors.old.items errors.new.items) }
+    ensures exact { OnOk result (NotesEachAt (place_unless (got == expect) (position pos)) errors.old.items errors.new.items) }
 {
     if got == expect {
         return Ok(());

@@ -6,6 +6,7 @@ ghost use Rattle.core_syntax.specs.ErrorViews.{error_views};
 ghost use Rattle.core_syntax.specs.NotedErrors.{NotesMore};
 ghost use Rattle.core_syntax.specs.Positions.{NotesAt};
 ghost use Rattle.core_syntax.specs.SyntaxViews.{position};
+ghost use Rattle.core_typed.specs.Elaborating.{NotesEachAt};
 
 use core_syntax::syntax::{Error, Ident, Pos};
 use core_types::{Type, TypeEnv, TypeId, report};
@@ -25,6 +26,7 @@ pub fn report_mismatch(
     ensures noted { OnOk result (NotesMore errors.old.items errors.new.items) }
     ensures places { OnOk result (NotesAt (position pos ∷ []) errors.old.items errors.new.items) }
     ensures one { OnOk result (error_views errors.new.items ≡ error_views errors.old.items ++ ill_typed (position pos) ∷ []) }
+    ensures exact { OnOk result (NotesEachAt (position pos ∷ []) errors.old.items errors.new.items) }
 {
     let alloc = *errors.allocator();
     let name = name.0.clone()?;

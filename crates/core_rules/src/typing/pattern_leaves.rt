@@ -1,14 +1,16 @@
 //! How patterns without parts are typed, and how a name is bound around a pattern.
 
-ghost use Rattle.std.specs.Prelude.{◌≡◌, [], ◌∷◌, ℕ, Bool, None, OnOk, string_bytes};
+ghost use Rattle.std.specs.Prelude.{◌≡◌, [], ◌∷◌, ℕ, Bool, not, None, OnOk, is_some, option_map, string_bytes};
 ghost use Rattle.core_syntax.specs.SyntaxViews.{name_view, position};
 ghost use Rattle.model.specs.lists.Syntax.{var_pattern, bool_pattern, int_pattern, prim_pattern, macro_arg};
 ghost use Rattle.core_types.specs.Envs.{IsInterned};
-ghost use Rattle.core_typed.specs.Elaborating.{Checks};
+ghost use Rattle.core_typed.specs.Elaborating.{Checks, NotesEachAt, place_unless};
 ghost use Rattle.core_typed.specs.PatternViews.{pattern_view};
 ghost use Rattle.core_rules.specs.PatternReadings.{pattern_reading, BindsAround};
+ghost use Rattle.core_rules.specs.PatternTaking.{leaf_steps, around_steps};
 ghost use Rattle.core_rules.specs.Progress.{newest, Remains};
 ghost use Rattle.core_rules.specs.LimitStops.{NotLimited};
+ghost use Rattle.core_rules.specs.Taking.{Takes};
 ghost use Rattle.core_rules.specs.Translating.{standing, Keeps, MayTranslate};
 ghost use Rattle.core_syntax.specs.Positions.{NotesAt};
 ghost use Rattle.core_rules.specs.RulePositions.{StaysPlaced};
@@ -39,6 +41,8 @@ impl TermEnv {
             (pattern_reading multi (var_pattern (name_view var.now) (position pos)) expected_ty.0) pattern_view result }
         ensures places { StaysPlaced (position pos ∷ []) work.old.errors.items work.new.errors.items result }
         ensures unlimited { NotLimited result }
+        ensures reads { Takes self.now (standing tyenv.old work.old) (standing tyenv.new work.new)
+            (leaf_steps (var_pattern (name_view var.now) (position pos)) expected_ty.0) (option_map pattern_view) result }
     {
         let name = tyenv.intern_mut(var)?;
         let Some(bound) = work.lookup(name) else {
@@ -71,6 +75,8 @@ impl TermEnv {
             (pattern_reading multi (bool_pattern val (position pos)) expected_ty.0) pattern_view result }
         ensures places { StaysPlaced (position pos ∷ []) work.old.errors.items work.new.errors.items result }
         ensures unlimited { NotLimited result }
+        ensures reads { Takes self.now (standing tyenv.now work.old) (standing tyenv.now work.new)
+            (leaf_steps (bool_pattern val (position pos)) expected_ty.0) (option_map pattern_view) result }
     {
         check_bool(tyenv, &mut work.errors, pos, val, expected_ty)?;
         Ok(Some(Pattern::ConstBool(TypeId::BOOL, val)))
@@ -90,6 +96,8 @@ impl TermEnv {
             (pattern_reading multi (int_pattern val (position pos)) expected_ty.0) pattern_view result }
         ensures places { StaysPlaced (position pos ∷ []) work.old.errors.items work.new.errors.items result }
         ensures unlimited { NotLimited result }
+        ensures reads { Takes self.now (standing tyenv.now work.old) (standing tyenv.now work.new)
+            (leaf_steps (int_pattern val (position pos)) expected_ty.0) (option_map pattern_view) result }
     {
         check_integer(tyenv, &mut work.errors, pos, val, expected_ty)?;
         let number = literal_number(tyenv, expected_ty, val);
@@ -112,6 +120,8 @@ impl TermEnv {
             (pattern_reading multi (prim_pattern (name_view val.now) (position pos)) expected_ty.0) pattern_view result }
         ensures places { StaysPlaced (position pos ∷ []) work.old.errors.items work.new.errors.items result }
         ensures unlimited { NotLimited result }
+        ensures reads { Takes self.now (standing tyenv.old work.old) (standing tyenv.new work.new)
+            (leaf_steps (prim_pattern (name_view val.now) (position pos)) expected_ty.0) (option_map pattern_view) result }
     {
         let name = tyenv.intern_mut(val)?;
         let Some(ty) = constant_type(tyenv, name) else {
@@ -146,6 +156,8 @@ impl TermEnv {
             (string_bytes var.now.0) (pattern_view of) result }
         ensures places { StaysPlaced (position pos ∷ []) work.old.errors.items work.new.errors.items result }
         ensures unlimited { NotLimited result }
+        ensures reads { Takes self.now (standing tyenv.old work.old) (standing tyenv.new work.new)
+            (around_steps (string_bytes var.now.0) (position pos) (pattern_view of)) (option_map pattern_view) result }
     {
         let ty = of.ty();
         let name = tyenv.intern_mut(var)?;
@@ -168,6 +180,8 @@ impl TermEnv {
             (pattern_reading multi (macro_arg index (position pos)) expected_ty.0) pattern_view result }
         ensures places { StaysPlaced (position pos ∷ []) work.old.errors.items work.new.errors.items result }
         ensures unlimited { NotLimited result }
+        ensures reads { Takes self.now (standing tyenv.now work.old) (standing tyenv.now work.new)
+            (leaf_steps (macro_arg index (position pos)) expected_ty.0) (option_map pattern_view) result }
     {
         report(&mut work.errors, pos, Why::MacroArgument(index))?;
         Ok(None)
@@ -180,9 +194,10 @@ fn check_new(work: &mut Progress, name: Sym, var: &Ident, pos: Pos) -> Result<()
     ensures checks { OnOk result (Checks work.old.errors.items work.new.errors.items (newest work.old name.0 ≡ None)) }
     ensures remains { Remains work.old work.new }
     ensures places { OnOk result (NotesAt (position pos ∷ []) work.old.errors.items work.new.errors.items) }
+    ensures exact { OnOk result (NotesEachAt (place_unless (not (is_some (newest work.old name.0))) (position pos)) work.old.errors.items work.new.errors.items) }
 {
-    if work.lookup(name).is_none() {
+    let Some(_) = work.lookup(name) else {
         return Ok(());
-    }
+    };
     report_name(&mut work.errors, pos, Wrong::Rebound, &var.0)
 }

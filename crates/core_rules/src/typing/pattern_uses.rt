@@ -1,16 +1,18 @@
 //! What the use of a term in a pattern stands for.
 
-ghost use Rattle.std.specs.Prelude.{◌≡◌, [], ◌∷◌, true, IfOk, OnOk, IsTrue, option_map, length, string_bytes};
+ghost use Rattle.std.specs.Bool.{◌==◌};
+ghost use Rattle.std.specs.Prelude.{◌≡◌, [], ◌∷◌, ◌++◌, true, IfOk, OnOk, option_map, length, string_bytes};
 ghost use Rattle.core_syntax.specs.SyntaxViews.{name_view, position, pattern_view, pattern_views};
 ghost use Rattle.model.specs.lists.Setting.{is_matchable};
 ghost use Rattle.model.specs.lists.Syntax.{term_pattern};
-ghost use Rattle.core_terms.specs.Terms.{has_extractor_kind, has_extractor_term};
+ghost use Rattle.core_terms.specs.Terms.{has_extractor_kind};
 ghost use Rattle.core_terms.specs.TermViews.{term_view};
 ghost use Rattle.core_types.specs.Envs.{IsInterned};
-ghost use Rattle.core_typed.specs.Elaborating.{Checks};
+ghost use Rattle.core_typed.specs.Elaborating.{Checks, NotesEachAt, place_unless};
 ghost use Rattle.core_rules.specs.Progress.{Remains};
 ghost use Rattle.core_rules.specs.PatternUses.{found_term, found_converter, found_template, inside_term, UsesTerm};
 ghost use Rattle.core_rules.specs.UseLimits.{UseComes};
+ghost use Rattle.core_rules.specs.PatternTaking.{UseTakes};
 ghost use Rattle.core_rules.specs.Translating.{standing};
 ghost use Rattle.core_syntax.specs.Positions.{NotesAt, pattern_positions};
 ghost use Rattle.core_rules.specs.RulePositions.{with_templates, StaysPlaced, ExpandsAmong};
@@ -96,6 +98,8 @@ impl TermEnv {
         ensures among { ExpandsAmong (with_templates self.now (pattern_positions (pattern_view whole.now))) result }
         ensures limits { UseComes self.now (standing tyenv.now work.old) (standing tyenv.now work.new) nesting multi (pattern_view whole.now)
             (pattern_views args.now) expected_ty.0 result }
+        ensures reads { UseTakes self.now (standing tyenv.now work.old) (standing tyenv.now work.new) nesting multi (pattern_view whole.now)
+            (pattern_views args.now) expected_ty.0 result }
     {
         let Some(term) = self.find_term(tyenv, sym) else {
             report_name(&mut work.errors, pos, Wrong::UnknownExtractor, &sym.0)?;
@@ -149,6 +153,8 @@ fn check_use(
         (((term_view term.now).ret_ty ≡ expected_ty.0) × (args ≡ length (term_view term.now).arg_tys))) }
     ensures remains { Remains work.old work.new }
     ensures places { OnOk result (NotesAt (position pos ∷ []) work.old.errors.items work.new.errors.items) }
+    ensures exact { OnOk result (NotesEachAt (place_unless ((term_view term.now).ret_ty == expected_ty.0) (position pos) ++ place_unless
+        (args == length (term_view term.now).arg_tys) (position pos)) work.old.errors.items work.new.errors.items) }
 {
     check_same(
         tyenv,
@@ -174,23 +180,34 @@ fn check_extractor(
 ) -> Result<(), AllocError>
     ensures checks { OnOk result (Checks errors.old.items errors.new.items (is_matchable multi (term_view term.now).kind ≡ true)) }
     ensures places { OnOk result (NotesAt (position pos ∷ []) errors.old.items errors.new.items) }
+    ensures exact { OnOk result (NotesEachAt (place_unless (is_matchable multi (term_view term.now).kind) (position pos)) errors.old.items errors.new.items) }
 {
-    if !term.has_extractor() {
-        return report_name(errors, pos, Wrong::NoExtractor, &sym.0);
-    }
     if is_usable(term, multi) {
         return Ok(());
     }
-    report_name(errors, pos, Wrong::MultiExtractor, &sym.0)
+    report_name(errors, pos, why_unusable(term), &sym.0)
 }
 
-// Whether a rule whose term is multi or not may use a term's extractor: those of multi terms give many answers.
+// Why a pattern may not use a term: it has no extractor, or one that gives many answers.
+fn why_unusable(term: &Term) -> Wrong {
+    if term.has_extractor() {
+        Wrong::MultiExtractor
+    } else {
+        Wrong::NoExtractor
+    }
+}
+
+// Whether a term has an extractor, and one that a rule may use whose term is multi or not: those of multi terms give many
+// answers.
 fn is_usable(term: &Term, multi: bool) -> bool
-    requires { IsTrue (has_extractor_term (term_view term.now)) }
     ensures { result ≡ is_matchable multi (term_view term.now).kind }
 {
     match &term.kind {
-        TermKind::Decl { flags: own, .. } => multi || !own.multi,
+        TermKind::Decl {
+            flags: own,
+            extractor_kind,
+            ..
+        } => extractor_kind.is_some() && (multi || !own.multi),
         TermKind::EnumVariant { .. } | TermKind::Struct => true,
     }
 }

@@ -1,10 +1,10 @@
-use Rattle.std.proofs.Common.{◌≡◌, ℕ, ◌<◌, ◌≤◌, List, [], ◌∷◌, length, get_or, refl, sym, ap, ◌∙◌, rules, arith}
+use Rattle.std.proofs.Common.{◌≡◌, ℕ, ◌<◌, ◌≤◌, min, List, [], ◌∷◌, length, map, get_or, Some, option_map, Ok, refl, sym, ap, ◌∙◌, rules, arith}
 use Rattle.std.proofs.lemmas.Int.{to_z-of_z}
 use Rattle.std.proofs.lemmas.List.{length-map}
 use mir.Val.{SFits}
 use mir.Syntax.{w128}
 use Rattle.model.specs.lists.Syntax.{Position, no_pattern, var_pattern, bool_pattern, prim_pattern, macro_arg, bind_pattern, term_pattern, and_pattern}
-use Rattle.model.specs.rules.Typed.{match_and}
+use Rattle.model.specs.rules.Typed.{match_and, match_term}
 use Rattle.core_types.specs.declared.ids.TypeId.{TypeId}
 use Rattle.core_syntax.specs.SyntaxViews as S
 use Rattle.core_terms.specs.TermViews.{term_view, term_views}
@@ -25,6 +25,10 @@ use Rattle.core_rules.proofs.PartPlaces.{bind_inside, term_inside, and_inside, p
 use Rattle.core_rules.specs.ReachedLimits.{pattern_limits, each_limits}
 use Rattle.core_rules.proofs.LimitSteps.{not_limited, same_ends}
 use Rattle.core_rules.proofs.PatternLimits.{expanded_meets, parts_end, parts_none, next_part_none, part_ends, all_parts_none, next_each_none, each_ends, all_each_none}
+use Rattle.core_rules.specs.PatternTaking.{pattern_steps, parts_steps, each_steps, made_end}
+use Rattle.core_rules.proofs.PatternListsTaken.{args_from, each_from, none_read, all_read, arg_goes_on, arg_stops_all, each_goes_on, each_stops_all, args_read, each_read}
+use Rattle.core_rules.proofs.PatternsTaken.{any_taken, around_stops, around_nothing, around_takes}
+use Rattle.core_rules.proofs.Taken.{expansion_done, rest_ends, rest_stops, made_ends, made_stopped}
 use Rattle.core_rules.proofs.term_env.TermEnv.+translate_pattern.Goals as goal
 
 pub translate_pattern-returns-in_err-made-in-BindPattern-clause-made : goal.translate_pattern-returns-in_err-made-in-BindPattern-clause-made
@@ -164,6 +168,7 @@ translate_args-loop-i-init t c = (
   none_yet c.args.self.now (standing c.args.tyenv.now c.args.work.now) c.args.nesting (parts_reading c.args.multi no_pattern []) c.in_ok-parts.parts.items c.in_ok-parts.ensures.items (λ e k s. refl),
   notes_nothing _ _ _ refl,
   λ e s is sh. refl,
+  none_read c.args.self.now (standing c.args.tyenv.now c.args.work.now) (parts_steps c.args.multi (S.pattern_views c.args.args.now) (map (λ t. t.0) c.args.tys.now) c.args.nesting) c.in_ok-parts.parts.items c.in_ok-parts.ensures.items,
 )
 
 pub translate_args-returns-in_err-part-clause-made : goal.translate_args-returns-in_err-part-clause-made
@@ -204,6 +209,10 @@ translate_args-loop-i-preserved t c =
       next_part_none c.args.multi c.args.self.now (standing c.args.tyenv.now c.args.work.now) (standing c.loop-i.tyenv c.loop-i.work) (standing c.translate_pattern.new.tyenv c.translate_pattern.new.work) c.args.nesting
           c.args.args.now c.args.tys.now c.loop-i.i c.index-args-i.result ty w v c.index-args-i.is (same_default c.args.tys.now c.loop-i.i (record { 0 = 0 }) ty v) c.loop-i.invariant.0
           c.loop-i.parts.items c.loop-i.invariant.1 c.loop-i.invariant.3 c.in_ok-part.ensures.limits,
+      rw pushed
+          (arg_goes_on c.args.multi c.args.args.now c.args.nesting c.loop-i.i c.index-args-i.result w c.index-args-i.is
+          c.args.self.now (standing c.args.tyenv.now c.args.work.now) (standing c.loop-i.tyenv c.loop-i.work) (standing c.translate_pattern.new.tyenv c.translate_pattern.new.work) c.loop-i.invariant.0
+          (parts_steps c.args.multi (S.pattern_views c.args.args.now) (map (λ t. t.0) c.args.tys.now) c.args.nesting) c.loop-i.parts.items c.args.tys.now ty v (same_default c.args.tys.now c.loop-i.i (record { 0 = 0 }) ty v) c.loop-i.invariant.4 c.in_ok-part.part c.in_ok-part.ensures.reads),
     )
 
 pub translate_each-loop-subpat-init : goal.translate_each-loop-subpat-init
@@ -212,6 +221,7 @@ translate_each-loop-subpat-init t c = (
   none_yet c.args.self.now (standing c.args.tyenv.now c.args.work.now) c.args.nesting (each_reading c.args.multi no_pattern c.args.expected_ty.0) c.in_ok-parts.parts.items c.in_ok-parts.ensures.items (λ e k s. refl),
   notes_nothing _ _ _ refl,
   λ e s is sh. refl,
+  none_read c.args.self.now (standing c.args.tyenv.now c.args.work.now) (each_steps c.args.multi (S.pattern_views c.args.subpats.now) c.args.expected_ty.0 c.args.nesting) c.in_ok-parts.parts.items c.in_ok-parts.ensures.items,
 )
 
 pub translate_each-returns-in_err-part-clause-made : goal.translate_each-returns-in_err-part-clause-made
@@ -238,6 +248,10 @@ translate_each-loop-subpat-preserved t c =
       next_each_none c.args.multi c.args.self.now (standing c.args.tyenv.now c.args.work.now) (standing c.loop-subpat.tyenv c.loop-subpat.work) (standing c.translate_pattern.new.tyenv c.translate_pattern.new.work) c.args.nesting
           c.args.subpats.now c.args.expected_ty.0 c.loop-subpat.subpat-index c.subpat-item.result c.loop-subpat-test.true c.subpat-item.is c.loop-subpat.invariant.0
           c.loop-subpat.parts.items c.loop-subpat.invariant.1 c.loop-subpat.invariant.3 c.in_ok-part.ensures.limits,
+      rw pushed
+          (each_goes_on c.args.multi c.args.subpats.now c.args.nesting c.loop-subpat.subpat-index c.subpat-item.result c.loop-subpat-test.true c.subpat-item.is
+          c.args.self.now (standing c.args.tyenv.now c.args.work.now) (standing c.loop-subpat.tyenv c.loop-subpat.work) (standing c.translate_pattern.new.tyenv c.translate_pattern.new.work) c.loop-subpat.invariant.0
+          (each_steps c.args.multi (S.pattern_views c.args.subpats.now) c.args.expected_ty.0 c.args.nesting) c.loop-subpat.parts.items c.args.expected_ty.0 c.loop-subpat.invariant.4 c.in_ok-part.part c.in_ok-part.ensures.reads),
     )
 
 pub translate_args-returns-in_err-part-clause-places : goal.translate_args-returns-in_err-part-clause-places
@@ -503,3 +517,112 @@ translate_args-returns-clause-limits t c count =
     let w : length c.args.args.now ≤ c.loop-i.i = search (rules, count) in
     let v : length c.args.tys.now ≤ c.loop-i.i = search (rules, count) in
     all_parts_none c.args.multi c.args.self.now (standing c.args.tyenv.now c.args.work.now) c.args.nesting c.args.args.now c.args.tys.now c.loop-i.i w v c.loop-i.invariant.3
+
+pub translate_pattern-returns-in-Var-clause-reads : goal.translate_pattern-returns-in-Var-clause-reads
+translate_pattern-returns-in-Var-clause-reads t c = rw c.in-Var.is c.translate_var.ensures.reads
+
+pub translate_pattern-returns-in-ConstBool-clause-reads : goal.translate_pattern-returns-in-ConstBool-clause-reads
+translate_pattern-returns-in-ConstBool-clause-reads t c = rw c.in-ConstBool.is c.translate_bool.ensures.reads
+
+pub translate_pattern-returns-in-ConstInt-clause-reads : goal.translate_pattern-returns-in-ConstInt-clause-reads
+translate_pattern-returns-in-ConstInt-clause-reads t c = let fits : SFits w128 c.in-ConstInt.val = search rules in rw c.in-ConstInt.is (rw (to_z-of_z w128 c.in-ConstInt.val fits) at c.translate_int.ensures.reads)
+
+pub translate_pattern-returns-in-ConstPrim-clause-reads : goal.translate_pattern-returns-in-ConstPrim-clause-reads
+translate_pattern-returns-in-ConstPrim-clause-reads t c = rw c.in-ConstPrim.is c.translate_prim.ensures.reads
+
+pub translate_pattern-returns-in-MacroArg-clause-reads : goal.translate_pattern-returns-in-MacroArg-clause-reads
+translate_pattern-returns-in-MacroArg-clause-reads t c = rw c.in-MacroArg.is c.refuse_macro_arg.ensures.reads
+
+pub translate_pattern-returns-in-Wildcard-clause-reads : goal.translate_pattern-returns-in-Wildcard-clause-reads
+translate_pattern-returns-in-Wildcard-clause-reads t c = rw c.in-Wildcard.is (any_taken c.args.self.now (standing c.args.tyenv.now c.args.work.now) (S.position c.in-Wildcard.pos) c.args.expected_ty.0)
+
+pub translate_pattern-returns-in_err-made-in-BindPattern-clause-reads : goal.translate_pattern-returns-in_err-made-in-BindPattern-clause-reads
+translate_pattern-returns-in_err-made-in-BindPattern-clause-reads t c =
+    rw (stop_is c.from_residual.result c.in_err-made-in-BindPattern.field-0.0 c.from_residual.ensures, seen_bind c.args.pat.now c.in-BindPattern.var c.in-BindPattern.subpat c.in-BindPattern.pos c.deref.result.now c.in-BindPattern.is c.deref.ensures)
+    (around_stops c.args.self.now (standing c.args.tyenv.now c.args.work.now) (standing c.translate_pattern.new.tyenv c.translate_pattern.new.work) c.args.multi (S.name_view c.in-BindPattern.var) (S.pattern_view c.deref.result.now) (S.position c.in-BindPattern.pos) c.args.expected_ty.0 c.args.nesting
+    c.in_err-made-in-BindPattern.field-0.0 c.in_err-made-in-BindPattern.ensures.reads)
+
+pub translate_pattern-returns-in_default-clause-reads : goal.translate_pattern-returns-in_default-clause-reads
+translate_pattern-returns-in_default-clause-reads t c =
+    rw (seen_bind c.args.pat.now c.in-BindPattern.var c.in-BindPattern.subpat c.in-BindPattern.pos c.deref.result.now c.in-BindPattern.is c.deref.ensures)
+    (around_nothing c.args.self.now (standing c.args.tyenv.now c.args.work.now) (standing c.translate_pattern.new.tyenv c.translate_pattern.new.work) c.args.multi (S.name_view c.in-BindPattern.var) (S.pattern_view c.deref.result.now) (S.position c.in-BindPattern.pos) c.args.expected_ty.0 c.args.nesting
+    (rw c.in_default.is at c.in_ok-made-in-BindPattern.ensures.reads))
+
+pub translate_pattern-returns-in-Some-clause-reads : goal.translate_pattern-returns-in-Some-clause-reads
+translate_pattern-returns-in-Some-clause-reads t c =
+    rw (seen_bind c.args.pat.now c.in-BindPattern.var c.in-BindPattern.subpat c.in-BindPattern.pos c.deref.result.now c.in-BindPattern.is c.deref.ensures)
+    (around_takes c.args.self.now (standing c.args.tyenv.now c.args.work.now) (standing c.translate_pattern.new.tyenv c.translate_pattern.new.work) c.args.multi (S.name_view c.in-BindPattern.var) (S.pattern_view c.deref.result.now) (S.position c.in-BindPattern.pos) c.args.expected_ty.0 c.args.nesting
+    (standing c.bind_around.new.tyenv c.bind_around.new.work) c.translate_pattern.ensures.keeps (pattern_view c.in-Some.of) (rw c.in-Some.is at c.in_ok-made-in-BindPattern.ensures.reads) c.bind_around.result c.bind_around.ensures.reads)
+
+pub translate_pattern-returns-in_err-use_in_pattern-in-Term-clause-reads : goal.translate_pattern-returns-in_err-use_in_pattern-in-Term-clause-reads
+translate_pattern-returns-in_err-use_in_pattern-in-Term-clause-reads t c =
+    rw (stop_is c.from_residual-in_err-use_in_pattern-in-Term.result c.in_err-use_in_pattern-in-Term.field-0.0 c.from_residual-in_err-use_in_pattern-in-Term.ensures) c.in_err-use_in_pattern-in-Term.ensures.reads
+
+pub translate_pattern-returns-in-Wrong-clause-reads : goal.translate_pattern-returns-in-Wrong-clause-reads
+translate_pattern-returns-in-Wrong-clause-reads t c = rw c.in-Wrong.is at c.in_ok-use_in_pattern-in-Term.ensures.reads
+
+pub translate_pattern-returns-in-Expansion-clause-reads : goal.translate_pattern-returns-in-Expansion-clause-reads
+translate_pattern-returns-in-Expansion-clause-reads t c =
+    let on = rw c.in-Expansion.is at c.in_ok-use_in_pattern-in-Term.ensures.reads in
+    expansion_done c.args.self.now (standing c.args.tyenv.now c.args.work.now) (standing c.args.tyenv.now c.use_in_pattern.new.work) _ refl
+    (pattern_steps c.args.multi (S.pattern_view c.args.pat.now) c.args.expected_ty.0 c.args.nesting) (pattern_steps c.args.multi (S.pattern_view c.in-Expansion.made) c.args.expected_ty.0 c.in-Expansion.left) (option_map pattern_view) on _ c.translate_pattern-in-Expansion.ensures.reads
+
+pub translate_pattern-returns-in_err-parts-in-Parts-clause-reads : goal.translate_pattern-returns-in_err-parts-in-Parts-clause-reads
+translate_pattern-returns-in_err-parts-in-Parts-clause-reads t c =
+    let on = rw c.in-Parts.is at c.in_ok-use_in_pattern-in-Term.ensures.reads in
+    let args : c.deref-in-Parts.result.now ≡ c.deref-in-Term.result.now = c.deref-in-Parts.ensures.value ∙ sym c.deref-in-Term.ensures.value in
+    let made = rw (args, c.as_slice-tys.ensures.value) at c.in_err-parts-in-Parts.ensures.reads in
+    rw (stop_is c.from_residual-in_err-parts-in-Parts.result c.in_err-parts-in-Parts.field-0.0 c.from_residual-in_err-parts-in-Parts.ensures)
+    (rest_stops c.args.self.now (standing c.args.tyenv.now c.args.work.now) (standing c.args.tyenv.now c.use_in_pattern.new.work) (standing c.translate_args.new.tyenv c.translate_args.new.work) refl
+    (pattern_steps c.args.multi (S.pattern_view c.args.pat.now) c.args.expected_ty.0 c.args.nesting) (parts_steps c.args.multi (S.pattern_views c.deref-in-Term.result.now) (term_view c.in-Parts.term.now).arg_tys c.args.nesting) (made_end (match_term (term_view c.in-Parts.term.now).ret_ty (term_view c.in-Parts.term.now).id)) on
+    (λ l. refl) c.in_err-parts-in-Parts.field-0.0 made)
+
+pub translate_pattern-returns-in_ok-parts-in-Parts-clause-reads : goal.translate_pattern-returns-in_ok-parts-in-Parts-clause-reads
+translate_pattern-returns-in_ok-parts-in-Parts-clause-reads t c =
+    let on = rw c.in-Parts.is at c.in_ok-use_in_pattern-in-Term.ensures.reads in
+    let args : c.deref-in-Parts.result.now ≡ c.deref-in-Term.result.now = c.deref-in-Parts.ensures.value ∙ sym c.deref-in-Term.ensures.value in
+    let made = rw (args, c.as_slice-tys.ensures.value) at c.in_ok-parts-in-Parts.ensures.reads in
+    rw (row_patterns-hidden c.in_ok-parts-in-Parts.parts)
+    (rest_ends c.args.self.now (standing c.args.tyenv.now c.args.work.now) (standing c.args.tyenv.now c.use_in_pattern.new.work) (standing c.translate_args.new.tyenv c.translate_args.new.work) refl
+    (pattern_steps c.args.multi (S.pattern_view c.args.pat.now) c.args.expected_ty.0 c.args.nesting) (parts_steps c.args.multi (S.pattern_views c.deref-in-Term.result.now) (term_view c.in-Parts.term.now).arg_tys c.args.nesting) (made_end (match_term (term_view c.in-Parts.term.now).ret_ty (term_view c.in-Parts.term.now).id)) on
+    (Ok (Some (pattern_parts (pattern_views c.in_ok-parts-in-Parts.parts.items)))) made)
+
+pub translate_pattern-returns-in_err-parts-in-And-clause-reads : goal.translate_pattern-returns-in_err-parts-in-And-clause-reads
+translate_pattern-returns-in_err-parts-in-And-clause-reads t c =
+    rw (stop_is c.from_residual-in_err-parts-in-And.result c.in_err-parts-in-And.field-0.0 c.from_residual-in_err-parts-in-And.ensures, seen_and c.args.pat.now c.in-And.subpats c.in-And.pos c.deref-in-And.result.now c.in-And.is c.deref-in-And.ensures.value)
+    (made_stopped (match_and c.args.expected_ty.0) c.args.self.now (standing c.args.tyenv.now c.args.work.now) (standing c.translate_each.new.tyenv c.translate_each.new.work) (each_steps c.args.multi (S.pattern_views c.deref-in-And.result.now) c.args.expected_ty.0 c.args.nesting)
+    c.in_err-parts-in-And.field-0.0 c.in_err-parts-in-And.ensures.reads)
+
+pub translate_pattern-returns-in_ok-parts-in-And-clause-reads : goal.translate_pattern-returns-in_ok-parts-in-And-clause-reads
+translate_pattern-returns-in_ok-parts-in-And-clause-reads t c =
+    rw (row_patterns-hidden c.in_ok-parts-in-And.parts, seen_and c.args.pat.now c.in-And.subpats c.in-And.pos c.deref-in-And.result.now c.in-And.is c.deref-in-And.ensures.value)
+    (made_ends (match_and c.args.expected_ty.0) c.args.self.now (standing c.args.tyenv.now c.args.work.now) (standing c.translate_each.new.tyenv c.translate_each.new.work) (each_steps c.args.multi (S.pattern_views c.deref-in-And.result.now) c.args.expected_ty.0 c.args.nesting)
+    (Ok (Some (pattern_parts (pattern_views c.in_ok-parts-in-And.parts.items)))) c.in_ok-parts-in-And.ensures.reads)
+
+pub translate_args-returns-in_err-part-clause-reads : goal.translate_args-returns-in_err-part-clause-reads
+translate_args-returns-in_err-part-clause-reads t c =
+    let w : c.loop-i.i < length c.args.args.now = search rules in
+    let v : c.loop-i.i < length c.args.tys.now = search rules in
+    let ty : TypeId = get_or c.args.tys.now c.loop-i.i (record { 0 = 0 }) in
+    rw (stop_is c.from_residual-in_err-part.result c.in_err-part.field-0.0 c.from_residual-in_err-part.ensures)
+    (arg_stops_all c.args.multi c.args.args.now c.args.nesting c.loop-i.i c.index-args-i.result w c.index-args-i.is
+          c.args.self.now (standing c.args.tyenv.now c.args.work.now) (standing c.loop-i.tyenv c.loop-i.work) (standing c.translate_pattern.new.tyenv c.translate_pattern.new.work) c.loop-i.invariant.0
+          (parts_steps c.args.multi (S.pattern_views c.args.args.now) (map (λ t. t.0) c.args.tys.now) c.args.nesting) c.loop-i.parts.items c.args.tys.now ty v (same_default c.args.tys.now c.loop-i.i (record { 0 = 0 }) ty v) c.loop-i.invariant.4 c.in_err-part.field-0.0 c.in_err-part.ensures.reads)
+
+pub translate_args-returns-clause-reads : goal.translate_args-returns-clause-reads
+translate_args-returns-clause-reads t c =
+    let count : min (length c.args.args.now) (length c.args.tys.now) ≤ c.loop-i.i = search rules in
+    all_read c.args.self.now (standing c.args.tyenv.now c.args.work.now) (standing c.loop-i.tyenv c.loop-i.work) (parts_steps c.args.multi (S.pattern_views c.args.args.now) (map (λ t. t.0) c.args.tys.now) c.args.nesting)
+    (args_from c.args.multi c.args.args.now c.args.tys.now c.args.nesting c.loop-i.i) c.loop-i.parts.items (args_read c.args.multi c.args.args.now c.args.tys.now c.args.nesting c.loop-i.i count) c.loop-i.invariant.4
+
+pub translate_each-returns-in_err-part-clause-reads : goal.translate_each-returns-in_err-part-clause-reads
+translate_each-returns-in_err-part-clause-reads t c =
+    rw (stop_is c.from_residual-in_err-part.result c.in_err-part.field-0.0 c.from_residual-in_err-part.ensures)
+    (each_stops_all c.args.multi c.args.subpats.now c.args.nesting c.loop-subpat.subpat-index c.subpat-item.result c.loop-subpat-test.true c.subpat-item.is
+          c.args.self.now (standing c.args.tyenv.now c.args.work.now) (standing c.loop-subpat.tyenv c.loop-subpat.work) (standing c.translate_pattern.new.tyenv c.translate_pattern.new.work) c.loop-subpat.invariant.0
+          (each_steps c.args.multi (S.pattern_views c.args.subpats.now) c.args.expected_ty.0 c.args.nesting) c.loop-subpat.parts.items c.args.expected_ty.0 c.loop-subpat.invariant.4 c.in_err-part.field-0.0 c.in_err-part.ensures.reads)
+
+pub translate_each-returns-clause-reads : goal.translate_each-returns-clause-reads
+translate_each-returns-clause-reads t c =
+    all_read c.args.self.now (standing c.args.tyenv.now c.args.work.now) (standing c.loop-subpat.tyenv c.loop-subpat.work) (each_steps c.args.multi (S.pattern_views c.args.subpats.now) c.args.expected_ty.0 c.args.nesting)
+    (each_from c.args.multi c.args.subpats.now c.args.expected_ty.0 c.args.nesting c.loop-subpat.subpat-index) c.loop-subpat.parts.items (each_read c.args.multi c.args.subpats.now c.args.expected_ty.0 c.args.nesting c.loop-subpat.subpat-index c.loop-subpat-test.false) c.loop-subpat.invariant.4

@@ -14,6 +14,8 @@ use Rattle.core_rules.proofs.ErrorPositions.{stop_step, counted_stop}
 use Rattle.core_rules.proofs.SubstitutedPlaces.{converted_places, expanded_places}
 use Rattle.core_rules.proofs.PatternLimits.{unknown_comes, converted_leads, conversion_ends, parts_lead, nothing_comes, template_leads, template_ends}
 use Rattle.core_rules.proofs.term_env.TermEnv.use_in_pattern.Goals as goal
+use Rattle.core_typed.proofs.NotedErrors.{told_at}
+use Rattle.core_rules.proofs.PatternUsesTaken as taken
 
 pub returns-in_default-clause-uses : goal.returns-in_default-clause-uses
 returns-in_default-clause-uses c =
@@ -169,3 +171,56 @@ returns-clause-limits c =
     (term_view c.in-Some.term.now) c.in-Some.ensures c.in_default-pattern_converter.ensures (pattern_view c.in-Some-template_of.template.now) c.in-Some-template_of.ensures
     (standing c.args.tyenv.now c.check_use.new.work) _ (sym (list_length c.args.args.now)) c.in_ok-check_use.ensures.checks (pattern_view c.in-Some-2.made) (made ∙ ap (λ gs. substituted gs (pattern_view c.in-Some-template_of.template.now)) (sym (list_is c.args.args.now)))
     (standing c.args.tyenv.now c.expand-2.new.self) c.args.nesting c.in_ok-left-2.left c.in_ok-left-2.ensures.0 c.check_use.ensures.remains c.in_ok-left-2.ensures.1)
+
+pub returns-in_default-clause-reads : goal.returns-in_default-clause-reads
+returns-in_default-clause-reads c =
+    rw c.requires.whole
+    (taken.unknown_used c.args.multi c.args.self.now (standing c.args.tyenv.now c.args.work.now) c.requires.inverse (name_view c.args.sym.now) (pattern_views c.args.args.now) (position c.args.pos) c.args.expected_ty.0 c.args.nesting
+    _ c.in_default.ensures refl (record { vars = refl; names = λ k. refl; expansions = refl }) (told_at (position c.args.pos) _ _ c.in_ok-report_name.ensures.told))
+
+pub returns-in_err-left-clause-reads : goal.returns-in_err-left-clause-reads
+returns-in_err-left-clause-reads c =
+    rw (stop_is c.from_residual-in_err-left.result c.in_err-left.field-0.0 c.from_residual-in_err-left.ensures, c.requires.whole)
+    (taken.conversion_stops c.args.multi c.args.self.now (standing c.args.tyenv.now c.args.work.now) c.requires.inverse (name_view c.args.sym.now) (pattern_views c.args.args.now) (position c.args.pos) c.args.expected_ty.0 c.args.nesting
+    (term_view c.in-Some.term.now) c.in-Some.ensures (term_view c.in-Some-pattern_converter.by.now) c.in-Some-pattern_converter.ensures
+    (standing c.args.tyenv.now c.expand.new.self) refl c.in_err-left.field-0.0 c.in_err-left.ensures)
+
+pub returns-in-Some-pattern_converter-clause-reads : goal.returns-in-Some-pattern_converter-clause-reads
+returns-in-Some-pattern_converter-clause-reads c =
+    rw (c.in_ok-inside.ensures, c.requires.whole)
+    (taken.conversion_leads c.args.multi c.args.self.now (standing c.args.tyenv.now c.args.work.now) c.requires.inverse (name_view c.args.sym.now) (pattern_views c.args.args.now) (position c.args.pos) c.args.expected_ty.0 c.args.nesting
+    (term_view c.in-Some.term.now) c.in-Some.ensures (term_view c.in-Some-pattern_converter.by.now) c.in-Some-pattern_converter.ensures
+    (standing c.args.tyenv.now c.expand.new.self) c.in_ok-left.left refl c.in_ok-left.ensures.0 c.in_ok-left.ensures.1)
+
+pub returns-in_default-template_of-clause-reads : goal.returns-in_default-template_of-clause-reads
+returns-in_default-template_of-clause-reads c =
+    rw c.requires.whole
+    (taken.parts_lead c.args.multi c.args.self.now (standing c.args.tyenv.now c.args.work.now) c.requires.inverse (name_view c.args.sym.now) (pattern_views c.args.args.now) (position c.args.pos) c.args.expected_ty.0 c.args.nesting
+    (term_view c.in-Some.term.now) c.in-Some.ensures c.in_default-pattern_converter.ensures (standing c.args.tyenv.now c.check_use.new.work) _ (sym (list_length c.args.args.now)) refl c.check_use.ensures.remains c.in_ok-check_use.ensures.exact
+    c.in_default-template_of.ensures _ refl (record { vars = refl; names = λ k. refl; expansions = refl }) c.in_ok-check_extractor.ensures.exact)
+
+pub returns-in_default-2-clause-reads : goal.returns-in_default-2-clause-reads
+returns-in_default-2-clause-reads c =
+    let missing : ◌≡◌ {A = Option PatternTree} None (substituted (map pattern_view c.args.args.now) (pattern_view c.in-Some-template_of.template.now)) = sym (ap (option_map pattern_view) c.in_default-2.is) ∙ c.in_ok-made.ensures in
+    rw c.requires.whole
+    (taken.nothing_used c.args.multi c.args.self.now (standing c.args.tyenv.now c.args.work.now) c.requires.inverse (name_view c.args.sym.now) (pattern_views c.args.args.now) (position c.args.pos) c.args.expected_ty.0 c.args.nesting
+    (term_view c.in-Some.term.now) c.in-Some.ensures c.in_default-pattern_converter.ensures (standing c.args.tyenv.now c.check_use.new.work) _ (sym (list_length c.args.args.now)) refl c.check_use.ensures.remains c.in_ok-check_use.ensures.exact
+    (pattern_view c.in-Some-template_of.template.now) c.in-Some-template_of.ensures (missing ∙ ap (λ gs. substituted gs (pattern_view c.in-Some-template_of.template.now)) (sym (list_is c.args.args.now))))
+
+pub returns-in_err-left-2-clause-reads : goal.returns-in_err-left-2-clause-reads
+returns-in_err-left-2-clause-reads c =
+    let made : Some (pattern_view c.in-Some-2.made) ≡ substituted (map pattern_view c.args.args.now) (pattern_view c.in-Some-template_of.template.now) = sym (ap (option_map pattern_view) c.in-Some-2.is) ∙ c.in_ok-made.ensures in
+    rw (stop_is c.from_residual-in_err-left-2.result c.in_err-left-2.field-0.0 c.from_residual-in_err-left-2.ensures, c.requires.whole)
+    (taken.template_stops c.args.multi c.args.self.now (standing c.args.tyenv.now c.args.work.now) c.requires.inverse (name_view c.args.sym.now) (pattern_views c.args.args.now) (position c.args.pos) c.args.expected_ty.0 c.args.nesting
+    (term_view c.in-Some.term.now) c.in-Some.ensures c.in_default-pattern_converter.ensures (standing c.args.tyenv.now c.check_use.new.work) _ (sym (list_length c.args.args.now)) refl c.check_use.ensures.remains c.in_ok-check_use.ensures.exact
+    (pattern_view c.in-Some-template_of.template.now) c.in-Some-template_of.ensures (pattern_view c.in-Some-2.made) (made ∙ ap (λ gs. substituted gs (pattern_view c.in-Some-template_of.template.now)) (sym (list_is c.args.args.now)))
+    (standing c.args.tyenv.now c.expand-2.new.self) refl c.in_err-left-2.field-0.0 c.in_err-left-2.ensures)
+
+pub returns-clause-reads : goal.returns-clause-reads
+returns-clause-reads c =
+    let made : Some (pattern_view c.in-Some-2.made) ≡ substituted (map pattern_view c.args.args.now) (pattern_view c.in-Some-template_of.template.now) = sym (ap (option_map pattern_view) c.in-Some-2.is) ∙ c.in_ok-made.ensures in
+    rw c.requires.whole
+    (taken.template_leads c.args.multi c.args.self.now (standing c.args.tyenv.now c.args.work.now) c.requires.inverse (name_view c.args.sym.now) (pattern_views c.args.args.now) (position c.args.pos) c.args.expected_ty.0 c.args.nesting
+    (term_view c.in-Some.term.now) c.in-Some.ensures c.in_default-pattern_converter.ensures (standing c.args.tyenv.now c.check_use.new.work) _ (sym (list_length c.args.args.now)) refl c.check_use.ensures.remains c.in_ok-check_use.ensures.exact
+    (pattern_view c.in-Some-template_of.template.now) c.in-Some-template_of.ensures (pattern_view c.in-Some-2.made) (made ∙ ap (λ gs. substituted gs (pattern_view c.in-Some-template_of.template.now)) (sym (list_is c.args.args.now)))
+    (standing c.args.tyenv.now c.expand-2.new.self) c.in_ok-left-2.left refl c.in_ok-left-2.ensures.0 c.in_ok-left-2.ensures.1)
