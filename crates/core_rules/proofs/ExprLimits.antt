@@ -1,5 +1,5 @@
 -- Which limit expressions come to: the use of a name, step by step as it is looked at, and lists of expressions.
-use Rattle.std.proofs.Common.{◌≡◌, ℕ, zero, suc, ◌+◌, ◌<◌, ◌≤◌, true, cond, eqb, nat_le, List, [], ◌∷◌, ◌++◌, length, map, take, drop, get_or, Option, Some, None, Result, Ok, Err, option_and_then, slice_get, unwrap_or, refl, sym, ap, subst, ◌∙◌, inl, inr, ◌⊎◌, arith}
+use Rattle.std.proofs.Common.{◌≡◌, ℕ, zero, suc, ◌+◌, ◌<◌, ◌≤◌, true, cond, List, [], ◌∷◌, ◌++◌, length, map, take, drop, get_or, Option, Some, None, Result, Ok, Err, option_and_then, slice_get, unwrap_or, refl, sym, ap, subst, ◌∙◌, inl, inr, ◌⊎◌, arith}
 use Rattle.std.proofs.lemmas.Bool.{eq-eqb, cases_Bool, lt-leb, le-leb}
 use Rattle.std.proofs.lemmas.List.{take_more, take_all, take-append-drop, map-append}
 use Rattle.core_syntax.specs.declared.syntax.Error.{Error}
@@ -22,11 +22,12 @@ use Rattle.core_typed.specs.ExprViews.{expr_views, expr_parts}
 use Rattle.core_rules.specs.declared.term_env.TermEnv.{TermEnv}
 use Rattle.core_rules.specs.declared.typing.progress.Stop.{Stop}
 use Rattle.core_typed.specs.Elaborating.{Checks}
-use Rattle.core_rules.specs.Progress.{newest, Remains, CountsOne, Counts}
+use Rattle.core_rules.specs.Progress.{newest, CountsOne, Counts}
 use Rattle.core_rules.specs.ExprReadings.{made_entry, all_made, expr_reading, args_reading}
 use Rattle.core_rules.specs.ExprUses.{found_expr_converter, declared_converter, inside_call, allowed, expr_list, TakesArgs}
 use Rattle.core_rules.specs.PatternUses.{found_term}
-use Rattle.core_rules.specs.ReachedLimits.{Limits, or_after, where_counted, deeper_expr_limit, expr_limits, args_limits}
+use Rattle.laws_errors.specs.ReachedLimits.{or_after, where_counted}
+use Rattle.core_rules.specs.ReachedLimits.{Limits, deeper_expr_limit, expr_limits, args_limits}
 use Rattle.core_rules.specs.LimitStops.{ComesTo, StopEnds, MeetsLimits, Leads, LeadsTo}
 use Rattle.core_rules.specs.Translating.{Standing, Keeps, Reading, IsSettingOf, Shows, Wherever, IsReported, KeepsNoted, StaysNoted}
 use Rattle.core_rules.proofs.MadeSettings.{callable_made, term_made}

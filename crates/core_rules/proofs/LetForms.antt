@@ -12,7 +12,7 @@ use Rattle.model.specs.lists.Tables.{Flags}
 use Rattle.model.specs.rules.Outcome.{then_option}
 use Rattle.model.specs.rules.Typed.{TypedExpr, TypedLets, no_typed_let, typed_let_and}
 use Rattle.model.specs.lists.Setting as M
-use Rattle.model.specs.lists.Setting.{Setting, Scope, met, bound, after_let, var_named}
+use Rattle.model.specs.lists.Setting.{Setting, Scope, met, bound, after_let}
 use Rattle.model.specs.lists.Typings.{Typing, plain, scoped, joined_typing, followed}
 use Rattle.model.specs.lists.Elaborated.{before_rest, bound_let, typed_let, elaborated_expr, lets_with, deeper_expr, most_expansions}
 use Rattle.model.proofs.ByNumber.{looked_up}
@@ -34,7 +34,8 @@ use Rattle.core_rules.specs.ExprReadings.{all_made, expr_reading, lets_reading}
 use Rattle.core_typed.specs.ExprViews.{expr_view, let_views, let_parts}
 use Rattle.core_rules.specs.Lets.{with_let, before_all, HidesAs, Defines, BindsDef, Closes, DefinesOne}
 use Rattle.core_rules.specs.Progress.{newest, BindsNext, Remains}
-use Rattle.core_rules.specs.Translating.{Standing, Keeps, IsSettingOf, Shows, Reading, Wherever, IsOnlyTyping, IsTranslated, IsReported, Stops}
+use Rattle.laws_errors.specs.StepLaws.{IsOnlyTyping}
+use Rattle.core_rules.specs.Translating.{Standing, Keeps, IsSettingOf, Shows, Reading, Wherever, IsTranslated, IsReported, Stops}
 use Rattle.core_rules.proofs.PatternLists.{same_typing}
 use Rattle.core_rules.proofs.Readings.{becomes_same, keep_setting, reported_then, then_done, then_reported, then_stops, first_stops, may_report}
 use Rattle.core_rules.proofs.Scopes.{met_shows, bound_shows, as_many, plain_made}

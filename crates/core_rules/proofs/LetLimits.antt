@@ -1,5 +1,5 @@
 -- Which limit lets come to, from what their definitions and their body come to.
-use Rattle.std.proofs.Common.{◌≡◌, ℕ, ◌+◌, ◌<◌, ◌≤◌, List, [], ◌∷◌, length, take, drop, get_or, Option, Some, None, Box, refl, sym, ap, subst, ◌∙◌, inl, inr, ◌⊎◌}
+use Rattle.std.proofs.Common.{◌≡◌, ℕ, ◌+◌, ◌<◌, ◌≤◌, List, [], length, take, drop, get_or, Option, Some, None, Box, refl, sym, ap, subst, ◌∙◌, inl, inr, ◌⊎◌}
 use Rattle.std.specs.declared.alloc.Global.{Global}
 use Rattle.std.proofs.lemmas.List.{take_all, take-append-drop}
 use Rattle.core_syntax.specs.declared.syntax.LetDef.{LetDef}
@@ -25,7 +25,8 @@ use Rattle.core_rules.specs.declared.typing.progress.Stop.TheVariants.{Memory, N
 use Rattle.core_rules.specs.ExprReadings.{all_made, expr_reading, lets_reading}
 use Rattle.core_rules.specs.Lets.{with_let, Defines}
 use Rattle.core_rules.specs.Progress.{Remains}
-use Rattle.core_rules.specs.ReachedLimits.{Limits, or_after, expr_limits, lets_limits}
+use Rattle.laws_errors.specs.ReachedLimits.{or_after}
+use Rattle.core_rules.specs.ReachedLimits.{Limits, expr_limits, lets_limits}
 use Rattle.core_rules.specs.LimitStops.{ComesTo, EndsByLimit, StopEnds}
 use Rattle.core_rules.specs.Translating.{Standing, Keeps, IsSettingOf, Shows, Reading, IsTranslated, IsReported, KeepsNoted}
 use Rattle.core_rules.proofs.LetForms.{lets_joined, lets_after, type_found, def_reported, further, so_far, inner, inner_reported, so_far_defs}

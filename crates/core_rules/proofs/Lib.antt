@@ -29,10 +29,11 @@ mod PatternForms
 mod PatternLeaves
 mod PatternLimits
 mod PatternLists
-mod PatternSizes
 mod PatternListsTaken
+mod PatternSizes
 mod PatternUsesTaken
 mod PatternUsing
+mod PatternsRead
 mod PatternsTaken
 mod PlacesAtEnd
 mod Readings
@@ -51,6 +52,7 @@ mod ShownSettings
 mod SidesForms
 mod SubstitutedPlaces
 mod Taken
+mod TakenReadings
 mod TemplateUses
 mod TermCopies
 mod TermPlaces

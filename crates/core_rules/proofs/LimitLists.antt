@@ -1,8 +1,7 @@
 -- Which limit lists of parts come to, read one after another.
-use Rattle.std.proofs.Common.{◌≡◌, ℕ, ◌+◌, ◌<◌, ◌≤◌, Bool, List, [], ◌∷◌, ◌++◌, length, map, take, drop, get_or, Option, Some, None, sym, ap, ◌∙◌, refl, arith}
+use Rattle.std.proofs.Common.{◌≡◌, ℕ, ◌+◌, ◌<◌, ◌≤◌, List, [], ◌∷◌, ◌++◌, length, map, take, drop, get_or, Option, Some, None, sym, ap, ◌∙◌, refl, arith}
 use Rattle.std.proofs.lemmas.List.{take_more, take-append-drop, length-take-le, length-map, map-append}
 use Rattle.std.proofs.Math.Nat.{add-zero}
-use Rattle.core_syntax.specs.declared.syntax.Pattern as P
 use Rattle.core_syntax.specs.declared.syntax.Expr as X
 use Rattle.core_syntax.specs.declared.syntax.LetDef.{LetDef}
 use Rattle.core_syntax.specs.declared.syntax.IfLet.{IfLet}
@@ -12,14 +11,14 @@ use Rattle.model.specs.lists.Syntax.{IfLetTree}
 use Rattle.model.specs.lists.Tables.{Flags}
 use Rattle.model.specs.lists.Setting.{Setting, Scope, met, type_of_name}
 use Rattle.model.specs.lists.Typings.{Typing, joined_typing, followed}
-use Rattle.model.specs.lists.Elaborated.{elaborated_pattern, elaborated_parts, each_with, deeper_pattern, elaborated_expr, args_with, lets_with, deeper_expr, before_rest, bound_let}
+use Rattle.model.specs.lists.Elaborated.{before_rest, bound_let}
 use Rattle.model.specs.rules.Outcome.{then_option}
-use Rattle.model.specs.rules.Typed.{TypedLets, typed_pattern_and, typed_expr_and}
+use Rattle.model.specs.rules.Typed.{TypedLets, typed_expr_and}
 use Rattle.model.specs.claims.Refusals.{NamedLimit}
 use Rattle.core_rules.specs.ExprReadings.{all_made, expr_reading, args_reading, lets_reading}
-use Rattle.core_rules.specs.PatternReadings.{pattern_reading, parts_reading, each_reading}
 use Rattle.core_rules.specs.RuleReadings.{iflet_reading, iflets_reading}
-use Rattle.core_rules.specs.ReachedLimits.{or_after, pattern_limits, parts_limits, each_limits, expr_limits, args_limits, lets_limits, lets_limit, deeper_expr_limit, iflet_limits, iflets_limits}
+use Rattle.laws_errors.specs.ReachedLimits.{or_after}
+use Rattle.core_rules.specs.ReachedLimits.{expr_limits, args_limits, lets_limits, iflet_limits, iflets_limits}
 
 -- 1. one after another
 module _ {Q : Type 0} where
@@ -54,29 +53,7 @@ types_counted xs tys n h k = length-take-le n xs h ∙ sym (length-take-le n tys
 pub types_split : (tys : List TypeId) (n : ℕ) → map (λ t. t.0) tys ≡ map (λ t. t.0) (take n tys) ++ map (λ t. t.0) (drop n tys)
 types_split tys n = ap (map (λ t. t.0)) (sym (take-append-drop n tys)) ∙ map-append (λ t. t.0) (take n tys) (drop n tys)
 
--- 2. patterns
-module _ (e : Setting) (multi : Bool) (d : ℕ) where
-  parts_after : (ps qs : List P.Pattern) (ts us : List ℕ) (n : ℕ) (s : Scope) → length ps ≡ length ts
-      → parts_limits multi (S.pattern_views (ps ++ qs)) (ts ++ us) e d n s
-      ≡ or_after (parts_limits multi (S.pattern_views ps) ts e d n s) (parts_reading multi (S.pattern_views ps) ts e d s) (λ a. parts_limits multi (S.pattern_views qs) us e d (n + a.expansions) a.scope)
-  parts_after [] qs [] us n s h = ap (λ k. parts_limits multi (S.pattern_views qs) us e d k s) (sym (add-zero n))
-  parts_after [] qs (t ∷ ts) us n s h = absurd (omega (arith, h))
-  parts_after (p ∷ ps) qs [] us n s h = absurd (omega (arith, h))
-  parts_after (p ∷ ps) qs (t ∷ ts) us n s h =
-      or_same (pattern_limits multi (S.pattern_view p) t e d n s) (elaborated_pattern e multi d (S.pattern_view p) t s) _ _ (λ a. parts_after ps qs ts us (n + a.expansions) a.scope (omega (arith, h)))
-      ∙ regroup typed_pattern_and (λ a. parts_limits multi (S.pattern_views ps) ts e d (n + a.expansions) a.scope) (λ a. elaborated_parts e multi d (S.pattern_views ps) ts a.scope)
-      (λ k r. parts_limits multi (S.pattern_views qs) us e d k r) n (pattern_limits multi (S.pattern_view p) t e d n s) (elaborated_pattern e multi d (S.pattern_view p) t s)
-
-  each_after : (ps qs : List P.Pattern) (t : ℕ) (n : ℕ) (s : Scope)
-      → each_limits multi (S.pattern_views (ps ++ qs)) t e d n s
-      ≡ or_after (each_limits multi (S.pattern_views ps) t e d n s) (each_reading multi (S.pattern_views ps) t e d s) (λ a. each_limits multi (S.pattern_views qs) t e d (n + a.expansions) a.scope)
-  each_after [] qs t n s = ap (λ k. each_limits multi (S.pattern_views qs) t e d k s) (sym (add-zero n))
-  each_after (p ∷ ps) qs t n s =
-      or_same (pattern_limits multi (S.pattern_view p) t e d n s) (elaborated_pattern e multi d (S.pattern_view p) t s) _ _ (λ a. each_after ps qs t (n + a.expansions) a.scope)
-      ∙ regroup typed_pattern_and (λ a. each_limits multi (S.pattern_views ps) t e d (n + a.expansions) a.scope) (λ a. each_with e multi (deeper_pattern e multi d) (S.pattern_views ps) t a.scope)
-      (λ k r. each_limits multi (S.pattern_views qs) t e d k r) n (pattern_limits multi (S.pattern_view p) t e d n s) (elaborated_pattern e multi d (S.pattern_view p) t s)
-
--- 3. expressions and definitions of lets
+-- 2. expressions and definitions of lets
 module _ (e : Setting) (flags : Flags) (d : ℕ) where
   args_after : (ps qs : List X.Expr) (ts us : List ℕ) (n : ℕ) (s : Scope) → length ps ≡ length ts
       → args_limits (S.expr_views (ps ++ qs)) flags (ts ++ us) e d n s
@@ -117,38 +94,7 @@ module _ (e : Setting) (flags : Flags) (d : ℕ) where
       or_same (iflet_limits i flags e d n s) (iflet_reading i flags e d s) _ _ (λ a. iflets_after is js (n + a.expansions) a.scope)
       ∙ regroup ◌∷◌ (λ a. iflets_limits is flags e d (n + a.expansions) a.scope) (λ a. iflets_reading is flags e d a.scope) (λ k r. iflets_limits js flags e d k r) n (iflet_limits i flags e d n s) (iflet_reading i flags e d s)
 
--- 4. one part further, and the parts that are left
-module _ (multi : Bool) (args : List P.Pattern) (i : ℕ) (p : P.Pattern) (w : i < length args) (arg_is : p ≡ get_or args i p) where
-  args_to : take (i + 1) args ≡ take i args ++ p ∷ []
-  args_to = take_more args i p w ∙ ap (λ q. take i args ++ q ∷ []) (sym arg_is)
-
-  pub each_further : (t : ℕ) (e : Setting) (d n : ℕ) (s : Scope)
-      → each_limits multi (S.pattern_views (take (i + 1) args)) t e d n s
-      ≡ or_after (each_limits multi (S.pattern_views (take i args)) t e d n s) (each_reading multi (S.pattern_views (take i args)) t e d s) (λ a. pattern_limits multi (S.pattern_view p) t e d (n + a.expansions) a.scope)
-  each_further t e d n s =
-      ap (λ ps. each_limits multi (S.pattern_views ps) t e d n s) args_to ∙ each_after e multi d (take i args) (p ∷ []) t n s
-      ∙ or_same (each_limits multi (S.pattern_views (take i args)) t e d n s) (each_reading multi (S.pattern_views (take i args)) t e d s) _ _ (λ a. or_nothing (pattern_limits multi (S.pattern_view p) t e d (n + a.expansions) a.scope) (elaborated_pattern e multi d (S.pattern_view p) t a.scope))
-
-  pub parts_further : (ts us : List ℕ) (t : ℕ) → us ≡ ts ++ t ∷ [] → length (take i args) ≡ length ts → (e : Setting) (d n : ℕ) (s : Scope)
-      → parts_limits multi (S.pattern_views (take (i + 1) args)) us e d n s
-      ≡ or_after (parts_limits multi (S.pattern_views (take i args)) ts e d n s) (parts_reading multi (S.pattern_views (take i args)) ts e d s) (λ a. pattern_limits multi (S.pattern_view p) t e d (n + a.expansions) a.scope)
-  parts_further ts us t longer count e d n s =
-      ap (λ ps. parts_limits multi (S.pattern_views ps) us e d n s) args_to ∙ ap (λ ks. parts_limits multi (S.pattern_views (take i args ++ p ∷ [])) ks e d n s) longer ∙ parts_after e multi d (take i args) (p ∷ []) ts (t ∷ []) n s count
-      ∙ or_same (parts_limits multi (S.pattern_views (take i args)) ts e d n s) (parts_reading multi (S.pattern_views (take i args)) ts e d s) _ _ (λ a. or_nothing (pattern_limits multi (S.pattern_view p) t e d (n + a.expansions) a.scope) (elaborated_pattern e multi d (S.pattern_view p) t a.scope))
-
-module _ (multi : Bool) (args : List P.Pattern) (j : ℕ) where
-  pub each_left : (t : ℕ) (e : Setting) (d n : ℕ) (s : Scope)
-      → each_limits multi (S.pattern_views args) t e d n s
-      ≡ or_after (each_limits multi (S.pattern_views (take j args)) t e d n s) (each_reading multi (S.pattern_views (take j args)) t e d s) (λ a. each_limits multi (S.pattern_views (drop j args)) t e d (n + a.expansions) a.scope)
-  each_left t e d n s = ap (λ ps. each_limits multi (S.pattern_views ps) t e d n s) (sym (take-append-drop j args)) ∙ each_after e multi d (take j args) (drop j args) t n s
-
-  pub parts_left : (all ts us : List ℕ) → all ≡ ts ++ us → length (take j args) ≡ length ts → (e : Setting) (d n : ℕ) (s : Scope)
-      → parts_limits multi (S.pattern_views args) all e d n s
-      ≡ or_after (parts_limits multi (S.pattern_views (take j args)) ts e d n s) (parts_reading multi (S.pattern_views (take j args)) ts e d s) (λ a. parts_limits multi (S.pattern_views (drop j args)) us e d (n + a.expansions) a.scope)
-  parts_left all ts us split count e d n s =
-      ap (λ ps. parts_limits multi (S.pattern_views ps) all e d n s) (sym (take-append-drop j args)) ∙ ap (λ ks. parts_limits multi (S.pattern_views (take j args ++ drop j args)) ks e d n s) split
-      ∙ parts_after e multi d (take j args) (drop j args) ts us n s count
-
+-- 3. one part further, and the parts that are left
 module _ (flags : Flags) (args : List X.Expr) (i : ℕ) (p : X.Expr) (w : i < length args) (arg_is : p ≡ get_or args i p) where
   pub args_further : (ts us : List ℕ) (t : ℕ) → us ≡ ts ++ t ∷ [] → length (take i args) ≡ length ts → (e : Setting) (d n : ℕ) (s : Scope)
       → args_limits (S.expr_views (take (i + 1) args)) flags us e d n s

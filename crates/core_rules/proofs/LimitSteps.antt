@@ -1,20 +1,19 @@
 -- One reading after another, and which limit both come to.
 use Rattle.std.proofs.Common.{◌≡◌, ℕ, ◌+◌, List, [], ◌∷◌, ◌++◌, length, Option, Some, None, Result, Ok, Err, refl, sym, ap, subst, ◌∙◌, inl, inr, ◌⊎◌, ⊎_elim, arith}
 use Rattle.std.proofs.lemmas.List.{length-append}
-use Rattle.std.proofs.lemmas.Option.{none-some}
 use Rattle.core_syntax.specs.declared.syntax.Error.{Error}
 use Rattle.core_syntax.specs.NotedErrors.{NotesMore, MayNoteMore}
-use Rattle.core_syntax.proofs.NotedErrors.{some_noted}
 use Rattle.model.specs.claims.Refusals.{NamedLimit, of_nesting, of_expansions}
 use Rattle.model.specs.lists.Setting.{Setting, Scope}
-use Rattle.model.specs.lists.Typings.{Typing, followed}
+use Rattle.model.specs.lists.Typings.{followed}
 use Rattle.core_rules.specs.declared.term_env.TermEnv.{TermEnv}
 use Rattle.core_rules.specs.declared.typing.progress.Stop.{Stop}
 use Rattle.core_rules.specs.declared.typing.progress.Stop.TheVariants.{Memory, Nesting, Expansions}
-use Rattle.core_rules.specs.ReachedLimits.{Limits, or_after}
+use Rattle.laws_errors.specs.ReachedLimits.{or_after}
+use Rattle.core_rules.specs.ReachedLimits.{Limits}
 use Rattle.core_rules.specs.LimitStops.{ComesTo, EndsByLimit, StopEnds, MeetsLimits, NotLimited, LeadsTo}
-use Rattle.core_rules.specs.Translating.{Standing, Keeps, IsSettingOf, Shows, Reading, Wherever, IsTranslated, IsReported, KeepsNoted, StaysNoted, Stops}
-use Rattle.core_rules.proofs.Readings.{keep_setting, reported_then, then_reported, first_reported, stop_keeps}
+use Rattle.core_rules.specs.Translating.{Standing, Keeps, IsSettingOf, Shows, Reading, Wherever, IsTranslated, IsReported, KeepsNoted, StaysNoted}
+use Rattle.core_rules.proofs.Readings.{keep_setting, reported_then, then_reported, first_reported}
 
 -- what was noted wasn't there before
 pub not_same : {X : Type 0} (old new : List Error) → new ≡ old → NotesMore old new → X

@@ -53,17 +53,19 @@ one_after ps o (Err l) = refl
 
 -- nothing is read yet
 pub none_read : (env : TermEnv) (old : Standing) (whole : Stepping TypedPatterns) (ps : List Pattern) → ps ≡ [] → LeadsOn env old old whole whole (after_made ps)
-none_read env old whole ps none e s is sh new r rest =
-    subst (Took old new (whole e old.work.expansions s)) (after_none r ∙ ap (λ (zs : List Pattern). after_made zs r) (sym none)) (rest s sh)
+none_read env old whole ps none = (inl refl, λ e s is sh new r rest. subst (Took old new (whole e old.work.expansions s)) (after_none r ∙ ap (λ (zs : List Pattern). after_made zs r) (sym none)) (rest s sh))
 
 -- all is read
 pub all_read : (env : TermEnv) (old mid : Standing) (whole rest : Stepping TypedPatterns) (ps : List Pattern) → ((e : Setting) (n : ℕ) (u : Scope) → rest e n u ≡ here no_typed_pattern u)
     → LeadsOn env old mid whole rest (after_made ps) → EndsAs env old mid whole (Ok (Some (pattern_parts (pattern_views ps))))
-all_read env old mid whole rest ps law on e s is sh =
-    subst (λ (qs : TypedPatterns). Took old mid (whole e old.work.expansions s) (Ok (Some qs))) (appended_none (pattern_parts (pattern_views ps)))
-    (on e s is sh mid (Ok (Some no_typed_pattern))
-    (λ u shown. subst (λ t. Took mid mid t (Ok (Some no_typed_pattern))) (sym (law e mid.work.expansions u))
-    (took (Some no_typed_pattern) u 0 [] (none_at mid.work.errors.items mid.work.errors.items refl) shown (omega arith))))
+all_read env old mid whole rest ps law on = (
+  on.0,
+  λ e s is sh.
+      subst (λ (qs : TypedPatterns). Took old mid (whole e old.work.expansions s) (Ok (Some qs))) (appended_none (pattern_parts (pattern_views ps)))
+      (on.1 e s is sh mid (Ok (Some no_typed_pattern))
+      (λ u shown. subst (λ t. Took mid mid t (Ok (Some no_typed_pattern))) (sym (law e mid.work.expansions u))
+      (took (Some no_typed_pattern) u 0 [] (none_at mid.work.errors.items mid.work.errors.items refl) shown (omega arith)))),
+)
 
 -- the arguments of a term
 abbrev pub args_from : Bool → List T.Pattern → List TypeId → ℕ → ℕ → Stepping TypedPatterns

@@ -13,7 +13,9 @@ use Rattle.laws_errors.specs.PatternSteps.{template_step, why_not_matched, term_
 use Rattle.core_types.specs.Envs.{names_of, IsInterned}
 use Rattle.core_terms.specs.Terms.{has_extractor_kind}
 use Rattle.core_typed.specs.Elaborating.{place_unless, NotesEachAt}
-use Rattle.core_typed.proofs.NotedErrors.{none_at}
+use Rattle.core_typed.proofs.NotedErrors.{none_at, may_note}
+use Rattle.core_syntax.specs.NotedErrors.{MayNoteMore}
+use Rattle.core_syntax.proofs.NotedErrors.{may_both}
 use Rattle.core_rules.specs.declared.term_env.TermEnv.{TermEnv}
 use Rattle.core_rules.specs.declared.typing.progress.Stop.{Stop}
 use Rattle.core_rules.specs.declared.typing.progress.Stop.TheVariants.{Memory, Nesting, Expansions}
@@ -64,18 +66,18 @@ module _ (e : Setting) (multi : Bool) (p : PatternTree) (ty : ℕ) (s : Scope) w
 
 -- where none may be the work on the whole stops
 pub expansion_stops : (env : TermEnv) (old mid new : Standing) (multi : Bool) (p : PatternTree) (ty d : ℕ) (whole : Stepping TypedPattern) → new.tyenv ≡ mid.tyenv → names_of mid.tyenv ≡ names_of old.tyenv
-    → mid.work.expansions ≡ old.work.expansions
+    → mid.work.expansions ≡ old.work.expansions → MayNoteMore old.work.errors.items mid.work.errors.items
     → Wherever env old (λ e s. (r : Ending TypedPattern) → Took mid mid (deeper_step e multi d p ty old.work.expansions s) r → Took old mid (whole e old.work.expansions s) r)
     → (stop : Stop) → Counts d mid.work new.work (Err stop) → StopsBy env old new whole stop
-expansion_stops env old mid new multi p ty d whole same names count lift (Memory a) x = absurd x
-expansion_stops env old mid new multi p ty d whole same names count lift Nesting x = λ e s is sh.
+expansion_stops env old mid new multi p ty d whole same names count may lift (Memory a) x = absurd x
+expansion_stops env old mid new multi p ty d whole same names count may lift Nesting x =
     let moved : mid ≡ new = λ i. record { tyenv = sym same i; work = sym x.1 i } in
-    subst (λ (at : Standing). Took old at (whole e old.work.expansions s) (Err of_nesting)) moved
-    (lift e s is sh (Err of_nesting) (too_deep e multi p ty s mid d old.work.expansions x.0 (names ∙ sh.names)))
-expansion_stops env old mid new multi p ty d whole same names count lift Expansions x = λ e s is sh.
+    subst (λ (at : Standing). EndsAs env old at whole (Err of_nesting)) moved
+    (may, λ e s is sh. lift e s is sh (Err of_nesting) (too_deep e multi p ty s mid d old.work.expansions x.0 (names ∙ sh.names)))
+expansion_stops env old mid new multi p ty d whole same names count may lift Expansions x =
     let moved : mid ≡ new = λ i. record { tyenv = sym same i; work = sym x.1 i } in
-    subst (λ (at : Standing). Took old at (whole e old.work.expansions s) (Err of_expansions)) moved
-    (lift e s is sh (Err of_expansions) (too_many e multi p ty s mid d old.work.expansions x.2 (let m = x.0 in omega (arith, m, count)) (names ∙ sh.names)))
+    subst (λ (at : Standing). EndsAs env old at whole (Err of_expansions)) moved
+    (may, λ e s is sh. lift e s is sh (Err of_expansions) (too_many e multi p ty s mid d old.work.expansions x.2 (let m = x.0 in omega (arith, m, count)) (names ∙ sh.names)))
 
 -- 2. the use of a term
 module _ (multi : Bool) (env : TermEnv) (old : Standing) (inv : IsInterned old.tyenv) (name : Name) (args : PatternTrees) (at : Position) (ty d : ℕ) where
@@ -91,9 +93,12 @@ module _ (multi : Bool) (env : TermEnv) (old : Standing) (inv : IsInterned old.t
   -- no term has the name
   pub unknown_used : (new : Standing) → None ≡ found_term env old.tyenv name.text → names_of new.tyenv ≡ names_of old.tyenv → Remains old.work new.work
       → NotesEachAt (at ∷ []) old.work.errors.items new.work.errors.items → EndsAs env old new (pattern_steps multi whole ty d) (Ok None)
-  unknown_used new none same r n e s is sh =
-      subst (λ o. Took old new (found_step e multi (deeper e) name args at ty old.work.expansions s (parts e old.work.expansions s) o) (Ok None)) (sym (found_so env old inv name.text None none e s is sh))
-      (took None s 0 (record { why = unknown_extractor name.text; at = at } ∷ []) n (still old new s same r sh) (let k = r.expansions in omega (arith, k)))
+  unknown_used new none same r n = (
+    may_note n,
+    λ e s is sh.
+        subst (λ o. Took old new (found_step e multi (deeper e) name args at ty old.work.expansions s (parts e old.work.expansions s) o) (Ok None)) (sym (found_so env old inv name.text None none e s is sh))
+        (took None s 0 (record { why = unknown_extractor name.text; at = at } ∷ []) n (still old new s same r sh) (let k = r.expansions in omega (arith, k))),
+  )
 
   module _ (t : TermEntry) (known : Some t ≡ found_term env old.tyenv name.text) where
     known_steps : (e : Setting) (n : ℕ) (s : Scope) → IsSettingOf old.tyenv env e → Shows old s
@@ -116,13 +121,16 @@ module _ (multi : Bool) (env : TermEnv) (old : Standing) (inv : IsInterned old.t
 
       pub conversion_leads : (new : Standing) (left : ℕ) → names_of new.tyenv ≡ names_of old.tyenv → suc left ≡ d → CountsOne old.work new.work
           → LeadsOn env old new (pattern_steps multi whole ty d) (pattern_steps multi inside ty left) (λ r. r)
-      conversion_leads new left same nests one e s is sh after r rest =
-          subst (λ t. Took old after t r) (sym (conversion e old.work.expansions s is sh))
-          (went_deeper e multi inside ty s old new after d left old.work.expansions nests refl one.expansions one.errors r (rest s (counted_shows old new s same one sh)))
+      conversion_leads new left same nests one = (
+        inl one.errors,
+        λ e s is sh after r rest.
+            subst (λ t. Took old after t r) (sym (conversion e old.work.expansions s is sh))
+            (went_deeper e multi inside ty s old new after d left old.work.expansions nests refl one.expansions one.errors r (rest s (counted_shows old new s same one sh))),
+      )
 
       pub conversion_stops : (new : Standing) → new.tyenv ≡ old.tyenv → (stop : Stop) → Counts d old.work new.work (Err stop) → StopsBy env old new (pattern_steps multi whole ty d) stop
       conversion_stops new same stop x =
-          expansion_stops env old old new multi inside ty d (pattern_steps multi whole ty d) same refl refl
+          expansion_stops env old old new multi inside ty d (pattern_steps multi whole ty d) same refl refl (inl refl)
           (λ e s is sh r h. subst (λ t. Took old old t r) (sym (conversion e old.work.expansions s is sh)) h) stop x
 
     -- a use without a conversion, of a template or of the term itself
@@ -180,36 +188,45 @@ module _ (multi : Bool) (env : TermEnv) (old : Standing) (inv : IsInterned old.t
       pub parts_lead : None ≡ found_template env t → (new : Standing) → names_of new.tyenv ≡ names_of mid.tyenv → Remains mid.work new.work
           → NotesEachAt (place_unless (is_matchable multi t.kind) at) mid.work.errors.items new.work.errors.items
           → LeadsOn env old new (pattern_steps multi whole ty d) (parts_steps multi args t.arg_tys d) (made_end (match_term t.ret_ty t.id))
-      parts_lead no_template new here q usable e s is sh after z rest =
-          let from_old : Took new after (parts e old.work.expansions s t.arg_tys) z =
-          subst (λ (n : ℕ). Took new after (parts e n s t.arg_tys) z) (q.expansions ∙ r.expansions) (rest s (still mid new s here q (still old mid s same r sh))) in
-          checked none None no_template mid count as_many same r checks after e s is sh (made_end (match_term t.ret_ty t.id) z)
-          (noted mid new after (unless (is_matchable multi t.kind) (why_not_matched name.text t.kind) at)
-          (unless_at (is_matchable multi t.kind) (why_not_matched name.text t.kind) at mid.work.errors.items new.work.errors.items usable) q.expansions
-          (made_step (match_term t.ret_ty t.id) (parts e old.work.expansions s t.arg_tys)) (made_end (match_term t.ret_ty t.id) z)
-          (made (match_term t.ret_ty t.id) new after (parts e old.work.expansions s t.arg_tys) z from_old))
+      parts_lead no_template new here q usable = (
+        may_both old.work.errors.items mid.work.errors.items new.work.errors.items (may_note checks) (may_note usable),
+        λ e s is sh after z rest.
+            let from_old : Took new after (parts e old.work.expansions s t.arg_tys) z =
+            subst (λ (n : ℕ). Took new after (parts e n s t.arg_tys) z) (q.expansions ∙ r.expansions) (rest s (still mid new s here q (still old mid s same r sh))) in
+            checked none None no_template mid count as_many same r checks after e s is sh (made_end (match_term t.ret_ty t.id) z)
+            (noted mid new after (unless (is_matchable multi t.kind) (why_not_matched name.text t.kind) at)
+            (unless_at (is_matchable multi t.kind) (why_not_matched name.text t.kind) at mid.work.errors.items new.work.errors.items usable) q.expansions
+            (made_step (match_term t.ret_ty t.id) (parts e old.work.expansions s t.arg_tys)) (made_end (match_term t.ret_ty t.id) z)
+            (made (match_term t.ret_ty t.id) new after (parts e old.work.expansions s t.arg_tys) z from_old)),
+      )
 
       -- of its template
       module _ (template : PatternTree) (there : Some template ≡ found_template env t) where
         -- with an argument that isn't given
         pub nothing_used : None ≡ substituted (pattern_list args) template → EndsAs env old mid (pattern_steps multi whole ty d) (Ok None)
-        nothing_used missing e s is sh =
-            checked none (Some template) there mid count as_many same r checks mid e s is sh (Ok None)
-            (subst (λ o. Took mid mid (template_step (deeper e) ty old.work.expansions s o) (Ok None)) missing (took None s 0 [] (none_at mid.work.errors.items mid.work.errors.items refl) (still old mid s same r sh) (omega arith)))
+        nothing_used missing = (
+          may_note checks,
+          λ e s is sh.
+              checked none (Some template) there mid count as_many same r checks mid e s is sh (Ok None)
+              (subst (λ o. Took mid mid (template_step (deeper e) ty old.work.expansions s o) (Ok None)) missing (took None s 0 [] (none_at mid.work.errors.items mid.work.errors.items refl) (still old mid s same r sh) (omega arith))),
+        )
 
         -- as what it makes
         module _ (p : PatternTree) (is_made : Some p ≡ substituted (pattern_list args) template) where
           pub template_leads : (new : Standing) (left : ℕ) → names_of new.tyenv ≡ names_of mid.tyenv → suc left ≡ d → CountsOne mid.work new.work
               → LeadsOn env old new (pattern_steps multi whole ty d) (pattern_steps multi p ty left) (λ r. r)
-          template_leads new left here nests one e s is sh after z rest =
-              checked none (Some template) there mid count as_many same r checks after e s is sh z
-              (subst (λ o. Took mid after (template_step (deeper e) ty old.work.expansions s o) z) is_made
-              (went_deeper e multi p ty s mid new after d left old.work.expansions nests (sym r.expansions) (one.expansions ∙ ap (λ (k : ℕ). k + 1) r.expansions) one.errors z
-              (rest s (counted_shows mid new s here one (still old mid s same r sh)))))
+          template_leads new left here nests one = (
+            may_both old.work.errors.items mid.work.errors.items new.work.errors.items (may_note checks) (inl one.errors),
+            λ e s is sh after z rest.
+                checked none (Some template) there mid count as_many same r checks after e s is sh z
+                (subst (λ o. Took mid after (template_step (deeper e) ty old.work.expansions s o) z) is_made
+                (went_deeper e multi p ty s mid new after d left old.work.expansions nests (sym r.expansions) (one.expansions ∙ ap (λ (k : ℕ). k + 1) r.expansions) one.errors z
+                (rest s (counted_shows mid new s here one (still old mid s same r sh))))),
+          )
 
           pub template_stops : (new : Standing) → new.tyenv ≡ mid.tyenv → (stop : Stop) → Counts d mid.work new.work (Err stop) → StopsBy env old new (pattern_steps multi whole ty d) stop
           template_stops new here stop x =
-              expansion_stops env old mid new multi p ty d (pattern_steps multi whole ty d) here same r.expansions
+              expansion_stops env old mid new multi p ty d (pattern_steps multi whole ty d) here same r.expansions (may_note checks)
               (λ e s is sh z h.
               checked none (Some template) there mid count as_many same r checks mid e s is sh z
               (subst (λ o. Took mid mid (template_step (deeper e) ty old.work.expansions s o) z) is_made h))

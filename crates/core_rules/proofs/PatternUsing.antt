@@ -1,6 +1,6 @@
 -- The use of a term in a pattern, step by step as it is looked at.
-use Rattle.std.proofs.Common.{◌≡◌, ℕ, zero, suc, ◌+◌, ◌<◌, ◌≤◌, Bool, true, false, cond, eqb, List, [], ◌∷◌, length, map, Option, Some, None, is_some, option_and_then, slice_get, unwrap_or, Err, refl, sym, ap, subst, ◌∙◌, inl, inr, ◌⊎◌, ⊎_elim, arith}
-use Rattle.std.proofs.lemmas.Bool.{eq-eqb, eqb-true, cases_Bool, false≢true}
+use Rattle.std.proofs.Common.{◌≡◌, ℕ, zero, suc, ◌≤◌, Bool, true, false, cond, eqb, List, [], ◌∷◌, length, map, Option, Some, None, option_and_then, slice_get, Err, refl, sym, ap, subst, ◌∙◌, inl, inr, ◌⊎◌, ⊎_elim, arith}
+use Rattle.std.proofs.lemmas.Bool.{cases_Bool}
 use Rattle.std.proofs.lemmas.Option.{none-some}
 use Rattle.core_syntax.specs.declared.syntax.Error.{Error}
 use Rattle.core_syntax.specs.declared.syntax.Pattern.{Pattern}
@@ -8,30 +8,27 @@ use Rattle.core_syntax.specs.SyntaxViews as S
 use Rattle.model.specs.lists.Syntax.{Position, Name, PatternTree, PatternTrees, no_pattern, pattern_and, term_pattern, pattern_list}
 use Rattle.model.specs.lists.Names.{number}
 use Rattle.model.specs.lists.Tables.{TermKindEntry, variant_term, struct_term, declared_term, TermEntry}
-use Rattle.model.specs.lists.Expansions.{substituted, wrapped_pattern}
-use Rattle.model.specs.lists.Setting.{Setting, Scope, entry_named, term_of, that, has_extractor, is_matchable, kind_template, template_in, pattern_converter}
-use Rattle.model.specs.lists.Typings.{Typing, made_into, followed, counted}
-use Rattle.model.specs.lists.Elaborated.{deeper_pattern, elaborated_pattern, elaborated_parts}
+use Rattle.model.specs.lists.Expansions.{substituted}
+use Rattle.model.specs.lists.Setting.{Setting, Scope, entry_named, term_of, that, has_extractor, kind_template, pattern_converter}
+use Rattle.model.specs.lists.Typings.{Typing, followed, counted}
+use Rattle.model.specs.lists.Elaborated.{elaborated_pattern, elaborated_parts}
 use Rattle.model.specs.rules.Outcome.{then_option}
-use Rattle.model.specs.rules.Typed.{match_term, typed_pattern_and}
+use Rattle.model.specs.rules.Typed.{typed_pattern_and}
 use Rattle.model.proofs.Options.{then_some}
-use Rattle.laws_typing.proofs.Typings.{ne-eqb, counted_gives}
-use Rattle.core_types.specs.Envs.{names_of, symbol_of, IsInterned}
+use Rattle.laws_typing.proofs.Typings.{counted_gives}
+use Rattle.core_types.specs.Envs.{symbol_of, IsInterned}
 use Rattle.core_syntax.specs.NotedErrors.{NotesMore, MayNoteMore}
 use Rattle.core_syntax.proofs.NotedErrors.{both}
-use Rattle.core_typed.proofs.FirstErrors.{may_check}
 use Rattle.core_terms.specs.Terms.{has_extractor_kind}
 use Rattle.core_terms.specs.TermViews.{term_views}
 use Rattle.core_rules.specs.declared.term_env.TermEnv.{TermEnv}
 use Rattle.core_rules.specs.declared.typing.progress.Stop.{Stop}
 use Rattle.core_rules.specs.declared.typing.progress.Stop.TheVariants.{Memory, Nesting, Expansions}
 use Rattle.core_typed.specs.Elaborating.{Checks}
-use Rattle.core_rules.specs.Progress.{Remains, CountsOne, Counts}
+use Rattle.core_rules.specs.Progress.{Counts}
 use Rattle.core_rules.specs.TermEnvs.{term_in_env}
-use Rattle.core_rules.specs.PatternReadings.{pattern_reading, parts_reading}
-use Rattle.core_rules.specs.PatternUses.{found_term, found_converter, found_template, inside_term, IsExpansionOf, TakesParts}
-use Rattle.core_rules.specs.Translating.{Standing, Reading, IsSettingOf, Shows, Wherever, IsReported, Stops, ExpandsTo, converter_in, expanding}
-use Rattle.core_rules.proofs.Scopes.{still}
+use Rattle.core_rules.specs.PatternUses.{found_term, found_converter, found_template, IsExpansionOf}
+use Rattle.core_rules.specs.Translating.{Standing, Reading, IsSettingOf, Shows, Wherever, Stops, converter_in, expanding}
 use Rattle.core_rules.proofs.TermsFound.{found_named}
 
 -- one fact after another is checked
@@ -93,11 +90,6 @@ pub that_same : (p q : TermEntry → Bool) → ((t : TermEntry) → p t ≡ q t)
 that_same p q h None = refl
 that_same p q h (Some t) = ap (λ b. cond b (Some t) None) (h t)
 
--- what may be expanded still
-counted_deeper : (e : Setting) (multi : Bool) (c : ℕ) (p : PatternTree) (ty : ℕ) (s : Scope) → counted (deeper_pattern e multi c p ty s) ≡ expanding (λ d. elaborated_pattern e multi d p ty s) c
-counted_deeper e multi zero p ty s = refl
-counted_deeper e multi (suc c) p ty s = refl
-
 -- a name is found by its number
 module _ (env : TermEnv) (at : Standing) (inv : IsInterned at.tyenv) (x : List ℕ) where
   pub found_so : (o : Option TermEntry) → o ≡ found_term env at.tyenv x → (e : Setting) (s : Scope) → IsSettingOf at.tyenv env e → Shows at s → term_of e s x ≡ o
@@ -106,13 +98,6 @@ module _ (env : TermEnv) (at : Standing) (inv : IsInterned at.tyenv) (x : List �
 module _ (multi : Bool) (env : TermEnv) (old : Standing) (inv : IsInterned old.tyenv) (name : Name) (args : PatternTrees) (at : Position) (ty : ℕ) where
   abbrev whole : PatternTree
   whole = term_pattern name args at
-
-  -- no term has the name
-  pub unknown_use : (new : Standing) → None ≡ found_term env old.tyenv name.text → NotesMore old.work.errors.items new.work.errors.items → IsReported env old new (pattern_reading multi whole ty)
-  unknown_use new none more = record {
-    errors = inr more;
-    noted = λ e s is sh. record { reports = more; none = λ c. let h = found_so env old inv name.text None none e s is sh in rw h refl };
-  }
 
   module _ (t : TermEntry) (known : Some t ≡ found_term env old.tyenv name.text) where
     pub found : (e : Setting) (s : Scope) → IsSettingOf old.tyenv env e → Shows old s → term_of e s name.text ≡ Some t
@@ -133,165 +118,9 @@ module _ (multi : Bool) (env : TermEnv) (old : Standing) (inv : IsInterned old.t
       pub differs : eqb t.ret_ty ty ≡ false
       differs = elim (cases_Bool (eqb t.ret_ty ty)) [ inr f ↦ f | inl same ↦ absurd (none-some by (sym (rw same refl) ∙ sym converts)) ]
 
-      conversion : (e : Setting) (s : Scope) → IsSettingOf old.tyenv env e → Shows old s → (c : ℕ)
-          → pattern_reading multi whole ty e c s ≡ expanding (λ d. pattern_reading multi (inside_term old.tyenv by at whole) ty e d s) c
-      conversion e s is sh c =
-          let h = found e s is sh in
-          let k : pattern_converter e t.ret_ty ty ≡ Some by = converter_is e is differs ∙ sym converts in
-          let law : pattern_reading multi whole ty e c s ≡ counted (deeper_pattern e multi c (wrapped_pattern s by at whole) ty s) = rw (h, differs, k) refl in
-          law ∙ counted_deeper e multi c (wrapped_pattern s by at whole) ty s
-          ∙ ap (λ ns. expanding (λ d. elaborated_pattern e multi d (term_pattern (record { text = unwrap_or (slice_get ns by.name) []; at = at }) (pattern_and whole no_pattern) at) ty s) c) (sym sh.names)
-
-      pub converted_use : (new : Standing) → names_of new.tyenv ≡ names_of old.tyenv → CountsOne old.work new.work → ExpandsTo env old new (pattern_reading multi whole ty) (pattern_reading multi (inside_term old.tyenv by at whole) ty)
-      converted_use new same one = record {
-        errors = one.errors;
-        expansions = one.expansions;
-        shows = λ e s is sh. record {
-          names = same ∙ sh.names;
-          vars = one.vars ∙ sh.vars;
-          visible = λ k. one.names k ∙ sh.visible k;
-          met = λ k v h. subst (λ (ns : List (List ℕ)). k < length ns) (sym same) (sh.met k v (sym (one.names k) ∙ h));
-        };
-        becomes = conversion;
-      }
-
-      pub conversion_stops : (new : Standing) (d : ℕ) (stop : Stop) → Counts d old.work new.work (Err stop) → Stops env old new d (pattern_reading multi whole ty) stop
-      conversion_stops new d stop x =
-          expansion_stops env old old new d (pattern_reading multi whole ty) (λ e s d. pattern_reading multi (inside_term old.tyenv by at whole) ty e d s)
-          (λ e s is sh c. inr (conversion e s is sh c)) refl (inl refl) stop x
-
-    -- a use without a conversion
-    module _ (none : None ≡ found_converter env has_extractor_kind t.ret_ty ty) where
-      mismatched : (e : Setting) (s : Scope) → IsSettingOf old.tyenv env e → Shows old s → eqb t.ret_ty ty ≡ false → (c : ℕ) → pattern_reading multi whole ty e c s ≡ None
-      mismatched e s is sh ne c =
-          let h = found e s is sh in
-          let k : pattern_converter e t.ret_ty ty ≡ None = converter_is e is ne ∙ sym none in
-          rw (h, ne, k) refl
-
-      -- of the term itself
-      module _ (no_template : None ≡ found_template env t) where
-        pub no_template_in : (e : Setting) → IsSettingOf old.tyenv env e → template_in e t.kind ≡ None
-        no_template_in e is = ap (λ b. cond b (kind_template t.kind) None) is.expand ∙ sym no_template
-
-        abbrev Fits : ℕ → Type 0
-        Fits n = ((t.ret_ty ≡ ty) × (n ≡ length t.arg_tys)) × (is_matchable multi t.kind ≡ true)
-
-        unfit : (n : ℕ) → n ≡ length (pattern_list args) → (Fits n → ⊥) → (e : Setting) (s : Scope) → IsSettingOf old.tyenv env e → Shows old s → (c : ℕ) → pattern_reading multi whole ty e c s ≡ None
-        unfit n count wrong e s is sh c =
-            let h = found e s is sh in
-            let j = no_template_in e is in
-            elim (cases_Bool (eqb t.ret_ty ty)) [
-              | inr ne ↦ mismatched e s is sh ne c
-              | inl same ↦ elim (cases_Bool (is_matchable multi t.kind)) [
-                | inr not_so ↦ rw (h, same, j, not_so) refl
-                | inl may ↦
-                    let p = parts_count e multi c args t.arg_tys s (λ k. wrong ((eqb-true t.ret_ty ty same, count ∙ k), may)) in
-                    rw (h, same, j, may, p) refl
-              ]
-            ]
-
-        fit : (n : ℕ) → Fits n → (e : Setting) (s : Scope) → IsSettingOf old.tyenv env e → Shows old s → (c : ℕ)
-            → pattern_reading multi whole ty e c s ≡ made_into (match_term t.ret_ty t.id) (parts_reading multi args t.arg_tys e c s)
-        fit n fits e s is sh c =
-            let h = found e s is sh in
-            let j = no_template_in e is in
-            let same = eq-eqb t.ret_ty ty fits.0.0 in
-            let m = fits.1 in
-            let law : pattern_reading multi whole ty e c s ≡ made_into (match_term ty t.id) (parts_reading multi args t.arg_tys e c s) = rw (h, same, j, m) refl in
-            law ∙ ap (λ (u : ℕ). made_into (match_term u t.id) (parts_reading multi args t.arg_tys e c s)) (sym fits.0.0)
-
-        pub parts_used : (new : Standing) (n : ℕ) → n ≡ length (pattern_list args) → names_of new.tyenv ≡ names_of old.tyenv → Remains old.work new.work → Checks old.work.errors.items new.work.errors.items (Fits n)
-            → TakesParts env old new multi whole args ty t ⊎ IsReported env old new (pattern_reading multi whole ty)
-        parts_used new n count same r (inl ok) = inl (record {
-          errors = ok.0;
-          expansions = r.expansions;
-          count = sym count ∙ ok.1.0.1;
-          shows = λ e s is sh. still old new s same r sh;
-          becomes = fit n ok.1;
-        })
-        parts_used new n count same r (inr wrong) = inr (record { errors = inr wrong.0; noted = λ e s is sh. record { reports = wrong.0; none = unfit n count wrong.1 e s is sh } })
-
-      -- of its template
-      module _ (template : PatternTree) (there : Some template ≡ found_template env t) where
-        pub template_is : (e : Setting) → IsSettingOf old.tyenv env e → template_in e t.kind ≡ Some template
-        template_is e is = ap (λ b. cond b (kind_template t.kind) None) is.expand ∙ sym there
-
+    -- what its template makes
+    pub template_expands : (template made : PatternTree) → Some template ≡ found_template env t → Some made ≡ substituted (pattern_list args) template → IsExpansionOf env whole args made
+    template_expands template made there is_made = let p = at_place in inr (p.0, t, template, p.1, kind_is, sym is_made)
+      where
         kind_is : kind_template t.kind ≡ Some template
         kind_is = elim (env.expand_internal_extractors) as (λ b. Some template ≡ cond b (kind_template t.kind) None → kind_template t.kind ≡ Some template) [ true ↦ λ k. sym k | false ↦ λ k. absurd (none-some template (sym k)) ] there
-
-        unfolded : (e : Setting) (s : Scope) → IsSettingOf old.tyenv env e → Shows old s → eqb t.ret_ty ty ≡ true → (c : ℕ)
-            → pattern_reading multi whole ty e c s ≡ then_option (cond (eqb (length (pattern_list args)) (length t.arg_tys)) (substituted (pattern_list args) template) None) (λ p. counted (deeper_pattern e multi c p ty s))
-        unfolded e s is sh same c =
-            let h = found e s is sh in
-            let j = template_is e is in
-            rw (h, same, j) refl
-
-        module _ (mid : Standing) (n : ℕ) (count : n ≡ length (pattern_list args)) (checks : Checks old.work.errors.items mid.work.errors.items ((t.ret_ty ≡ ty) × (n ≡ length t.arg_tys))) where
-          abbrev Matches : Type 0
-          Matches = (t.ret_ty ≡ ty) × (n ≡ length t.arg_tys)
-
-          pub unmatched : (Matches → ⊥) → (e : Setting) (s : Scope) → IsSettingOf old.tyenv env e → Shows old s → (c : ℕ) → pattern_reading multi whole ty e c s ≡ None
-          unmatched wrong e s is sh c = elim (cases_Bool (eqb t.ret_ty ty)) [
-            | inr ne ↦ mismatched e s is sh ne c
-            | inl same ↦
-                unfolded e s is sh same c
-                ∙ ap (λ b. then_option (cond b (substituted (pattern_list args) template) None) (λ p. counted (deeper_pattern e multi c p ty s)))
-                (ne-eqb (length (pattern_list args)) (length t.arg_tys) (λ k. wrong (eqb-true t.ret_ty ty same, count ∙ k)))
-          ]
-
-          -- with an argument that isn't given
-          pub nothing_made : None ≡ substituted (pattern_list args) template → IsReported env old mid (pattern_reading multi whole ty)
-          nothing_made missing = record {
-            errors = ⊎_elim (λ ok. inl ok.0) (λ wrong. inr wrong.0) checks;
-            noted = λ e s is sh.
-                ⊎_elim
-                (λ ok.
-                let p = at_place in
-                let given = is.templates p.0 t (subst (λ ts. slice_get ts p.0 ≡ Some t) is.terms p.1) template (pattern_list args) kind_is (sym count ∙ ok.1.1) in
-                absurd (false≢true (ap is_some missing ∙ given)))
-                (λ wrong. record { reports = wrong.0; none = unmatched wrong.1 e s is sh })
-                checks;
-          }
-
-          -- as what it makes
-          module _ (made : PatternTree) (is_made : Some made ≡ substituted (pattern_list args) template) where
-            matched : Matches → (e : Setting) (s : Scope) → IsSettingOf old.tyenv env e → Shows old s → (c : ℕ) → pattern_reading multi whole ty e c s ≡ expanding (λ d. pattern_reading multi made ty e d s) c
-            matched ok e s is sh c =
-                unfolded e s is sh (eq-eqb t.ret_ty ty ok.0) c
-                ∙ ap (λ b. then_option (cond b (substituted (pattern_list args) template) None) (λ p. counted (deeper_pattern e multi c p ty s))) (eq-eqb (length (pattern_list args)) (length t.arg_tys) (sym count ∙ ok.1))
-                ∙ ap (λ o. then_option o (λ p. counted (deeper_pattern e multi c p ty s))) (sym is_made)
-                ∙ counted_deeper e multi c made ty s
-
-            pub template_expands : IsExpansionOf env whole args made
-            template_expands = let p = at_place in inr (p.0, t, template, p.1, kind_is, sym is_made)
-
-            pub template_made : (new : Standing) → names_of mid.tyenv ≡ names_of old.tyenv → names_of new.tyenv ≡ names_of mid.tyenv → Remains old.work mid.work → CountsOne mid.work new.work
-                → ExpandsTo env old new (pattern_reading multi whole ty) (pattern_reading multi made ty) ⊎ IsReported env old new (pattern_reading multi whole ty)
-            template_made new same here r one =
-                ⊎_elim
-                (λ ok. inl (record {
-                  errors = one.errors ∙ ok.0;
-                  expansions = one.expansions ∙ ap (λ k. k + 1) r.expansions;
-                  shows = λ e s is sh. let m = still old mid s same r sh in record {
-                    names = here ∙ m.names;
-                    vars = one.vars ∙ m.vars;
-                    visible = λ k. one.names k ∙ m.visible k;
-                    met = λ k v h. subst (λ (ns : List (List ℕ)). k < length ns) (sym here) (m.met k v (sym (one.names k) ∙ h));
-                  };
-                  becomes = matched ok.1;
-                }))
-                (λ wrong.
-                let more = subst (NotesMore old.work.errors.items) (sym one.errors) wrong.0 in
-                inr (record { errors = inr more; noted = λ e s is sh. record { reports = more; none = unmatched wrong.1 e s is sh } }))
-                checks
-
-            pub template_stops : (new : Standing) (d : ℕ) → Remains old.work mid.work → (stop : Stop) → Counts d mid.work new.work (Err stop) → Stops env old new d (pattern_reading multi whole ty) stop
-            template_stops new d r stop x =
-                expansion_stops env old mid new d (pattern_reading multi whole ty) (λ e s d. pattern_reading multi made ty e d s)
-                (λ e s is sh c. elim (cases_Bool (eqb t.ret_ty ty)) [
-                  | inr ne ↦ inl (mismatched e s is sh ne c)
-                  | inl same ↦ elim (cases_Bool (eqb (length (pattern_list args)) (length t.arg_tys))) [
-                    | inr other ↦ inl (unmatched (λ ok. false≢true (sym other ∙ eq-eqb (length (pattern_list args)) (length t.arg_tys) (sym count ∙ ok.1))) e s is sh c)
-                    | inl alike ↦ inr (matched (eqb-true t.ret_ty ty same, count ∙ eqb-true (length (pattern_list args)) (length t.arg_tys) alike) e s is sh c)
-                  ]
-                ]) r.expansions (may_check checks) stop x

@@ -1,5 +1,5 @@
 -- What patterns without parts do as their steps say, and a name around a pattern.
-use Rattle.std.proofs.Common.{◌≡◌, ℕ, ℤ, Bool, not, nat_eq, List, [], ◌∷◌, length, Option, Some, None, is_some, option_map, slice_get, Result, Ok, Err, refl, sym, ap, subst, ◌∙◌, arith}
+use Rattle.std.proofs.Common.{◌≡◌, ℕ, ℤ, Bool, not, nat_eq, List, [], ◌∷◌, length, Option, Some, None, is_some, option_map, slice_get, Result, Ok, Err, inl, refl, sym, ap, subst, ◌∙◌, arith}
 use Rattle.std.proofs.lemmas.Option.{none-some, same_Some}
 use Rattle.model.specs.lists.Syntax.{Position, Name, var_pattern, bool_pattern, int_pattern, prim_pattern, macro_arg, wildcard_pattern, PatternTree, bind_pattern}
 use Rattle.model.specs.lists.Names.{number, with_name}
@@ -15,7 +15,8 @@ use Rattle.laws_errors.specs.PatternSteps.{var_step, bind_step, constant_step}
 use Rattle.core_types.specs.Envs.{names_of, constant_at}
 use Rattle.core_types.specs.TypeViews.{type_views}
 use Rattle.core_typed.specs.Elaborating.{place_unless, NotesEachAt}
-use Rattle.core_typed.proofs.NotedErrors.{none_at}
+use Rattle.core_typed.proofs.NotedErrors.{none_at, may_note}
+use Rattle.core_syntax.proofs.NotedErrors.{may_both}
 use Rattle.core_typed.specs.declared.patterns.Pattern.{Pattern}
 use Rattle.core_typed.specs.PatternViews.{pattern_view}
 use Rattle.core_rules.specs.declared.term_env.TermEnv.{TermEnv}
@@ -34,32 +35,32 @@ use Rattle.core_rules.proofs.Taken.{Goes, seen, taken_as, tested, later, unless_
 module _ (env : TermEnv) (old new : Standing) (x : Name) (at : Position) (ty : ℕ) (names : names_of new.tyenv ≡ with_name (names_of old.tyenv) x.text) where
   pub var_taken : (v : TypedVar) → Some v ≡ newest old.work (number (names_of old.tyenv) x.text) → Remains old.work new.work
       → NotesEachAt (place_unless (nat_eq v.ty ty) at) old.work.errors.items new.work.errors.items → EndsAs env old new (leaf_steps (var_pattern x at) ty) (Ok (Some (match_var v.ty v.id)))
-  var_taken v found r n e s is sh =
+  var_taken v found r n = (may_note n, λ e s is sh.
       subst (λ o. Took old new (var_step ty x.text at s o) (Ok (Some (match_var v.ty v.id)))) (sym (var_is old s x.text (Some v) sh found))
-      (tested old new (nat_eq v.ty ty) (bound_type x.text ty v.ty) at (match_var v.ty v.id) (match_var v.ty v.id) s refl n (still old new s (names ∙ var_met old s x.text v sh found) r sh) r.expansions)
+      (tested old new (nat_eq v.ty ty) (bound_type x.text ty v.ty) at (match_var v.ty v.id) (match_var v.ty v.id) s refl n (still old new s (names ∙ var_met old s x.text v sh found) r sh) r.expansions))
 
   pub new_taken : None ≡ newest old.work (number (names_of old.tyenv) x.text) → BindsNext (number (names_of old.tyenv) x.text) ty old.work new.work → (id : ℕ) → id ≡ length old.work.seen.items
       → EndsAs env old new (leaf_steps (var_pattern x at) ty) (Ok (Some (match_bind ty id (match_any ty))))
-  new_taken none b id place e s is sh =
+  new_taken none b id place = (inl b.errors, λ e s is sh.
       subst (λ o. Took old new (var_step ty x.text at s o) (Ok (Some (match_bind ty id (match_any ty))))) (sym (var_is old s x.text None sh none))
       (taken_as old new (Some (match_bind ty (length s.vars) (match_any ty))) (Some (match_bind ty id (match_any ty))) (bound s x.text ty) 0 []
       (ap (λ (i : ℕ). Some (match_bind ty i (match_any ty))) (sym (place ∙ as_many old s sh)))
-      (none_at old.work.errors.items new.work.errors.items b.errors) (bound_shows old new s x.text ty sh names b) (let k = b.expansions in omega (arith, k)))
+      (none_at old.work.errors.items new.work.errors.items b.errors) (bound_shows old new s x.text ty sh names b) (let k = b.expansions in omega (arith, k))))
 
   -- a named constant
   pub unknown_taken : None ≡ constant_at old.tyenv (number (names_of old.tyenv) x.text) → Remains old.work new.work → NotesEachAt (at ∷ []) old.work.errors.items new.work.errors.items
       → EndsAs env old new (leaf_steps (prim_pattern x at) ty) (Ok None)
-  unknown_taken none r n e s is sh =
+  unknown_taken none r n = (may_note n, λ e s is sh.
       subst (λ o. Took old new (constant_step ty x.text at s o) (Ok None)) (sym (constant_is env old x e s is sh None none))
-      (took None (met s x.text) 0 (record { why = unknown_constant x.text; at = at } ∷ []) n (met_shows old new s x.text names r sh) (let k = r.expansions in omega (arith, k)))
+      (took None (met s x.text) 0 (record { why = unknown_constant x.text; at = at } ∷ []) n (met_shows old new s x.text names r sh) (let k = r.expansions in omega (arith, k))))
 
   pub constant_taken : (own name : ℕ) → Some own ≡ constant_at old.tyenv (number (names_of old.tyenv) x.text) → name ≡ number (names_of old.tyenv) x.text → Remains old.work new.work
       → NotesEachAt (place_unless (nat_eq own ty) at) old.work.errors.items new.work.errors.items → EndsAs env old new (leaf_steps (prim_pattern x at) ty) (Ok (Some (match_prim own name)))
-  constant_taken own name there named r n e s is sh =
+  constant_taken own name there named r n = (may_note n, λ e s is sh.
       subst (λ o. Took old new (constant_step ty x.text at s o) (Ok (Some (match_prim own name)))) (sym (constant_is env old x e s is sh (Some own) there))
       (tested old new (nat_eq own ty) (matched_constant_type x.text ty own) at (match_prim own (number s.names x.text)) (match_prim own name) s
       (ap (λ (k : ℕ). match_prim own k) (sym (named ∙ ap (λ ns. number ns x.text) sh.names))) n
-      (still old new s (names ∙ known_name (names_of old.tyenv) x.text (is_met (names_of old.tyenv) x.text (is.constants_met (number (names_of old.tyenv) x.text) own (sym there)))) r sh) r.expansions)
+      (still old new s (names ∙ known_name (names_of old.tyenv) x.text (is_met (names_of old.tyenv) x.text (is.constants_met (number (names_of old.tyenv) x.text) own (sym there)))) r sh) r.expansions))
 
   -- a name around what was made
   module _ (mid : Standing) (same_names : names_of mid.tyenv ≡ names_of old.tyenv) (r : Remains old.work mid.work) (q : TypedPattern) (is_type : pattern_type q ≡ ty)
@@ -71,7 +72,7 @@ module _ (env : TermEnv) (old new : Standing) (x : Name) (at : Position) (ty : �
 
     pub around_taken : NotesEachAt (place_unless (not (is_some (newest old.work (number (names_of old.tyenv) x.text)))) at) old.work.errors.items mid.work.errors.items
         → EndsAs env old new (around_steps x.text at q) (Ok (Some (match_bind (pattern_type q) id q)))
-    around_taken n e s is sh =
+    around_taken n = (may_note (subst (NotesEachAt (place_unless (not (is_some (newest old.work (number (names_of old.tyenv) x.text)))) at) old.work.errors.items) (sym b.errors) n), λ e s is sh.
         let before = still old mid s same_names r sh in
         let wrong : NotesEachAt (place_unless (not (is_some (var_of s x.text))) at) old.work.errors.items new.work.errors.items =
         subst (λ o. NotesEachAt (place_unless (not (is_some o)) at) old.work.errors.items new.work.errors.items) (sym (var_is old s x.text (newest old.work (number (names_of old.tyenv) x.text)) sh refl))
@@ -79,27 +80,27 @@ module _ (env : TermEnv) (old new : Standing) (x : Name) (at : Position) (ty : �
         taken_as old new (Some (match_bind (pattern_type q) (length s.vars) q)) (Some (match_bind (pattern_type q) id q)) (bound s x.text (pattern_type q)) 0 (unless (not (is_some (var_of s x.text))) (rebound x.text) at)
         (ap (λ (i : ℕ). Some (match_bind (pattern_type q) i q)) (sym (place ∙ as_many mid s before)))
         (unless_at (not (is_some (var_of s x.text))) (rebound x.text) at old.work.errors.items new.work.errors.items wrong)
-        (shown s sh) (let k = b.expansions in let l = r.expansions in omega (arith, k, l))
+        (shown s sh) (let k = b.expansions in let l = r.expansions in omega (arith, k, l)))
 
 -- literals, anything, and a template's argument
 module _ (env : TermEnv) (old new : Standing) (same : names_of new.tyenv ≡ names_of old.tyenv) (at : Position) (ty : ℕ) (r : Remains old.work new.work) where
   pub truth_taken : (b : Bool) → NotesEachAt (place_unless (nat_eq ty 0) at) old.work.errors.items new.work.errors.items → EndsAs env old new (leaf_steps (bool_pattern b at) ty) (Ok (Some (match_bool 0 b)))
-  truth_taken b n e s is sh = tested old new (nat_eq ty 0) (no_truth (Some ty) b) at (match_bool 0 b) (match_bool 0 b) s refl n (still old new s same r sh) r.expansions
+  truth_taken b n = (may_note n, λ e s is sh. tested old new (nat_eq ty 0) (no_truth (Some ty) b) at (match_bool 0 b) (match_bool 0 b) s refl n (still old new s same r sh) r.expansions)
 
   pub integer_taken : (z n : ℤ) → n ≡ reduced (slice_get (type_views old.tyenv.types.items) ty) z
       → NotesEachAt (place_unless (is_atom_type (slice_get (type_views old.tyenv.types.items) ty)) at) old.work.errors.items new.work.errors.items
       → EndsAs env old new (leaf_steps (int_pattern z at) ty) (Ok (Some (match_int ty n)))
-  integer_taken z n stands notes e s is sh =
+  integer_taken z n stands notes = (may_note notes, λ e s is sh.
       tested old new (is_atom_type (slice_get e.types ty)) (no_integer ty z) at (match_int ty (reduced (slice_get e.types ty) z)) (match_int ty n) s
       (ap (match_int ty) (ap (λ ts. reduced (slice_get ts ty) z) (sym is.types) ∙ sym stands))
       (subst (λ ts. NotesEachAt (place_unless (is_atom_type (slice_get ts ty)) at) old.work.errors.items new.work.errors.items) is.types notes)
-      (still old new s same r sh) r.expansions
+      (still old new s same r sh) r.expansions)
 
   pub refused_taken : (i : ℕ) → NotesEachAt (at ∷ []) old.work.errors.items new.work.errors.items → EndsAs env old new (leaf_steps (macro_arg i at) ty) (Ok None)
-  refused_taken i n e s is sh = took None s 0 (record { why = macro_argument i; at = at } ∷ []) n (still old new s same r sh) (let k = r.expansions in omega (arith, k))
+  refused_taken i n = (may_note n, λ e s is sh. took None s 0 (record { why = macro_argument i; at = at } ∷ []) n (still old new s same r sh) (let k = r.expansions in omega (arith, k)))
 
 pub any_taken : (env : TermEnv) (old : Standing) (at : Position) (ty : ℕ) → EndsAs env old old (leaf_steps (wildcard_pattern at) ty) (Ok (Some (match_any ty)))
-any_taken env old at ty e s is sh = took (Some (match_any ty)) s 0 [] (none_at old.work.errors.items old.work.errors.items refl) sh (omega arith)
+any_taken env old at ty = (inl refl, λ e s is sh. took (Some (match_any ty)) s 0 [] (none_at old.work.errors.items old.work.errors.items refl) sh (omega arith))
 
 -- a name around a pattern, by what the pattern came to
 module _ (x : List ℕ) (at : Position) (old mid : Standing) where
@@ -124,15 +125,18 @@ module _ (x : List ℕ) (at : Position) (old mid : Standing) where
 module _ (env : TermEnv) (old mid : Standing) (multi : Bool) (x : Name) (of : PatternTree) (at : Position) (ty d : ℕ) where
   pub around_ends : (new : Standing) → Keeps old.tyenv mid.tyenv → (q : TypedPattern) (r : Ending TypedPattern) → EndsAs env old mid (pattern_steps multi of ty d) (Ok (Some q))
       → EndsAs env mid new (around_steps x.text at q) r → EndsAs env old new (pattern_steps multi (bind_pattern x of at) ty d) r
-  around_ends new keeps q r h k e s is sh =
-      let t : Step TypedPattern = pattern_steps multi of ty d e old.work.expansions s in
-      bound_behind x.text at old mid new q r (λ u shown. k e u (keep_setting env old.tyenv mid.tyenv e keeps is) shown) t (seen old mid t (Ok (Some q)) (h e s is sh))
+  around_ends new keeps q r h k = (
+    may_both old.work.errors.items mid.work.errors.items new.work.errors.items h.0 k.0,
+    λ e s is sh.
+        let t : Step TypedPattern = pattern_steps multi of ty d e old.work.expansions s in
+        bound_behind x.text at old mid new q r (λ u shown. k.1 e u (keep_setting env old.tyenv mid.tyenv e keeps is) shown) t (seen old mid t (Ok (Some q)) (h.1 e s is sh)),
+  )
 
   pub around_nothing : EndsAs env old mid (pattern_steps multi of ty d) (Ok None) → EndsAs env old mid (pattern_steps multi (bind_pattern x of at) ty d) (Ok None)
-  around_nothing h e s is sh = let t : Step TypedPattern = pattern_steps multi of ty d e old.work.expansions s in nothing_bound x.text at old mid t (seen old mid t (Ok None) (h e s is sh))
+  around_nothing h = (h.0, λ e s is sh. let t : Step TypedPattern = pattern_steps multi of ty d e old.work.expansions s in nothing_bound x.text at old mid t (seen old mid t (Ok None) (h.1 e s is sh)))
 
   around_ended : (l : NamedLimit) → EndsAs env old mid (pattern_steps multi of ty d) (Err l) → EndsAs env old mid (pattern_steps multi (bind_pattern x of at) ty d) (Err l)
-  around_ended l h e s is sh = let t : Step TypedPattern = pattern_steps multi of ty d e old.work.expansions s in bound_ended x.text at old mid l t (seen old mid t (Err l) (h e s is sh))
+  around_ended l h = (h.0, λ e s is sh. let t : Step TypedPattern = pattern_steps multi of ty d e old.work.expansions s in bound_ended x.text at old mid l t (seen old mid t (Err l) (h.1 e s is sh)))
 
   pub around_stops : (stop : Stop) → StopsBy env old mid (pattern_steps multi of ty d) stop → StopsBy env old mid (pattern_steps multi (bind_pattern x of at) ty d) stop
   around_stops (Memory a) h = tt

@@ -17,7 +17,8 @@ use Rattle.core_syntax.proofs.NotedErrors.{both, may_both}
 use Rattle.core_rules.specs.declared.term_env.TermEnv.{TermEnv}
 use Rattle.core_rules.specs.declared.typing.progress.Stop.{Stop}
 use Rattle.core_rules.specs.declared.typing.progress.Stop.TheVariants.{Memory, Nesting, Expansions}
-use Rattle.core_rules.specs.Translating.{Standing, Keeps, IsSettingOf, Shows, Reading, Wherever, IsOnlyTyping, IsTranslated, IsReported, IsTooLong, KeepsNoted, Stops, MayTranslate, expanding, ExpandsTo}
+use Rattle.laws_errors.specs.StepLaws.{IsOnlyTyping}
+use Rattle.core_rules.specs.Translating.{Standing, Keeps, IsSettingOf, Shows, Reading, Wherever, IsTranslated, IsReported, IsTooLong, KeepsNoted, Stops, MayTranslate, expanding, ExpandsTo}
 
 -- one typing after another
 abbrev pub joined : {P Q R : Type 0} → (P → Q → R) → Typing P → Typing Q → Typing R

@@ -1,5 +1,5 @@
 -- Which limit if-lets, the sides of rules and rules come to, from what their parts come to.
-use Rattle.std.proofs.Common.{◌≡◌, ℕ, ◌+◌, ◌<◌, ◌≤◌, Bool, cond, List, [], ◌∷◌, ◌++◌, length, map, take, drop, get_or, Option, Some, None, Result, refl, sym, ap, subst, ◌∙◌, inl, inr, ◌⊎◌, ⊎_elim}
+use Rattle.std.proofs.Common.{◌≡◌, ℕ, ◌+◌, ◌<◌, ◌≤◌, Bool, cond, List, [], ◌∷◌, ◌++◌, length, map, take, drop, get_or, Some, None, Result, refl, sym, ap, subst, ◌∙◌, inl, inr, ◌⊎◌}
 use Rattle.std.proofs.lemmas.Bool.{eq-eqb}
 use Rattle.std.proofs.lemmas.List.{take_all, take-append-drop, map-append, length-map}
 use Rattle.core_syntax.specs.declared.syntax.IfLet.{IfLet}
@@ -8,7 +8,7 @@ use Rattle.core_syntax.specs.SyntaxViews as S
 use Rattle.model.specs.lists.Syntax.{Name, PatternTrees, IfLetTree, RuleTree, pattern_list}
 use Rattle.model.specs.lists.Tables.{Flags, TermEntry}
 use Rattle.model.specs.lists.TermTable.{root_name}
-use Rattle.model.specs.rules.Typed.{TypedPatterns, TypedExpr, TypedIfLet, TypedRule}
+use Rattle.model.specs.rules.Typed.{TypedPatterns, TypedExpr, TypedIfLet}
 use Rattle.model.specs.lists.Setting.{Setting, Scope, expr_type, on_lhs, declared_flags}
 use Rattle.model.specs.lists.Typings.{followed}
 use Rattle.model.specs.lists.Elaborated.{typed_iflet, root_parts, Sides, sides_of, last_sides}
@@ -26,12 +26,13 @@ use Rattle.core_rules.specs.PatternReadings.{pattern_reading, parts_reading}
 use Rattle.core_rules.specs.PatternUses.{found_term}
 use Rattle.core_rules.specs.Progress.{Remains}
 use Rattle.core_rules.specs.RuleReadings.{iflet_reading, iflets_reading, ends_reading, sides_reading, rule_reading}
-use Rattle.core_rules.specs.ReachedLimits.{Limits, or_after, where_counted, pattern_limits, parts_limits, expr_limits, iflet_limits, iflets_limits, root_limits, ends_limits, sides_limits, rule_limits}
+use Rattle.laws_errors.specs.ReachedLimits.{or_after}
+use Rattle.core_rules.specs.ReachedLimits.{Limits, pattern_limits, parts_limits, expr_limits, iflet_limits, iflets_limits, root_limits, ends_limits, sides_limits, rule_limits}
 use Rattle.core_rules.specs.LimitStops.{ComesTo, StopEnds, MeetsLimits, LeadsTo}
 use Rattle.core_rules.specs.Translating.{Standing, Keeps, Reading, IsSettingOf, Shows, IsTranslated, IsReported, KeepsNoted, StaysNoted}
 use Rattle.core_rules.proofs.IfLetLists.{IfLetsSoFar, iflets_after, further, last_is, unmet}
 use Rattle.core_rules.proofs.LimitLists.{iflets_further, iflets_left}
-use Rattle.core_rules.proofs.LimitSteps.{none_first, then_none, then_ends, first_ends, same_comes, same_ends, noted_meets, led_meets}
+use Rattle.core_rules.proofs.LimitSteps.{none_first, then_none, then_ends, first_ends, same_ends, noted_meets, led_meets}
 use Rattle.core_rules.proofs.PatternLimits.{one_law}
 use Rattle.core_rules.proofs.PatternUsing.{found_so, list_length, parts_count}
 use Rattle.core_rules.proofs.RuleForms.{no_sides}

@@ -1,5 +1,5 @@
 -- What the errors of rules say, rule by rule and then of a whole list.
-use Rattle.std.proofs.Common.{◌≡◌, ◌≢◌, ℕ, ◌+◌, ◌<◌, ◌≤◌, Bool, All, List, [], ◌∷◌, ◌++◌, length, get_or, take, Option, Some, None, Ok, refl, sym, ap, subst, ◌∙◌, inl, inr, ◌⊎◌, ⊎_elim, Contains, arith}
+use Rattle.std.proofs.Common.{◌≡◌, ℕ, ◌+◌, ◌<◌, ◌≤◌, All, List, [], ◌∷◌, ◌++◌, length, get_or, Option, Some, None, Ok, refl, sym, ap, subst, ◌∙◌, inl, inr, ◌⊎◌, ⊎_elim, Contains, arith}
 use Rattle.std.proofs.lemmas.List.{append-nil, append_assoc, take_all}
 use Rattle.std.proofs.lemmas.List.Elements.{All-nil, Contains-append_right, Contains-append_cases}
 use Rattle.std.proofs.lemmas.Option.{same_Some}
@@ -12,9 +12,9 @@ use Rattle.core_syntax.specs.declared.syntax.Limit.{Limit}
 use Rattle.core_syntax.specs.declared.syntax.Limit.TheVariants.{Nesting, Expansions}
 use Rattle.core_syntax.specs.declared.syntax.Rule as T
 use Rattle.core_syntax.specs.ErrorViews.{error_view}
-use Rattle.core_syntax.specs.NotedErrors.{NotesMore, MayNoteMore, AreIllTyped}
+use Rattle.core_syntax.specs.NotedErrors.{NotesMore, MayNoteMore}
 use Rattle.core_syntax.specs.SyntaxViews as S
-use Rattle.model.specs.lists.Syntax.{Position, RuleTree, Definition}
+use Rattle.model.specs.lists.Syntax.{Position, RuleTree}
 use Rattle.model.specs.lists.Names.{IsDistinct}
 use Rattle.model.specs.lists.TermTable.{rule_of, rule_trees}
 use Rattle.model.specs.lists.Setting.{Setting, Scope, new_scope}
@@ -23,7 +23,7 @@ use Rattle.model.specs.lists.Elaborated.{few_enough, most_nested, most_expansion
 use Rattle.model.specs.rules.Typed.{TypedRule}
 use Rattle.model.specs.claims.Refusals.{NamedLimit, of_nesting, of_expansions, past_limit, IsIllTyped}
 use Rattle.core_types.specs.declared.type_env.TypeEnv.{TypeEnv}
-use Rattle.core_types.specs.Envs.{names_of, IsInterned}
+use Rattle.core_types.specs.Envs.{names_of}
 use Rattle.core_typed.specs.declared.rules.Rule.{Rule}
 use Rattle.core_typed.specs.RuleViews.{rule_view}
 use Rattle.core_rules.specs.declared.term_env.TermEnv.{TermEnv}
@@ -36,8 +36,8 @@ use Rattle.core_rules.specs.ReachedLimits.{rule_limits, reached_limit}
 use Rattle.core_rules.specs.RuleLists.{rule_from, rule_within, NotesLimit, NotesStop, EndsRule, is_typed, is_reported, is_too_deep, is_too_long, CollectsRule}
 use Rattle.core_rules.specs.RulePositions.{templates_positions, with_templates, KeepsPlaced}
 use Rattle.core_rules.specs.RuleReadings.{rule_reading}
-use Rattle.core_rules.specs.RulesTold.{IsLimitAtMost, TellsRule, is_read, reaches_limit, is_wrong_first, TellsRules, no_rule, rule_first, TellsTyping, TellsStages, TellsAll}
-use Rattle.core_rules.specs.Translating.{Standing, standing, Keeps, Reading, IsSettingOf, Shows, IsTranslated, IsReported, Stops, MayTranslate}
+use Rattle.core_rules.specs.RulesTold.{IsLimitAtMost, TellsRule, is_read, reaches_limit, is_wrong_first, TellsRules, no_rule, rule_first, TellsTyping, TellsAll}
+use Rattle.core_rules.specs.Translating.{Standing, standing, Keeps, Reading, IsSettingOf, IsTranslated, IsReported, Stops, MayTranslate}
 use Rattle.core_rules.proofs.NamedLimits.{rules_before, one_more}
 use Rattle.core_rules.proofs.Readings.{keep_setting}
 use Rattle.core_rules.proofs.RuleEnds.{few_some, few_none, starts}

@@ -6,6 +6,7 @@ use Rattle.model.specs.lists.Setting.{Setting, Scope}
 use Rattle.model.specs.claims.Refusals.{NamedLimit, of_nesting, of_expansions}
 use Rattle.laws_errors.specs.Steps.{Why, Mistake, Step, went_on, stopped, unless, here, noting, made_step, counted_step, joined_step, then_step}
 use Rattle.core_syntax.specs.declared.syntax.Error.{Error}
+use Rattle.core_syntax.proofs.NotedErrors.{may_both}
 use Rattle.core_types.specs.Envs.{names_of}
 use Rattle.core_typed.specs.Elaborating.{place_unless, NotesEachAt}
 use Rattle.core_typed.proofs.NotedErrors.{both_at}
@@ -122,7 +123,7 @@ module _ {X Y Z : Type 0} (g : Option X → Y → Z) where
 -- of what a call did something is made
 module _ {P Q : Type 0} (f : P → Q) (env : TermEnv) (old new : Standing) (steps : Stepping P) where
   pub made_ends : (r : Ending P) → EndsAs env old new steps r → EndsAs env old new (λ e n s. made_step f (steps e n s)) (made_end f r)
-  made_ends r h e s is sh = made f old new (steps e old.work.expansions s) r (h e s is sh)
+  made_ends r h = (h.0, λ e s is sh. made f old new (steps e old.work.expansions s) r (h.1 e s is sh))
 
   pub made_stopped : (stop : Stop) → StopsBy env old new steps stop → StopsBy env old new (λ e n s. made_step f (steps e n s)) stop
   made_stopped (Memory a) h = tt
@@ -132,7 +133,10 @@ module _ {P Q : Type 0} (f : P → Q) (env : TermEnv) (old new : Standing) (step
 -- the rest was done
 module _ {P Q : Type 0} (env : TermEnv) (old mid new : Standing) (same : mid.tyenv ≡ old.tyenv) (whole : Stepping Q) (rest : Stepping P) (become : Ending P → Ending Q) (on : LeadsOn env old mid whole rest become) where
   pub rest_ends : (r : Ending P) → EndsAs env mid new rest r → EndsAs env old new whole (become r)
-  rest_ends r h e s is sh = on e s is sh new r (λ u shown. h e u (subst (λ k. IsSettingOf k env e) (sym same) is) shown)
+  rest_ends r h = (
+    may_both old.work.errors.items mid.work.errors.items new.work.errors.items on.0 h.0,
+    λ e s is sh. on.1 e s is sh new r (λ u shown. h.1 e u (subst (λ k. IsSettingOf k env e) (sym same) is) shown),
+  )
 
   pub rest_stops : ((l : NamedLimit) → become (Err l) ≡ Err l) → (stop : Stop) → StopsBy env mid new rest stop → StopsBy env old new whole stop
   rest_stops ends (Memory a) h = tt
@@ -148,18 +152,24 @@ expansion_done env old mid new same whole made view on (Err stop) h = rest_stops
 module _ {X Y Z : Type 0} (g : Option X → Y → Y) (env : TermEnv) (old mid new : Standing) (keeps : Keeps old.tyenv mid.tyenv) (whole : Stepping Z) (first : Stepping X) (rest later : Stepping Y)
     (law : (e : Setting) (n : ℕ) (u : Scope) → rest e n u ≡ then_step g (first e n u) (λ m t k. later e (n + k) t)) (become : Ending Y → Ending Z) (so_far : LeadsOn env old mid whole rest become) where
   pub one_on : (m : Option X) (then_as : Ending Y → Ending Z) → ((r : Ending Y) → become (joined_end g m r) ≡ then_as r) → EndsAs env mid new first (Ok m) → LeadsOn env old new whole later then_as
-  one_on m then_as grows h e s is sh after r more =
-      subst (Took old after (whole e old.work.expansions s)) (grows r)
-      (so_far e s is sh after (joined_end g m r)
-      (λ u shown. subst (λ t. Took mid after t (joined_end g m r)) (sym (law e mid.work.expansions u))
-      (in_order g mid new after (λ o n t. later e n t) m r more (first e mid.work.expansions u) (h e u (keep_setting env old.tyenv mid.tyenv e keeps is) shown))))
+  one_on m then_as grows h = (
+    may_both old.work.errors.items mid.work.errors.items new.work.errors.items so_far.0 h.0,
+    λ e s is sh after r more.
+        subst (Took old after (whole e old.work.expansions s)) (grows r)
+        (so_far.1 e s is sh after (joined_end g m r)
+        (λ u shown. subst (λ t. Took mid after t (joined_end g m r)) (sym (law e mid.work.expansions u))
+        (in_order g mid new after (λ o n t. later e n t) m r more (first e mid.work.expansions u) (h.1 e u (keep_setting env old.tyenv mid.tyenv e keeps is) shown)))),
+  )
 
   one_ends : (l : NamedLimit) → become (Err l) ≡ Err l → EndsAs env mid new first (Err l) → EndsAs env old new whole (Err l)
-  one_ends l ends h e s is sh =
-      subst (Took old new (whole e old.work.expansions s)) ends
-      (so_far e s is sh new (Err l)
-      (λ u shown. subst (λ t. Took mid new t (Err l)) (sym (law e mid.work.expansions u))
-      (first_stops g mid new (λ m t k. later e (mid.work.expansions + k) t) l (first e mid.work.expansions u) (h e u (keep_setting env old.tyenv mid.tyenv e keeps is) shown))))
+  one_ends l ends h = (
+    may_both old.work.errors.items mid.work.errors.items new.work.errors.items so_far.0 h.0,
+    λ e s is sh.
+        subst (Took old new (whole e old.work.expansions s)) ends
+        (so_far.1 e s is sh new (Err l)
+        (λ u shown. subst (λ t. Took mid new t (Err l)) (sym (law e mid.work.expansions u))
+        (first_stops g mid new (λ m t k. later e (mid.work.expansions + k) t) l (first e mid.work.expansions u) (h.1 e u (keep_setting env old.tyenv mid.tyenv e keeps is) shown)))),
+  )
 
   pub one_stops : ((l : NamedLimit) → become (Err l) ≡ Err l) → (stop : Stop) → StopsBy env mid new first stop → StopsBy env old new whole stop
   one_stops ends (Memory a) h = tt

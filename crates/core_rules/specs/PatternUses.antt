@@ -1,6 +1,6 @@
 -- What the use of a term in a pattern stands for: a conversion, a template with patterns in the place of its arguments, or the
 -- term itself.
-use Rattle.std.specs.Prelude.{◌≡◌, ◌⊎◌, ℕ, suc, Bool, List, length, Option, Some, None, option_and_then, slice_get, Result, Ok, Err, if◌then◌else◌}
+use Rattle.std.specs.Prelude.{◌≡◌, ◌⊎◌, ℕ, suc, Bool, List, Option, Some, None, option_and_then, slice_get, Result, Ok, Err, ⊤, if◌then◌else◌}
 use Rattle.std.specs.Bool.{◌==◌}
 use Rattle.core_syntax.specs.SyntaxViews as S
 use Rattle.model.specs.lists.Syntax.{Position, Name, PatternTree, PatternTrees, no_pattern, pattern_and, term_pattern, pattern_list}
@@ -8,19 +8,16 @@ use Rattle.model.specs.lists.Tables.{TermKindEntry, TermEntry}
 use Rattle.model.specs.lists.Signatures.{text_of}
 use Rattle.model.specs.lists.Expansions.{substituted}
 use Rattle.model.specs.lists.Setting.{that, kind_template}
-use Rattle.model.specs.lists.Typings.{made_into}
 use Rattle.model.specs.rules.Outcome.{then_option}
-use Rattle.model.specs.rules.Typed.{match_term}
 use Rattle.core_types.specs.declared.type_env.TypeEnv.{TypeEnv}
 use Rattle.core_types.specs.Envs.{names_of, symbol_of}
-use Rattle.core_terms.specs.TermViews.{term_view, term_views}
+use Rattle.core_terms.specs.TermViews.{term_views}
 use Rattle.core_rules.specs.declared.term_env.TermEnv.{TermEnv}
 use Rattle.core_rules.specs.declared.typing.progress.Stop.{Stop}
 use Rattle.core_rules.specs.declared.typing.pattern_uses.PatternUse.{PatternUse}
 use Rattle.core_rules.specs.declared.typing.pattern_uses.PatternUse.TheVariants.{Wrong, Expansion, Parts}
 use Rattle.core_rules.specs.TermEnvs.{term_in_env}
-use Rattle.core_rules.specs.PatternReadings.{pattern_reading, parts_reading}
-use Rattle.core_rules.specs.Translating.{Standing, Shows, Wherever, IsReported, Stops, ExpandsTo, converter_in}
+use Rattle.core_rules.specs.Translating.{converter_in}
 
 -- the term of a name
 abbrev pub found_term : TermEnv → TypeEnv → List ℕ → Option TermEntry
@@ -50,19 +47,9 @@ IsExpansionOf env whole args made =
     ⊎ ((k : ℕ) × (t : TermEntry) × (template : PatternTree) × (slice_get (term_views env.terms.items) k ≡ Some t) × (kind_template t.kind ≡ Some template)
     × (substituted (pattern_list args) template ≡ Some made))
 
--- the term itself is meant, with as many parts as it has arguments, in a rule whose term is multi or not
-pub record TakesParts (env : TermEnv) (old new : Standing) (multi : Bool) (whole : PatternTree) (args : PatternTrees) (ty : ℕ) (t : TermEntry) : Type 0 where
-  pub errors : new.work.errors.items ≡ old.work.errors.items
-  pub expansions : new.work.expansions ≡ old.work.expansions
-  pub count : length (pattern_list args) ≡ length t.arg_tys
-  pub shows : Wherever env old (λ e s. Shows new s)
-  pub becomes : Wherever env old (λ e s. (c : ℕ) → pattern_reading multi whole ty e c s ≡ made_into (match_term t.ret_ty t.id) (parts_reading multi args t.arg_tys e c s))
-
--- what a use is found to be, in a rule whose term is multi or not
-abbrev pub UsesTerm : TermEnv → Standing → Standing → ℕ → Bool → PatternTree → PatternTrees → ℕ → Result PatternUse Stop → Type 0
-UsesTerm env old new d multi whole args ty (Ok Wrong) = IsReported env old new (pattern_reading multi whole ty)
-UsesTerm env old new d multi whole args ty (Ok (Expansion made left)) =
-    (suc left ≡ d) × IsExpansionOf env whole args (S.pattern_view made)
-    × (ExpandsTo env old new (pattern_reading multi whole ty) (pattern_reading multi (S.pattern_view made) ty) ⊎ IsReported env old new (pattern_reading multi whole ty))
-UsesTerm env old new d multi whole args ty (Ok (Parts t)) = TakesParts env old new multi whole args ty (term_view t.now) ⊎ IsReported env old new (pattern_reading multi whole ty)
-UsesTerm env old new d multi whole args ty (Err stop) = Stops env old new d (pattern_reading multi whole ty) stop
+-- what takes the place of a use is one expansion of it, in which one fewer may nest
+abbrev pub Deepens : TermEnv → ℕ → PatternTree → PatternTrees → Result PatternUse Stop → Type 0
+Deepens env d whole args (Ok Wrong) = ⊤
+Deepens env d whole args (Ok (Expansion made left)) = (suc left ≡ d) × IsExpansionOf env whole args (S.pattern_view made)
+Deepens env d whole args (Ok (Parts t)) = ⊤
+Deepens env d whole args (Err stop) = ⊤

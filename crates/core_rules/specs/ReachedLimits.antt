@@ -1,17 +1,16 @@
 -- Which limit on expansions the reading of a rule comes to before anything in it is wrong, if it comes to one: parts are read
 -- in order, and each is come to only where those before it are read well. An expansion passes the limit on nesting where none
 -- may nest any more, else that on their number where as many were made as may be; what it makes is read in its place.
-use Rattle.std.specs.Prelude.{ℕ, zero, suc, ◌+◌, Bool, ◌&&◌, List, [], ◌∷◌, length, Option, Some, None, slice_get, nat_le, if◌then◌else◌}
-use Rattle.std.specs.Bool.{◌==◌}
-use Rattle.model.specs.lists.Syntax.{PatternTree, var_pattern, bind_pattern, bool_pattern, int_pattern, prim_pattern, term_pattern, wildcard_pattern, and_pattern, macro_arg, PatternTrees, no_pattern, pattern_and, pattern_list, ExprTree, term_expr, var_expr, bool_expr, int_expr, prim_expr, let_expr, ExprTrees, no_expr, expr_and, LetTrees, no_let, let_and, IfLetTree, RuleTree}
+use Rattle.std.specs.Prelude.{ℕ, zero, suc, ◌+◌, Bool, List, [], ◌∷◌, length, Option, Some, None, nat_le, if◌then◌else◌}
+use Rattle.model.specs.lists.Syntax.{PatternTree, PatternTrees, pattern_list, ExprTree, term_expr, var_expr, bool_expr, int_expr, prim_expr, let_expr, ExprTrees, no_expr, expr_and, LetTrees, no_let, let_and, IfLetTree, RuleTree}
 use Rattle.model.specs.lists.Tables.{Flags, TermEntry}
 use Rattle.model.specs.lists.TermTable.{root_name}
-use Rattle.model.specs.lists.Setting.{Setting, Scope, new_scope, met, var_of, term_of, type_of_name, expr_type, on_lhs, declared_flags, is_callable, is_matchable, template_in, pattern_converter}
-use Rattle.model.specs.lists.Expansions.{expanded, wrapped_pattern, wrapped_expr}
-use Rattle.model.specs.lists.Typings.{Typing}
-use Rattle.model.specs.lists.Elaborated.{PatternReading, ExprReading, or_expanded, as_expected, pattern_with, deeper_pattern, expr_with, lets_with, bound_let, deeper_expr, root_parts, most_nested, most_expansions}
+use Rattle.model.specs.lists.Setting.{Setting, Scope, new_scope, met, var_of, term_of, type_of_name, expr_type, on_lhs, declared_flags, is_callable}
+use Rattle.model.specs.lists.Expansions.{wrapped_expr}
+use Rattle.model.specs.lists.Elaborated.{ExprReading, as_expected, deeper_pattern, expr_with, lets_with, bound_let, deeper_expr, root_parts, most_nested, most_expansions}
 use Rattle.model.specs.rules.Outcome.{then_option}
 use Rattle.model.specs.claims.Refusals.{NamedLimit, of_nesting, of_expansions}
+use Rattle.laws_errors.specs.ReachedLimits.{or_after, where_counted, pattern_limit, parts_limit, deeper_pattern_limit}
 use Rattle.core_rules.specs.ExprReadings.{all_made, expr_reading}
 use Rattle.core_rules.specs.ExprUses.{expr_list}
 use Rattle.core_rules.specs.PatternReadings.{parts_reading}
@@ -22,66 +21,12 @@ use Rattle.core_rules.specs.RuleReadings.{iflet_reading, iflets_reading}
 abbrev pub Limits : Type 0
 Limits = Setting → ℕ → ℕ → Scope → Option NamedLimit
 
--- one part after another: the limit that the first comes to; else, where it is read well, what comes after it
-abbrev pub or_after : {Q : Type 0} → Option NamedLimit → Option (Typing Q) → (Typing Q → Option NamedLimit) → Option NamedLimit
-or_after (Some l) o next = Some l
-or_after None None next = None
-or_after None (Some a) next = next a
-
--- parts that are as many as they are to be
-abbrev pub where_counted : ℕ → ℕ → Option NamedLimit → Option NamedLimit
-where_counted has wants o = if has == wants then o else None
-
--- which limit a pattern comes to at a type, where so many expansions were made
-abbrev pub PatternLimits : Type 0
-PatternLimits = PatternTree → ℕ → ℕ → Scope → Option NamedLimit
-
-abbrev mutual
-  -- `deeper` translates what an expansion makes, and `limit` says which limit an expansion comes to
-  pub pattern_limit : Setting → Bool → PatternReading → PatternLimits → PatternLimits
-  pattern_limit e multi deeper limit (var_pattern name at) ty n s = None
-  pattern_limit e multi deeper limit (bind_pattern name of at) ty n s = pattern_limit e multi deeper limit of ty n s
-  pattern_limit e multi deeper limit (bool_pattern b at) ty n s = None
-  pattern_limit e multi deeper limit (int_pattern z at) ty n s = None
-  pattern_limit e multi deeper limit (prim_pattern name at) ty n s = None
-  pattern_limit e multi deeper limit (term_pattern name args at) ty n s =
-      then_option (term_of e s name.text) (λ t.
-      if t.ret_ty == ty
-      then or_expanded (template_in e t.kind) (λ template. then_option (expanded t args template) (λ p. limit p ty n s))
-      (if is_matchable multi t.kind then where_counted (length (pattern_list args)) (length t.arg_tys) (parts_limit e multi deeper limit args t.arg_tys n s) else None)
-      else then_option (pattern_converter e t.ret_ty ty) (λ c. limit (wrapped_pattern s c at (term_pattern name args at)) ty n s))
-  pattern_limit e multi deeper limit (wildcard_pattern at) ty n s = None
-  pattern_limit e multi deeper limit (and_pattern parts at) ty n s = each_limit e multi deeper limit parts ty n s
-  pattern_limit e multi deeper limit (macro_arg i at) ty n s = None
-
-  -- patterns, each at its own type
-  pub parts_limit : Setting → Bool → PatternReading → PatternLimits → PatternTrees → List ℕ → ℕ → Scope → Option NamedLimit
-  parts_limit e multi deeper limit no_pattern tys n s = None
-  parts_limit e multi deeper limit (pattern_and p rest) [] n s = None
-  parts_limit e multi deeper limit (pattern_and p rest) (ty ∷ tys) n s =
-      or_after (pattern_limit e multi deeper limit p ty n s) (pattern_with e multi deeper p ty s) (λ a. parts_limit e multi deeper limit rest tys (n + a.expansions) a.scope)
-
-  -- patterns of one value
-  pub each_limit : Setting → Bool → PatternReading → PatternLimits → PatternTrees → ℕ → ℕ → Scope → Option NamedLimit
-  each_limit e multi deeper limit no_pattern ty n s = None
-  each_limit e multi deeper limit (pattern_and p rest) ty n s =
-      or_after (pattern_limit e multi deeper limit p ty n s) (pattern_with e multi deeper p ty s) (λ a. each_limit e multi deeper limit rest ty (n + a.expansions) a.scope)
-
--- an expansion, where so many may nest and so many were made before it
-abbrev pub deeper_pattern_limit : Setting → Bool → ℕ → PatternLimits
-deeper_pattern_limit e multi zero p ty n s = Some of_nesting
-deeper_pattern_limit e multi (suc d) p ty n s =
-    if nat_le most_expansions n then Some of_expansions else pattern_limit e multi (deeper_pattern e multi d) (deeper_pattern_limit e multi d) p ty (suc n) s
-
--- a pattern, patterns for arguments, and patterns of one value, in a rule whose term is multi or not
+-- a pattern, and patterns for arguments, in a rule whose term is multi or not
 abbrev pub pattern_limits : Bool → PatternTree → ℕ → Limits
 pattern_limits multi p ty e d n s = pattern_limit e multi (deeper_pattern e multi d) (deeper_pattern_limit e multi d) p ty n s
 
 abbrev pub parts_limits : Bool → PatternTrees → List ℕ → Limits
 parts_limits multi ps tys e d n s = parts_limit e multi (deeper_pattern e multi d) (deeper_pattern_limit e multi d) ps tys n s
-
-abbrev pub each_limits : Bool → PatternTrees → ℕ → Limits
-each_limits multi ps ty e d n s = each_limit e multi (deeper_pattern e multi d) (deeper_pattern_limit e multi d) ps ty n s
 
 -- which limit an expression comes to where a type, or any type, is expected, where so many expansions were made
 abbrev pub ExprLimits : Type 0

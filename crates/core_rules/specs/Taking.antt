@@ -1,6 +1,7 @@
 -- What a call does to the work on a rule, by what a step of its reading says: which errors it notes, in order, and from where the
 -- reading goes on. It is said of each setting and scope that the tables and the work show.
 use Rattle.std.specs.Prelude.{◌≡◌, ℕ, ◌+◌, List, map, Option, Result, Ok, Err, ⊤}
+use Rattle.core_syntax.specs.NotedErrors.{MayNoteMore}
 use Rattle.model.specs.lists.Syntax.{Position}
 use Rattle.model.specs.lists.Setting.{Setting, Scope}
 use Rattle.model.specs.claims.Refusals.{NamedLimit, of_nesting, of_expansions}
@@ -31,9 +32,9 @@ pub data Took {Q : Type 0} (old new : Standing) : Step Q → Ending Q → Type 0
       → Took old new (went_on m s k ws) (Ok m)
   ended : (l : NamedLimit) (s : Scope) (ws : List Mistake) → NotesEachAt (places_of ws) old.work.errors.items new.work.errors.items → names_of new.tyenv ≡ s.names → Took old new (stopped l s ws) (Err l)
 
--- the work came to this, as the steps say from where it stood
+-- the work came to this, as the steps say from where it stood. The errors so far stay
 abbrev pub EndsAs : {Q : Type 0} → TermEnv → Standing → Standing → Stepping Q → Ending Q → Type 0
-EndsAs env old new steps r = Wherever env old (λ e s. Took old new (steps e old.work.expansions s) r)
+EndsAs env old new steps r = MayNoteMore old.work.errors.items new.work.errors.items × Wherever env old (λ e s. Took old new (steps e old.work.expansions s) r)
 
 -- it stopped as they say, unless memory was refused
 abbrev pub StopsBy : {Q : Type 0} → TermEnv → Standing → Standing → Stepping Q → Stop → Type 0
@@ -47,7 +48,8 @@ Takes env old new steps view (Ok x) = EndsAs env old new steps (Ok (view x))
 Takes env old new steps view (Err stop) = StopsBy env old new steps stop
 
 -- as far as the work came, the whole did what is said of it if the rest does what is said of that from here on: it comes to the same,
--- but for what is made of it
+-- but for what is made of it. The errors so far stay
 abbrev pub LeadsOn : {P Q : Type 0} → TermEnv → Standing → Standing → Stepping Q → Stepping P → (Ending P → Ending Q) → Type 0
 LeadsOn {P} env old mid whole rest become =
-    Wherever env old (λ e s. (new : Standing) (r : Ending P) → ((u : Scope) → Shows mid u → Took mid new (rest e mid.work.expansions u) r) → Took old new (whole e old.work.expansions s) (become r))
+    MayNoteMore old.work.errors.items mid.work.errors.items
+    × Wherever env old (λ e s. (new : Standing) (r : Ending P) → ((u : Scope) → Shows mid u → Took mid new (rest e mid.work.expansions u) r) → Took old new (whole e old.work.expansions s) (become r))

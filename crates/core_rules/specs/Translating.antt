@@ -19,6 +19,7 @@ use Rattle.core_types.specs.TypeViews.{type_views}
 use Rattle.core_syntax.specs.NotedErrors.{NotesMore, MayNoteMore}
 use Rattle.core_terms.specs.TermTables.{same_types}
 use Rattle.core_terms.specs.TermViews.{term_views}
+use Rattle.laws_errors.specs.StepLaws.{IsOnlyTyping}
 use Rattle.core_rules.specs.declared.term_env.TermEnv.{TermEnv}
 use Rattle.core_rules.specs.declared.typing.progress.Progress.{Progress}
 use Rattle.core_rules.specs.declared.typing.progress.Stop.{Stop}
@@ -80,11 +81,6 @@ Reading Q = Setting → ℕ → Scope → Option (Typing Q)
 -- a fact of each setting and scope that are shown
 abbrev pub Wherever : TermEnv → Standing → (Setting → Scope → Type 0) → Type 0
 Wherever env at P = (e : Setting) (s : Scope) → IsSettingOf at.tyenv env e → Shows at s → P e s
-
--- within so many nested expansions it is this typing, and within any other number nothing else
-pub record IsOnlyTyping {Q : Type 0} (o : ℕ → Option (Typing Q)) (d : ℕ) (a : Typing Q) : Type 0 where
-  pub here : o d ≡ Some a
-  pub elsewhere : (c : ℕ) → (o c ≡ None) ⊎ (o c ≡ Some a)
 
 -- what was made, where no error was noted
 pub record IsTranslatedAt {Q : Type 0} (o : ℕ → Option (Typing Q)) (d : ℕ) (q : Q) (old new : Standing) : Type 0 where

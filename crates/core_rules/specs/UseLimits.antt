@@ -1,29 +1,19 @@
 -- Which limit the use of a name comes to, by what it stands for.
-use Rattle.std.specs.Prelude.{ℕ, Bool, Option, None, Result, Ok, Err}
+use Rattle.std.specs.Prelude.{ℕ, Option, None, Result, Ok, Err}
 use Rattle.core_syntax.specs.SyntaxViews as S
-use Rattle.model.specs.lists.Syntax.{PatternTree, PatternTrees, ExprTree, ExprTrees}
+use Rattle.model.specs.lists.Syntax.{ExprTree, ExprTrees}
 use Rattle.model.specs.lists.Tables.{Flags}
 use Rattle.core_terms.specs.TermViews.{term_view}
 use Rattle.core_rules.specs.declared.term_env.TermEnv.{TermEnv}
 use Rattle.core_rules.specs.declared.typing.progress.Stop.{Stop}
-use Rattle.core_rules.specs.declared.typing.pattern_uses.PatternUse.{PatternUse}
-use Rattle.core_rules.specs.declared.typing.pattern_uses.PatternUse.TheVariants as P
 use Rattle.core_rules.specs.declared.typing.expr_uses.VarUse.{VarUse}
 use Rattle.core_rules.specs.declared.typing.expr_uses.VarUse.TheVariants as V
 use Rattle.core_rules.specs.declared.typing.expr_uses.CallUse.{CallUse}
 use Rattle.core_rules.specs.declared.typing.expr_uses.CallUse.TheVariants as C
 use Rattle.core_rules.specs.ExprReadings.{expr_reading}
-use Rattle.core_rules.specs.PatternReadings.{pattern_reading}
-use Rattle.core_rules.specs.ReachedLimits.{pattern_limits, parts_limits, expr_limits, args_limits}
+use Rattle.core_rules.specs.ReachedLimits.{expr_limits, args_limits}
 use Rattle.core_rules.specs.LimitStops.{ComesTo, StopEnds, LeadsTo}
 use Rattle.core_rules.specs.Translating.{Standing}
-
--- of a term in a pattern, in a rule whose term is multi or not
-abbrev pub UseComes : TermEnv → Standing → Standing → ℕ → Bool → PatternTree → PatternTrees → ℕ → Result PatternUse Stop → Type 0
-UseComes env old new d multi whole args ty (Ok P.Wrong) = ComesTo env old d (pattern_limits multi whole ty) None
-UseComes env old new d multi whole args ty (Ok (P.Expansion made left)) = LeadsTo env old new d (pattern_limits multi whole ty) left (pattern_limits multi (S.pattern_view made) ty)
-UseComes env old new d multi whole args ty (Ok (P.Parts t)) = LeadsTo env old new d (pattern_limits multi whole ty) d (parts_limits multi args (term_view t.now).arg_tys)
-UseComes env old new d multi whole args ty (Err stop) = StopEnds env old new d (pattern_reading multi whole ty) (pattern_limits multi whole ty) stop
 
 -- of a variable
 abbrev pub VarComes : TermEnv → Standing → Standing → ℕ → ExprTree → Flags → Option ℕ → Result VarUse Stop → Type 0

@@ -1,5 +1,5 @@
 -- Errors that are noted in order, each at a place.
-use Rattle.std.proofs.Common.{◌≡◌, Bool, true, false, List, [], ◌∷◌, ◌++◌, length, map, All, Contains, Result, Ok, Err, OnOk, true≢false, append_assoc, append-nil, refl, sym, ap, ◌∙◌, arith}
+use Rattle.std.proofs.Common.{◌≡◌, Bool, true, false, List, [], ◌∷◌, ◌++◌, length, map, All, Contains, Result, Ok, Err, OnOk, true≢false, append_assoc, append-nil, inl, inr, refl, sym, ap, subst, ◌∙◌, arith}
 use Rattle.std.proofs.lemmas.List.{map-append}
 use Rattle.std.proofs.lemmas.List.Elements.{All-nil, All-cons, All-head, All-append}
 use Rattle.model.specs.lists.Syntax.{Position}
@@ -7,6 +7,7 @@ use Rattle.model.specs.claims.Refusals.{Refusal, IsIllTyped, ill_typed, unreacha
 use Rattle.model.proofs.Members.{in_alone}
 use Rattle.core_syntax.specs.declared.syntax.Error.{Error}
 use Rattle.core_syntax.specs.ErrorViews.{error_view, error_views}
+use Rattle.core_syntax.specs.NotedErrors.{AreIllTyped, NotesMore, MayNoteMore}
 use Rattle.core_syntax.specs.Positions.{HasSingleSpans, positions_named}
 use Rattle.core_types.specs.ToldErrors.{IsToldAt, Notes}
 use Rattle.core_typed.specs.Elaborating.{place_unless, NotesEachAt}
@@ -43,6 +44,44 @@ pub told_at : (at : Position) (old new : List Error) → Notes 1 (at ∷ []) old
 told_at at old new n =
     let v = one_view at n.more n.tells.many n.tells.each in
     record { more = n.more; added = n.added; views = v.0; single = v.1 }
+
+-- they are errors that say that something isn't right
+forms_at : (ps : List Position) (es : List Error) → error_views es ≡ map ill_typed ps → AreIllTyped es
+forms_at ps [] h = All-nil (λ e. IsIllTyped (error_view e))
+forms_at [] (e ∷ es) h = absurd (cc)
+forms_at (p ∷ ps) (e ∷ es) h =
+    let view : error_view e ≡ ill_typed p = cc in
+    let rest : error_views es ≡ map ill_typed ps = cc in
+    All-cons (λ x. IsIllTyped (error_view x)) e es (subst IsIllTyped (sym view) tt) (forms_at ps es rest)
+
+no_views : (es : List Error) → error_views es ≡ [] → es ≡ []
+no_views [] h = refl
+no_views (e ∷ es) h = absurd (cc)
+
+only_nothing : (old more : List Error) → old ++ more ≡ old → more ≡ []
+only_nothing [] more h = h
+only_nothing (e ∷ es) more h = only_nothing es more (let tail : es ++ more ≡ es = cc in tail)
+
+more_at : {ps : List Position} {old new : List Error} (more : List Error) → new ≡ old ++ more → error_views more ≡ map ill_typed ps → MayNoteMore old new
+more_at {ps} {old} [] added views = inl (added ∙ append-nil old)
+more_at {ps} (e ∷ es) added views = inr (record { more = e ∷ es; added = added; some_more = λ h. absurd (cc); forms = forms_at ps (e ∷ es) views })
+
+pub may_note : {ps : List Position} {old new : List Error} → NotesEachAt ps old new → MayNoteMore old new
+may_note n = more_at n.more n.added n.views
+
+-- what nothing was noted for
+pub none_noted : (old new : List Error) → NotesEachAt [] old new → NotesMore old new → ⊥
+none_noted old new n m =
+    let same : new ≡ old = n.added ∙ ap (λ es. old ++ es) (no_views n.more n.views) ∙ append-nil old in
+    m.some_more (only_nothing old m.more (sym m.added ∙ same))
+
+-- and something
+pub some_noted_at : (p : Position) (ps : List Position) (old new : List Error) → NotesEachAt (p ∷ ps) old new → new ≡ old → ⊥
+some_noted_at p ps old new n same = at_more n.more (only_nothing old n.more (sym n.added ∙ same)) n.views
+  where
+    at_more : (es : List Error) → es ≡ [] → error_views es ≡ map ill_typed (p ∷ ps) → ⊥
+    at_more [] h v = absurd (cc)
+    at_more (e ∷ es) h v = absurd (cc)
 
 -- by a test
 pub right_at : (b : Bool) (at : Position) (old new : List Error) → b ≡ true → new ≡ old → NotesEachAt (place_unless b at) old new

@@ -1,17 +1,15 @@
 //! How patterns without parts are typed, and how a name is bound around a pattern.
 
-ghost use Rattle.std.specs.Prelude.{◌≡◌, [], ◌∷◌, ℕ, Bool, not, None, OnOk, is_some, option_map, string_bytes};
+ghost use Rattle.std.specs.Prelude.{[], ◌∷◌, not, None, OnOk, is_some, option_map, string_bytes};
 ghost use Rattle.core_syntax.specs.SyntaxViews.{name_view, position};
 ghost use Rattle.model.specs.lists.Syntax.{var_pattern, bool_pattern, int_pattern, prim_pattern, macro_arg};
 ghost use Rattle.core_types.specs.Envs.{IsInterned};
-ghost use Rattle.core_typed.specs.Elaborating.{Checks, NotesEachAt, place_unless};
+ghost use Rattle.core_typed.specs.Elaborating.{NotesEachAt, place_unless};
 ghost use Rattle.core_typed.specs.PatternViews.{pattern_view};
-ghost use Rattle.core_rules.specs.PatternReadings.{pattern_reading, BindsAround};
 ghost use Rattle.core_rules.specs.PatternTaking.{leaf_steps, around_steps};
 ghost use Rattle.core_rules.specs.Progress.{newest, Remains};
-ghost use Rattle.core_rules.specs.LimitStops.{NotLimited};
 ghost use Rattle.core_rules.specs.Taking.{Takes};
-ghost use Rattle.core_rules.specs.Translating.{standing, Keeps, MayTranslate};
+ghost use Rattle.core_rules.specs.Translating.{standing, Keeps};
 ghost use Rattle.core_syntax.specs.Positions.{NotesAt};
 ghost use Rattle.core_rules.specs.RulePositions.{StaysPlaced};
 
@@ -37,10 +35,7 @@ impl TermEnv {
     ) -> Result<Option<Pattern>, Stop>
         requires { IsInterned tyenv.old }
         ensures keeps { Keeps tyenv.old tyenv.new }
-        ensures made { (multi : Bool) (d : ℕ) → MayTranslate self.now (standing tyenv.old work.old) (standing tyenv.new work.new) d
-            (pattern_reading multi (var_pattern (name_view var.now) (position pos)) expected_ty.0) pattern_view result }
         ensures places { StaysPlaced (position pos ∷ []) work.old.errors.items work.new.errors.items result }
-        ensures unlimited { NotLimited result }
         ensures reads { Takes self.now (standing tyenv.old work.old) (standing tyenv.new work.new)
             (leaf_steps (var_pattern (name_view var.now) (position pos)) expected_ty.0) (option_map pattern_view) result }
     {
@@ -71,10 +66,7 @@ impl TermEnv {
         pos: Pos,
         expected_ty: TypeId,
     ) -> Result<Option<Pattern>, Stop>
-        ensures made { (multi : Bool) (d : ℕ) → MayTranslate self.now (standing tyenv.now work.old) (standing tyenv.now work.new) d
-            (pattern_reading multi (bool_pattern val (position pos)) expected_ty.0) pattern_view result }
         ensures places { StaysPlaced (position pos ∷ []) work.old.errors.items work.new.errors.items result }
-        ensures unlimited { NotLimited result }
         ensures reads { Takes self.now (standing tyenv.now work.old) (standing tyenv.now work.new)
             (leaf_steps (bool_pattern val (position pos)) expected_ty.0) (option_map pattern_view) result }
     {
@@ -92,10 +84,7 @@ impl TermEnv {
         pos: Pos,
         expected_ty: TypeId,
     ) -> Result<Option<Pattern>, Stop>
-        ensures made { (multi : Bool) (d : ℕ) → MayTranslate self.now (standing tyenv.now work.old) (standing tyenv.now work.new) d
-            (pattern_reading multi (int_pattern val (position pos)) expected_ty.0) pattern_view result }
         ensures places { StaysPlaced (position pos ∷ []) work.old.errors.items work.new.errors.items result }
-        ensures unlimited { NotLimited result }
         ensures reads { Takes self.now (standing tyenv.now work.old) (standing tyenv.now work.new)
             (leaf_steps (int_pattern val (position pos)) expected_ty.0) (option_map pattern_view) result }
     {
@@ -116,10 +105,7 @@ impl TermEnv {
     ) -> Result<Option<Pattern>, Stop>
         requires { IsInterned tyenv.old }
         ensures keeps { Keeps tyenv.old tyenv.new }
-        ensures made { (multi : Bool) (d : ℕ) → MayTranslate self.now (standing tyenv.old work.old) (standing tyenv.new work.new) d
-            (pattern_reading multi (prim_pattern (name_view val.now) (position pos)) expected_ty.0) pattern_view result }
         ensures places { StaysPlaced (position pos ∷ []) work.old.errors.items work.new.errors.items result }
-        ensures unlimited { NotLimited result }
         ensures reads { Takes self.now (standing tyenv.old work.old) (standing tyenv.new work.new)
             (leaf_steps (prim_pattern (name_view val.now) (position pos)) expected_ty.0) (option_map pattern_view) result }
     {
@@ -152,10 +138,7 @@ impl TermEnv {
     ) -> Result<Option<Pattern>, Stop>
         requires { IsInterned tyenv.old }
         ensures keeps { Keeps tyenv.old tyenv.new }
-        ensures binds { (d : ℕ) → BindsAround self.now (standing tyenv.old work.old) (standing tyenv.new work.new) d
-            (string_bytes var.now.0) (pattern_view of) result }
         ensures places { StaysPlaced (position pos ∷ []) work.old.errors.items work.new.errors.items result }
-        ensures unlimited { NotLimited result }
         ensures reads { Takes self.now (standing tyenv.old work.old) (standing tyenv.new work.new)
             (around_steps (string_bytes var.now.0) (position pos) (pattern_view of)) (option_map pattern_view) result }
     {
@@ -176,10 +159,7 @@ impl TermEnv {
         index: usize,
         expected_ty: TypeId,
     ) -> Result<Option<Pattern>, Stop>
-        ensures made { (multi : Bool) (d : ℕ) → MayTranslate self.now (standing tyenv.now work.old) (standing tyenv.now work.new) d
-            (pattern_reading multi (macro_arg index (position pos)) expected_ty.0) pattern_view result }
         ensures places { StaysPlaced (position pos ∷ []) work.old.errors.items work.new.errors.items result }
-        ensures unlimited { NotLimited result }
         ensures reads { Takes self.now (standing tyenv.now work.old) (standing tyenv.now work.new)
             (leaf_steps (macro_arg index (position pos)) expected_ty.0) (option_map pattern_view) result }
     {
@@ -191,7 +171,6 @@ impl TermEnv {
 // Whether a name stands for no variable; else this is noted.
 #[tactic(auto, using(core_syntax::proofs::Positioned::notes_nothing))]
 fn check_new(work: &mut Progress, name: Sym, var: &Ident, pos: Pos) -> Result<(), AllocError>
-    ensures checks { OnOk result (Checks work.old.errors.items work.new.errors.items (newest work.old name.0 ≡ None)) }
     ensures remains { Remains work.old work.new }
     ensures places { OnOk result (NotesAt (position pos ∷ []) work.old.errors.items work.new.errors.items) }
     ensures exact { OnOk result (NotesEachAt (place_unless (not (is_some (newest work.old name.0))) (position pos)) work.old.errors.items work.new.errors.items) }

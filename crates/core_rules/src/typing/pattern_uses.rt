@@ -8,10 +8,9 @@ ghost use Rattle.model.specs.lists.Syntax.{term_pattern};
 ghost use Rattle.core_terms.specs.Terms.{has_extractor_kind};
 ghost use Rattle.core_terms.specs.TermViews.{term_view};
 ghost use Rattle.core_types.specs.Envs.{IsInterned};
-ghost use Rattle.core_typed.specs.Elaborating.{Checks, NotesEachAt, place_unless};
+ghost use Rattle.core_typed.specs.Elaborating.{NotesEachAt, place_unless};
 ghost use Rattle.core_rules.specs.Progress.{Remains};
-ghost use Rattle.core_rules.specs.PatternUses.{found_term, found_converter, found_template, inside_term, UsesTerm};
-ghost use Rattle.core_rules.specs.UseLimits.{UseComes};
+ghost use Rattle.core_rules.specs.PatternUses.{found_term, found_converter, found_template, inside_term};
 ghost use Rattle.core_rules.specs.PatternTaking.{UseTakes};
 ghost use Rattle.core_rules.specs.Translating.{standing};
 ghost use Rattle.core_syntax.specs.Positions.{NotesAt, pattern_positions};
@@ -92,12 +91,9 @@ impl TermEnv {
     ) -> Result<PatternUse<'_>, Stop>
         requires inverse { IsInterned tyenv.now }
         requires whole { pattern_view whole.now ≡ term_pattern (name_view sym.now) (pattern_views args.now) (position pos) }
-        ensures uses { UsesTerm self.now (standing tyenv.now work.old) (standing tyenv.now work.new) nesting multi (pattern_view whole.now)
-            (pattern_views args.now) expected_ty.0 result }
+        ensures deeper { Deepens self.now nesting (pattern_view whole.now) (pattern_views args.now) result }
         ensures places { StaysPlaced (position pos ∷ []) work.old.errors.items work.new.errors.items result }
         ensures among { ExpandsAmong (with_templates self.now (pattern_positions (pattern_view whole.now))) result }
-        ensures limits { UseComes self.now (standing tyenv.now work.old) (standing tyenv.now work.new) nesting multi (pattern_view whole.now)
-            (pattern_views args.now) expected_ty.0 result }
         ensures reads { UseTakes self.now (standing tyenv.now work.old) (standing tyenv.now work.new) nesting multi (pattern_view whole.now)
             (pattern_views args.now) expected_ty.0 result }
     {
@@ -149,8 +145,6 @@ fn check_use(
     pos: Pos,
     expected_ty: TypeId,
 ) -> Result<(), AllocError>
-    ensures checks { OnOk result (Checks work.old.errors.items work.new.errors.items
-        (((term_view term.now).ret_ty ≡ expected_ty.0) × (args ≡ length (term_view term.now).arg_tys))) }
     ensures remains { Remains work.old work.new }
     ensures places { OnOk result (NotesAt (position pos ∷ []) work.old.errors.items work.new.errors.items) }
     ensures exact { OnOk result (NotesEachAt (place_unless ((term_view term.now).ret_ty == expected_ty.0) (position pos) ++ place_unless
@@ -178,7 +172,6 @@ fn check_extractor(
     term: &Term,
     multi: bool,
 ) -> Result<(), AllocError>
-    ensures checks { OnOk result (Checks errors.old.items errors.new.items (is_matchable multi (term_view term.now).kind ≡ true)) }
     ensures places { OnOk result (NotesAt (position pos ∷ []) errors.old.items errors.new.items) }
     ensures exact { OnOk result (NotesEachAt (place_unless (is_matchable multi (term_view term.now).kind) (position pos)) errors.old.items errors.new.items) }
 {

@@ -1,16 +1,13 @@
 //! How patterns are typed.
 
-ghost use Rattle.std.specs.Prelude.{◌≡◌, ◌++◌, Some, OnOk, length, map, option_map};
+ghost use Rattle.std.specs.Prelude.{◌≡◌, ◌++◌, Some, OnOk, map, option_map};
 ghost use Rattle.std.specs.Option.{option_to_list};
 ghost use Rattle.core_syntax.specs.SyntaxViews as S;
 ghost use Rattle.core_types.specs.Envs.{IsInterned};
 ghost use Rattle.core_typed.specs.PatternViews.{pattern_view, pattern_views, pattern_parts};
-ghost use Rattle.core_rules.specs.PatternReadings.{pattern_reading, parts_reading, each_reading};
 ghost use Rattle.core_rules.specs.PatternTaking.{pattern_steps, parts_steps, each_steps};
-ghost use Rattle.core_rules.specs.LimitStops.{MeetsLimits};
-ghost use Rattle.core_rules.specs.ReachedLimits.{pattern_limits, parts_limits, each_limits};
 ghost use Rattle.core_rules.specs.Taking.{Takes};
-ghost use Rattle.core_rules.specs.Translating.{standing, Keeps, StaysNoted, MayTranslate, Translates};
+ghost use Rattle.core_rules.specs.Translating.{standing, Keeps};
 ghost use Rattle.core_syntax.specs.Positions.{pattern_positions, patterns_positions};
 ghost use Rattle.core_rules.specs.RulePositions.{with_templates, StaysPlaced};
 
@@ -41,11 +38,7 @@ impl TermEnv {
     ) -> Result<Option<Pattern>, Stop>
         requires { IsInterned tyenv.old }
         ensures keeps { Keeps tyenv.old tyenv.new }
-        ensures made { MayTranslate self.now (standing tyenv.old work.old) (standing tyenv.new work.new) nesting
-            (pattern_reading multi (S.pattern_view pat.now) expected_ty.0) pattern_view result }
         ensures places { StaysPlaced (with_templates self.now (pattern_positions (S.pattern_view pat.now))) work.old.errors.items work.new.errors.items result }
-        ensures limits { MeetsLimits self.now (standing tyenv.old work.old) (standing tyenv.new work.new) nesting
-            (pattern_reading multi (S.pattern_view pat.now) expected_ty.0) (pattern_limits multi (S.pattern_view pat.now) expected_ty.0) result }
         ensures reads { Takes self.now (standing tyenv.old work.old) (standing tyenv.new work.new)
             (pattern_steps multi (S.pattern_view pat.now) expected_ty.0 nesting) (option_map pattern_view) result }
     {
@@ -128,15 +121,8 @@ impl TermEnv {
     ) -> Result<Vec<Pattern>, Stop>
         requires { IsInterned tyenv.old }
         ensures keeps { Keeps tyenv.old tyenv.new }
-        ensures made { length args.now ≡ length tys.now
-            → Translates self.now (standing tyenv.old work.old) (standing tyenv.new work.new) nesting
-            (parts_reading multi (S.pattern_views args.now) (map (λ t. t.0) tys.now)) (λ v. pattern_parts (pattern_views v.items)) result }
-        ensures errors { StaysNoted (standing tyenv.old work.old) (standing tyenv.new work.new) result }
         ensures places { StaysPlaced (with_templates self.now (patterns_positions
             (S.pattern_views args.now))) work.old.errors.items work.new.errors.items result }
-        ensures limits { length args.now ≡ length tys.now
-            → MeetsLimits self.now (standing tyenv.old work.old) (standing tyenv.new work.new) nesting
-            (parts_reading multi (S.pattern_views args.now) (map (λ t. t.0) tys.now)) (parts_limits multi (S.pattern_views args.now) (map (λ t. t.0) tys.now)) result }
         ensures reads { Takes self.now (standing tyenv.old work.old) (standing tyenv.new work.new)
             (parts_steps multi (S.pattern_views args.now) (map (λ t. t.0) tys.now) nesting) (λ v. Some (pattern_parts (pattern_views v.items))) result }
     {
@@ -162,12 +148,8 @@ impl TermEnv {
     ) -> Result<Vec<Pattern>, Stop>
         requires { IsInterned tyenv.old }
         ensures keeps { Keeps tyenv.old tyenv.new }
-        ensures made { Translates self.now (standing tyenv.old work.old) (standing tyenv.new work.new) nesting
-            (each_reading multi (S.pattern_views subpats.now) expected_ty.0) (λ v. pattern_parts (pattern_views v.items)) result }
         ensures places { StaysPlaced (with_templates self.now (patterns_positions
             (S.pattern_views subpats.now))) work.old.errors.items work.new.errors.items result }
-        ensures limits { MeetsLimits self.now (standing tyenv.old work.old) (standing tyenv.new work.new) nesting
-            (each_reading multi (S.pattern_views subpats.now) expected_ty.0) (each_limits multi (S.pattern_views subpats.now) expected_ty.0) result }
         ensures reads { Takes self.now (standing tyenv.old work.old) (standing tyenv.new work.new)
             (each_steps multi (S.pattern_views subpats.now) expected_ty.0 nesting) (λ v. Some (pattern_parts (pattern_views v.items))) result }
     {

@@ -1,124 +1,32 @@
 use Rattle.std.proofs.Common.{◌≡◌, ℕ, ◌<◌, ◌≤◌, min, List, [], ◌∷◌, length, map, get_or, Some, option_map, Ok, refl, sym, ap, ◌∙◌, rules, arith}
 use Rattle.std.proofs.lemmas.Int.{to_z-of_z}
-use Rattle.std.proofs.lemmas.List.{length-map}
 use mir.Val.{SFits}
 use mir.Syntax.{w128}
-use Rattle.model.specs.lists.Syntax.{Position, no_pattern, var_pattern, bool_pattern, prim_pattern, macro_arg, bind_pattern, term_pattern, and_pattern}
+use Rattle.model.specs.lists.Syntax.{Position, bind_pattern, term_pattern, and_pattern}
 use Rattle.model.specs.rules.Typed.{match_and, match_term}
 use Rattle.core_types.specs.declared.ids.TypeId.{TypeId}
 use Rattle.core_syntax.specs.SyntaxViews as S
 use Rattle.core_terms.specs.TermViews.{term_view, term_views}
-use Rattle.core_rules.specs.PatternReadings.{pattern_reading, parts_reading, each_reading}
 use Rattle.core_typed.specs.PatternViews.{pattern_view, pattern_views, pattern_parts}
 use Rattle.core_rules.specs.Translating.{standing}
 use Rattle.core_typed.proofs.Defaults.{same_default}
 use Rattle.core_typed.proofs.PatternBridges.{row_patterns-hidden}
-use Rattle.core_rules.proofs.PatternLists.{none_yet, next_part, part_stops, next_each, each_stops}
 use Rattle.core_rules.proofs.PatternSizes.{tree_size, trees_size, growth, grown, smaller, deeper_smaller, expansion_smaller, smaller_part}
-use Rattle.core_rules.proofs.PatternForms.{seen_bind, seen_term, seen_and, any_used, bind_done, bind_reported, bind_stops, parts_done, parts_stop}
-use Rattle.core_rules.proofs.Readings.{stop_is, stop_keeps, stays_on, may_report, keep_none, keep_on, made_done, made_reported, made_stops, expanded_done}
+use Rattle.core_rules.proofs.PatternForms.{seen_bind, seen_term, seen_and}
+use Rattle.core_rules.proofs.Readings.{stop_is, keep_none, keep_on}
 use Rattle.core_syntax.specs.Positions.{OccurAmong, pattern_positions, patterns_positions}
 use Rattle.core_syntax.proofs.Positioned.{among_same, among_first, notes_among, notes_nothing, notes_parts}
 use Rattle.core_rules.specs.RulePositions.{with_templates}
 use Rattle.core_rules.proofs.ErrorPositions.{among_with, among_here, among_made, stays_head, stays_step, stop_among, stop_step}
 use Rattle.core_rules.proofs.PartPlaces.{bind_inside, term_inside, and_inside, part_inside}
-use Rattle.core_rules.specs.ReachedLimits.{pattern_limits, each_limits}
-use Rattle.core_rules.proofs.LimitSteps.{not_limited, same_ends}
-use Rattle.core_rules.proofs.PatternLimits.{expanded_meets, parts_end, parts_none, next_part_none, part_ends, all_parts_none, next_each_none, each_ends, all_each_none}
 use Rattle.core_rules.specs.PatternTaking.{pattern_steps, parts_steps, each_steps, made_end}
 use Rattle.core_rules.proofs.PatternListsTaken.{args_from, each_from, none_read, all_read, arg_goes_on, arg_stops_all, each_goes_on, each_stops_all, args_read, each_read}
 use Rattle.core_rules.proofs.PatternsTaken.{any_taken, around_stops, around_nothing, around_takes}
 use Rattle.core_rules.proofs.Taken.{expansion_done, rest_ends, rest_stops, made_ends, made_stopped}
 use Rattle.core_rules.proofs.term_env.TermEnv.+translate_pattern.Goals as goal
 
-pub translate_pattern-returns-in_err-made-in-BindPattern-clause-made : goal.translate_pattern-returns-in_err-made-in-BindPattern-clause-made
-translate_pattern-returns-in_err-made-in-BindPattern-clause-made t c =
-    rw (
-      stop_is c.from_residual.result c.in_err-made-in-BindPattern.field-0.0 c.from_residual.ensures,
-      seen_bind c.args.pat.now c.in-BindPattern.var c.in-BindPattern.subpat c.in-BindPattern.pos c.deref.result.now c.in-BindPattern.is c.deref.ensures,
-    )
-    (bind_stops c.args.multi (S.name_view c.in-BindPattern.var) (S.pattern_view c.deref.result.now) (S.position c.in-BindPattern.pos) c.args.expected_ty.0
-    c.args.self.now (standing c.args.tyenv.now c.args.work.now) (standing c.translate_pattern.new.tyenv c.translate_pattern.new.work) (standing c.translate_pattern.new.tyenv c.translate_pattern.new.work) c.args.nesting
-    c.in_err-made-in-BindPattern.field-0.0 c.in_err-made-in-BindPattern.ensures.made)
-
-pub translate_pattern-returns-in_default-clause-made : goal.translate_pattern-returns-in_default-clause-made
-translate_pattern-returns-in_default-clause-made t c =
-    rw (seen_bind c.args.pat.now c.in-BindPattern.var c.in-BindPattern.subpat c.in-BindPattern.pos c.deref.result.now c.in-BindPattern.is c.deref.ensures)
-    (bind_reported c.args.multi (S.name_view c.in-BindPattern.var) (S.pattern_view c.deref.result.now) (S.position c.in-BindPattern.pos) c.args.expected_ty.0
-    c.args.self.now (standing c.args.tyenv.now c.args.work.now) (standing c.translate_pattern.new.tyenv c.translate_pattern.new.work) (standing c.translate_pattern.new.tyenv c.translate_pattern.new.work) c.args.nesting
-    (rw c.in_default.is at c.in_ok-made-in-BindPattern.ensures.made))
-
-pub translate_pattern-returns-in-Some-clause-made : goal.translate_pattern-returns-in-Some-clause-made
-translate_pattern-returns-in-Some-clause-made t c =
-    rw (seen_bind c.args.pat.now c.in-BindPattern.var c.in-BindPattern.subpat c.in-BindPattern.pos c.deref.result.now c.in-BindPattern.is c.deref.ensures)
-    (bind_done c.args.multi (S.name_view c.in-BindPattern.var) (S.pattern_view c.deref.result.now) (S.position c.in-BindPattern.pos) c.args.expected_ty.0
-    c.args.self.now (standing c.args.tyenv.now c.args.work.now) (standing c.translate_pattern.new.tyenv c.translate_pattern.new.work) _ c.args.nesting c.in-Some.of _
-    c.translate_pattern.ensures.keeps (rw c.in-Some.is at c.in_ok-made-in-BindPattern.ensures.made) (c.bind_around.ensures.binds c.args.nesting))
-
 pub translate_pattern-use_in_pattern-requires-clause-whole : goal.translate_pattern-use_in_pattern-requires-clause-whole
 translate_pattern-use_in_pattern-requires-clause-whole t c = seen_term c.args.pat.now c.in-Term.sym c.in-Term.args c.in-Term.pos c.deref-in-Term.result.now c.in-Term.is c.deref-in-Term.ensures.value
-
-pub translate_pattern-returns-in-Expansion-clause-made : goal.translate_pattern-returns-in-Expansion-clause-made
-translate_pattern-returns-in-Expansion-clause-made t c =
-    let u = rw c.in-Expansion.is at c.in_ok-use_in_pattern-in-Term.ensures.uses in
-    expanded_done c.args.self.now (standing c.args.tyenv.now c.args.work.now) (standing c.args.tyenv.now c.use_in_pattern.new.work) _ refl c.args.nesting c.in-Expansion.left u.0
-    (pattern_reading c.args.multi (S.pattern_view c.args.pat.now) c.args.expected_ty.0) (pattern_reading c.args.multi (S.pattern_view c.in-Expansion.made) c.args.expected_ty.0) pattern_view u.2 _ c.translate_pattern-in-Expansion.ensures.made
-
-pub translate_pattern-returns-in_err-parts-in-Parts-clause-made : goal.translate_pattern-returns-in_err-parts-in-Parts-clause-made
-translate_pattern-returns-in_err-parts-in-Parts-clause-made t c =
-    let u = rw c.in-Parts.is at c.in_ok-use_in_pattern-in-Term.ensures.uses in
-    let args : c.deref-in-Parts.result.now ≡ c.deref-in-Term.result.now = c.deref-in-Parts.ensures.value ∙ sym c.deref-in-Term.ensures.value in
-    let made = rw (args, c.as_slice-tys.ensures.value) at c.in_err-parts-in-Parts.ensures.made in
-    rw (stop_is c.from_residual-in_err-parts-in-Parts.result c.in_err-parts-in-Parts.field-0.0 c.from_residual-in_err-parts-in-Parts.ensures)
-    (parts_stop c.args.multi c.args.self.now (standing c.args.tyenv.now c.args.work.now) (standing c.args.tyenv.now c.use_in_pattern.new.work) (standing c.translate_args.new.tyenv c.translate_args.new.work) refl c.args.nesting
-    (S.pattern_view c.args.pat.now) c.deref-in-Term.result.now c.args.expected_ty.0 (term_view c.in-Parts.term.now) u c.in_err-parts-in-Parts.field-0.0
-    c.in_err-parts-in-Parts.ensures.errors (λ same. made (same ∙ length-map c.in-Parts.term.now.arg_tys.items (λ ty. ty.0))))
-
-pub translate_pattern-returns-in_ok-parts-in-Parts-clause-made : goal.translate_pattern-returns-in_ok-parts-in-Parts-clause-made
-translate_pattern-returns-in_ok-parts-in-Parts-clause-made t c =
-    let u = rw c.in-Parts.is at c.in_ok-use_in_pattern-in-Term.ensures.uses in
-    let args : c.deref-in-Parts.result.now ≡ c.deref-in-Term.result.now = c.deref-in-Parts.ensures.value ∙ sym c.deref-in-Term.ensures.value in
-    let made = rw (args, c.as_slice-tys.ensures.value) at c.in_ok-parts-in-Parts.ensures.made in
-    rw (row_patterns-hidden c.in_ok-parts-in-Parts.parts)
-    (parts_done c.args.multi c.args.self.now (standing c.args.tyenv.now c.args.work.now) (standing c.args.tyenv.now c.use_in_pattern.new.work) (standing c.translate_args.new.tyenv c.translate_args.new.work) refl c.args.nesting
-    (S.pattern_view c.args.pat.now) c.deref-in-Term.result.now c.args.expected_ty.0 (term_view c.in-Parts.term.now) u c.in_ok-parts-in-Parts.parts.items
-    (λ same. made (same ∙ length-map c.in-Parts.term.now.arg_tys.items (λ ty. ty.0))) c.in_ok-parts-in-Parts.ensures.errors)
-
-pub translate_pattern-returns-in_err-parts-in-And-clause-made : goal.translate_pattern-returns-in_err-parts-in-And-clause-made
-translate_pattern-returns-in_err-parts-in-And-clause-made t c =
-    rw (
-      stop_is c.from_residual-in_err-parts-in-And.result c.in_err-parts-in-And.field-0.0 c.from_residual-in_err-parts-in-And.ensures,
-      seen_and c.args.pat.now c.in-And.subpats c.in-And.pos c.deref-in-And.result.now c.in-And.is c.deref-in-And.ensures.value,
-    )
-    (made_stops c.args.self.now (standing c.args.tyenv.now c.args.work.now) (standing c.translate_each.new.tyenv c.translate_each.new.work) c.args.nesting (each_reading c.args.multi (S.pattern_views c.deref-in-And.result.now) c.args.expected_ty.0)
-    (pattern_reading c.args.multi (and_pattern (S.pattern_views c.deref-in-And.result.now) (S.position c.in-And.pos)) c.args.expected_ty.0) (match_and c.args.expected_ty.0) (λ e k s. refl)
-    c.in_err-parts-in-And.field-0.0 c.in_err-parts-in-And.ensures.made)
-
-pub translate_pattern-returns-in_ok-parts-in-And-clause-made : goal.translate_pattern-returns-in_ok-parts-in-And-clause-made
-translate_pattern-returns-in_ok-parts-in-And-clause-made t c =
-    rw (row_patterns-hidden c.in_ok-parts-in-And.parts, seen_and c.args.pat.now c.in-And.subpats c.in-And.pos c.deref-in-And.result.now c.in-And.is c.deref-in-And.ensures.value)
-    (made_done c.args.self.now (standing c.args.tyenv.now c.args.work.now) (standing c.translate_each.new.tyenv c.translate_each.new.work) c.args.nesting (each_reading c.args.multi (S.pattern_views c.deref-in-And.result.now) c.args.expected_ty.0)
-    (pattern_reading c.args.multi (and_pattern (S.pattern_views c.deref-in-And.result.now) (S.position c.in-And.pos)) c.args.expected_ty.0) (match_and c.args.expected_ty.0) (λ e k s. refl)
-    (pattern_parts (pattern_views c.in_ok-parts-in-And.parts.items)) c.in_ok-parts-in-And.ensures.made)
-
-pub translate_pattern-returns-in-Wildcard-clause-made : goal.translate_pattern-returns-in-Wildcard-clause-made
-translate_pattern-returns-in-Wildcard-clause-made t c =
-    rw c.in-Wildcard.is (any_used c.args.multi c.args.self.now (standing c.args.tyenv.now c.args.work.now) c.args.nesting c.args.expected_ty.0 (S.position c.in-Wildcard.pos))
-
-pub translate_pattern-returns-in-Var-clause-made : goal.translate_pattern-returns-in-Var-clause-made
-translate_pattern-returns-in-Var-clause-made t c = rw c.in-Var.is (c.translate_var.ensures.made c.args.multi c.args.nesting)
-
-pub translate_pattern-returns-in-ConstBool-clause-made : goal.translate_pattern-returns-in-ConstBool-clause-made
-translate_pattern-returns-in-ConstBool-clause-made t c = rw c.in-ConstBool.is (c.translate_bool.ensures.made c.args.multi c.args.nesting)
-
-pub translate_pattern-returns-in-ConstInt-clause-made : goal.translate_pattern-returns-in-ConstInt-clause-made
-translate_pattern-returns-in-ConstInt-clause-made t c = let fits : SFits w128 c.in-ConstInt.val = search rules in rw c.in-ConstInt.is (rw (to_z-of_z w128 c.in-ConstInt.val fits) at (c.translate_int.ensures.made c.args.multi c.args.nesting))
-
-pub translate_pattern-returns-in-ConstPrim-clause-made : goal.translate_pattern-returns-in-ConstPrim-clause-made
-translate_pattern-returns-in-ConstPrim-clause-made t c = rw c.in-ConstPrim.is (c.translate_prim.ensures.made c.args.multi c.args.nesting)
-
-pub translate_pattern-returns-in-MacroArg-clause-made : goal.translate_pattern-returns-in-MacroArg-clause-made
-translate_pattern-returns-in-MacroArg-clause-made t c = rw c.in-MacroArg.is (c.refuse_macro_arg.ensures.made c.args.multi c.args.nesting)
 
 pub translate_pattern-translate_pattern-requires : goal.translate_pattern-translate_pattern-requires
 translate_pattern-translate_pattern-requires t c =
@@ -128,7 +36,7 @@ translate_pattern-translate_pattern-requires t c =
 
 pub translate_pattern-translate_pattern-requires-in-Expansion : goal.translate_pattern-translate_pattern-requires-in-Expansion
 translate_pattern-translate_pattern-requires-in-Expansion t c =
-    let u = rw c.in-Expansion.is at c.in_ok-use_in_pattern-in-Term.ensures.uses in
+    let u = rw c.in-Expansion.is at c.in_ok-use_in_pattern-in-Term.ensures.deeper in
     let size = ap tree_size (seen_term c.args.pat.now c.in-Term.sym c.in-Term.args c.in-Term.pos c.deref-in-Term.result.now c.in-Term.is c.deref-in-Term.ensures.value) in
     let less = deeper_smaller (term_views c.args.self.now.terms.items) c.in-Expansion.left (tree_size (S.pattern_view c.in-Expansion.made)) (tree_size (S.pattern_view c.args.pat.now))
     (expansion_smaller c.args.self.now (S.pattern_view c.args.pat.now) (S.pattern_views c.deref-in-Term.result.now) (S.pattern_view c.in-Expansion.made) size u.1) in
@@ -165,29 +73,9 @@ translate_each-translate_pattern-requires t c =
 pub translate_args-loop-i-init : goal.translate_args-loop-i-init
 translate_args-loop-i-init t c = (
   keep_none c.args.tyenv.now c.requires,
-  none_yet c.args.self.now (standing c.args.tyenv.now c.args.work.now) c.args.nesting (parts_reading c.args.multi no_pattern []) c.in_ok-parts.parts.items c.in_ok-parts.ensures.items (λ e k s. refl),
   notes_nothing _ _ _ refl,
-  λ e s is sh. refl,
   none_read c.args.self.now (standing c.args.tyenv.now c.args.work.now) (parts_steps c.args.multi (S.pattern_views c.args.args.now) (map (λ t. t.0) c.args.tys.now) c.args.nesting) c.in_ok-parts.parts.items c.in_ok-parts.ensures.items,
 )
-
-pub translate_args-returns-in_err-part-clause-made : goal.translate_args-returns-in_err-part-clause-made
-translate_args-returns-in_err-part-clause-made t c =
-    let w : c.loop-i.i < length c.args.args.now = search rules in
-    let v : c.loop-i.i < length c.args.tys.now = search rules in
-    let ty : TypeId = get_or c.args.tys.now c.loop-i.i (record { 0 = 0 }) in
-    rw (stop_is c.from_residual-in_err-part.result c.in_err-part.field-0.0 c.from_residual-in_err-part.ensures)
-    (part_stops c.args.multi c.args.self.now (standing c.args.tyenv.now c.args.work.now) (standing c.loop-i.tyenv c.loop-i.work) (standing c.translate_pattern.new.tyenv c.translate_pattern.new.work) c.args.nesting
-    c.args.args.now c.args.tys.now c.loop-i.i c.index-args-i.result ty w v c.index-args-i.is (same_default c.args.tys.now c.loop-i.i (record { 0 = 0 }) ty v) c.loop-i.invariant.0
-    c.loop-i.parts.items c.loop-i.invariant.1 c.in_err-part.field-0.0 c.in_err-part.ensures.made)
-
-pub translate_args-returns-in_err-part-clause-errors : goal.translate_args-returns-in_err-part-clause-errors
-translate_args-returns-in_err-part-clause-errors t c =
-    let ty : TypeId = get_or c.args.tys.now c.loop-i.i (record { 0 = 0 }) in
-    rw (stop_is c.from_residual-in_err-part.result c.in_err-part.field-0.0 c.from_residual-in_err-part.ensures)
-    (stays_on (standing c.args.tyenv.now c.args.work.now) (standing c.loop-i.tyenv c.loop-i.work) (standing c.translate_pattern.new.tyenv c.translate_pattern.new.work) c.in_err-part.field-0.0
-    (may_report c.args.self.now (standing c.args.tyenv.now c.args.work.now) (standing c.loop-i.tyenv c.loop-i.work) c.args.nesting _ _ c.loop-i.invariant.1) (stop_keeps c.args.self.now (standing c.loop-i.tyenv c.loop-i.work) (standing c.translate_pattern.new.tyenv c.translate_pattern.new.work) c.args.nesting
-    (pattern_reading c.args.multi (S.pattern_view c.index-args-i.result) ty.0) c.in_err-part.field-0.0 c.in_err-part.ensures.made))
 
 pub translate_args-loop-i-preserved : goal.translate_args-loop-i-preserved
 translate_args-loop-i-preserved t c =
@@ -196,62 +84,39 @@ translate_args-loop-i-preserved t c =
     let ty : TypeId = get_or c.args.tys.now c.loop-i.i (record { 0 = 0 }) in
     let pushed = c.in_ok-push_part.ensures in (
       keep_on c.args.tyenv.now c.loop-i.tyenv c.translate_pattern.new.tyenv c.loop-i.invariant.0 c.translate_pattern.ensures.keeps,
-      rw pushed
-          (next_part c.args.multi c.args.self.now (standing c.args.tyenv.now c.args.work.now) (standing c.loop-i.tyenv c.loop-i.work) (standing c.translate_pattern.new.tyenv c.translate_pattern.new.work) c.args.nesting
-          c.args.args.now c.args.tys.now c.loop-i.i c.index-args-i.result ty w v c.index-args-i.is (same_default c.args.tys.now c.loop-i.i (record { 0 = 0 }) ty v) c.loop-i.invariant.0
-          c.loop-i.parts.items c.loop-i.invariant.1 c.in_ok-part.part c.in_ok-part.ensures.made),
       (
           let whole = patterns_positions (S.pattern_views c.args.args.now) in
           let part = pattern_positions (S.pattern_view c.index-args-i.result) in
           notes_parts (with_templates c.args.self.now whole) (with_templates c.args.self.now part) (with_templates c.args.self.now whole) c.args.work.now.errors.items c.loop-i.work.errors.items c.translate_pattern.new.work.errors.items
-          (among_same (with_templates c.args.self.now whole)) (among_with c.args.self.now part whole (part_inside c.args.args.now c.loop-i.i c.index-args-i.result w c.index-args-i.is)) c.loop-i.invariant.2 c.in_ok-part.ensures.places
+          (among_same (with_templates c.args.self.now whole)) (among_with c.args.self.now part whole (part_inside c.args.args.now c.loop-i.i c.index-args-i.result w c.index-args-i.is)) c.loop-i.invariant.1 c.in_ok-part.ensures.places
           ),
-      next_part_none c.args.multi c.args.self.now (standing c.args.tyenv.now c.args.work.now) (standing c.loop-i.tyenv c.loop-i.work) (standing c.translate_pattern.new.tyenv c.translate_pattern.new.work) c.args.nesting
-          c.args.args.now c.args.tys.now c.loop-i.i c.index-args-i.result ty w v c.index-args-i.is (same_default c.args.tys.now c.loop-i.i (record { 0 = 0 }) ty v) c.loop-i.invariant.0
-          c.loop-i.parts.items c.loop-i.invariant.1 c.loop-i.invariant.3 c.in_ok-part.ensures.limits,
       rw pushed
           (arg_goes_on c.args.multi c.args.args.now c.args.nesting c.loop-i.i c.index-args-i.result w c.index-args-i.is
           c.args.self.now (standing c.args.tyenv.now c.args.work.now) (standing c.loop-i.tyenv c.loop-i.work) (standing c.translate_pattern.new.tyenv c.translate_pattern.new.work) c.loop-i.invariant.0
-          (parts_steps c.args.multi (S.pattern_views c.args.args.now) (map (λ t. t.0) c.args.tys.now) c.args.nesting) c.loop-i.parts.items c.args.tys.now ty v (same_default c.args.tys.now c.loop-i.i (record { 0 = 0 }) ty v) c.loop-i.invariant.4 c.in_ok-part.part c.in_ok-part.ensures.reads),
+          (parts_steps c.args.multi (S.pattern_views c.args.args.now) (map (λ t. t.0) c.args.tys.now) c.args.nesting) c.loop-i.parts.items c.args.tys.now ty v (same_default c.args.tys.now c.loop-i.i (record { 0 = 0 }) ty v) c.loop-i.invariant.2 c.in_ok-part.part c.in_ok-part.ensures.reads),
     )
 
 pub translate_each-loop-subpat-init : goal.translate_each-loop-subpat-init
 translate_each-loop-subpat-init t c = (
   keep_none c.args.tyenv.now c.requires,
-  none_yet c.args.self.now (standing c.args.tyenv.now c.args.work.now) c.args.nesting (each_reading c.args.multi no_pattern c.args.expected_ty.0) c.in_ok-parts.parts.items c.in_ok-parts.ensures.items (λ e k s. refl),
   notes_nothing _ _ _ refl,
-  λ e s is sh. refl,
   none_read c.args.self.now (standing c.args.tyenv.now c.args.work.now) (each_steps c.args.multi (S.pattern_views c.args.subpats.now) c.args.expected_ty.0 c.args.nesting) c.in_ok-parts.parts.items c.in_ok-parts.ensures.items,
 )
-
-pub translate_each-returns-in_err-part-clause-made : goal.translate_each-returns-in_err-part-clause-made
-translate_each-returns-in_err-part-clause-made t c =
-    rw (stop_is c.from_residual-in_err-part.result c.in_err-part.field-0.0 c.from_residual-in_err-part.ensures)
-    (each_stops c.args.multi c.args.self.now (standing c.args.tyenv.now c.args.work.now) (standing c.loop-subpat.tyenv c.loop-subpat.work) (standing c.translate_pattern.new.tyenv c.translate_pattern.new.work) c.args.nesting
-    c.args.subpats.now c.args.expected_ty.0 c.loop-subpat.subpat-index c.subpat-item.result c.loop-subpat-test.true c.subpat-item.is c.loop-subpat.invariant.0
-    c.loop-subpat.parts.items c.loop-subpat.invariant.1 c.in_err-part.field-0.0 c.in_err-part.ensures.made)
 
 pub translate_each-loop-subpat-preserved : goal.translate_each-loop-subpat-preserved
 translate_each-loop-subpat-preserved t c =
     let pushed = c.in_ok-push_part.ensures in (
       keep_on c.args.tyenv.now c.loop-subpat.tyenv c.translate_pattern.new.tyenv c.loop-subpat.invariant.0 c.translate_pattern.ensures.keeps,
-      rw pushed
-          (next_each c.args.multi c.args.self.now (standing c.args.tyenv.now c.args.work.now) (standing c.loop-subpat.tyenv c.loop-subpat.work) (standing c.translate_pattern.new.tyenv c.translate_pattern.new.work) c.args.nesting
-          c.args.subpats.now c.args.expected_ty.0 c.loop-subpat.subpat-index c.subpat-item.result c.loop-subpat-test.true c.subpat-item.is c.loop-subpat.invariant.0
-          c.loop-subpat.parts.items c.loop-subpat.invariant.1 c.in_ok-part.part c.in_ok-part.ensures.made),
       (
           let whole = patterns_positions (S.pattern_views c.args.subpats.now) in
           let part = pattern_positions (S.pattern_view c.subpat-item.result) in
           notes_parts (with_templates c.args.self.now whole) (with_templates c.args.self.now part) (with_templates c.args.self.now whole) c.args.work.now.errors.items c.loop-subpat.work.errors.items c.translate_pattern.new.work.errors.items
-          (among_same (with_templates c.args.self.now whole)) (among_with c.args.self.now part whole (part_inside c.args.subpats.now c.loop-subpat.subpat-index c.subpat-item.result c.loop-subpat-test.true c.subpat-item.is)) c.loop-subpat.invariant.2 c.in_ok-part.ensures.places
+          (among_same (with_templates c.args.self.now whole)) (among_with c.args.self.now part whole (part_inside c.args.subpats.now c.loop-subpat.subpat-index c.subpat-item.result c.loop-subpat-test.true c.subpat-item.is)) c.loop-subpat.invariant.1 c.in_ok-part.ensures.places
           ),
-      next_each_none c.args.multi c.args.self.now (standing c.args.tyenv.now c.args.work.now) (standing c.loop-subpat.tyenv c.loop-subpat.work) (standing c.translate_pattern.new.tyenv c.translate_pattern.new.work) c.args.nesting
-          c.args.subpats.now c.args.expected_ty.0 c.loop-subpat.subpat-index c.subpat-item.result c.loop-subpat-test.true c.subpat-item.is c.loop-subpat.invariant.0
-          c.loop-subpat.parts.items c.loop-subpat.invariant.1 c.loop-subpat.invariant.3 c.in_ok-part.ensures.limits,
       rw pushed
           (each_goes_on c.args.multi c.args.subpats.now c.args.nesting c.loop-subpat.subpat-index c.subpat-item.result c.loop-subpat-test.true c.subpat-item.is
           c.args.self.now (standing c.args.tyenv.now c.args.work.now) (standing c.loop-subpat.tyenv c.loop-subpat.work) (standing c.translate_pattern.new.tyenv c.translate_pattern.new.work) c.loop-subpat.invariant.0
-          (each_steps c.args.multi (S.pattern_views c.args.subpats.now) c.args.expected_ty.0 c.args.nesting) c.loop-subpat.parts.items c.args.expected_ty.0 c.loop-subpat.invariant.4 c.in_ok-part.part c.in_ok-part.ensures.reads),
+          (each_steps c.args.multi (S.pattern_views c.args.subpats.now) c.args.expected_ty.0 c.args.nesting) c.loop-subpat.parts.items c.args.expected_ty.0 c.loop-subpat.invariant.2 c.in_ok-part.part c.in_ok-part.ensures.reads),
     )
 
 pub translate_args-returns-in_err-part-clause-places : goal.translate_args-returns-in_err-part-clause-places
@@ -261,10 +126,10 @@ translate_args-returns-in_err-part-clause-places t c =
     let part = pattern_positions (S.pattern_view c.index-args-i.result) in
     rw (stop_is c.from_residual-in_err-part.result c.in_err-part.field-0.0 c.from_residual-in_err-part.ensures)
     (stop_step (with_templates c.args.self.now whole) (with_templates c.args.self.now part) (with_templates c.args.self.now whole) c.args.work.now.errors.items c.loop-i.work.errors.items c.translate_pattern.new.work.errors.items c.in_err-part.field-0.0
-    (among_same (with_templates c.args.self.now whole)) (among_with c.args.self.now part whole (part_inside c.args.args.now c.loop-i.i c.index-args-i.result w c.index-args-i.is)) c.loop-i.invariant.2 c.in_err-part.ensures.places)
+    (among_same (with_templates c.args.self.now whole)) (among_with c.args.self.now part whole (part_inside c.args.args.now c.loop-i.i c.index-args-i.result w c.index-args-i.is)) c.loop-i.invariant.1 c.in_err-part.ensures.places)
 
 pub translate_args-returns-clause-places : goal.translate_args-returns-clause-places
-translate_args-returns-clause-places t c = c.loop-i.invariant.2
+translate_args-returns-clause-places t c = c.loop-i.invariant.1
 
 pub translate_each-returns-in_err-part-clause-places : goal.translate_each-returns-in_err-part-clause-places
 translate_each-returns-in_err-part-clause-places t c =
@@ -272,10 +137,10 @@ translate_each-returns-in_err-part-clause-places t c =
     let part = pattern_positions (S.pattern_view c.subpat-item.result) in
     rw (stop_is c.from_residual-in_err-part.result c.in_err-part.field-0.0 c.from_residual-in_err-part.ensures)
     (stop_step (with_templates c.args.self.now whole) (with_templates c.args.self.now part) (with_templates c.args.self.now whole) c.args.work.now.errors.items c.loop-subpat.work.errors.items c.translate_pattern.new.work.errors.items c.in_err-part.field-0.0
-    (among_same (with_templates c.args.self.now whole)) (among_with c.args.self.now part whole (part_inside c.args.subpats.now c.loop-subpat.subpat-index c.subpat-item.result c.loop-subpat-test.true c.subpat-item.is)) c.loop-subpat.invariant.2 c.in_err-part.ensures.places)
+    (among_same (with_templates c.args.self.now whole)) (among_with c.args.self.now part whole (part_inside c.args.subpats.now c.loop-subpat.subpat-index c.subpat-item.result c.loop-subpat-test.true c.subpat-item.is)) c.loop-subpat.invariant.1 c.in_err-part.ensures.places)
 
 pub translate_each-returns-clause-places : goal.translate_each-returns-clause-places
-translate_each-returns-clause-places t c = c.loop-subpat.invariant.2
+translate_each-returns-clause-places t c = c.loop-subpat.invariant.1
 
 pub translate_pattern-returns-in-Var-clause-places : goal.translate_pattern-returns-in-Var-clause-places
 translate_pattern-returns-in-Var-clause-places t c =
@@ -408,116 +273,6 @@ translate_pattern-returns-in_ok-parts-in-And-clause-places t c =
     let inside : OccurAmong (with_templates c.args.self.now (patterns_positions parts)) (with_templates c.args.self.now (pattern_positions (and_pattern parts at))) = among_with c.args.self.now (patterns_positions parts) (pattern_positions (and_pattern parts at)) (and_inside parts at) in
     rw (seen_and c.args.pat.now c.in-And.subpats c.in-And.pos c.deref-in-And.result.now c.in-And.is c.deref-in-And.ensures.value) (notes_among (with_templates c.args.self.now (patterns_positions parts)) (with_templates c.args.self.now (pattern_positions (and_pattern parts at))) c.args.work.now.errors.items c.translate_each.new.work.errors.items inside c.in_ok-parts-in-And.ensures.places)
 
-pub translate_pattern-returns-in-Var-clause-limits : goal.translate_pattern-returns-in-Var-clause-limits
-translate_pattern-returns-in-Var-clause-limits t c =
-    rw c.in-Var.is (not_limited c.args.self.now (standing c.args.tyenv.now c.args.work.now) (standing c.translate_var.new.tyenv c.translate_var.new.work) c.args.nesting (pattern_reading c.args.multi (var_pattern (S.name_view c.in-Var.var) (S.position c.in-Var.pos)) c.args.expected_ty.0) (pattern_limits c.args.multi (var_pattern (S.name_view c.in-Var.var) (S.position c.in-Var.pos)) c.args.expected_ty.0) c.translate_var.result c.translate_var.ensures.unlimited (λ e s is sh. refl))
-
-pub translate_pattern-returns-in-ConstBool-clause-limits : goal.translate_pattern-returns-in-ConstBool-clause-limits
-translate_pattern-returns-in-ConstBool-clause-limits t c =
-    rw c.in-ConstBool.is (not_limited c.args.self.now (standing c.args.tyenv.now c.args.work.now) (standing c.args.tyenv.now c.translate_bool.new.work) c.args.nesting (pattern_reading c.args.multi (bool_pattern c.in-ConstBool.val (S.position c.in-ConstBool.pos)) c.args.expected_ty.0) (pattern_limits c.args.multi (bool_pattern c.in-ConstBool.val (S.position c.in-ConstBool.pos)) c.args.expected_ty.0) c.translate_bool.result c.translate_bool.ensures.unlimited (λ e s is sh. refl))
-
-pub translate_pattern-returns-in-ConstInt-clause-limits : goal.translate_pattern-returns-in-ConstInt-clause-limits
-translate_pattern-returns-in-ConstInt-clause-limits t c =
-    not_limited c.args.self.now (standing c.args.tyenv.now c.args.work.now) (standing c.args.tyenv.now c.translate_int.new.work) c.args.nesting (pattern_reading c.args.multi (S.pattern_view c.args.pat.now) c.args.expected_ty.0) (pattern_limits c.args.multi (S.pattern_view c.args.pat.now) c.args.expected_ty.0)
-    c.translate_int.result c.translate_int.ensures.unlimited (λ e s is sh. ap (λ p. pattern_limits c.args.multi (S.pattern_view p) c.args.expected_ty.0 e c.args.nesting c.args.work.now.expansions s) c.in-ConstInt.is)
-
-pub translate_pattern-returns-in-ConstPrim-clause-limits : goal.translate_pattern-returns-in-ConstPrim-clause-limits
-translate_pattern-returns-in-ConstPrim-clause-limits t c =
-    rw c.in-ConstPrim.is (not_limited c.args.self.now (standing c.args.tyenv.now c.args.work.now) (standing c.translate_prim.new.tyenv c.translate_prim.new.work) c.args.nesting (pattern_reading c.args.multi (prim_pattern (S.name_view c.in-ConstPrim.val) (S.position c.in-ConstPrim.pos)) c.args.expected_ty.0) (pattern_limits c.args.multi (prim_pattern (S.name_view c.in-ConstPrim.val) (S.position c.in-ConstPrim.pos)) c.args.expected_ty.0) c.translate_prim.result c.translate_prim.ensures.unlimited (λ e s is sh. refl))
-
-pub translate_pattern-returns-in-MacroArg-clause-limits : goal.translate_pattern-returns-in-MacroArg-clause-limits
-translate_pattern-returns-in-MacroArg-clause-limits t c =
-    rw c.in-MacroArg.is (not_limited c.args.self.now (standing c.args.tyenv.now c.args.work.now) (standing c.args.tyenv.now c.refuse_macro_arg.new.work) c.args.nesting (pattern_reading c.args.multi (macro_arg c.in-MacroArg.index (S.position c.in-MacroArg.pos)) c.args.expected_ty.0) (pattern_limits c.args.multi (macro_arg c.in-MacroArg.index (S.position c.in-MacroArg.pos)) c.args.expected_ty.0) c.refuse_macro_arg.result c.refuse_macro_arg.ensures.unlimited (λ e s is sh. refl))
-
-pub translate_pattern-returns-in-Wildcard-clause-limits : goal.translate_pattern-returns-in-Wildcard-clause-limits
-translate_pattern-returns-in-Wildcard-clause-limits t c =
-    rw c.in-Wildcard.is (λ e s is sh. refl)
-
-pub translate_pattern-returns-in_err-made-in-BindPattern-clause-limits : goal.translate_pattern-returns-in_err-made-in-BindPattern-clause-limits
-translate_pattern-returns-in_err-made-in-BindPattern-clause-limits t c =
-    rw (stop_is c.from_residual.result c.in_err-made-in-BindPattern.field-0.0 c.from_residual.ensures, seen_bind c.args.pat.now c.in-BindPattern.var c.in-BindPattern.subpat c.in-BindPattern.pos c.deref.result.now c.in-BindPattern.is c.deref.ensures)
-    (same_ends c.args.self.now (standing c.args.tyenv.now c.args.work.now) (standing c.translate_pattern.new.tyenv c.translate_pattern.new.work) c.args.nesting (pattern_reading c.args.multi (S.pattern_view c.deref.result.now) c.args.expected_ty.0) (pattern_reading c.args.multi (bind_pattern (S.name_view c.in-BindPattern.var) (S.pattern_view c.deref.result.now) (S.position c.in-BindPattern.pos)) c.args.expected_ty.0) (pattern_limits c.args.multi (S.pattern_view c.deref.result.now) c.args.expected_ty.0) (pattern_limits c.args.multi (bind_pattern (S.name_view c.in-BindPattern.var) (S.pattern_view c.deref.result.now) (S.position c.in-BindPattern.pos)) c.args.expected_ty.0) (λ e s is sh. refl)
-    (bind_reported c.args.multi (S.name_view c.in-BindPattern.var) (S.pattern_view c.deref.result.now) (S.position c.in-BindPattern.pos) c.args.expected_ty.0 c.args.self.now (standing c.args.tyenv.now c.args.work.now) (standing c.translate_pattern.new.tyenv c.translate_pattern.new.work) (standing c.translate_pattern.new.tyenv c.translate_pattern.new.work) c.args.nesting)
-    c.in_err-made-in-BindPattern.field-0.0 c.in_err-made-in-BindPattern.ensures.limits)
-
-pub translate_pattern-returns-in_default-clause-limits : goal.translate_pattern-returns-in_default-clause-limits
-translate_pattern-returns-in_default-clause-limits t c =
-    rw (seen_bind c.args.pat.now c.in-BindPattern.var c.in-BindPattern.subpat c.in-BindPattern.pos c.deref.result.now c.in-BindPattern.is c.deref.ensures) c.in_ok-made-in-BindPattern.ensures.limits
-
-pub translate_pattern-returns-in-Some-clause-limits : goal.translate_pattern-returns-in-Some-clause-limits
-translate_pattern-returns-in-Some-clause-limits t c =
-    rw (seen_bind c.args.pat.now c.in-BindPattern.var c.in-BindPattern.subpat c.in-BindPattern.pos c.deref.result.now c.in-BindPattern.is c.deref.ensures)
-    (not_limited c.args.self.now (standing c.args.tyenv.now c.args.work.now) (standing c.bind_around.new.tyenv c.bind_around.new.work) c.args.nesting (pattern_reading c.args.multi (bind_pattern (S.name_view c.in-BindPattern.var) (S.pattern_view c.deref.result.now) (S.position c.in-BindPattern.pos)) c.args.expected_ty.0) (pattern_limits c.args.multi (bind_pattern (S.name_view c.in-BindPattern.var) (S.pattern_view c.deref.result.now) (S.position c.in-BindPattern.pos)) c.args.expected_ty.0) c.bind_around.result c.bind_around.ensures.unlimited c.in_ok-made-in-BindPattern.ensures.limits)
-
-pub translate_pattern-returns-in-Expansion-clause-limits : goal.translate_pattern-returns-in-Expansion-clause-limits
-translate_pattern-returns-in-Expansion-clause-limits t c =
-    let u = rw c.in-Expansion.is at c.in_ok-use_in_pattern-in-Term.ensures.uses in
-    let leads = rw c.in-Expansion.is at c.in_ok-use_in_pattern-in-Term.ensures.limits in
-    expanded_meets c.args.self.now (standing c.args.tyenv.now c.args.work.now) (standing c.args.tyenv.now c.use_in_pattern.new.work) _ refl c.args.nesting c.in-Expansion.left u.0
-    (pattern_reading c.args.multi (S.pattern_view c.args.pat.now) c.args.expected_ty.0) (pattern_reading c.args.multi (S.pattern_view c.in-Expansion.made) c.args.expected_ty.0) (pattern_limits c.args.multi (S.pattern_view c.args.pat.now) c.args.expected_ty.0) (pattern_limits c.args.multi (S.pattern_view c.in-Expansion.made) c.args.expected_ty.0)
-    pattern_view u.2 leads _ c.translate_pattern-in-Expansion.ensures.made c.translate_pattern-in-Expansion.ensures.limits
-
-pub translate_pattern-returns-in_err-parts-in-Parts-clause-limits : goal.translate_pattern-returns-in_err-parts-in-Parts-clause-limits
-translate_pattern-returns-in_err-parts-in-Parts-clause-limits t c =
-    let u = rw c.in-Parts.is at c.in_ok-use_in_pattern-in-Term.ensures.uses in
-    let leads = rw c.in-Parts.is at c.in_ok-use_in_pattern-in-Term.ensures.limits in
-    let args : c.deref-in-Parts.result.now ≡ c.deref-in-Term.result.now = c.deref-in-Parts.ensures.value ∙ sym c.deref-in-Term.ensures.value in
-    let limits = rw (args, c.as_slice-tys.ensures.value) at c.in_err-parts-in-Parts.ensures.limits in
-    rw (stop_is c.from_residual-in_err-parts-in-Parts.result c.in_err-parts-in-Parts.field-0.0 c.from_residual-in_err-parts-in-Parts.ensures)
-    (parts_end c.args.multi c.args.self.now (standing c.args.tyenv.now c.args.work.now) (standing c.args.tyenv.now c.use_in_pattern.new.work) (standing c.translate_args.new.tyenv c.translate_args.new.work) refl c.args.nesting
-    (S.pattern_view c.args.pat.now) c.deref-in-Term.result.now c.args.expected_ty.0 (term_view c.in-Parts.term.now) leads u
-    c.in_err-parts-in-Parts.field-0.0 c.in_err-parts-in-Parts.ensures.errors (λ same. limits (same ∙ length-map c.in-Parts.term.now.arg_tys.items (λ ty. ty.0))))
-
-pub translate_pattern-returns-in_ok-parts-in-Parts-clause-limits : goal.translate_pattern-returns-in_ok-parts-in-Parts-clause-limits
-translate_pattern-returns-in_ok-parts-in-Parts-clause-limits t c =
-    let u = rw c.in-Parts.is at c.in_ok-use_in_pattern-in-Term.ensures.uses in
-    let leads = rw c.in-Parts.is at c.in_ok-use_in_pattern-in-Term.ensures.limits in
-    let args : c.deref-in-Parts.result.now ≡ c.deref-in-Term.result.now = c.deref-in-Parts.ensures.value ∙ sym c.deref-in-Term.ensures.value in
-    let limits = rw (args, c.as_slice-tys.ensures.value) at c.in_ok-parts-in-Parts.ensures.limits in
-    (parts_none c.args.multi c.args.self.now (standing c.args.tyenv.now c.args.work.now) (standing c.args.tyenv.now c.use_in_pattern.new.work) (standing c.translate_args.new.tyenv c.translate_args.new.work) refl c.args.nesting
-    (S.pattern_view c.args.pat.now) c.deref-in-Term.result.now c.args.expected_ty.0 (term_view c.in-Parts.term.now) leads u
-    c.in_ok-parts-in-Parts.ensures.errors (λ same. limits (same ∙ length-map c.in-Parts.term.now.arg_tys.items (λ ty. ty.0))))
-
-pub translate_pattern-returns-in_err-parts-in-And-clause-limits : goal.translate_pattern-returns-in_err-parts-in-And-clause-limits
-translate_pattern-returns-in_err-parts-in-And-clause-limits t c =
-    rw (stop_is c.from_residual-in_err-parts-in-And.result c.in_err-parts-in-And.field-0.0 c.from_residual-in_err-parts-in-And.ensures, seen_and c.args.pat.now c.in-And.subpats c.in-And.pos c.deref-in-And.result.now c.in-And.is c.deref-in-And.ensures.value)
-    (same_ends c.args.self.now (standing c.args.tyenv.now c.args.work.now) (standing c.translate_each.new.tyenv c.translate_each.new.work) c.args.nesting (each_reading c.args.multi (S.pattern_views c.deref-in-And.result.now) c.args.expected_ty.0) (pattern_reading c.args.multi (and_pattern (S.pattern_views c.deref-in-And.result.now) (S.position c.in-And.pos)) c.args.expected_ty.0) (each_limits c.args.multi (S.pattern_views c.deref-in-And.result.now) c.args.expected_ty.0) (pattern_limits c.args.multi (and_pattern (S.pattern_views c.deref-in-And.result.now) (S.position c.in-And.pos)) c.args.expected_ty.0) (λ e s is sh. refl)
-    (made_reported c.args.self.now (standing c.args.tyenv.now c.args.work.now) (standing c.translate_each.new.tyenv c.translate_each.new.work) c.args.nesting (each_reading c.args.multi (S.pattern_views c.deref-in-And.result.now) c.args.expected_ty.0) (pattern_reading c.args.multi (and_pattern (S.pattern_views c.deref-in-And.result.now) (S.position c.in-And.pos)) c.args.expected_ty.0) (match_and c.args.expected_ty.0) (λ e k s. refl))
-    c.in_err-parts-in-And.field-0.0 c.in_err-parts-in-And.ensures.limits)
-
-pub translate_pattern-returns-in_ok-parts-in-And-clause-limits : goal.translate_pattern-returns-in_ok-parts-in-And-clause-limits
-translate_pattern-returns-in_ok-parts-in-And-clause-limits t c =
-    rw (seen_and c.args.pat.now c.in-And.subpats c.in-And.pos c.deref-in-And.result.now c.in-And.is c.deref-in-And.ensures.value) c.in_ok-parts-in-And.ensures.limits
-
-pub translate_args-returns-in_err-part-clause-limits : goal.translate_args-returns-in_err-part-clause-limits
-translate_args-returns-in_err-part-clause-limits t c count =
-    let w : c.loop-i.i < length c.args.args.now = search rules in
-    let v : c.loop-i.i < length c.args.tys.now = search rules in
-    let ty : TypeId = get_or c.args.tys.now c.loop-i.i (record { 0 = 0 }) in
-    rw (stop_is c.from_residual-in_err-part.result c.in_err-part.field-0.0 c.from_residual-in_err-part.ensures)
-    (part_ends c.args.multi c.args.self.now (standing c.args.tyenv.now c.args.work.now) (standing c.loop-i.tyenv c.loop-i.work) (standing c.translate_pattern.new.tyenv c.translate_pattern.new.work) c.args.nesting
-    c.args.args.now c.args.tys.now c.loop-i.i c.index-args-i.result ty w v c.index-args-i.is (same_default c.args.tys.now c.loop-i.i (record { 0 = 0 }) ty v) c.loop-i.invariant.0
-    c.loop-i.parts.items c.loop-i.invariant.1 c.loop-i.invariant.3
-    c.in_err-part.field-0.0 (stop_keeps c.args.self.now (standing c.loop-i.tyenv c.loop-i.work) (standing c.translate_pattern.new.tyenv c.translate_pattern.new.work) c.args.nesting (pattern_reading c.args.multi (S.pattern_view c.index-args-i.result) ty.0) c.in_err-part.field-0.0 c.in_err-part.ensures.made) c.in_err-part.ensures.limits count)
-
-pub translate_each-returns-in_err-part-clause-limits : goal.translate_each-returns-in_err-part-clause-limits
-translate_each-returns-in_err-part-clause-limits t c =
-    rw (stop_is c.from_residual-in_err-part.result c.in_err-part.field-0.0 c.from_residual-in_err-part.ensures)
-    (each_ends c.args.multi c.args.self.now (standing c.args.tyenv.now c.args.work.now) (standing c.loop-subpat.tyenv c.loop-subpat.work) (standing c.translate_pattern.new.tyenv c.translate_pattern.new.work) c.args.nesting
-    c.args.subpats.now c.args.expected_ty.0 c.loop-subpat.subpat-index c.subpat-item.result c.loop-subpat-test.true c.subpat-item.is c.loop-subpat.invariant.0
-    c.loop-subpat.parts.items c.loop-subpat.invariant.1 c.loop-subpat.invariant.3
-    c.in_err-part.field-0.0 (stop_keeps c.args.self.now (standing c.loop-subpat.tyenv c.loop-subpat.work) (standing c.translate_pattern.new.tyenv c.translate_pattern.new.work) c.args.nesting (pattern_reading c.args.multi (S.pattern_view c.subpat-item.result) c.args.expected_ty.0) c.in_err-part.field-0.0 c.in_err-part.ensures.made) c.in_err-part.ensures.limits)
-
-pub translate_each-returns-clause-limits : goal.translate_each-returns-clause-limits
-translate_each-returns-clause-limits t c =
-    all_each_none c.args.multi c.args.self.now (standing c.args.tyenv.now c.args.work.now) c.args.nesting c.args.subpats.now c.args.expected_ty.0 c.loop-subpat.subpat-index c.loop-subpat-test.false c.loop-subpat.invariant.3
-
-pub translate_args-returns-clause-limits : goal.translate_args-returns-clause-limits
-translate_args-returns-clause-limits t c count =
-    let w : length c.args.args.now ≤ c.loop-i.i = search (rules, count) in
-    let v : length c.args.tys.now ≤ c.loop-i.i = search (rules, count) in
-    all_parts_none c.args.multi c.args.self.now (standing c.args.tyenv.now c.args.work.now) c.args.nesting c.args.args.now c.args.tys.now c.loop-i.i w v c.loop-i.invariant.3
-
 pub translate_pattern-returns-in-Var-clause-reads : goal.translate_pattern-returns-in-Var-clause-reads
 translate_pattern-returns-in-Var-clause-reads t c = rw c.in-Var.is c.translate_var.ensures.reads
 
@@ -607,22 +362,22 @@ translate_args-returns-in_err-part-clause-reads t c =
     rw (stop_is c.from_residual-in_err-part.result c.in_err-part.field-0.0 c.from_residual-in_err-part.ensures)
     (arg_stops_all c.args.multi c.args.args.now c.args.nesting c.loop-i.i c.index-args-i.result w c.index-args-i.is
           c.args.self.now (standing c.args.tyenv.now c.args.work.now) (standing c.loop-i.tyenv c.loop-i.work) (standing c.translate_pattern.new.tyenv c.translate_pattern.new.work) c.loop-i.invariant.0
-          (parts_steps c.args.multi (S.pattern_views c.args.args.now) (map (λ t. t.0) c.args.tys.now) c.args.nesting) c.loop-i.parts.items c.args.tys.now ty v (same_default c.args.tys.now c.loop-i.i (record { 0 = 0 }) ty v) c.loop-i.invariant.4 c.in_err-part.field-0.0 c.in_err-part.ensures.reads)
+          (parts_steps c.args.multi (S.pattern_views c.args.args.now) (map (λ t. t.0) c.args.tys.now) c.args.nesting) c.loop-i.parts.items c.args.tys.now ty v (same_default c.args.tys.now c.loop-i.i (record { 0 = 0 }) ty v) c.loop-i.invariant.2 c.in_err-part.field-0.0 c.in_err-part.ensures.reads)
 
 pub translate_args-returns-clause-reads : goal.translate_args-returns-clause-reads
 translate_args-returns-clause-reads t c =
     let count : min (length c.args.args.now) (length c.args.tys.now) ≤ c.loop-i.i = search rules in
     all_read c.args.self.now (standing c.args.tyenv.now c.args.work.now) (standing c.loop-i.tyenv c.loop-i.work) (parts_steps c.args.multi (S.pattern_views c.args.args.now) (map (λ t. t.0) c.args.tys.now) c.args.nesting)
-    (args_from c.args.multi c.args.args.now c.args.tys.now c.args.nesting c.loop-i.i) c.loop-i.parts.items (args_read c.args.multi c.args.args.now c.args.tys.now c.args.nesting c.loop-i.i count) c.loop-i.invariant.4
+    (args_from c.args.multi c.args.args.now c.args.tys.now c.args.nesting c.loop-i.i) c.loop-i.parts.items (args_read c.args.multi c.args.args.now c.args.tys.now c.args.nesting c.loop-i.i count) c.loop-i.invariant.2
 
 pub translate_each-returns-in_err-part-clause-reads : goal.translate_each-returns-in_err-part-clause-reads
 translate_each-returns-in_err-part-clause-reads t c =
     rw (stop_is c.from_residual-in_err-part.result c.in_err-part.field-0.0 c.from_residual-in_err-part.ensures)
     (each_stops_all c.args.multi c.args.subpats.now c.args.nesting c.loop-subpat.subpat-index c.subpat-item.result c.loop-subpat-test.true c.subpat-item.is
           c.args.self.now (standing c.args.tyenv.now c.args.work.now) (standing c.loop-subpat.tyenv c.loop-subpat.work) (standing c.translate_pattern.new.tyenv c.translate_pattern.new.work) c.loop-subpat.invariant.0
-          (each_steps c.args.multi (S.pattern_views c.args.subpats.now) c.args.expected_ty.0 c.args.nesting) c.loop-subpat.parts.items c.args.expected_ty.0 c.loop-subpat.invariant.4 c.in_err-part.field-0.0 c.in_err-part.ensures.reads)
+          (each_steps c.args.multi (S.pattern_views c.args.subpats.now) c.args.expected_ty.0 c.args.nesting) c.loop-subpat.parts.items c.args.expected_ty.0 c.loop-subpat.invariant.2 c.in_err-part.field-0.0 c.in_err-part.ensures.reads)
 
 pub translate_each-returns-clause-reads : goal.translate_each-returns-clause-reads
 translate_each-returns-clause-reads t c =
     all_read c.args.self.now (standing c.args.tyenv.now c.args.work.now) (standing c.loop-subpat.tyenv c.loop-subpat.work) (each_steps c.args.multi (S.pattern_views c.args.subpats.now) c.args.expected_ty.0 c.args.nesting)
-    (each_from c.args.multi c.args.subpats.now c.args.expected_ty.0 c.args.nesting c.loop-subpat.subpat-index) c.loop-subpat.parts.items (each_read c.args.multi c.args.subpats.now c.args.expected_ty.0 c.args.nesting c.loop-subpat.subpat-index c.loop-subpat-test.false) c.loop-subpat.invariant.4
+    (each_from c.args.multi c.args.subpats.now c.args.expected_ty.0 c.args.nesting c.loop-subpat.subpat-index) c.loop-subpat.parts.items (each_read c.args.multi c.args.subpats.now c.args.expected_ty.0 c.args.nesting c.loop-subpat.subpat-index c.loop-subpat-test.false) c.loop-subpat.invariant.2

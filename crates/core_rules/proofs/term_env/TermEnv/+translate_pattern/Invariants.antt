@@ -1,15 +1,11 @@
-use Rattle.std.proofs.Common.{map, take, None}
+use Rattle.std.proofs.Common.{map}
 use Rattle.core_syntax.specs.SyntaxViews as S
 use Rattle.core_syntax.specs.Positions.{NotesAt, patterns_positions}
 use Rattle.core_terms.specs.TermViews.{term_views}
 use Rattle.core_rules.specs.RulePositions.{with_templates}
-use Rattle.core_rules.specs.PatternReadings.{parts_reading, each_reading}
-use Rattle.core_rules.specs.ReachedLimits.{parts_limits, each_limits}
-use Rattle.core_rules.specs.LimitStops.{ComesTo}
 use Rattle.core_rules.specs.Translating.{standing, Keeps}
 use Rattle.core_rules.specs.PatternTaking.{parts_steps, each_steps}
 use Rattle.core_rules.specs.Taking.{LeadsOn}
-use Rattle.core_rules.proofs.PatternLists.{SoFar}
 use Rattle.core_rules.proofs.PatternListsTaken.{after_made, args_from, each_from}
 use Rattle.core_rules.proofs.PatternSizes.{tree_size, trees_size, growth, grown}
 use Rattle.core_rules.proofs.term_env.TermEnv.+translate_pattern.Given as goal
@@ -26,15 +22,11 @@ decreases-translate_each l = grown (growth (term_views l.self.now.terms.items)) 
 abbrev pub invariant-translate_args-loop-i : goal.invariant-translate_args-loop-i
 invariant-translate_args-loop-i l =
     Keeps l.fn.tyenv l.tyenv
-    × SoFar l.self (standing l.fn.tyenv l.fn.work) (standing l.tyenv l.work) l.nesting (parts_reading l.multi (S.pattern_views (take l.i l.args)) (map (λ t. t.0) (take l.i l.tys))) l.parts.items
     × NotesAt (with_templates l.self (patterns_positions (S.pattern_views l.args))) l.fn.work.errors.items l.work.errors.items
-    × ComesTo l.self (standing l.fn.tyenv l.fn.work) l.nesting (parts_limits l.multi (S.pattern_views (take l.i l.args)) (map (λ t. t.0) (take l.i l.tys))) None
     × LeadsOn l.self (standing l.fn.tyenv l.fn.work) (standing l.tyenv l.work) (parts_steps l.multi (S.pattern_views l.args) (map (λ t. t.0) l.tys) l.nesting) (args_from l.multi l.args l.tys l.nesting l.i) (after_made l.parts.items)
 
 abbrev pub invariant-translate_each-loop-subpat : goal.invariant-translate_each-loop-subpat
 invariant-translate_each-loop-subpat l =
     Keeps l.fn.tyenv l.tyenv
-    × SoFar l.self (standing l.fn.tyenv l.fn.work) (standing l.tyenv l.work) l.nesting (each_reading l.multi (S.pattern_views (take l.subpat-index l.subpats)) l.expected_ty.0) l.parts.items
     × NotesAt (with_templates l.self (patterns_positions (S.pattern_views l.subpats))) l.fn.work.errors.items l.work.errors.items
-    × ComesTo l.self (standing l.fn.tyenv l.fn.work) l.nesting (each_limits l.multi (S.pattern_views (take l.subpat-index l.subpats)) l.expected_ty.0) None
     × LeadsOn l.self (standing l.fn.tyenv l.fn.work) (standing l.tyenv l.work) (each_steps l.multi (S.pattern_views l.subpats) l.expected_ty.0 l.nesting) (each_from l.multi l.subpats l.expected_ty.0 l.nesting l.subpat-index) (after_made l.parts.items)

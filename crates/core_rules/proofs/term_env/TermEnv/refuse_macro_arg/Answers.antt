@@ -1,12 +1,9 @@
-use Rattle.std.proofs.Common.{refl, inr}
+use Rattle.std.proofs.Common.{refl}
 use Rattle.core_rules.proofs.term_env.TermEnv.refuse_macro_arg.Goals as goal
 use Rattle.core_syntax.specs.SyntaxViews.{position}
 use Rattle.core_typed.proofs.NotedErrors.{told_at}
 use Rattle.core_rules.specs.Translating.{standing}
 use Rattle.core_rules.proofs.PatternsTaken.{refused_taken}
-
-pub returns-clause-made : goal.returns-clause-made
-returns-clause-made c multi d = record { errors = inr c.in_ok-report.ensures.noted; noted = λ e s is sh. record { reports = c.in_ok-report.ensures.noted; none = λ k. refl } }
 
 pub returns-clause-reads : goal.returns-clause-reads
 returns-clause-reads c =

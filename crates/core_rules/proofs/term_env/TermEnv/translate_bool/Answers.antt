@@ -1,14 +1,8 @@
 use Rattle.std.proofs.Common.{refl}
 use Rattle.core_syntax.specs.SyntaxViews.{position}
 use Rattle.core_rules.specs.Translating.{standing}
-use Rattle.core_rules.proofs.PatternLeaves.{truth_used}
 use Rattle.core_rules.proofs.term_env.TermEnv.translate_bool.Goals as goal
 use Rattle.core_rules.proofs.PatternsTaken.{truth_taken}
-
-pub returns-clause-made : goal.returns-clause-made
-returns-clause-made c =
-    truth_used c.args.self.now (standing c.args.tyenv.now c.args.work.now) _ refl (position c.args.pos) c.args.expected_ty.0 (record { vars = refl; names = λ k. refl; expansions = refl })
-    c.args.val c.in_ok-check_bool.ensures.checks
 
 pub returns-clause-reads : goal.returns-clause-reads
 returns-clause-reads c =

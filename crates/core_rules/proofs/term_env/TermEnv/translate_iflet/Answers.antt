@@ -1,4 +1,4 @@
-use Rattle.std.proofs.Common.{◌≡◌, ap, refl}
+use Rattle.std.proofs.Common.{◌≡◌, Ok, Err, ap, refl}
 use Rattle.core_syntax.specs.SyntaxViews as S
 use Rattle.model.specs.lists.Setting.{on_lhs, expr_type}
 use Rattle.model.specs.lists.Elaborated.{typed_iflet}
@@ -9,7 +9,10 @@ use Rattle.core_rules.specs.PatternReadings.{pattern_reading}
 use Rattle.core_typed.specs.PatternViews.{pattern_view}
 use Rattle.core_rules.specs.RuleReadings.{iflet_reading}
 use Rattle.core_rules.specs.Translating.{standing}
-use Rattle.core_rules.proofs.Readings.{stop_is, stop_keeps, first_stops, first_reported, then_stops, then_reported, then_done}
+use Rattle.core_rules.specs.PatternTaking.{pattern_steps}
+use Rattle.core_rules.proofs.Readings.{stop_is, first_stops, first_reported, then_stops, then_reported, then_done}
+use Rattle.core_rules.proofs.PatternsRead.{pattern_translated, pattern_meets}
+use Rattle.core_rules.proofs.TakenReadings.{stop_notes}
 use Rattle.core_syntax.specs.Positions.{OccurAmong, pattern_positions, expr_positions, iflet_positions}
 use Rattle.core_syntax.proofs.Positioned.{notes_among, notes_parts}
 use Rattle.core_rules.specs.RulePositions.{with_templates}
@@ -40,7 +43,7 @@ returns-in_err-taken-clause-made c =
     (then_stops c.args.self.now (standing c.args.tyenv.now c.args.work.now) (standing c.translate_expr.new.tyenv c.translate_expr.new.work) (standing c.translate_pattern.new.tyenv c.translate_pattern.new.work) c.args.nesting
     (expr_reading (S.expr_view c.args.iflet.now.expr) (on_lhs (flags_view c.args.flags)) _) (λ x. pattern_reading c.args.flags.multi (S.pattern_view c.args.iflet.now.pattern) (expr_type x)) (iflet_reading (S.iflet_view c.args.iflet.now) (flags_view c.args.flags)) typed_iflet (λ e k s. refl)
     (expr_view c.in-Some.rhs) c.translate_expr.ensures.keeps (rw (c.in-Some.is, flags) at c.in_ok-value.ensures.made)
-    c.in_err-taken.field-0.0 (rw c.ty-ty.ensures at c.in_err-taken.ensures.made))
+    c.in_err-taken.field-0.0 (rw c.ty-ty.ensures at (pattern_translated c.args.flags.multi c.args.self.now (standing c.translate_expr.new.tyenv c.translate_expr.new.work) (standing c.translate_pattern.new.tyenv c.translate_pattern.new.work) (S.pattern_view c.args.iflet.now.pattern) c.ty-ty.result.0 c.args.nesting (Err c.in_err-taken.field-0.0) c.in_err-taken.ensures.reads)))
 
 pub returns-in_default-taken-clause-made : goal.returns-in_default-taken-clause-made
 returns-in_default-taken-clause-made c =
@@ -48,7 +51,7 @@ returns-in_default-taken-clause-made c =
     then_reported c.args.self.now (standing c.args.tyenv.now c.args.work.now) (standing c.translate_expr.new.tyenv c.translate_expr.new.work) (standing c.translate_pattern.new.tyenv c.translate_pattern.new.work) c.args.nesting
     (expr_reading (S.expr_view c.args.iflet.now.expr) (on_lhs (flags_view c.args.flags)) _) (λ x. pattern_reading c.args.flags.multi (S.pattern_view c.args.iflet.now.pattern) (expr_type x)) (iflet_reading (S.iflet_view c.args.iflet.now) (flags_view c.args.flags)) typed_iflet (λ e k s. refl)
     (expr_view c.in-Some.rhs) c.translate_expr.ensures.keeps (rw (c.in-Some.is, flags) at c.in_ok-value.ensures.made)
-    (rw (c.in_default-taken.is, c.ty-ty.ensures) at c.in_ok-taken.ensures.made)
+    (rw (c.in_default-taken.is, c.ty-ty.ensures) at (pattern_translated c.args.flags.multi c.args.self.now (standing c.translate_expr.new.tyenv c.translate_expr.new.work) (standing c.translate_pattern.new.tyenv c.translate_pattern.new.work) (S.pattern_view c.args.iflet.now.pattern) c.ty-ty.result.0 c.args.nesting (Ok c.in_ok-taken.taken) c.in_ok-taken.ensures.reads))
 
 pub returns-clause-made : goal.returns-clause-made
 returns-clause-made c =
@@ -56,7 +59,7 @@ returns-clause-made c =
     then_done c.args.self.now (standing c.args.tyenv.now c.args.work.now) (standing c.translate_expr.new.tyenv c.translate_expr.new.work) (standing c.translate_pattern.new.tyenv c.translate_pattern.new.work) c.args.nesting
     (expr_reading (S.expr_view c.args.iflet.now.expr) (on_lhs (flags_view c.args.flags)) _) (λ x. pattern_reading c.args.flags.multi (S.pattern_view c.args.iflet.now.pattern) (expr_type x)) (iflet_reading (S.iflet_view c.args.iflet.now) (flags_view c.args.flags)) typed_iflet (λ e k s. refl)
     (expr_view c.in-Some.rhs) (pattern_view c.in-Some-taken.lhs) c.translate_expr.ensures.keeps (rw (c.in-Some.is, flags) at c.in_ok-value.ensures.made)
-    (rw (c.in-Some-taken.is, c.ty-ty.ensures) at c.in_ok-taken.ensures.made)
+    (rw (c.in-Some-taken.is, c.ty-ty.ensures) at (pattern_translated c.args.flags.multi c.args.self.now (standing c.translate_expr.new.tyenv c.translate_expr.new.work) (standing c.translate_pattern.new.tyenv c.translate_pattern.new.work) (S.pattern_view c.args.iflet.now.pattern) c.ty-ty.result.0 c.args.nesting (Ok c.in_ok-taken.taken) c.in_ok-taken.ensures.reads))
 
 pub returns-in_err-value-clause-places : goal.returns-in_err-value-clause-places
 returns-in_err-value-clause-places c =
@@ -130,18 +133,19 @@ returns-in_err-taken-clause-limits c =
     rw (stop_is c.from_residual-in_err-taken.result c.in_err-taken.field-0.0 c.from_residual-in_err-taken.ensures)
     (iflet_ends c.args.self.now (standing c.args.tyenv.now c.args.work.now) (standing c.translate_expr.new.tyenv c.translate_expr.new.work) (standing c.translate_pattern.new.tyenv c.translate_pattern.new.work) c.args.nesting (S.iflet_view c.args.iflet.now) (flags_view c.args.flags)
     (expr_view c.in-Some.rhs) c.translate_expr.ensures.keeps (rw (c.in-Some.is, flags) at c.in_ok-value.ensures.made) (rw flags at c.in_ok-value.ensures.limits)
-    c.in_err-taken.field-0.0 (stop_keeps c.args.self.now (standing c.translate_expr.new.tyenv c.translate_expr.new.work) (standing c.translate_pattern.new.tyenv c.translate_pattern.new.work) c.args.nesting (pattern_reading c.args.flags.multi (S.pattern_view c.args.iflet.now.pattern) c.ty-ty.result.0) c.in_err-taken.field-0.0 c.in_err-taken.ensures.made) (rw c.ty-ty.ensures at c.in_err-taken.ensures.limits))
+    c.in_err-taken.field-0.0 (stop_notes c.args.self.now (standing c.translate_expr.new.tyenv c.translate_expr.new.work) (standing c.translate_pattern.new.tyenv c.translate_pattern.new.work) (pattern_steps c.args.flags.multi (S.pattern_view c.args.iflet.now.pattern) c.ty-ty.result.0 c.args.nesting) c.in_err-taken.field-0.0 c.in_err-taken.ensures.reads)
+    (rw c.ty-ty.ensures at (pattern_meets c.args.flags.multi c.args.self.now (standing c.translate_expr.new.tyenv c.translate_expr.new.work) (standing c.translate_pattern.new.tyenv c.translate_pattern.new.work) (S.pattern_view c.args.iflet.now.pattern) c.ty-ty.result.0 c.args.nesting (Err c.in_err-taken.field-0.0) c.in_err-taken.ensures.reads)))
 
 pub returns-in_default-taken-clause-limits : goal.returns-in_default-taken-clause-limits
 returns-in_default-taken-clause-limits c =
     let flags : flags_view c.on_lhs.result ≡ on_lhs (flags_view c.args.flags) = ap flags_view c.on_lhs.ensures in
     iflet_none c.args.self.now (standing c.args.tyenv.now c.args.work.now) (standing c.translate_expr.new.tyenv c.translate_expr.new.work) (standing c.translate_pattern.new.tyenv c.translate_pattern.new.work) c.args.nesting (S.iflet_view c.args.iflet.now) (flags_view c.args.flags)
     (expr_view c.in-Some.rhs) c.translate_expr.ensures.keeps (rw (c.in-Some.is, flags) at c.in_ok-value.ensures.made) (rw flags at c.in_ok-value.ensures.limits)
-    (rw c.ty-ty.ensures at c.in_ok-taken.ensures.limits)
+    (rw c.ty-ty.ensures at (pattern_meets c.args.flags.multi c.args.self.now (standing c.translate_expr.new.tyenv c.translate_expr.new.work) (standing c.translate_pattern.new.tyenv c.translate_pattern.new.work) (S.pattern_view c.args.iflet.now.pattern) c.ty-ty.result.0 c.args.nesting (Ok c.in_ok-taken.taken) c.in_ok-taken.ensures.reads))
 
 pub returns-clause-limits : goal.returns-clause-limits
 returns-clause-limits c =
     let flags : flags_view c.on_lhs.result ≡ on_lhs (flags_view c.args.flags) = ap flags_view c.on_lhs.ensures in
     iflet_none c.args.self.now (standing c.args.tyenv.now c.args.work.now) (standing c.translate_expr.new.tyenv c.translate_expr.new.work) (standing c.translate_pattern.new.tyenv c.translate_pattern.new.work) c.args.nesting (S.iflet_view c.args.iflet.now) (flags_view c.args.flags)
     (expr_view c.in-Some.rhs) c.translate_expr.ensures.keeps (rw (c.in-Some.is, flags) at c.in_ok-value.ensures.made) (rw flags at c.in_ok-value.ensures.limits)
-    (rw c.ty-ty.ensures at c.in_ok-taken.ensures.limits)
+    (rw c.ty-ty.ensures at (pattern_meets c.args.flags.multi c.args.self.now (standing c.translate_expr.new.tyenv c.translate_expr.new.work) (standing c.translate_pattern.new.tyenv c.translate_pattern.new.work) (S.pattern_view c.args.iflet.now.pattern) c.ty-ty.result.0 c.args.nesting (Ok c.in_ok-taken.taken) c.in_ok-taken.ensures.reads))

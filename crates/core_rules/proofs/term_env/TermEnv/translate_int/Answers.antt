@@ -6,17 +6,8 @@ use Rattle.core_syntax.specs.SyntaxViews.{position}
 use Rattle.model.specs.lists.Ranges.{reduced}
 use Rattle.core_types.specs.TypeViews.{type_views}
 use Rattle.core_rules.specs.Translating.{standing}
-use Rattle.core_rules.proofs.PatternLeaves.{int_used}
 use Rattle.core_rules.proofs.term_env.TermEnv.translate_int.Goals as goal
 use Rattle.core_rules.proofs.PatternsTaken.{integer_taken}
-
-pub returns-clause-made : goal.returns-clause-made
-returns-clause-made c multi d =
-    let fits : SFits w128 c.literal_number-number.result = search rules in
-    let stands : c.literal_number-number.result ≡ reduced (slice_get (type_views c.args.tyenv.now.types.items) c.args.expected_ty.0) c.args.val = search rules in
-    rw (to_z-of_z w128 c.literal_number-number.result fits)
-    (int_used c.args.self.now (standing c.args.tyenv.now c.args.work.now) _ refl (position c.args.pos) c.args.expected_ty.0 (record { vars = refl; names = λ k. refl; expansions = refl })
-    c.args.val c.literal_number-number.result stands c.in_ok-check_integer.ensures.checks multi d)
 
 pub returns-clause-reads : goal.returns-clause-reads
 returns-clause-reads c =

@@ -1,31 +1,11 @@
-use Rattle.std.proofs.Common.{◌≡◌, ℕ, Option, None, option_map, inr, refl, ap, ◌∙◌}
+use Rattle.std.proofs.Common.{◌≡◌, ℕ, Option, None, option_map, refl, ap, ◌∙◌}
 use Rattle.core_syntax.specs.Stable.{look_up}
 use Rattle.core_syntax.specs.SyntaxViews.{name_view, position}
 use Rattle.core_types.specs.Envs.{constant_at, symbol, same_symbol}
 use Rattle.core_rules.specs.Translating.{standing}
-use Rattle.core_rules.proofs.PatternLeaves.{prim_used, prim_unknown}
 use Rattle.core_rules.proofs.term_env.TermEnv.translate_prim.Goals as goal
 use Rattle.core_typed.proofs.NotedErrors.{told_at}
 use Rattle.core_rules.proofs.PatternsTaken.{unknown_taken, constant_taken}
-
-pub returns-in_default-clause-made : goal.returns-in_default-clause-made
-returns-in_default-clause-made c multi d =
-    let none : ◌≡◌ {A = Option ℕ} None (constant_at c.intern_mut.new.self c.in_ok-name.name.0) = c.in_default.ensures in
-    record {
-      errors = inr c.in_ok-report_name.ensures.noted;
-      noted = λ e s is sh. record {
-        reports = c.in_ok-report_name.ensures.noted;
-        none = prim_unknown c.args.self.now (standing c.args.tyenv.now c.args.work.now) (standing c.intern_mut.new.self c.args.work.now) (name_view c.args.val.now) (position c.args.pos) c.args.expected_ty.0 c.in_ok-name.ensures.names
-            (none ∙ ap (λ t. option_map (λ i. i.0) (look_up same_symbol t (symbol c.in_ok-name.name.0))) c.intern_mut.ensures.const_types ∙ ap (constant_at c.args.tyenv.now) c.in_ok-name.ensures.number) multi e s is sh;
-      };
-    }
-
-pub returns-clause-made : goal.returns-clause-made
-returns-clause-made c =
-    prim_used c.args.self.now (standing c.args.tyenv.now c.args.work.now) _ (name_view c.args.val.now) (position c.args.pos) c.args.expected_ty.0 c.in_ok-name.ensures.names
-    c.in-Some.ty.0 c.in_ok-name.name.0
-    (c.in-Some.ensures ∙ ap (λ t. option_map (λ i. i.0) (look_up same_symbol t (symbol c.in_ok-name.name.0))) c.intern_mut.ensures.const_types ∙ ap (constant_at c.args.tyenv.now) c.in_ok-name.ensures.number)
-    c.in_ok-name.ensures.number (record { vars = refl; names = λ k. refl; expansions = refl }) c.in_ok-check_same.ensures.checks
 
 pub returns-in_default-clause-reads : goal.returns-in_default-clause-reads
 returns-in_default-clause-reads c =

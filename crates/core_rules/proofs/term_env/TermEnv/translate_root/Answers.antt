@@ -1,18 +1,24 @@
-use Rattle.std.proofs.Common.{refl, [], ◌∷◌}
+use Rattle.std.proofs.Common.{map, Some, refl, [], ◌∷◌}
 use Rattle.core_syntax.specs.SyntaxViews as S
+use Rattle.core_typed.specs.PatternViews.{pattern_views, pattern_parts}
+use Rattle.core_rules.specs.PatternTaking.{parts_steps}
 use Rattle.core_rules.specs.Translating.{standing}
 use Rattle.core_rules.proofs.IfLetLists.{counted_args}
 use Rattle.core_syntax.specs.Positions.{patterns_positions}
 use Rattle.core_syntax.proofs.Positioned.{among_first, among_rest}
 use Rattle.core_rules.specs.RulePositions.{with_templates}
 use Rattle.core_rules.proofs.ErrorPositions.{among_here, among_with, stays_step}
+use Rattle.core_rules.proofs.PatternsRead.{parts_translated, parts_meet}
 use Rattle.core_rules.proofs.RuleLimits.{root_meets}
+use Rattle.core_rules.proofs.TakenReadings.{stays_noted}
 use Rattle.core_rules.proofs.term_env.TermEnv.translate_root.Goals as goal
 
 pub returns-clause-made : goal.returns-clause-made
 returns-clause-made c =
     counted_args c.args.multi c.args.self.now (standing c.args.tyenv.now c.args.work.now) (standing c.args.tyenv.now _) (standing c.translate_args.new.tyenv c.translate_args.new.work) c.args.nesting c.args.args.now c.args.tys.now
-    refl (record { vars = refl; names = λ k. refl; expansions = refl }) c.in_ok-check_count.ensures.checks c.translate_args.result c.translate_args.ensures.made c.translate_args.ensures.errors
+    refl (record { vars = refl; names = λ k. refl; expansions = refl }) c.in_ok-check_count.ensures.checks c.translate_args.result
+    (parts_translated c.args.multi c.args.self.now (standing c.args.tyenv.now _) (standing c.translate_args.new.tyenv c.translate_args.new.work) c.args.args.now c.args.tys.now c.args.nesting c.translate_args.result c.translate_args.ensures.reads) (stays_noted c.args.self.now (standing c.args.tyenv.now _) (standing c.translate_args.new.tyenv c.translate_args.new.work) (parts_steps c.args.multi (S.pattern_views c.args.args.now) (map (λ t. t.0) c.args.tys.now) c.args.nesting)
+    (λ v. Some (pattern_parts (pattern_views v.items))) c.translate_args.result c.translate_args.ensures.reads)
 
 pub returns-clause-places : goal.returns-clause-places
 returns-clause-places c =
@@ -25,4 +31,6 @@ returns-clause-places c =
 pub returns-clause-limits : goal.returns-clause-limits
 returns-clause-limits c =
     root_meets c.args.multi c.args.self.now (standing c.args.tyenv.now c.args.work.now) (standing c.args.tyenv.now _) (standing c.translate_args.new.tyenv c.translate_args.new.work) c.args.nesting c.args.args.now c.args.tys.now
-    refl (record { vars = refl; names = λ k. refl; expansions = refl }) c.in_ok-check_count.ensures.checks c.translate_args.result c.translate_args.ensures.errors c.translate_args.ensures.limits
+    refl (record { vars = refl; names = λ k. refl; expansions = refl }) c.in_ok-check_count.ensures.checks c.translate_args.result
+    (stays_noted c.args.self.now (standing c.args.tyenv.now _) (standing c.translate_args.new.tyenv c.translate_args.new.work) (parts_steps c.args.multi (S.pattern_views c.args.args.now) (map (λ t. t.0) c.args.tys.now) c.args.nesting)
+    (λ v. Some (pattern_parts (pattern_views v.items))) c.translate_args.result c.translate_args.ensures.reads) (parts_meet c.args.multi c.args.self.now (standing c.args.tyenv.now _) (standing c.translate_args.new.tyenv c.translate_args.new.work) c.args.args.now c.args.tys.now c.args.nesting c.translate_args.result c.translate_args.ensures.reads)

@@ -6,81 +6,16 @@ use Rattle.core_terms.specs.TermViews.{term_view}
 use Rattle.core_rules.specs.PatternUses.{name_at}
 use Rattle.core_rules.specs.Translating.{standing}
 use Rattle.core_rules.proofs.Readings.{stop_is}
-use Rattle.core_rules.proofs.PatternUsing.{checks_both, list_is, list_length, unknown_use, converted_use, conversion_stops, parts_used, nothing_made, template_expands, template_made, template_stops}
+use Rattle.core_rules.proofs.PatternUsing.{list_is, list_length, conversion_stops, template_expands, template_stops}
 use Rattle.model.proofs.Members.{in_head}
 use Rattle.core_syntax.specs.Positions.{pattern_positions, patterns_positions}
 use Rattle.core_syntax.proofs.Positioned.{among_same, notes_nothing, notes_both}
 use Rattle.core_rules.proofs.ErrorPositions.{stop_step, counted_stop}
 use Rattle.core_rules.proofs.SubstitutedPlaces.{converted_places, expanded_places}
-use Rattle.core_rules.proofs.PatternLimits.{unknown_comes, converted_leads, conversion_ends, parts_lead, nothing_comes, template_leads, template_ends}
+use Rattle.core_rules.proofs.PatternLimits.{parts_lead, template_leads}
 use Rattle.core_rules.proofs.term_env.TermEnv.use_in_pattern.Goals as goal
 use Rattle.core_typed.proofs.NotedErrors.{told_at}
 use Rattle.core_rules.proofs.PatternUsesTaken as taken
-
-pub returns-in_default-clause-uses : goal.returns-in_default-clause-uses
-returns-in_default-clause-uses c =
-    rw c.requires.whole
-    (unknown_use c.args.multi c.args.self.now (standing c.args.tyenv.now c.args.work.now) c.requires.inverse (name_view c.args.sym.now) (pattern_views c.args.args.now) (position c.args.pos) c.args.expected_ty.0
-    _ c.in_default.ensures c.in_ok-report_name.ensures.noted)
-
-pub returns-in_err-left-clause-uses : goal.returns-in_err-left-clause-uses
-returns-in_err-left-clause-uses c =
-    rw (stop_is c.from_residual-in_err-left.result c.in_err-left.field-0.0 c.from_residual-in_err-left.ensures, c.requires.whole)
-    (conversion_stops c.args.multi c.args.self.now (standing c.args.tyenv.now c.args.work.now) c.requires.inverse (name_view c.args.sym.now) (pattern_views c.args.args.now) (position c.args.pos) c.args.expected_ty.0
-    (term_view c.in-Some.term.now) c.in-Some.ensures (term_view c.in-Some-pattern_converter.by.now) c.in-Some-pattern_converter.ensures
-    (standing c.args.tyenv.now c.expand.new.self) c.args.nesting c.in_err-left.field-0.0 c.in_err-left.ensures)
-
-pub returns-in-Some-pattern_converter-clause-uses : goal.returns-in-Some-pattern_converter-clause-uses
-returns-in-Some-pattern_converter-clause-uses c =
-    rw (c.in_ok-inside.ensures, c.requires.whole) (
-      c.in_ok-left.ensures.0,
-      inl (name_at c.args.tyenv.now (term_view c.in-Some-pattern_converter.by.now) (position c.args.pos), position c.args.pos, refl),
-      inl (converted_use c.args.multi c.args.self.now (standing c.args.tyenv.now c.args.work.now) c.requires.inverse (name_view c.args.sym.now) (pattern_views c.args.args.now) (position c.args.pos) c.args.expected_ty.0
-          (term_view c.in-Some.term.now) c.in-Some.ensures (term_view c.in-Some-pattern_converter.by.now) c.in-Some-pattern_converter.ensures
-          (standing c.args.tyenv.now c.expand.new.self) refl c.in_ok-left.ensures.1),
-    )
-
-pub returns-in_default-template_of-clause-uses : goal.returns-in_default-template_of-clause-uses
-returns-in_default-template_of-clause-uses c =
-    rw c.requires.whole
-    (parts_used c.args.multi c.args.self.now (standing c.args.tyenv.now c.args.work.now) c.requires.inverse (name_view c.args.sym.now) (pattern_views c.args.args.now) (position c.args.pos) c.args.expected_ty.0
-    (term_view c.in-Some.term.now) c.in-Some.ensures c.in_default-pattern_converter.ensures c.in_default-template_of.ensures
-    _ _ (sym (list_length c.args.args.now)) refl (record { vars = c.check_use.ensures.remains.vars; names = c.check_use.ensures.remains.names; expansions = c.check_use.ensures.remains.expansions })
-    (checks_both _ _ _ _ _ c.in_ok-check_use.ensures.checks c.in_ok-check_extractor.ensures.checks))
-
-pub returns-in_default-2-clause-uses : goal.returns-in_default-2-clause-uses
-returns-in_default-2-clause-uses c =
-    let missing : ◌≡◌ {A = Option PatternTree} None (substituted (map pattern_view c.args.args.now) (pattern_view c.in-Some-template_of.template.now)) = sym (ap (option_map pattern_view) c.in_default-2.is) ∙ c.in_ok-made.ensures in
-    rw c.requires.whole
-    (nothing_made c.args.multi c.args.self.now (standing c.args.tyenv.now c.args.work.now) c.requires.inverse (name_view c.args.sym.now) (pattern_views c.args.args.now) (position c.args.pos) c.args.expected_ty.0
-    (term_view c.in-Some.term.now) c.in-Some.ensures c.in_default-pattern_converter.ensures (pattern_view c.in-Some-template_of.template.now) c.in-Some-template_of.ensures
-    (standing c.args.tyenv.now c.check_use.new.work) _ (sym (list_length c.args.args.now)) c.in_ok-check_use.ensures.checks
-    (missing ∙ ap (λ gs. substituted gs (pattern_view c.in-Some-template_of.template.now)) (sym (list_is c.args.args.now))))
-
-pub returns-in_err-left-2-clause-uses : goal.returns-in_err-left-2-clause-uses
-returns-in_err-left-2-clause-uses c =
-    let made : Some (pattern_view c.in-Some-2.made) ≡ substituted (map pattern_view c.args.args.now) (pattern_view c.in-Some-template_of.template.now) = sym (ap (option_map pattern_view) c.in-Some-2.is) ∙ c.in_ok-made.ensures in
-    rw (stop_is c.from_residual-in_err-left-2.result c.in_err-left-2.field-0.0 c.from_residual-in_err-left-2.ensures, c.requires.whole)
-    (template_stops c.args.multi c.args.self.now (standing c.args.tyenv.now c.args.work.now) c.requires.inverse (name_view c.args.sym.now) (pattern_views c.args.args.now) (position c.args.pos) c.args.expected_ty.0
-    (term_view c.in-Some.term.now) c.in-Some.ensures c.in_default-pattern_converter.ensures (pattern_view c.in-Some-template_of.template.now) c.in-Some-template_of.ensures
-    (standing c.args.tyenv.now c.check_use.new.work) _ (sym (list_length c.args.args.now)) c.in_ok-check_use.ensures.checks
-    (pattern_view c.in-Some-2.made) (made ∙ ap (λ gs. substituted gs (pattern_view c.in-Some-template_of.template.now)) (sym (list_is c.args.args.now)))
-    (standing c.args.tyenv.now c.expand-2.new.self) c.args.nesting c.check_use.ensures.remains c.in_err-left-2.field-0.0 c.in_err-left-2.ensures)
-
-pub returns-clause-uses : goal.returns-clause-uses
-returns-clause-uses c =
-    let made : Some (pattern_view c.in-Some-2.made) ≡ substituted (map pattern_view c.args.args.now) (pattern_view c.in-Some-template_of.template.now) = sym (ap (option_map pattern_view) c.in-Some-2.is) ∙ c.in_ok-made.ensures in
-    let is_made = made ∙ ap (λ gs. substituted gs (pattern_view c.in-Some-template_of.template.now)) (sym (list_is c.args.args.now)) in
-    rw c.requires.whole (
-      c.in_ok-left-2.ensures.0,
-      template_expands c.args.multi c.args.self.now (standing c.args.tyenv.now c.args.work.now) c.requires.inverse (name_view c.args.sym.now) (pattern_views c.args.args.now) (position c.args.pos) c.args.expected_ty.0
-          (term_view c.in-Some.term.now) c.in-Some.ensures c.in_default-pattern_converter.ensures (pattern_view c.in-Some-template_of.template.now) c.in-Some-template_of.ensures
-          (standing c.args.tyenv.now c.check_use.new.work) _ (sym (list_length c.args.args.now)) c.in_ok-check_use.ensures.checks (pattern_view c.in-Some-2.made) is_made,
-      template_made c.args.multi c.args.self.now (standing c.args.tyenv.now c.args.work.now) c.requires.inverse (name_view c.args.sym.now) (pattern_views c.args.args.now) (position c.args.pos) c.args.expected_ty.0
-          (term_view c.in-Some.term.now) c.in-Some.ensures c.in_default-pattern_converter.ensures (pattern_view c.in-Some-template_of.template.now) c.in-Some-template_of.ensures
-          (standing c.args.tyenv.now c.check_use.new.work) _ (sym (list_length c.args.args.now)) c.in_ok-check_use.ensures.checks (pattern_view c.in-Some-2.made) is_made
-          (standing c.args.tyenv.now c.expand-2.new.self) refl refl c.check_use.ensures.remains c.in_ok-left-2.ensures.1,
-    )
 
 pub returns-in_err-left-clause-places : goal.returns-in_err-left-clause-places
 returns-in_err-left-clause-places c =
@@ -119,58 +54,18 @@ returns-clause-among c =
     (expanded_places c.args.self.now c.args.tyenv.now (name_view c.args.sym.now) (pattern_views c.args.args.now) (position c.args.pos) (term_view c.in-Some.term.now) c.in-Some.ensures (pattern_view c.in-Some-template_of.template.now) c.in-Some-template_of.ensures
     (pattern_view c.in-Some-2.made) is_made)
 
-pub returns-in_default-clause-limits : goal.returns-in_default-clause-limits
-returns-in_default-clause-limits c =
-    rw c.requires.whole
-    (unknown_comes c.args.multi c.args.self.now (standing c.args.tyenv.now c.args.work.now) c.requires.inverse (name_view c.args.sym.now) (pattern_views c.args.args.now) (position c.args.pos) c.args.expected_ty.0
-    c.args.nesting c.in_default.ensures)
+pub returns-in-Some-pattern_converter-clause-deeper : goal.returns-in-Some-pattern_converter-clause-deeper
+returns-in-Some-pattern_converter-clause-deeper c = rw c.in_ok-inside.ensures (c.in_ok-left.ensures.0, inl (name_at c.args.tyenv.now (term_view c.in-Some-pattern_converter.by.now) (position c.args.pos), position c.args.pos, refl))
 
-pub returns-in_err-left-clause-limits : goal.returns-in_err-left-clause-limits
-returns-in_err-left-clause-limits c =
-    rw (stop_is c.from_residual-in_err-left.result c.in_err-left.field-0.0 c.from_residual-in_err-left.ensures, c.requires.whole)
-    (conversion_ends c.args.multi c.args.self.now (standing c.args.tyenv.now c.args.work.now) c.requires.inverse (name_view c.args.sym.now) (pattern_views c.args.args.now) (position c.args.pos) c.args.expected_ty.0
-    (term_view c.in-Some.term.now) c.in-Some.ensures (term_view c.in-Some-pattern_converter.by.now) c.in-Some-pattern_converter.ensures
-    (standing c.args.tyenv.now c.expand.new.self) c.args.nesting c.in_err-left.field-0.0 c.in_err-left.ensures)
-
-pub returns-in-Some-pattern_converter-clause-limits : goal.returns-in-Some-pattern_converter-clause-limits
-returns-in-Some-pattern_converter-clause-limits c =
-    converted_leads c.args.multi c.args.self.now (standing c.args.tyenv.now c.args.work.now) c.requires.inverse (name_view c.args.sym.now) (pattern_views c.args.args.now) (position c.args.pos) c.args.expected_ty.0
-    (term_view c.in-Some.term.now) c.in-Some.ensures (term_view c.in-Some-pattern_converter.by.now) c.in-Some-pattern_converter.ensures
-    (standing c.args.tyenv.now c.expand.new.self) c.args.nesting c.in_ok-left.left (pattern_view c.args.whole.now) (pattern_view c.in_ok-inside.inside) c.requires.whole c.in_ok-inside.ensures c.in_ok-left.ensures.0 c.in_ok-left.ensures.1
-
-pub returns-in_default-template_of-clause-limits : goal.returns-in_default-template_of-clause-limits
-returns-in_default-template_of-clause-limits c =
-    rw c.requires.whole
-    (parts_lead c.args.multi c.args.self.now (standing c.args.tyenv.now c.args.work.now) c.requires.inverse (name_view c.args.sym.now) (pattern_views c.args.args.now) (position c.args.pos) c.args.expected_ty.0
-    (term_view c.in-Some.term.now) c.in-Some.ensures c.in_default-pattern_converter.ensures c.in_default-template_of.ensures
-    _ _ _ c.args.nesting (sym (list_length c.args.args.now)) c.check_use.ensures.remains.expansions
-    (checks_both _ _ _ _ _ c.in_ok-check_use.ensures.checks c.in_ok-check_extractor.ensures.checks))
-
-pub returns-in_default-2-clause-limits : goal.returns-in_default-2-clause-limits
-returns-in_default-2-clause-limits c =
-    let missing : ◌≡◌ {A = Option PatternTree} None (substituted (map pattern_view c.args.args.now) (pattern_view c.in-Some-template_of.template.now)) = sym (ap (option_map pattern_view) c.in_default-2.is) ∙ c.in_ok-made.ensures in
-    rw c.requires.whole
-    (nothing_comes c.args.multi c.args.self.now (standing c.args.tyenv.now c.args.work.now) c.requires.inverse (name_view c.args.sym.now) (pattern_views c.args.args.now) (position c.args.pos) c.args.expected_ty.0
-    (term_view c.in-Some.term.now) c.in-Some.ensures c.in_default-pattern_converter.ensures (pattern_view c.in-Some-template_of.template.now) c.in-Some-template_of.ensures
-    (missing ∙ ap (λ gs. substituted gs (pattern_view c.in-Some-template_of.template.now)) (sym (list_is c.args.args.now))) c.args.nesting)
-
-pub returns-in_err-left-2-clause-limits : goal.returns-in_err-left-2-clause-limits
-returns-in_err-left-2-clause-limits c =
+pub returns-clause-deeper : goal.returns-clause-deeper
+returns-clause-deeper c =
     let made : Some (pattern_view c.in-Some-2.made) ≡ substituted (map pattern_view c.args.args.now) (pattern_view c.in-Some-template_of.template.now) = sym (ap (option_map pattern_view) c.in-Some-2.is) ∙ c.in_ok-made.ensures in
-    rw (stop_is c.from_residual-in_err-left-2.result c.in_err-left-2.field-0.0 c.from_residual-in_err-left-2.ensures, c.requires.whole)
-    (template_ends c.args.multi c.args.self.now (standing c.args.tyenv.now c.args.work.now) c.requires.inverse (name_view c.args.sym.now) (pattern_views c.args.args.now) (position c.args.pos) c.args.expected_ty.0
-    (term_view c.in-Some.term.now) c.in-Some.ensures c.in_default-pattern_converter.ensures (pattern_view c.in-Some-template_of.template.now) c.in-Some-template_of.ensures
-    (standing c.args.tyenv.now c.check_use.new.work) _ (sym (list_length c.args.args.now)) c.in_ok-check_use.ensures.checks (pattern_view c.in-Some-2.made) (made ∙ ap (λ gs. substituted gs (pattern_view c.in-Some-template_of.template.now)) (sym (list_is c.args.args.now)))
-    (standing c.args.tyenv.now c.expand-2.new.self) c.args.nesting c.check_use.ensures.remains c.in_err-left-2.field-0.0 c.in_err-left-2.ensures)
-
-pub returns-clause-limits : goal.returns-clause-limits
-returns-clause-limits c =
-    let made : Some (pattern_view c.in-Some-2.made) ≡ substituted (map pattern_view c.args.args.now) (pattern_view c.in-Some-template_of.template.now) = sym (ap (option_map pattern_view) c.in-Some-2.is) ∙ c.in_ok-made.ensures in
-    rw c.requires.whole
-    (template_leads c.args.multi c.args.self.now (standing c.args.tyenv.now c.args.work.now) c.requires.inverse (name_view c.args.sym.now) (pattern_views c.args.args.now) (position c.args.pos) c.args.expected_ty.0
-    (term_view c.in-Some.term.now) c.in-Some.ensures c.in_default-pattern_converter.ensures (pattern_view c.in-Some-template_of.template.now) c.in-Some-template_of.ensures
-    (standing c.args.tyenv.now c.check_use.new.work) _ (sym (list_length c.args.args.now)) c.in_ok-check_use.ensures.checks (pattern_view c.in-Some-2.made) (made ∙ ap (λ gs. substituted gs (pattern_view c.in-Some-template_of.template.now)) (sym (list_is c.args.args.now)))
-    (standing c.args.tyenv.now c.expand-2.new.self) c.args.nesting c.in_ok-left-2.left c.in_ok-left-2.ensures.0 c.check_use.ensures.remains c.in_ok-left-2.ensures.1)
+    rw c.requires.whole (
+      c.in_ok-left-2.ensures.0,
+      template_expands c.args.multi c.args.self.now (standing c.args.tyenv.now c.args.work.now) c.requires.inverse (name_view c.args.sym.now) (pattern_views c.args.args.now) (position c.args.pos) c.args.expected_ty.0
+          (term_view c.in-Some.term.now) c.in-Some.ensures (pattern_view c.in-Some-template_of.template.now) (pattern_view c.in-Some-2.made) c.in-Some-template_of.ensures
+          (made ∙ ap (λ gs. substituted gs (pattern_view c.in-Some-template_of.template.now)) (sym (list_is c.args.args.now))),
+    )
 
 pub returns-in_default-clause-reads : goal.returns-in_default-clause-reads
 returns-in_default-clause-reads c =

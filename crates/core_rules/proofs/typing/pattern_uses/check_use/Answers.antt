@@ -1,16 +1,9 @@
 use Rattle.std.proofs.Common.{◌≡◌, ℕ, eqb, length, subst, sym, ◌∙◌, rules}
 use Rattle.std.proofs.lemmas.List.{length-map}
-use Rattle.core_typed.specs.Elaborating.{Checks, place_unless, NotesEachAt}
-use Rattle.core_rules.proofs.PatternUsing.{checks_both}
+use Rattle.core_typed.specs.Elaborating.{place_unless, NotesEachAt}
 use Rattle.core_rules.proofs.typing.pattern_uses.check_use.Goals as goal
 use Rattle.core_syntax.specs.SyntaxViews.{position}
 use Rattle.core_typed.proofs.NotedErrors.{both_at}
-
-pub returns-clause-checks : goal.returns-clause-checks
-returns-clause-checks c =
-    let count : c.len.result ≡ length c.args.term.now.arg_tys.items = search rules in
-    checks_both _ _ _ _ _ c.in_ok-check_same.ensures.checks
-    (subst (λ (n : ℕ). Checks c.check_same.new.errors.items c.check_count.new.errors.items (c.args.args ≡ n)) (count ∙ sym (length-map c.args.term.now.arg_tys.items (λ ty. ty.0))) c.in_ok-check_count.ensures.checks)
 
 pub returns-clause-exact : goal.returns-clause-exact
 returns-clause-exact c =
