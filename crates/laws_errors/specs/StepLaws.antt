@@ -1,5 +1,5 @@
 -- The function of typing is what steps make where nothing is wrong, and gives nothing where something is.
-use Rattle.std.specs.Prelude.{◌≡◌, ◌≢◌, ℕ, ◌+◌, ◌≤◌, ◌<◌, Bool, true, List, [], ◌∷◌, ◌++◌, length, Option, Some, None, is_some}
+use Rattle.std.specs.Prelude.{◌≡◌, ◌≢◌, ◌⊎◌, ℕ, ◌+◌, ◌≤◌, ◌<◌, Bool, true, List, [], ◌∷◌, ◌++◌, length, Option, Some, None, is_some}
 use Rattle.model.specs.lists.Syntax.{PatternTree, ExprTree, RuleTree}
 use Rattle.model.specs.lists.Tables.{Flags, TermEntry}
 use Rattle.model.specs.lists.Setting.{Setting, Scope, term_of, template_in}
@@ -8,7 +8,7 @@ use Rattle.model.specs.lists.Typings.{Typing}
 use Rattle.model.specs.lists.Formed.{pattern_type}
 use Rattle.model.specs.rules.Typed.{TypedPattern}
 use Rattle.model.specs.lists.Elaborated.{elaborated_pattern, elaborated_expr, most_expansions, TypedRules}
-use Rattle.model.specs.claims.Refusals.{NamedLimit}
+use Rattle.model.specs.claims.Refusals.{NamedLimit, of_nesting, of_expansions}
 use Rattle.laws_errors.specs.AllMade.{all_made, rule_reading, rule_within, rules_within}
 use Rattle.laws_errors.specs.Steps.{Mistake, Step, went_on, stopped}
 use Rattle.laws_errors.specs.PatternSteps.{pattern_step, deeper_step}
@@ -28,6 +28,26 @@ pub data Agrees {X : Type 0} (n : ℕ) : Step X → Option (Typing X) → Type 0
   is_stopped : (l : NamedLimit) (s : Scope) (o : Option (Typing X)) → TakesTooMany n o → Agrees n (stopped l s []) o
   is_stopped_later : (l : NamedLimit) (s : Scope) (w : Mistake) (ws : List Mistake) → Agrees n (stopped l s (w ∷ ws)) None
 
+-- at one depth it is this typing, and at any other depth nothing else
+pub record IsOnlyTyping {X : Type 0} (o : ℕ → Option (Typing X)) (d : ℕ) (a : Typing X) : Type 0 where
+  pub here : o d ≡ Some a
+  pub elsewhere : (c : ℕ) → (o c ≡ None) ⊎ (o c ≡ Some a)
+
+-- what is made without an expansion, or with as many as may be made
+abbrev pub FitsBehind : ℕ → ℕ → Type 0
+FitsBehind n k = (k ≡ 0) ⊎ (n + k ≤ most_expansions)
+
+-- behind n expansions, a step where d more may nest, and what the function of typing says of the same at each depth: the step goes on
+-- with nothing wrong, and makes what the function makes there, and no other depth makes anything else; something is wrong, and no
+-- depth makes anything, also where a limit stops the step later; or a limit stops it first: none is made at this depth, or at each
+-- depth it takes too many
+pub data AgreesAtDepths {X : Type 0} (n d : ℕ) (o : ℕ → Option (Typing X)) : Step X → Type 0 where
+  only_read : (x : X) (s : Scope) (k : ℕ) → FitsBehind n k → IsOnlyTyping o d (record { made = x; scope = s; expansions = k }) → AgreesAtDepths n d o (went_on (Some x) s k [])
+  never_read : (m : Option X) (s : Scope) (k : ℕ) (w : Mistake) (ws : List Mistake) → ((c : ℕ) → o c ≡ None) → AgreesAtDepths n d o (went_on m s k (w ∷ ws))
+  too_deep : (s : Scope) → o d ≡ None → AgreesAtDepths n d o (stopped of_nesting s [])
+  too_long : (s : Scope) → ((c : ℕ) → TakesTooMany n (o c)) → AgreesAtDepths n d o (stopped of_expansions s [])
+  never_read_later : (l : NamedLimit) (s : Scope) (w : Mistake) (ws : List Mistake) → ((c : ℕ) → o c ≡ None) → AgreesAtDepths n d o (stopped l s (w ∷ ws))
+
 -- what the function makes is of the type asked for
 abbrev pub MadeAtTypes : Setting → Bool → Type 0
 MadeAtTypes e multi = (d : ℕ) (p : PatternTree) (ty : ℕ) (s : Scope) (a : Typing TypedPattern) → elaborated_pattern e multi d p ty s ≡ Some a → pattern_type a.made ≡ ty
@@ -41,6 +61,11 @@ abbrev pub PatternStepsAgree : Type 0
 PatternStepsAgree =
     (e : Setting) (multi : Bool) → TemplatesAreWhole e → (d : ℕ) (p : PatternTree) (ty n : ℕ) (s : Scope) → n ≤ most_expansions
     → Agrees n (pattern_step e multi (deeper_step e multi d) p ty n s) (elaborated_pattern e multi d p ty s)
+
+abbrev pub PatternStepsAgreeAtDepths : Type 0
+PatternStepsAgreeAtDepths =
+    (e : Setting) (multi : Bool) → TemplatesAreWhole e → (d : ℕ) (p : PatternTree) (ty n : ℕ) (s : Scope)
+    → AgreesAtDepths n d (λ c. elaborated_pattern e multi c p ty s) (pattern_step e multi (deeper_step e multi d) p ty n s)
 
 abbrev pub ExprStepsAgree : Type 0
 ExprStepsAgree =

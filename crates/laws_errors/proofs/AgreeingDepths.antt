@@ -1,0 +1,184 @@
+-- Each way of going on keeps a step and the function of typing agreed at all depths: the calculus that a reading is proved by.
+use Rattle.std.proofs.Common.{◌≡◌, ◌⊎◌, inl, inr, ℕ, zero, suc, ◌+◌, ◌≤◌, Bool, true, false, cond, List, [], ◌∷◌, ◌++◌, Option, Some, None, subst, refl, ap, ◌∙◌, arith}
+use Rattle.std.proofs.lemmas.Grind.{common_steps}
+use Rattle.std.proofs.lemmas.Option.{same_Some}
+use Rattle.model.specs.lists.Syntax.{Position}
+use Rattle.model.specs.lists.Setting.{Scope}
+use Rattle.model.specs.lists.Typings.{Typing, plain, made_into, joined_typing, followed, counted}
+use Rattle.model.specs.lists.Elaborated.{most_expansions}
+use Rattle.model.specs.claims.Refusals.{of_nesting, of_expansions}
+use Rattle.laws_errors.specs.Steps.{Why, Mistake, Step, went_on, stopped, unless, here, noting, made_step, counted_step, joined_step, then_step}
+use Rattle.laws_errors.specs.StepLaws.{TakesTooMany, Agrees, is_read, is_wrong, is_stopped, is_stopped_later, FitsBehind, IsOnlyTyping, AgreesAtDepths, only_read, never_read, too_deep, too_long, never_read_later}
+
+-- the same at each depth is the same typing
+only_same : {X : Type 0} (d : ℕ) (o u : ℕ → Option (Typing X)) (a : Typing X) → ((c : ℕ) → o c ≡ u c) → IsOnlyTyping o d a → IsOnlyTyping u d a
+only_same d o u a same only = record {
+  here = subst (λ v. v ≡ Some a) (same d) only.here;
+  elsewhere = λ c. subst (λ v. (v ≡ None) ⊎ (v ≡ Some a)) (same c) (only.elsewhere c);
+}
+
+pub same_at_depths : {X : Type 0} (n d : ℕ) (o u : ℕ → Option (Typing X)) (t : Step X) → ((c : ℕ) → o c ≡ u c) → AgreesAtDepths n d o t → AgreesAtDepths n d u t
+same_at_depths n d o u _ same (only_read x s k fits only) = only_read x s k fits (only_same d o u _ same only)
+same_at_depths n d o u _ same (never_read m s k w ws none) = never_read m s k w ws (λ c. subst (λ v. v ≡ None) (same c) (none c))
+same_at_depths n d o u _ same (too_deep s none) = too_deep s (subst (λ v. v ≡ None) (same d) none)
+same_at_depths n d o u _ same (too_long s past) = too_long s (λ c. subst (λ v. TakesTooMany n v) (same c) (past c))
+same_at_depths n d o u _ same (never_read_later l s w ws none) = never_read_later l s w ws (λ c. subst (λ v. v ≡ None) (same c) (none c))
+
+-- something is made without an expansion, at each depth
+pub at_once : {X : Type 0} (n d : ℕ) (x : X) (s : Scope) → AgreesAtDepths n d (λ c. Some (plain x s)) (here x s)
+at_once n d x s = only_read x s 0 (inl refl) (record { here = refl; elsewhere = λ c. inr refl })
+
+-- what is wrong before a step, where no depth makes anything
+pub noted : {X : Type 0} (n d : ℕ) (w : Mistake) (ws : List Mistake) (t : Step X) (o : ℕ → Option (Typing X)) → ((c : ℕ) → o c ≡ None) → AgreesAtDepths n d o (noting (w ∷ ws) t)
+noted n d w ws (went_on m s k es) o none = never_read m s k w (ws ++ es) none
+noted n d w ws (stopped l s es) o none = never_read_later l s w (ws ++ es) none
+
+-- nothing is
+pub none_noted : {X : Type 0} (n d : ℕ) (t : Step X) (o : ℕ → Option (Typing X)) → AgreesAtDepths n d o t → AgreesAtDepths n d o (noting [] t)
+none_noted n d (went_on m s k es) o h = h
+none_noted n d (stopped l s es) o h = h
+
+-- a test, and what comes where it holds
+pub checked : {X : Type 0} (n d : ℕ) (b : Bool) (why : Why) (at : Position) (t : Step X) (o : ℕ → Option (Typing X))
+    → (b ≡ true → AgreesAtDepths n d o t) → AgreesAtDepths n d (λ c. cond b (o c) None) (noting (unless b why at) t)
+checked n d true why at t o h = none_noted n d t o (h refl)
+checked n d false why at t o h = noted n d _ [] t (λ c. None) (λ c. refl)
+
+-- the same of each typing
+pub only_through : {X Y : Type 0} (g : Option (Typing X) → Option (Typing Y)) (d : ℕ) (o : ℕ → Option (Typing X)) (a : Typing X) (b : Typing Y)
+    → g None ≡ None → g (Some a) ≡ Some b → IsOnlyTyping o d a → IsOnlyTyping (λ c. g (o c)) d b
+only_through g d o a b none some only = record { here = ap g only.here ∙ some; elsewhere = λ c. either (o c) (only.elsewhere c) }
+  where
+    either : (v : Option (Typing _)) → (v ≡ None) ⊎ (v ≡ Some a) → (g v ≡ None) ⊎ (g v ≡ Some b)
+    either v (inl h) = inl (ap g h ∙ none)
+    either v (inr h) = inr (ap g h ∙ some)
+
+past_made : {X Y : Type 0} (n : ℕ) (f : X → Y) (o : Option (Typing X)) → TakesTooMany n o → TakesTooMany n (made_into f o)
+past_made n f o past = grind (arith, common_steps, same_Some)
+
+pub made : {X Y : Type 0} (n d : ℕ) (f : X → Y) (t : Step X) (o : ℕ → Option (Typing X)) → AgreesAtDepths n d o t → AgreesAtDepths n d (λ c. made_into f (o c)) (made_step f t)
+made n d f _ o (only_read x s k fits only) = only_read (f x) s k fits (only_through (made_into f) d o _ _ refl refl only)
+made n d f _ o (never_read m s k w ws none) = never_read _ s k w ws (λ c. ap (made_into f) (none c))
+made n d f _ o (too_deep s none) = too_deep s (ap (made_into f) none)
+made n d f _ o (too_long s past) = too_long s (λ c. past_made n f (o c) (past c))
+made n d f _ o (never_read_later l s w ws none) = never_read_later l s w ws (λ c. ap (made_into f) (none c))
+
+-- what an expansion makes at each depth: nothing where none may nest, else what is made where one fewer may, and one more is counted
+abbrev pub one_deeper : {X : Type 0} → (ℕ → Option (Typing X)) → ℕ → Option (Typing X)
+one_deeper o zero = None
+one_deeper o (suc c) = counted (o c)
+
+none_deeper : {X : Type 0} (o : ℕ → Option (Typing X)) → ((c : ℕ) → o c ≡ None) → (c : ℕ) → one_deeper o c ≡ None
+none_deeper o none zero = refl
+none_deeper o none (suc c) = ap counted (none c)
+
+past_counted : {X : Type 0} (n : ℕ) (o : Option (Typing X)) → TakesTooMany (suc n) o → TakesTooMany n (counted o)
+past_counted n o past = grind (arith, common_steps, same_Some)
+
+past_deeper : {X : Type 0} (n : ℕ) (o : ℕ → Option (Typing X)) → ((c : ℕ) → TakesTooMany (suc n) (o c)) → (c : ℕ) → TakesTooMany n (one_deeper o c)
+past_deeper n o past zero = λ a h. absurd (cc)
+past_deeper n o past (suc c) = past_counted n (o c) (past c)
+
+only_deeper : {X : Type 0} (d : ℕ) (o : ℕ → Option (Typing X)) (x : X) (s : Scope) (k : ℕ)
+    → IsOnlyTyping o d (record { made = x; scope = s; expansions = k }) → IsOnlyTyping (one_deeper o) (suc d) (record { made = x; scope = s; expansions = suc k })
+only_deeper d o x s k only = record { here = ap counted only.here; elsewhere = either }
+  where
+    of_one : (v : Option (Typing _)) → (v ≡ None) ⊎ (v ≡ Some (record { made = x; scope = s; expansions = k })) → (counted v ≡ None) ⊎ (counted v ≡ Some (record { made = x; scope = s; expansions = suc k }))
+    of_one v (inl h) = inl (ap counted h)
+    of_one v (inr h) = inr (ap counted h)
+
+    either : (c : ℕ) → (one_deeper o c ≡ None) ⊎ (one_deeper o c ≡ Some (record { made = x; scope = s; expansions = suc k }))
+    either zero = inl refl
+    either (suc c) = of_one (o c) (only.elsewhere c)
+
+fits_deeper : (n k : ℕ) → suc n ≤ most_expansions → FitsBehind (suc n) k → FitsBehind n (suc k)
+fits_deeper n k few (inl h) = inr (omega (arith, few, h))
+fits_deeper n k few (inr h) = inr (omega (arith, h))
+
+-- one expansion more, where one may be made
+pub one_more : {X : Type 0} (n d : ℕ) (t : Step X) (o : ℕ → Option (Typing X)) → suc n ≤ most_expansions → AgreesAtDepths (suc n) d o t → AgreesAtDepths n (suc d) (one_deeper o) (counted_step t)
+one_more n d _ o few (only_read x s k fits only) = only_read x s (suc k) (fits_deeper n k few fits) (only_deeper d o x s k only)
+one_more n d _ o few (never_read m s k w ws none) = never_read m s (suc k) w ws (none_deeper o none)
+one_more n d _ o few (too_deep s none) = too_deep s (ap counted none)
+one_more n d _ o few (too_long s past) = too_long s (past_deeper n o past)
+one_more n d _ o few (never_read_later l s w ws none) = never_read_later l s w ws (none_deeper o none)
+
+most_counted : {X : Type 0} (n : ℕ) (o : Option (Typing X)) → most_expansions ≤ n → TakesTooMany n (counted o)
+most_counted n o most = grind (arith, common_steps, same_Some)
+
+most_deeper : {X : Type 0} (n : ℕ) (o : ℕ → Option (Typing X)) → most_expansions ≤ n → (c : ℕ) → TakesTooMany n (one_deeper o c)
+most_deeper n o most zero = λ a h. absurd (cc)
+most_deeper n o most (suc c) = most_counted n (o c) most
+
+-- as many were made as may be, before one more
+pub too_many : {X : Type 0} (n d : ℕ) (z : Scope) (o : ℕ → Option (Typing X)) → most_expansions ≤ n → AgreesAtDepths n d (one_deeper o) (stopped of_expansions z [])
+too_many n d z o most = too_long z (most_deeper n o most)
+
+fits_both : (n k j : ℕ) → FitsBehind n k → FitsBehind (n + k) j → FitsBehind n (k + j)
+fits_both n k j (inl h) (inl i) = inl (omega (arith, h, i))
+fits_both n k j (inl h) (inr i) = inr (omega (arith, h, i))
+fits_both n k j (inr h) (inl i) = inr (omega (arith, h, i))
+fits_both n k j (inr h) (inr i) = inr (omega (arith, h, i))
+
+module _ {X Y Z : Type 0} (n d : ℕ) (f : X → Y → Z) (g : Option X → Y → Z) (same : (x : X) (y : Y) → g (Some x) y ≡ f x y) where
+  -- what takes too many takes too many with what comes behind it
+  past_followed : (v : Option (Typing X)) (rest : Typing X → Option (Typing Y)) → TakesTooMany n v → TakesTooMany n (followed f v rest)
+  past_followed v rest past = grind (arith, common_steps, same_Some)
+
+  module _ (x : X) (s : Scope) (k : ℕ) (v : Option (Typing X)) (own : (v ≡ None) ⊎ (v ≡ Some (record { made = x; scope = s; expansions = k }))) (rest : Typing X → Option (Typing Y)) where
+    none_joined : rest (record { made = x; scope = s; expansions = k }) ≡ None → followed f v rest ≡ None
+    none_joined h = grind (arith, common_steps, own)
+
+    past_joined : TakesTooMany (n + k) (rest (record { made = x; scope = s; expansions = k })) → TakesTooMany n (followed f v rest)
+    past_joined past = grind (arith, common_steps, own, same_Some)
+
+  module _ (x : X) (s : Scope) (k : ℕ) (o : ℕ → Option (Typing X)) (own : IsOnlyTyping o d (record { made = x; scope = s; expansions = k })) (rest : ℕ → Typing X → Option (Typing Y)) where
+    abbrev first : Typing X
+    first = record { made = x; scope = s; expansions = k }
+
+    only_joined : (y : Y) (u : Scope) (j : ℕ) → IsOnlyTyping (λ c. rest c first) d (record { made = y; scope = u; expansions = j })
+        → IsOnlyTyping (λ c. followed f (o c) (rest c)) d (record { made = f x y; scope = u; expansions = k + j })
+    only_joined y u j only = record {
+      here = ap (λ v. followed f v (rest d)) own.here ∙ ap (joined_typing f first) only.here;
+      elsewhere = λ c. either c (own.elsewhere c) (only.elsewhere c);
+    }
+      where
+        either : (c : ℕ) → (o c ≡ None) ⊎ (o c ≡ Some first) → (rest c first ≡ None) ⊎ (rest c first ≡ Some (record { made = y; scope = u; expansions = j }))
+            → (followed f (o c) (rest c) ≡ None) ⊎ (followed f (o c) (rest c) ≡ Some (record { made = f x y; scope = u; expansions = k + j }))
+        either c (inl h) i = inl (ap (λ v. followed f v (rest c)) h)
+        either c (inr h) (inl i) = inl (ap (λ v. followed f v (rest c)) h ∙ ap (joined_typing f first) i)
+        either c (inr h) (inr i) = inr (ap (λ v. followed f v (rest c)) h ∙ ap (joined_typing f first) i)
+
+    -- what comes behind what was made
+    joined : (t : Step Y) → FitsBehind n k → AgreesAtDepths (n + k) d (λ c. rest c first) t → AgreesAtDepths n d (λ c. followed f (o c) (rest c)) (noting [] (joined_step g (Some x) k t))
+    joined _ fits (only_read y u j fits' only) = rw (same x y) (only_read (f x y) u (k + j) (fits_both n k j fits fits') (only_joined y u j only))
+    joined _ fits (never_read None u j w ws none) = never_read None u (k + j) w ws (λ c. none_joined x s k (o c) (own.elsewhere c) (rest c) (none c))
+    joined _ fits (never_read (Some y) u j w ws none) = never_read (Some (g (Some x) y)) u (k + j) w ws (λ c. none_joined x s k (o c) (own.elsewhere c) (rest c) (none c))
+    joined _ fits (too_deep z none) = too_deep z (none_joined x s k (o d) (own.elsewhere d) (rest d) none)
+    joined _ fits (too_long z past) = too_long z (λ c. past_joined x s k (o c) (own.elsewhere c) (rest c) (past c))
+    joined _ fits (never_read_later l z w ws none) = never_read_later l z w ws (λ c. none_joined x s k (o c) (own.elsewhere c) (rest c) (none c))
+
+  -- one step, then the next
+  pub in_order : (t : Step X) (o : ℕ → Option (Typing X)) (next : Option X → Scope → ℕ → Step Y) (rest : ℕ → Typing X → Option (Typing Y)) → AgreesAtDepths n d o t
+      → ((a : Typing X) → o d ≡ Some a → AgreesAtDepths (n + a.expansions) d (λ c. rest c a) (next (Some a.made) a.scope a.expansions))
+      → AgreesAtDepths n d (λ c. followed f (o c) (rest c)) (then_step g t next)
+  in_order _ o next rest (only_read x s k fits only) r = joined x s k o only rest _ fits (r (record { made = x; scope = s; expansions = k }) only.here)
+  in_order _ o next rest (never_read m s k w ws none) r = noted n d w ws _ _ (λ c. ap (λ v. followed f v (rest c)) (none c))
+  in_order _ o next rest (too_deep z none) r = too_deep z (ap (λ v. followed f v (rest d)) none)
+  in_order _ o next rest (too_long z past) r = too_long z (λ c. past_followed (o c) (rest c) (past c))
+  in_order _ o next rest (never_read_later l z w ws none) r = never_read_later l z w ws (λ c. ap (λ v. followed f v (rest c)) (none c))
+
+-- what agrees at all depths agrees at its own, behind no more expansions than may be made
+fits_few : (n k : ℕ) → n ≤ most_expansions → FitsBehind n k → n + k ≤ most_expansions
+fits_few n k few (inl h) = omega (arith, few, h)
+fits_few n k few (inr h) = h
+
+at_own_depth : {X : Type 0} (n : ℕ) (t : Step X) (v w : Option (Typing X)) → v ≡ w → Agrees n t w → Agrees n t v
+at_own_depth n t v w same h = rw same h
+
+pub agrees_at_own : {X : Type 0} (n d : ℕ) (t : Step X) (o : ℕ → Option (Typing X)) → n ≤ most_expansions → AgreesAtDepths n d o t → Agrees n t (o d)
+agrees_at_own n d _ o few (only_read x s k fits only) = at_own_depth n _ _ _ only.here (is_read x s k (fits_few n k few fits))
+agrees_at_own n d _ o few (never_read m s k w ws none) = at_own_depth n _ _ _ (none d) (is_wrong m s k w ws)
+agrees_at_own n d _ o few (too_deep s none) = at_own_depth n _ _ _ none (is_stopped of_nesting s None (λ a h. absurd (cc)))
+agrees_at_own n d _ o few (too_long s past) = is_stopped of_expansions s (o d) (past d)
+agrees_at_own n d _ o few (never_read_later l s w ws none) = at_own_depth n _ _ _ (none d) (is_stopped_later l s w ws)
