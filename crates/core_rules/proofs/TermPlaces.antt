@@ -15,7 +15,7 @@ use Rattle.core_syntax.specs.Positions.{OccurAmong, pattern_positions, name_posi
 use Rattle.core_syntax.proofs.Positioned.{among_same, among_both, among_left, among_right, among_rest, among_first, among_one, among_each, among_none, among_join}
 use Rattle.core_terms.proofs.NotedPositions.{template_among, pattern_in_extractor}
 use Rattle.core_terms.specs.TermPositions.{taken_positions, entry_positions, terms_positions}
-use Rattle.core_types.specs.TypePositions.{types_positions}
+use Rattle.core_types.specs.TypePositions.{entry_positions as type_entry_positions, types_positions}
 
 -- what is found is there
 found_there : {X : Type 0} (p : X → Bool) (xs : List X) (x : X) → find p xs ≡ Some x → Contains xs x
