@@ -69,10 +69,6 @@ module _ {X Y Z : Type 0} (n : ℕ) (f : X → Y → Z) (g : Option X → Y → 
 pub followed_none : {X Y Z : Type 0} (f : X → Y → Z) (o : Option (Typing X)) (rest : Typing X → Option (Typing Y)) → ((a : Typing X) → rest a ≡ None) → followed f o rest ≡ None
 followed_none f o rest h = grind (arith, common_steps)
 
--- where either way there is nothing
-pub noted_either : {X : Type 0} (b : Bool) (n : ℕ) (w : Mistake) (ws : List Mistake) (t : Step X) → Agrees n (noting (w ∷ ws) t) (cond b None None)
-noted_either b n w ws t = grind (arith, common_steps, noted)
-
 -- what is made of both can be made by the second
 abbrev pub second : {X Y : Type 0} → X → Y → Y
 second x y = y

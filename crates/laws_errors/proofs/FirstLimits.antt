@@ -17,7 +17,7 @@ use Rattle.laws_errors.specs.StepLaws.{TemplatesAreWhole, Agrees, MadeAtTypes}
 use Rattle.laws_errors.specs.ReachedLimits.{or_after, where_counted, pattern_limit, parts_limit, each_limit, deeper_pattern_limit}
 use Rattle.laws_errors.specs.LimitLaws.{first_limit, PatternLimitsAreFirst}
 use Rattle.laws_errors.proofs.TypesMade.{types_made}
-use Rattle.laws_errors.proofs.PatternSteps.{agrees, deeper_agrees}
+use Rattle.laws_errors.proofs.PatternSteps.{pattern_steps_agree_lem}
 
 pub first_noted : {X : Type 0} (w : Mistake) (ws : List Mistake) (t : Step X) → first_limit (noting (w ∷ ws) t) ≡ None
 first_noted w ws t = grind (arith, common_steps)
@@ -85,7 +85,7 @@ module _ (e : Setting) (multi : Bool) (templates : TemplatesAreWhole e) (typed :
     pub first_parts : (args : PatternTrees) (tys : List ℕ) (n : ℕ) (s : Scope) → n ≤ most_expansions → length (pattern_list args) ≡ length tys
         → first_limit (parts_step e multi (deeper_step e multi d) args tys n s) ≡ parts_limit e multi (deeper_pattern e multi d) (deeper_pattern_limit e multi d) args tys n s
     first_parts (pattern_and p rest) (ty ∷ tys) n s few h =
-        first_in_order n with_part _ _ _ _ (agrees e multi templates typed d (deeper_agrees e multi templates typed d) p ty n s few) (λ a i few. first_parts rest tys (n + a.expansions) a.scope few (omega (arith, h)))
+        first_in_order n with_part _ _ _ _ (pattern_steps_agree_lem e multi templates d p ty n s few) (λ a i few. first_parts rest tys (n + a.expansions) a.scope few (omega (arith, h)))
         ∙ ap (λ l. or_after l (pattern_with e multi (deeper_pattern e multi d) p ty s) (λ a. parts_limit e multi (deeper_pattern e multi d) (deeper_pattern_limit e multi d) rest tys (n + a.expansions) a.scope)) (first p ty n s few)
     first_parts args tys n s few h = refl
 
@@ -93,7 +93,7 @@ module _ (e : Setting) (multi : Bool) (templates : TemplatesAreWhole e) (typed :
         → first_limit (each_step e multi (deeper_step e multi d) ps ty n s) ≡ each_limit e multi (deeper_pattern e multi d) (deeper_pattern_limit e multi d) ps ty n s
     first_each no_pattern ty n s few = refl
     first_each (pattern_and p rest) ty n s few =
-        first_in_order n with_part _ _ _ _ (agrees e multi templates typed d (deeper_agrees e multi templates typed d) p ty n s few) (λ a i few. first_each rest ty (n + a.expansions) a.scope few)
+        first_in_order n with_part _ _ _ _ (pattern_steps_agree_lem e multi templates d p ty n s few) (λ a i few. first_each rest ty (n + a.expansions) a.scope few)
         ∙ ap (λ l. or_after l (pattern_with e multi (deeper_pattern e multi d) p ty s) (λ a. each_limit e multi (deeper_pattern e multi d) (deeper_pattern_limit e multi d) rest ty (n + a.expansions) a.scope)) (first p ty n s few)
 
 -- what expansions make

@@ -76,9 +76,9 @@ truth_agrees n d ty truth why at s =
     checked n d (eqb ty bool_type) why at _ _ (λ h. subst (λ t. AgreesAtDepths n d (λ c. Some (plain (match_bool ty truth) s)) (here (match_bool t truth) s)) ((Decides-eqb ty bool_type).0 h) (at_once n d _ _))
 
 -- as many arguments as types, or nothing
-pub parts_none_lem : (e : Setting) (multi : Bool) (d : ℕ) (args : PatternTrees) (tys : List ℕ) (s : Scope) → (length (pattern_list args) ≡ length tys → ⊥) → parts_with e multi (deeper_pattern e multi d) args tys s ≡ None
-parts_none_lem e multi d (pattern_and p rest) (ty ∷ tys) s h = grind (arith, common_steps, parts_none_lem e multi d rest tys, followed_none)
-parts_none_lem e multi d args tys s h = grind (arith, common_steps)
+pub parts_none : (e : Setting) (multi : Bool) (d : ℕ) (args : PatternTrees) (tys : List ℕ) (s : Scope) → (length (pattern_list args) ≡ length tys → ⊥) → parts_with e multi (deeper_pattern e multi d) args tys s ≡ None
+parts_none e multi d (pattern_and p rest) (ty ∷ tys) s h = grind (arith, common_steps, parts_none e multi d rest tys, followed_none)
+parts_none e multi d args tys s h = grind (arith, common_steps)
 
 module _ (e : Setting) (multi : Bool) (templates : TemplatesAreWhole e) (d : ℕ)
     (deeper : (p : PatternTree) (ty n : ℕ) (s : Scope) → AgreesAtDepths n d (λ c. counted (deeper_pattern e multi c p ty s)) (deeper_step e multi d p ty n s)) where
@@ -103,7 +103,7 @@ module _ (e : Setting) (multi : Bool) (templates : TemplatesAreWhole e) (d : ℕ
       same
       (made n d (match_term t.ret_ty t.id) _ _ (parts t.arg_tys ((Decides-eqb (length (pattern_list args)) (length t.arg_tys)).0 h)))))
   term_agrees name args at ty n s parts t same why false h =
-      noted n d _ [] _ _ (λ c. neither (is_matchable multi t.kind) _ (ap (made_into (match_term ty t.id)) (parts_none_lem e multi c args t.arg_tys s (eqb-ne _ _ h))))
+      noted n d _ [] _ _ (λ c. neither (is_matchable multi t.kind) _ (ap (made_into (match_term ty t.id)) (parts_none e multi c args t.arg_tys s (eqb-ne _ _ h))))
 
   used_agrees : (name : Name) (args : PatternTrees) (at : Position) (ty n : ℕ) (s : Scope) → ArePartsAgreed args n s → (t : TermEntry) → t.ret_ty ≡ ty → (o : Option PatternTree)
       → ((template : PatternTree) (given : List PatternTree) → o ≡ Some template → length given ≡ length t.arg_tys → is_some (substituted given template) ≡ true)
