@@ -27,7 +27,7 @@ module _ (e : Setting) (templates : TemplatesAreWhole e) (flags : Flags) (d : �
   iflet_first : (i : IfLetTree) (n : ℕ) (s : Scope) → n ≤ most_expansions → first_limit (iflet_step e flags d i n s) ≡ iflet_limits e flags d i n s
   iflet_first i n s few =
       first_in_order n last_made _ _ _ (λ a. pattern_limits e flags.multi d i.pattern (expr_type a.made) (n + a.expansions) a.scope) (expr_steps_agree_lem e (on_lhs flags) d i.expr None n s few)
-      (λ a h few. first_made (typed_iflet a.made) _ ∙ pattern_limits_are_first_lem e flags.multi templates d i.pattern (expr_type a.made) (n + a.expansions) a.scope few)
+      (λ a h few. first_made (typed_iflet a.made) _ ∙ pattern_limits_are_first_lem e flags.multi templates d i.pattern (expr_type a.made) (n + a.expansions) a.scope)
       ∙ ap (λ l. or_after l (elaborated_expr (all_made e) (on_lhs flags) d i.expr None s) (λ a. pattern_limits e flags.multi d i.pattern (expr_type a.made) (n + a.expansions) a.scope))
       (expr_limits_are_first_lem e (on_lhs flags) d i.expr None n s few)
 
@@ -43,7 +43,7 @@ module _ (e : Setting) (templates : TemplatesAreWhole e) (flags : Flags) (d : �
 
   counted_limit : (ps : PatternTrees) (tys : List ℕ) (n : ℕ) (s : Scope) → n ≤ most_expansions → (b : Bool) → eqb (length (pattern_list ps)) (length tys) ≡ b
       → cond b (first_limit (parts_step e flags.multi (deeper_step e flags.multi d) ps tys n s)) None ≡ cond b (parts_limit e flags.multi (deeper_pattern e flags.multi d) (deeper_pattern_limit e flags.multi d) ps tys n s) None
-  counted_limit ps tys n s few true h = parts_limits_are_first_lem e flags.multi templates d ps tys n s few ((Decides-eqb (length (pattern_list ps)) (length tys)).0 h)
+  counted_limit ps tys n s few true h = parts_limits_are_first_lem e flags.multi templates d ps tys n s ((Decides-eqb (length (pattern_list ps)) (length tys)).0 h)
   counted_limit ps tys n s few false h = refl
 
   root_first : (r : RuleTree) (x : Name) (t : TermEntry) (n : ℕ) (s : Scope) → n ≤ most_expansions → first_limit (root_step e flags d r x t n s) ≡ root_limits e flags.multi d (root_parts r.pattern) t.arg_tys n s

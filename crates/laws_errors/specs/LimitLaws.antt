@@ -20,7 +20,7 @@ first_limit (stopped l s (w ∷ ws)) = None
 
 abbrev pub PatternLimitsAreFirst : Type 0
 PatternLimitsAreFirst =
-    (e : Setting) (multi : Bool) → TemplatesAreWhole e → (d : ℕ) (p : PatternTree) (ty n : ℕ) (s : Scope) → n ≤ most_expansions
+    (e : Setting) (multi : Bool) → TemplatesAreWhole e → (d : ℕ) (p : PatternTree) (ty n : ℕ) (s : Scope)
     → first_limit (pattern_step e multi (deeper_step e multi d) p ty n s) ≡ pattern_limits e multi d p ty n s
 
 abbrev pub ExprLimitsAreFirst : Type 0
