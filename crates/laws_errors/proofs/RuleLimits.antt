@@ -37,17 +37,17 @@ module _ (e : Setting) (templates : TemplatesAreWhole e) (flags : Flags) (d : �
       first_in_order n with_iflet _ _ _ (λ a. iflets_limits e flags d is (n + a.expansions) a.scope) (iflet_agrees e templates flags d i n s few) (λ a h few. iflets_first is (n + a.expansions) a.scope few)
       ∙ ap (λ l. or_after l (iflet_reading e flags d i s) (λ a. iflets_limits e flags d is (n + a.expansions) a.scope)) (iflet_first i n s few)
 
-  counted_first : (ps : PatternTrees) (tys : List ℕ) (why : Why) (at : Position) (n : ℕ) (s : Scope) → n ≤ most_expansions → (b : Bool) → eqb (length (pattern_list ps)) (length tys) ≡ b
+  counted_first : (ps : PatternTrees) (tys : List ℕ) (why : Why) (at : Position) (n : ℕ) (s : Scope) → (b : Bool) → eqb (length (pattern_list ps)) (length tys) ≡ b
       → first_limit (noting (unless b why at) (parts_step e flags.multi (deeper_step e flags.multi d) ps tys n s)) ≡ cond b (first_limit (parts_step e flags.multi (deeper_step e flags.multi d) ps tys n s)) None
-  counted_first ps tys why at n s few h i = grind (arith, common_steps)
+  counted_first ps tys why at n s h i = grind (arith, common_steps)
 
-  counted_limit : (ps : PatternTrees) (tys : List ℕ) (n : ℕ) (s : Scope) → n ≤ most_expansions → (b : Bool) → eqb (length (pattern_list ps)) (length tys) ≡ b
+  counted_limit : (ps : PatternTrees) (tys : List ℕ) (n : ℕ) (s : Scope) → (b : Bool) → eqb (length (pattern_list ps)) (length tys) ≡ b
       → cond b (first_limit (parts_step e flags.multi (deeper_step e flags.multi d) ps tys n s)) None ≡ cond b (parts_limit e flags.multi (deeper_pattern e flags.multi d) (deeper_pattern_limit e flags.multi d) ps tys n s) None
-  counted_limit ps tys n s few true h = parts_limits_are_first_lem e flags.multi templates d ps tys n s ((Decides-eqb (length (pattern_list ps)) (length tys)).0 h)
-  counted_limit ps tys n s few false h = refl
+  counted_limit ps tys n s true h = parts_limits_are_first_lem e flags.multi templates d ps tys n s ((Decides-eqb (length (pattern_list ps)) (length tys)).0 h)
+  counted_limit ps tys n s false h = refl
 
-  root_first : (r : RuleTree) (x : Name) (t : TermEntry) (n : ℕ) (s : Scope) → n ≤ most_expansions → first_limit (root_step e flags d r x t n s) ≡ root_limits e flags.multi d (root_parts r.pattern) t.arg_tys n s
-  root_first r x t n s few = grind (arith, common_steps, counted_first, counted_limit)
+  root_first : (r : RuleTree) (x : Name) (t : TermEntry) (n : ℕ) (s : Scope) → first_limit (root_step e flags d r x t n s) ≡ root_limits e flags.multi d (root_parts r.pattern) t.arg_tys n s
+  root_first r x t n s = grind (arith, common_steps, counted_first, counted_limit)
 
   sides_first : (r : RuleTree) (x : Name) (t : TermEntry) (n : ℕ) (s : Scope) → n ≤ most_expansions → first_limit (sides_step e flags d r x t n s) ≡ sides_limits e flags d r t n s
   sides_first r x t n s few =
@@ -55,7 +55,7 @@ module _ (e : Setting) (templates : TemplatesAreWhole e) (flags : Flags) (d : �
       first_in_order (n + a.expansions) last_made _ _ _ (λ b. expr_limits e flags d r.expr (Some t.ret_ty) ((n + a.expansions) + b.expansions) b.scope) (iflets_agree e templates flags d r.iflets (n + a.expansions) a.scope few)
       (λ b i few. first_made _ _ ∙ expr_limits_are_first_lem e flags d r.expr (Some t.ret_ty) ((n + a.expansions) + b.expansions) b.scope few)
       ∙ ap (λ l. or_after l (iflets_reading e flags d r.iflets a.scope) (λ b. expr_limits e flags d r.expr (Some t.ret_ty) ((n + a.expansions) + b.expansions) b.scope)) (iflets_first r.iflets (n + a.expansions) a.scope few))
-      ∙ ap (λ l. or_after l (elaborated_parts e flags.multi d (root_parts r.pattern) t.arg_tys s) (λ a. ends_limits e flags d r t (n + a.expansions) a.scope)) (root_first r x t n s few)
+      ∙ ap (λ l. or_after l (elaborated_parts e flags.multi d (root_parts r.pattern) t.arg_tys s) (λ a. ends_limits e flags d r t (n + a.expansions) a.scope)) (root_first r x t n s)
 
 module _ (e : Setting) (templates : TemplatesAreWhole e) (d id : ℕ) (r : RuleTree) (n : ℕ) (s : Scope) (few : n ≤ most_expansions) where
   of_flags : (x : Name) (t : TermEntry) (o : Option Flags) → first_limit (declared_step e d id r x t n s o) ≡ then_option o (λ flags. sides_limits e flags d r t n s)
