@@ -136,7 +136,7 @@ module _ (e : Setting) (multi : Bool) (templates : TemplatesAreWhole e) (d : ℕ
       ] refl
 
   mutual
-    pub agrees : (p : PatternTree) (ty n : ℕ) (s : Scope) → AgreesAtDepths n d (λ c. pattern_with e multi (deeper_pattern e multi c) p ty s) (pattern_step e multi (deeper_step e multi d) p ty n s)
+    agrees : (p : PatternTree) (ty n : ℕ) (s : Scope) → AgreesAtDepths n d (λ c. pattern_with e multi (deeper_pattern e multi c) p ty s) (pattern_step e multi (deeper_step e multi d) p ty n s)
     agrees (var_pattern name at) ty n s = var_agrees n d ty name.text at s (var_of s name.text)
     agrees (bind_pattern name of at) ty n s = bind_agrees n d ty name.text at _ _ (types_made e multi d of ty s) (agrees of ty n s)
     agrees (bool_pattern b at) ty n s = truth_agrees n d ty b _ at s
@@ -147,7 +147,7 @@ module _ (e : Setting) (multi : Bool) (templates : TemplatesAreWhole e) (d : ℕ
     agrees (and_pattern parts at) ty n s = made n d (match_and ty) _ _ (each_agrees parts ty n s)
     agrees (macro_arg i at) ty n s = never_read None s 0 _ [] (λ c. refl)
 
-    pub parts_agree : (args : PatternTrees) (tys : List ℕ) (n : ℕ) (s : Scope) → length (pattern_list args) ≡ length tys
+    parts_agree : (args : PatternTrees) (tys : List ℕ) (n : ℕ) (s : Scope) → length (pattern_list args) ≡ length tys
         → AgreesAtDepths n d (λ c. parts_with e multi (deeper_pattern e multi c) args tys s) (parts_step e multi (deeper_step e multi d) args tys n s)
     parts_agree no_pattern [] n s h = at_once n d _ _
     parts_agree no_pattern (ty ∷ tys) n s h = absurd (cc)
