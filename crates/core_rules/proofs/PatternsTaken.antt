@@ -35,32 +35,44 @@ use Rattle.core_rules.proofs.Taken.{Goes, seen, taken_as, tested, later, unless_
 module _ (env : TermEnv) (old new : Standing) (x : Name) (at : Position) (ty : ℕ) (names : names_of new.tyenv ≡ with_name (names_of old.tyenv) x.text) where
   pub var_taken : (v : TypedVar) → Some v ≡ newest old.work (number (names_of old.tyenv) x.text) → Remains old.work new.work
       → NotesEachAt (place_unless (nat_eq v.ty ty) at) old.work.errors.items new.work.errors.items → EndsAs env old new (leaf_steps (var_pattern x at) ty) (Ok (Some (match_var v.ty v.id)))
-  var_taken v found r n = (may_note n, λ e s is sh.
-      subst (λ o. Took old new (var_step ty x.text at s o) (Ok (Some (match_var v.ty v.id)))) (sym (var_is old s x.text (Some v) sh found))
-      (tested old new (nat_eq v.ty ty) (bound_type x.text ty v.ty) at (match_var v.ty v.id) (match_var v.ty v.id) s refl n (still old new s (names ∙ var_met old s x.text v sh found) r sh) r.expansions))
+  var_taken v found r n = (
+    may_note n,
+    λ e s is sh.
+        subst (λ o. Took old new (var_step ty x.text at s o) (Ok (Some (match_var v.ty v.id)))) (sym (var_is old s x.text (Some v) sh found))
+        (tested old new (nat_eq v.ty ty) (bound_type x.text ty v.ty) at (match_var v.ty v.id) (match_var v.ty v.id) s refl n (still old new s (names ∙ var_met old s x.text v sh found) r sh) r.expansions),
+  )
 
   pub new_taken : None ≡ newest old.work (number (names_of old.tyenv) x.text) → BindsNext (number (names_of old.tyenv) x.text) ty old.work new.work → (id : ℕ) → id ≡ length old.work.seen.items
       → EndsAs env old new (leaf_steps (var_pattern x at) ty) (Ok (Some (match_bind ty id (match_any ty))))
-  new_taken none b id place = (inl b.errors, λ e s is sh.
-      subst (λ o. Took old new (var_step ty x.text at s o) (Ok (Some (match_bind ty id (match_any ty))))) (sym (var_is old s x.text None sh none))
-      (taken_as old new (Some (match_bind ty (length s.vars) (match_any ty))) (Some (match_bind ty id (match_any ty))) (bound s x.text ty) 0 []
-      (ap (λ (i : ℕ). Some (match_bind ty i (match_any ty))) (sym (place ∙ as_many old s sh)))
-      (none_at old.work.errors.items new.work.errors.items b.errors) (bound_shows old new s x.text ty sh names b) (let k = b.expansions in omega (arith, k))))
+  new_taken none b id place = (
+    inl b.errors,
+    λ e s is sh.
+        subst (λ o. Took old new (var_step ty x.text at s o) (Ok (Some (match_bind ty id (match_any ty))))) (sym (var_is old s x.text None sh none))
+        (taken_as old new (Some (match_bind ty (length s.vars) (match_any ty))) (Some (match_bind ty id (match_any ty))) (bound s x.text ty) 0 []
+        (ap (λ (i : ℕ). Some (match_bind ty i (match_any ty))) (sym (place ∙ as_many old s sh)))
+        (none_at old.work.errors.items new.work.errors.items b.errors) (bound_shows old new s x.text ty sh names b) (let k = b.expansions in omega (arith, k))),
+  )
 
   -- a named constant
   pub unknown_taken : None ≡ constant_at old.tyenv (number (names_of old.tyenv) x.text) → Remains old.work new.work → NotesEachAt (at ∷ []) old.work.errors.items new.work.errors.items
       → EndsAs env old new (leaf_steps (prim_pattern x at) ty) (Ok None)
-  unknown_taken none r n = (may_note n, λ e s is sh.
-      subst (λ o. Took old new (constant_step ty x.text at s o) (Ok None)) (sym (constant_is env old x e s is sh None none))
-      (took None (met s x.text) 0 (record { why = unknown_constant x.text; at = at } ∷ []) n (met_shows old new s x.text names r sh) (let k = r.expansions in omega (arith, k))))
+  unknown_taken none r n = (
+    may_note n,
+    λ e s is sh.
+        subst (λ o. Took old new (constant_step ty x.text at s o) (Ok None)) (sym (constant_is env old x e s is sh None none))
+        (took None (met s x.text) 0 (record { why = unknown_constant x.text; at = at } ∷ []) n (met_shows old new s x.text names r sh) (let k = r.expansions in omega (arith, k))),
+  )
 
   pub constant_taken : (own name : ℕ) → Some own ≡ constant_at old.tyenv (number (names_of old.tyenv) x.text) → name ≡ number (names_of old.tyenv) x.text → Remains old.work new.work
       → NotesEachAt (place_unless (nat_eq own ty) at) old.work.errors.items new.work.errors.items → EndsAs env old new (leaf_steps (prim_pattern x at) ty) (Ok (Some (match_prim own name)))
-  constant_taken own name there named r n = (may_note n, λ e s is sh.
-      subst (λ o. Took old new (constant_step ty x.text at s o) (Ok (Some (match_prim own name)))) (sym (constant_is env old x e s is sh (Some own) there))
-      (tested old new (nat_eq own ty) (matched_constant_type x.text ty own) at (match_prim own (number s.names x.text)) (match_prim own name) s
-      (ap (λ (k : ℕ). match_prim own k) (sym (named ∙ ap (λ ns. number ns x.text) sh.names))) n
-      (still old new s (names ∙ known_name (names_of old.tyenv) x.text (is_met (names_of old.tyenv) x.text (is.constants_met (number (names_of old.tyenv) x.text) own (sym there)))) r sh) r.expansions))
+  constant_taken own name there named r n = (
+    may_note n,
+    λ e s is sh.
+        subst (λ o. Took old new (constant_step ty x.text at s o) (Ok (Some (match_prim own name)))) (sym (constant_is env old x e s is sh (Some own) there))
+        (tested old new (nat_eq own ty) (matched_constant_type x.text ty own) at (match_prim own (number s.names x.text)) (match_prim own name) s
+        (ap (λ (k : ℕ). match_prim own k) (sym (named ∙ ap (λ ns. number ns x.text) sh.names))) n
+        (still old new s (names ∙ known_name (names_of old.tyenv) x.text (is_met (names_of old.tyenv) x.text (is.constants_met (number (names_of old.tyenv) x.text) own (sym there)))) r sh) r.expansions),
+  )
 
   -- a name around what was made
   module _ (mid : Standing) (same_names : names_of mid.tyenv ≡ names_of old.tyenv) (r : Remains old.work mid.work) (q : TypedPattern) (is_type : pattern_type q ≡ ty)
@@ -72,15 +84,18 @@ module _ (env : TermEnv) (old new : Standing) (x : Name) (at : Position) (ty : �
 
     pub around_taken : NotesEachAt (place_unless (not (is_some (newest old.work (number (names_of old.tyenv) x.text)))) at) old.work.errors.items mid.work.errors.items
         → EndsAs env old new (around_steps x.text at q) (Ok (Some (match_bind (pattern_type q) id q)))
-    around_taken n = (may_note (subst (NotesEachAt (place_unless (not (is_some (newest old.work (number (names_of old.tyenv) x.text)))) at) old.work.errors.items) (sym b.errors) n), λ e s is sh.
-        let before = still old mid s same_names r sh in
-        let wrong : NotesEachAt (place_unless (not (is_some (var_of s x.text))) at) old.work.errors.items new.work.errors.items =
-        subst (λ o. NotesEachAt (place_unless (not (is_some o)) at) old.work.errors.items new.work.errors.items) (sym (var_is old s x.text (newest old.work (number (names_of old.tyenv) x.text)) sh refl))
-        (subst (NotesEachAt (place_unless (not (is_some (newest old.work (number (names_of old.tyenv) x.text)))) at) old.work.errors.items) (sym b.errors) n) in
-        taken_as old new (Some (match_bind (pattern_type q) (length s.vars) q)) (Some (match_bind (pattern_type q) id q)) (bound s x.text (pattern_type q)) 0 (unless (not (is_some (var_of s x.text))) (rebound x.text) at)
-        (ap (λ (i : ℕ). Some (match_bind (pattern_type q) i q)) (sym (place ∙ as_many mid s before)))
-        (unless_at (not (is_some (var_of s x.text))) (rebound x.text) at old.work.errors.items new.work.errors.items wrong)
-        (shown s sh) (let k = b.expansions in let l = r.expansions in omega (arith, k, l)))
+    around_taken n = (
+      may_note (subst (NotesEachAt (place_unless (not (is_some (newest old.work (number (names_of old.tyenv) x.text)))) at) old.work.errors.items) (sym b.errors) n),
+      λ e s is sh.
+          let before = still old mid s same_names r sh in
+          let wrong : NotesEachAt (place_unless (not (is_some (var_of s x.text))) at) old.work.errors.items new.work.errors.items =
+          subst (λ o. NotesEachAt (place_unless (not (is_some o)) at) old.work.errors.items new.work.errors.items) (sym (var_is old s x.text (newest old.work (number (names_of old.tyenv) x.text)) sh refl))
+          (subst (NotesEachAt (place_unless (not (is_some (newest old.work (number (names_of old.tyenv) x.text)))) at) old.work.errors.items) (sym b.errors) n) in
+          taken_as old new (Some (match_bind (pattern_type q) (length s.vars) q)) (Some (match_bind (pattern_type q) id q)) (bound s x.text (pattern_type q)) 0 (unless (not (is_some (var_of s x.text))) (rebound x.text) at)
+          (ap (λ (i : ℕ). Some (match_bind (pattern_type q) i q)) (sym (place ∙ as_many mid s before)))
+          (unless_at (not (is_some (var_of s x.text))) (rebound x.text) at old.work.errors.items new.work.errors.items wrong)
+          (shown s sh) (let k = b.expansions in let l = r.expansions in omega (arith, k, l)),
+    )
 
 -- literals, anything, and a template's argument
 module _ (env : TermEnv) (old new : Standing) (same : names_of new.tyenv ≡ names_of old.tyenv) (at : Position) (ty : ℕ) (r : Remains old.work new.work) where
@@ -90,11 +105,14 @@ module _ (env : TermEnv) (old new : Standing) (same : names_of new.tyenv ≡ nam
   pub integer_taken : (z n : ℤ) → n ≡ reduced (slice_get (type_views old.tyenv.types.items) ty) z
       → NotesEachAt (place_unless (is_atom_type (slice_get (type_views old.tyenv.types.items) ty)) at) old.work.errors.items new.work.errors.items
       → EndsAs env old new (leaf_steps (int_pattern z at) ty) (Ok (Some (match_int ty n)))
-  integer_taken z n stands notes = (may_note notes, λ e s is sh.
-      tested old new (is_atom_type (slice_get e.types ty)) (no_integer ty z) at (match_int ty (reduced (slice_get e.types ty) z)) (match_int ty n) s
-      (ap (match_int ty) (ap (λ ts. reduced (slice_get ts ty) z) (sym is.types) ∙ sym stands))
-      (subst (λ ts. NotesEachAt (place_unless (is_atom_type (slice_get ts ty)) at) old.work.errors.items new.work.errors.items) is.types notes)
-      (still old new s same r sh) r.expansions)
+  integer_taken z n stands notes = (
+    may_note notes,
+    λ e s is sh.
+        tested old new (is_atom_type (slice_get e.types ty)) (no_integer ty z) at (match_int ty (reduced (slice_get e.types ty) z)) (match_int ty n) s
+        (ap (match_int ty) (ap (λ ts. reduced (slice_get ts ty) z) (sym is.types) ∙ sym stands))
+        (subst (λ ts. NotesEachAt (place_unless (is_atom_type (slice_get ts ty)) at) old.work.errors.items new.work.errors.items) is.types notes)
+        (still old new s same r sh) r.expansions,
+  )
 
   pub refused_taken : (i : ℕ) → NotesEachAt (at ∷ []) old.work.errors.items new.work.errors.items → EndsAs env old new (leaf_steps (macro_arg i at) ty) (Ok None)
   refused_taken i n = (may_note n, λ e s is sh. took None s 0 (record { why = macro_argument i; at = at } ∷ []) n (still old new s same r sh) (let k = r.expansions in omega (arith, k)))

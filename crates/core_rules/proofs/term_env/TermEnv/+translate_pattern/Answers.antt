@@ -361,8 +361,8 @@ translate_args-returns-in_err-part-clause-reads t c =
     let ty : TypeId = get_or c.args.tys.now c.loop-i.i (record { 0 = 0 }) in
     rw (stop_is c.from_residual-in_err-part.result c.in_err-part.field-0.0 c.from_residual-in_err-part.ensures)
     (arg_stops_all c.args.multi c.args.args.now c.args.nesting c.loop-i.i c.index-args-i.result w c.index-args-i.is
-          c.args.self.now (standing c.args.tyenv.now c.args.work.now) (standing c.loop-i.tyenv c.loop-i.work) (standing c.translate_pattern.new.tyenv c.translate_pattern.new.work) c.loop-i.invariant.0
-          (parts_steps c.args.multi (S.pattern_views c.args.args.now) (map (λ t. t.0) c.args.tys.now) c.args.nesting) c.loop-i.parts.items c.args.tys.now ty v (same_default c.args.tys.now c.loop-i.i (record { 0 = 0 }) ty v) c.loop-i.invariant.2 c.in_err-part.field-0.0 c.in_err-part.ensures.reads)
+    c.args.self.now (standing c.args.tyenv.now c.args.work.now) (standing c.loop-i.tyenv c.loop-i.work) (standing c.translate_pattern.new.tyenv c.translate_pattern.new.work) c.loop-i.invariant.0
+    (parts_steps c.args.multi (S.pattern_views c.args.args.now) (map (λ t. t.0) c.args.tys.now) c.args.nesting) c.loop-i.parts.items c.args.tys.now ty v (same_default c.args.tys.now c.loop-i.i (record { 0 = 0 }) ty v) c.loop-i.invariant.2 c.in_err-part.field-0.0 c.in_err-part.ensures.reads)
 
 pub translate_args-returns-clause-reads : goal.translate_args-returns-clause-reads
 translate_args-returns-clause-reads t c =
@@ -374,8 +374,8 @@ pub translate_each-returns-in_err-part-clause-reads : goal.translate_each-return
 translate_each-returns-in_err-part-clause-reads t c =
     rw (stop_is c.from_residual-in_err-part.result c.in_err-part.field-0.0 c.from_residual-in_err-part.ensures)
     (each_stops_all c.args.multi c.args.subpats.now c.args.nesting c.loop-subpat.subpat-index c.subpat-item.result c.loop-subpat-test.true c.subpat-item.is
-          c.args.self.now (standing c.args.tyenv.now c.args.work.now) (standing c.loop-subpat.tyenv c.loop-subpat.work) (standing c.translate_pattern.new.tyenv c.translate_pattern.new.work) c.loop-subpat.invariant.0
-          (each_steps c.args.multi (S.pattern_views c.args.subpats.now) c.args.expected_ty.0 c.args.nesting) c.loop-subpat.parts.items c.args.expected_ty.0 c.loop-subpat.invariant.2 c.in_err-part.field-0.0 c.in_err-part.ensures.reads)
+    c.args.self.now (standing c.args.tyenv.now c.args.work.now) (standing c.loop-subpat.tyenv c.loop-subpat.work) (standing c.translate_pattern.new.tyenv c.translate_pattern.new.work) c.loop-subpat.invariant.0
+    (each_steps c.args.multi (S.pattern_views c.args.subpats.now) c.args.expected_ty.0 c.args.nesting) c.loop-subpat.parts.items c.args.expected_ty.0 c.loop-subpat.invariant.2 c.in_err-part.field-0.0 c.in_err-part.ensures.reads)
 
 pub translate_each-returns-clause-reads : goal.translate_each-returns-clause-reads
 translate_each-returns-clause-reads t c =
