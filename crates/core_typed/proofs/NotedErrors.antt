@@ -62,12 +62,12 @@ only_nothing : (old more : List Error) → old ++ more ≡ old → more ≡ []
 only_nothing [] more h = h
 only_nothing (e ∷ es) more h = only_nothing es more (let tail : es ++ more ≡ es = cc in tail)
 
-more_at : {ps : List Position} {old new : List Error} (more : List Error) → new ≡ old ++ more → error_views more ≡ map ill_typed ps → MayNoteMore old new
-more_at {ps} {old} [] added views = inl (added ∙ append-nil old)
-more_at {ps} (e ∷ es) added views = inr (record { more = e ∷ es; added = added; some_more = λ h. absurd (cc); forms = forms_at ps (e ∷ es) views })
+more_at : (ps : List Position) {old new : List Error} (more : List Error) → new ≡ old ++ more → error_views more ≡ map ill_typed ps → MayNoteMore old new
+more_at ps {old} [] added views = inl (added ∙ append-nil old)
+more_at ps (e ∷ es) added views = inr (record { more = e ∷ es; added = added; some_more = λ h. absurd (cc); forms = forms_at ps (e ∷ es) views })
 
 pub may_note : {ps : List Position} {old new : List Error} → NotesEachAt ps old new → MayNoteMore old new
-may_note n = more_at n.more n.added n.views
+may_note {ps} n = more_at ps n.more n.added n.views
 
 -- what nothing was noted for
 pub none_noted : (old new : List Error) → NotesEachAt [] old new → NotesMore old new → ⊥
