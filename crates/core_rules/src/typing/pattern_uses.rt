@@ -10,7 +10,7 @@ ghost use Rattle.core_terms.specs.TermViews.{term_view};
 ghost use Rattle.core_types.specs.Envs.{IsInterned};
 ghost use Rattle.core_typed.specs.Elaborating.{NotesEachAt, place_unless};
 ghost use Rattle.core_rules.specs.Progress.{Remains};
-ghost use Rattle.core_rules.specs.PatternUses.{found_term, found_converter, found_template, inside_term};
+ghost use Rattle.core_rules.specs.PatternUses.{Deepens, found_term, found_converter, found_template, inside_term};
 ghost use Rattle.core_rules.specs.PatternTaking.{UseTakes};
 ghost use Rattle.core_rules.specs.Translating.{standing};
 ghost use Rattle.core_syntax.specs.Positions.{NotesAt, pattern_positions};

@@ -6,13 +6,12 @@ use Rattle.core_terms.specs.TermViews.{term_view}
 use Rattle.core_rules.specs.PatternUses.{name_at}
 use Rattle.core_rules.specs.Translating.{standing}
 use Rattle.core_rules.proofs.Readings.{stop_is}
-use Rattle.core_rules.proofs.PatternUsing.{list_is, list_length, conversion_stops, template_expands, template_stops}
+use Rattle.core_rules.proofs.PatternUsing.{list_is, list_length, template_expands}
 use Rattle.model.proofs.Members.{in_head}
 use Rattle.core_syntax.specs.Positions.{pattern_positions, patterns_positions}
 use Rattle.core_syntax.proofs.Positioned.{among_same, notes_nothing, notes_both}
 use Rattle.core_rules.proofs.ErrorPositions.{stop_step, counted_stop}
 use Rattle.core_rules.proofs.SubstitutedPlaces.{converted_places, expanded_places}
-use Rattle.core_rules.proofs.PatternLimits.{parts_lead, template_leads}
 use Rattle.core_rules.proofs.term_env.TermEnv.use_in_pattern.Goals as goal
 use Rattle.core_typed.proofs.NotedErrors.{told_at}
 use Rattle.core_rules.proofs.PatternUsesTaken as taken
