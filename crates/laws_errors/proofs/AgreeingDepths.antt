@@ -7,8 +7,9 @@ use Rattle.model.specs.lists.Setting.{Scope}
 use Rattle.model.specs.lists.Typings.{Typing, plain, made_into, joined_typing, followed, counted}
 use Rattle.model.specs.lists.Elaborated.{most_expansions}
 use Rattle.model.specs.claims.Refusals.{of_nesting, of_expansions}
-use Rattle.laws_errors.specs.Steps.{Why, Mistake, Step, went_on, stopped, unless, here, noting, made_step, counted_step, joined_step, then_step}
+use Rattle.laws_errors.specs.Steps.{Why, Mistake, Step, went_on, stopped, unless, here, noting, made_step, counted_step, joined_step, then_step, after_made, last_made, then_made}
 use Rattle.laws_errors.specs.StepLaws.{TakesTooMany, Agrees, is_read, is_wrong, is_stopped, is_stopped_later, FitsBehind, IsOnlyTyping, AgreesAtDepths, only_read, never_read, too_deep, too_long, never_read_later}
+use Rattle.laws_errors.proofs.AgreeingSteps.{second}
 
 -- the same at each depth is the same typing
 only_same : {X : Type 0} (d : ℕ) (o u : ℕ → Option (Typing X)) (a : Typing X) → ((c : ℕ) → o c ≡ u c) → IsOnlyTyping o d a → IsOnlyTyping u d a
@@ -167,6 +168,12 @@ module _ {X Y Z : Type 0} (n d : ℕ) (f : X → Y → Z) (g : Option X → Y �
   in_order _ o next rest (too_deep z none) r = too_deep z (ap (λ v. followed f v (rest d)) none)
   in_order _ o next rest (too_long z past) r = too_long z (λ c. past_followed (o c) (rest c) (past c))
   in_order _ o next rest (never_read_later l z w ws none) r = never_read_later l z w ws (λ c. ap (λ v. followed f v (rest c)) (none c))
+
+-- one step, and the next where something is made
+pub later_made : {X Y : Type 0} (n d : ℕ) (t : Step X) (o : ℕ → Option (Typing X)) (next : X → Scope → ℕ → Step Y) (rest : ℕ → Typing X → Option (Typing Y)) → AgreesAtDepths n d o t
+    → ((a : Typing X) → o d ≡ Some a → AgreesAtDepths (n + a.expansions) d (λ c. rest c a) (next a.made a.scope a.expansions))
+    → AgreesAtDepths n d (λ c. followed second (o c) (rest c)) (then_made t next)
+later_made n d t o next rest h r = in_order n d second last_made (λ x y. refl) t o (after_made next) rest h r
 
 -- what agrees at all depths agrees at its own, behind no more expansions than may be made
 fits_few : (n k : ℕ) → n ≤ most_expansions → FitsBehind n k → n + k ≤ most_expansions

@@ -72,6 +72,11 @@ ExprStepsAgree =
     (e : Setting) (flags : Flags) (d : ℕ) (x : ExprTree) (ty : Option ℕ) (n : ℕ) (s : Scope) → n ≤ most_expansions
     → Agrees n (expr_step e flags (deeper_expr_step e flags d) x ty n s) (elaborated_expr (all_made e) flags d x ty s)
 
+abbrev pub ExprStepsAgreeAtDepths : Type 0
+ExprStepsAgreeAtDepths =
+    (e : Setting) (flags : Flags) (d : ℕ) (x : ExprTree) (ty : Option ℕ) (n : ℕ) (s : Scope)
+    → AgreesAtDepths n d (λ c. elaborated_expr (all_made e) flags c x ty s) (expr_step e flags (deeper_expr_step e flags d) x ty n s)
+
 abbrev pub RuleStepsAgree : Type 0
 RuleStepsAgree =
     (e : Setting) → TemplatesAreWhole e → (d id : ℕ) (r : RuleTree) (n : ℕ) (s : Scope) → n ≤ most_expansions → Agrees n (rule_step e d id r n s) (rule_reading e d id r s)
