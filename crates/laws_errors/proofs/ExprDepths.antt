@@ -80,7 +80,7 @@ def_agrees n d own x _ o (too_long z past) = too_long z (λ c. past_bound n own 
 def_agrees n d own x _ o (never_read_later l z w ws none) = never_read_later l z w ws (λ c. ap (bound_let x own) (none c))
 
 -- a definition at a type that is known, or at none
-let_agrees : (n d : ℕ) (x ty : List ℕ) (at : Position) (s : Scope) (value : ℕ → Step TypedExpr) (reading : ℕ → ℕ → Option (Typing TypedExpr)) (o : Option ℕ)
+pub let_agrees : (n d : ℕ) (x ty : List ℕ) (at : Position) (s : Scope) (value : ℕ → Step TypedExpr) (reading : ℕ → ℕ → Option (Typing TypedExpr)) (o : Option ℕ)
     → ((own : ℕ) → AgreesAtDepths n d (λ c. reading c own) (value own)) → AgreesAtDepths n d (λ c. then_option o (λ own. bound_let x own (reading c own))) (let_step x ty at s value o)
 let_agrees n d x ty at s value reading None h = never_read None _ 0 _ [] (λ c. refl)
 let_agrees n d x ty at s value reading (Some own) h = def_agrees n d own x _ _ (h own)

@@ -29,7 +29,7 @@ module _ (e : Setting) (templates : TemplatesAreWhole e) (flags : Flags) (d : �
       first_in_order n last_made _ _ _ (λ a. pattern_limits e flags.multi d i.pattern (expr_type a.made) (n + a.expansions) a.scope) (expr_steps_agree_lem e (on_lhs flags) d i.expr None n s few)
       (λ a h few. first_made (typed_iflet a.made) _ ∙ pattern_limits_are_first_lem e flags.multi templates d i.pattern (expr_type a.made) (n + a.expansions) a.scope)
       ∙ ap (λ l. or_after l (elaborated_expr (all_made e) (on_lhs flags) d i.expr None s) (λ a. pattern_limits e flags.multi d i.pattern (expr_type a.made) (n + a.expansions) a.scope))
-      (expr_limits_are_first_lem e (on_lhs flags) d i.expr None n s few)
+      (expr_limits_are_first_lem e (on_lhs flags) d i.expr None n s)
 
   iflets_first : (is : List IfLetTree) (n : ℕ) (s : Scope) → n ≤ most_expansions → first_limit (iflets_step e flags d is n s) ≡ iflets_limits e flags d is n s
   iflets_first [] n s few = refl
@@ -53,7 +53,7 @@ module _ (e : Setting) (templates : TemplatesAreWhole e) (flags : Flags) (d : �
   sides_first r x t n s few =
       first_in_order n last_made _ _ _ (λ a. ends_limits e flags d r t (n + a.expansions) a.scope) (root_agrees e templates flags d r x t n s few) (λ a h few.
       first_in_order (n + a.expansions) last_made _ _ _ (λ b. expr_limits e flags d r.expr (Some t.ret_ty) ((n + a.expansions) + b.expansions) b.scope) (iflets_agree e templates flags d r.iflets (n + a.expansions) a.scope few)
-      (λ b i few. first_made _ _ ∙ expr_limits_are_first_lem e flags d r.expr (Some t.ret_ty) ((n + a.expansions) + b.expansions) b.scope few)
+      (λ b i few. first_made _ _ ∙ expr_limits_are_first_lem e flags d r.expr (Some t.ret_ty) ((n + a.expansions) + b.expansions) b.scope)
       ∙ ap (λ l. or_after l (iflets_reading e flags d r.iflets a.scope) (λ b. expr_limits e flags d r.expr (Some t.ret_ty) ((n + a.expansions) + b.expansions) b.scope)) (iflets_first r.iflets (n + a.expansions) a.scope few))
       ∙ ap (λ l. or_after l (elaborated_parts e flags.multi d (root_parts r.pattern) t.arg_tys s) (λ a. ends_limits e flags d r t (n + a.expansions) a.scope)) (root_first r x t n s)
 

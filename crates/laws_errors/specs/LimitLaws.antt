@@ -25,7 +25,7 @@ PatternLimitsAreFirst =
 
 abbrev pub ExprLimitsAreFirst : Type 0
 ExprLimitsAreFirst =
-    (e : Setting) (flags : Flags) (d : ℕ) (x : ExprTree) (ty : Option ℕ) (n : ℕ) (s : Scope) → n ≤ most_expansions
+    (e : Setting) (flags : Flags) (d : ℕ) (x : ExprTree) (ty : Option ℕ) (n : ℕ) (s : Scope)
     → first_limit (expr_step e flags (deeper_expr_step e flags d) x ty n s) ≡ expr_limits e flags d x ty n s
 
 abbrev pub RuleLimitsAreFirst : Type 0
