@@ -1,6 +1,7 @@
 -- Each way of going on keeps a step and the function of typing agreed at all depths: the calculus that a reading is proved by.
-use Rattle.std.proofs.Common.{◌≡◌, ◌⊎◌, inl, inr, ℕ, zero, suc, ◌+◌, ◌≤◌, Bool, true, false, cond, List, [], ◌∷◌, ◌++◌, Option, Some, None, subst, refl, ap, ◌∙◌, arith}
+use Rattle.std.proofs.Common.{◌≡◌, ◌⊎◌, inl, inr, ℕ, zero, suc, ◌+◌, ◌≤◌, Bool, true, false, cond, eqb, List, [], ◌∷◌, ◌++◌, Option, Some, None, subst, refl, ap, ◌∙◌, arith}
 use Rattle.std.proofs.lemmas.Grind.{common_steps}
+use Rattle.std.proofs.lemmas.Bool.Decides.{Decides-eqb}
 use Rattle.std.proofs.lemmas.Option.{same_Some}
 use Rattle.model.specs.lists.Syntax.{Position}
 use Rattle.model.specs.lists.Setting.{Scope}
@@ -10,6 +11,13 @@ use Rattle.model.specs.claims.Refusals.{of_nesting, of_expansions}
 use Rattle.laws_errors.specs.Steps.{Why, Mistake, Step, went_on, stopped, unless, here, noting, made_step, counted_step, joined_step, then_step, after_made, last_made, then_made}
 use Rattle.laws_errors.specs.StepLaws.{TakesTooMany, Agrees, is_read, is_wrong, is_stopped, is_stopped_later, FitsBehind, IsOnlyTyping, AgreesAtDepths, only_read, never_read, too_deep, too_long, never_read_later}
 use Rattle.laws_errors.proofs.AgreeingSteps.{second}
+
+pub eqb-ne : (a b : ℕ) → eqb a b ≡ false → a ≡ b → ⊥
+eqb-ne a b h k = absurd (let j = (Decides-eqb a b).1 k in cc)
+
+-- there is none either way
+pub neither : {X : Type 0} (b : Bool) (o : Option X) → o ≡ None → cond b o None ≡ None
+neither b o h = grind (arith, common_steps)
 
 -- the same at each depth is the same typing
 only_same : {X : Type 0} (d : ℕ) (o u : ℕ → Option (Typing X)) (a : Typing X) → ((c : ℕ) → o c ≡ u c) → IsOnlyTyping o d a → IsOnlyTyping u d a

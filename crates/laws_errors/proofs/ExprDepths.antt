@@ -22,7 +22,7 @@ use Rattle.laws_errors.specs.ExprSteps.{expr_list, converted_or, expected_step, 
 use Rattle.laws_errors.specs.StepLaws.{TakesTooMany, AgreesAtDepths, only_read, never_read, too_deep, too_long, never_read_later, ExprStepsAgreeAtDepths}
 use Rattle.laws_errors.proofs.MadeSettings.{term_made, converter_made}
 use Rattle.laws_errors.proofs.ClosedLets.{usable, lets_closed}
-use Rattle.laws_errors.proofs.AgreeingDepths.{same_at_depths, at_once, noted, none_noted, checked, only_through, made, one_deeper, one_more, too_many, in_order, later_made}
+use Rattle.laws_errors.proofs.AgreeingDepths.{same_at_depths, at_once, noted, none_noted, checked, only_through, made, one_deeper, one_more, too_many, in_order, later_made, eqb-ne}
 use Rattle.laws_errors.proofs.AgreeingSteps.{followed_none, scoped_within}
 
 -- each flag that forbids a call
@@ -118,7 +118,7 @@ module _ (e : Setting) (flags : Flags) (d : ℕ)
       (noting (unless b why at) (made_step (make_term t.ret_ty t.id) (args_step e flags (deeper_expr_step e flags d) args t.arg_tys n s)))
   counted_agrees args at n s t why parts true h = none_noted n d _ _ (made n d (make_term t.ret_ty t.id) _ _ (parts t.arg_tys ((Decides-eqb (length (expr_list args)) (length t.arg_tys)).0 h)))
   counted_agrees args at n s t why parts false h =
-      noted n d _ [] _ _ (λ c. ap (made_into (make_term t.ret_ty t.id)) (args_none e flags c args t.arg_tys s (λ k. absurd (let j = (Decides-eqb (length (expr_list args)) (length t.arg_tys)).1 k in cc))))
+      noted n d _ [] _ _ (λ c. ap (made_into (make_term t.ret_ty t.id)) (args_none e flags c args t.arg_tys s (eqb-ne _ _ h)))
 
   called_agrees : (name : Name) (args : ExprTrees) (at : Position) (ty : Option ℕ) (n : ℕ) (s : Scope) → AreArgsAgreed args n s → (o : Option TermEntry)
       → AgreesAtDepths n d (λ c. then_option (option_map made_entry o) (λ t. as_expected (all_made e) t.ret_ty ty

@@ -81,6 +81,10 @@ abbrev pub RuleStepsAgree : Type 0
 RuleStepsAgree =
     (e : Setting) → TemplatesAreWhole e → (d id : ℕ) (r : RuleTree) (n : ℕ) (s : Scope) → n ≤ most_expansions → Agrees n (rule_step e d id r n s) (rule_reading e d id r s)
 
+abbrev pub RuleStepsAgreeAtDepths : Type 0
+RuleStepsAgreeAtDepths =
+    (e : Setting) → TemplatesAreWhole e → (d id : ℕ) (r : RuleTree) (n : ℕ) (s : Scope) → AgreesAtDepths n d (λ c. rule_reading e c id r s) (rule_step e d id r n s)
+
 -- a list has no error exactly where all its rules are typed within the limits, and then these rules are made
 pub data ListAgrees : RulesStep → Option TypedRules → Type 0 where
   all_read : (l : TypedRules) → ListAgrees (record { rules = l.rules; names = l.names; errors = [] }) (Some l)
