@@ -1,5 +1,5 @@
 -- Which limit stops a step first, by what it is made of.
-use Rattle.std.proofs.Common.{◌≡◌, ℕ, zero, suc, ◌+◌, ◌≤◌, Bool, true, false, cond, eqb, nat_le, List, [], ◌∷◌, length, Option, Some, None, refl, sym, ap, ◌∙◌, arith}
+use Rattle.std.proofs.Common.{◌≡◌, ℕ, zero, suc, ◌+◌, Bool, true, false, cond, eqb, nat_le, List, [], ◌∷◌, length, Option, Some, None, refl, sym, ap, ◌∙◌, arith}
 use Rattle.std.proofs.lemmas.Grind.{common_steps}
 use Rattle.model.specs.lists.Syntax.{Position, Name, PatternTree, bind_pattern, term_pattern, and_pattern, PatternTrees, no_pattern, pattern_and, pattern_list}
 use Rattle.model.specs.rules.Outcome.{then_option}
@@ -12,7 +12,7 @@ use Rattle.model.specs.lists.Elaborated.{or_expanded, pattern_with, deeper_patte
 use Rattle.model.specs.claims.Refusals.{NamedLimit, of_expansions}
 use Rattle.laws_errors.specs.Steps.{Why, Mistake, Step, went_on, stopped, unless, noting, made_step, counted_step, joined_step, then_step}
 use Rattle.laws_errors.specs.PatternSteps.{bind_step, constant_step, with_part, use_step, converted_step, found_step, pattern_step, parts_step, each_step, deeper_step}
-use Rattle.laws_errors.specs.StepLaws.{TemplatesAreWhole, Agrees, AgreesAtDepths, only_read, never_read, too_deep, too_long, never_read_later}
+use Rattle.laws_errors.specs.StepLaws.{TemplatesAreWhole, AgreesAtDepths, only_read, never_read, too_deep, too_long, never_read_later}
 use Rattle.laws_errors.specs.ReachedLimits.{or_after, where_counted, pattern_limit, parts_limit, each_limit, deeper_pattern_limit}
 use Rattle.laws_errors.specs.LimitLaws.{first_limit, PatternLimitsAreFirst}
 use Rattle.laws_errors.proofs.PatternDepths.{pattern_steps_agree_at_depths_lem}
@@ -35,13 +35,7 @@ first_bound x at t = grind (arith, common_steps)
 first_joined : {X Y Z : Type 0} (g : Option X → Y → Z) (m : Option X) (k : ℕ) (t : Step Y) → first_limit (joined_step g m k t) ≡ first_limit t
 first_joined g m k t = grind (arith, common_steps)
 
--- one step, then the next
-pub first_in_order : {X Y Z : Type 0} (n : ℕ) (g : Option X → Y → Z) (t : Step X) (o : Option (Typing X)) (next : Option X → Scope → ℕ → Step Y) (rest : Typing X → Option NamedLimit) → Agrees n t o
-    → ((a : Typing X) → o ≡ Some a → n + a.expansions ≤ most_expansions → first_limit (next (Some a.made) a.scope a.expansions) ≡ rest a)
-    → first_limit (then_step g t next) ≡ or_after (first_limit t) o rest
-first_in_order n g t o next rest a r = grind (arith, common_steps)
-
--- so where both agree at all depths
+-- one step, then the next, where the first agrees with the function of typing at all depths
 pub first_at_depths : {X Y Z : Type 0} (n d : ℕ) (g : Option X → Y → Z) (t : Step X) (o : ℕ → Option (Typing X)) (next : Option X → Scope → ℕ → Step Y) (rest : Typing X → Option NamedLimit) → AgreesAtDepths n d o t
     → ((a : Typing X) → first_limit (next (Some a.made) a.scope a.expansions) ≡ rest a)
     → first_limit (then_step g t next) ≡ or_after (first_limit t) (o d) rest

@@ -42,5 +42,5 @@ module _ (e : Setting) (r : RuleTree) (id : ℕ) (names : List (List ℕ)) where
 pub errors_tell_rules_lem : ErrorsTellRules
 errors_tell_rules_lem e templates [] id names = no_rule names
 errors_tell_rules_lem e templates (r ∷ rs) id names = then_tells e r id names rs (step_of_rule e id r names)
-    (tells e r id names _ _ refl (rule_limits_are_first_lem e templates most_nested id r 0 (new_scope names) (omega (arith))) (rule_steps_agree_lem e templates most_nested id r 0 (new_scope names) (omega (arith))))
+    (tells e r id names _ _ refl (rule_limits_are_first_lem e templates most_nested id r 0 (new_scope names)) (rule_steps_agree_lem e templates most_nested id r 0 (new_scope names) (omega (arith))))
     (λ j ns. errors_tell_rules_lem e templates rs j ns)

@@ -1,9 +1,8 @@
 -- The limit that a reading comes to before anything is wrong is the one that stops its steps with nothing wrong.
-use Rattle.std.specs.Prelude.{◌≡◌, ℕ, ◌≤◌, Bool, [], ◌∷◌, Option, Some, None}
+use Rattle.std.specs.Prelude.{◌≡◌, ℕ, Bool, [], ◌∷◌, Option, Some, None}
 use Rattle.model.specs.lists.Syntax.{PatternTree, ExprTree, RuleTree}
 use Rattle.model.specs.lists.Tables.{Flags}
 use Rattle.model.specs.lists.Setting.{Setting, Scope}
-use Rattle.model.specs.lists.Elaborated.{most_expansions}
 use Rattle.model.specs.claims.Refusals.{NamedLimit}
 use Rattle.laws_errors.specs.Steps.{Step, went_on, stopped}
 use Rattle.laws_errors.specs.PatternSteps.{pattern_step, deeper_step}
@@ -30,4 +29,4 @@ ExprLimitsAreFirst =
 
 abbrev pub RuleLimitsAreFirst : Type 0
 RuleLimitsAreFirst =
-    (e : Setting) → TemplatesAreWhole e → (d id : ℕ) (r : RuleTree) (n : ℕ) (s : Scope) → n ≤ most_expansions → first_limit (rule_step e d id r n s) ≡ rule_limits e d r n s
+    (e : Setting) → TemplatesAreWhole e → (d id : ℕ) (r : RuleTree) (n : ℕ) (s : Scope) → first_limit (rule_step e d id r n s) ≡ rule_limits e d r n s
