@@ -5,12 +5,11 @@ use Rattle.std.proofs.lemmas.Bool.Decides.{Decides-eqb}
 use Rattle.std.proofs.lemmas.Option.{same_Some}
 use Rattle.model.specs.lists.Syntax.{Position}
 use Rattle.model.specs.lists.Setting.{Scope}
-use Rattle.model.specs.lists.Typings.{Typing, plain, made_into, joined_typing, followed, counted}
+use Rattle.model.specs.lists.Typings.{Typing, plain, made_into, scoped, joined_typing, followed, counted}
 use Rattle.model.specs.lists.Elaborated.{most_expansions}
 use Rattle.model.specs.claims.Refusals.{of_nesting, of_expansions}
 use Rattle.laws_errors.specs.Steps.{Why, Mistake, Step, went_on, stopped, unless, here, noting, made_step, counted_step, joined_step, then_step, after_made, last_made, then_made}
 use Rattle.laws_errors.specs.StepLaws.{TakesTooMany, Agrees, is_read, is_wrong, is_stopped, is_stopped_later, FitsBehind, IsOnlyTyping, AgreesAtDepths, only_read, never_read, too_deep, too_long, never_read_later}
-use Rattle.laws_errors.proofs.AgreeingSteps.{second}
 
 pub eqb-ne : (a b : ℕ) → eqb a b ≡ false → a ≡ b → ⊥
 eqb-ne a b h k = absurd (let j = (Decides-eqb a b).1 k in cc)
@@ -176,6 +175,27 @@ module _ {X Y Z : Type 0} (n d : ℕ) (f : X → Y → Z) (g : Option X → Y �
   in_order _ o next rest (too_deep z none) r = too_deep z (ap (λ v. followed f v (rest d)) none)
   in_order _ o next rest (too_long z past) r = too_long z (λ c. past_followed (o c) (rest c) (past c))
   in_order _ o next rest (never_read_later l z w ws none) r = never_read_later l z w ws (λ c. ap (λ v. followed f v (rest c)) (none c))
+
+-- what nothing can follow
+pub followed_none : {X Y Z : Type 0} (f : X → Y → Z) (o : Option (Typing X)) (rest : Typing X → Option (Typing Y)) → ((a : Typing X) → rest a ≡ None) → followed f o rest ≡ None
+followed_none f o rest h = grind (arith, common_steps)
+
+-- what is made of both can be made by the second
+abbrev pub second : {X Y : Type 0} → X → Y → Y
+second x y = y
+
+module _ {X Y Z : Type 0} (f : X → Y → Z) where
+  pub within : (o : Option (Typing X)) (rest : Typing X → Option (Typing Y)) → followed f o rest ≡ followed second o (λ a. made_into (f a.made) (rest a))
+  within o rest = grind (arith, common_steps)
+
+  -- the same of what was made
+  pub both_made : {W : Type 0} (h : Z → W) (o : Option (Typing X)) (rest : Typing X → Option (Typing Y)) → made_into h (followed second o (λ a. made_into (f a.made) (rest a))) ≡ followed second o (λ a. made_into (λ y. h (f a.made y)) (rest a))
+  both_made h None rest = refl
+  both_made h (Some a) rest = grind (arith, common_steps)
+
+  -- in another scope
+  pub scoped_within : (g : Scope → Scope) (o : Option (Typing X)) (rest : Typing X → Option (Typing Y)) → scoped g (followed f o rest) ≡ followed second o (λ a. made_into (f a.made) (scoped g (rest a)))
+  scoped_within g o rest = grind (arith, common_steps)
 
 -- one step, and the next where something is made
 pub later_made : {X Y : Type 0} (n d : ℕ) (t : Step X) (o : ℕ → Option (Typing X)) (next : X → Scope → ℕ → Step Y) (rest : ℕ → Typing X → Option (Typing Y)) → AgreesAtDepths n d o t

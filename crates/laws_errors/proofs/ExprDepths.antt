@@ -22,8 +22,7 @@ use Rattle.laws_errors.specs.ExprSteps.{expr_list, converted_or, expected_step, 
 use Rattle.laws_errors.specs.StepLaws.{TakesTooMany, AgreesAtDepths, only_read, never_read, too_deep, too_long, never_read_later, ExprStepsAgreeAtDepths}
 use Rattle.laws_errors.proofs.MadeSettings.{term_made, converter_made}
 use Rattle.laws_errors.proofs.ClosedLets.{usable, lets_closed}
-use Rattle.laws_errors.proofs.AgreeingDepths.{same_at_depths, at_once, noted, none_noted, checked, only_through, made, one_deeper, one_more, too_many, in_order, later_made, eqb-ne}
-use Rattle.laws_errors.proofs.AgreeingSteps.{followed_none, scoped_within}
+use Rattle.laws_errors.proofs.AgreeingDepths.{same_at_depths, at_once, noted, none_noted, checked, only_through, made, one_deeper, one_more, too_many, in_order, later_made, eqb-ne, followed_none, scoped_within}
 
 -- each flag that forbids a call
 three_checked : {X : Type 0} (n d : ℕ) (a b c : Bool) (v w x : Why) (at : Position) (t : Step X) (o : ℕ → Option (Typing X)) → AgreesAtDepths n d o t

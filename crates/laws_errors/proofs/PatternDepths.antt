@@ -20,8 +20,7 @@ use Rattle.laws_errors.specs.Steps.{Why, rebound, Step, went_on, stopped, unless
 use Rattle.laws_errors.specs.PatternSteps.{var_step, bind_step, constant_step, with_part, template_step, pattern_step, found_step, converted_step, use_step, term_step, parts_step, each_step, deeper_step}
 use Rattle.laws_errors.specs.StepLaws.{TakesTooMany, AgreesAtDepths, only_read, never_read, too_deep, too_long, never_read_later, TemplatesAreWhole, PatternStepsAgreeAtDepths}
 use Rattle.laws_errors.proofs.TypesMade.{types_made}
-use Rattle.laws_errors.proofs.AgreeingDepths.{same_at_depths, at_once, noted, none_noted, checked, only_through, made, one_deeper, one_more, too_many, in_order, eqb-ne, neither}
-use Rattle.laws_errors.proofs.AgreeingSteps.{followed_none}
+use Rattle.laws_errors.proofs.AgreeingDepths.{same_at_depths, at_once, noted, none_noted, checked, only_through, made, one_deeper, one_more, too_many, in_order, eqb-ne, neither, followed_none}
 
 -- a use of a bound name
 var_agrees : (n d ty : ℕ) (x : List ℕ) (at : Position) (s : Scope) (o : Option TypedVar) → AgreesAtDepths n d (λ c. var_pattern_at ty x s o) (var_step ty x at s o)

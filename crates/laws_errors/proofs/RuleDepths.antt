@@ -15,8 +15,7 @@ use Rattle.laws_errors.specs.Steps.{Why, priority, Step, went_on, unless, noting
 use Rattle.laws_errors.specs.PatternSteps.{parts_step, deeper_step}
 use Rattle.laws_errors.specs.RuleSteps.{iflet_step, with_iflet, iflets_step, root_step, sides_step, finished_step, declared_step, of_term_step, rooted_step}
 use Rattle.laws_errors.specs.StepLaws.{TakesTooMany, AgreesAtDepths, only_read, never_read, too_deep, too_long, never_read_later, TemplatesAreWhole, RuleStepsAgreeAtDepths}
-use Rattle.laws_errors.proofs.AgreeingDepths.{same_at_depths, at_once, noted, none_noted, only_through, made, in_order, later_made, eqb-ne, neither}
-use Rattle.laws_errors.proofs.AgreeingSteps.{within, both_made}
+use Rattle.laws_errors.proofs.AgreeingDepths.{same_at_depths, at_once, noted, none_noted, only_through, made, in_order, later_made, eqb-ne, neither, within, both_made}
 use Rattle.laws_errors.proofs.PatternDepths.{parts_none, pattern_steps_agree_at_depths_lem, parts_agree_at_depths_lem}
 use Rattle.laws_errors.proofs.ExprDepths.{expr_steps_agree_at_depths_lem}
 
@@ -44,7 +43,7 @@ module _ (e : Setting) (templates : TemplatesAreWhole e) (flags : Flags) (d : �
   -- the expression of an if-let, then its pattern
   pub iflet_agrees : (i : IfLetTree) (n : ℕ) (s : Scope) → AgreesAtDepths n d (λ c. iflet_reading e flags c i s) (iflet_step e flags d i n s)
   iflet_agrees i n s = same_at_depths n d _ _ _
-      (λ c. sym (within typed_iflet (λ t. t) (elaborated_expr (all_made e) (on_lhs flags) c i.expr None s) (λ a. elaborated_pattern e flags.multi c i.pattern (expr_type a.made) a.scope)))
+      (λ c. sym (within typed_iflet (elaborated_expr (all_made e) (on_lhs flags) c i.expr None s) (λ a. elaborated_pattern e flags.multi c i.pattern (expr_type a.made) a.scope)))
       (later_made n d _ _ _ (λ c a. made_into (typed_iflet a.made) (elaborated_pattern e flags.multi c i.pattern (expr_type a.made) a.scope)) (expr_steps_agree_at_depths_lem e (on_lhs flags) d i.expr None n s)
       (λ a h. made (n + a.expansions) d (typed_iflet a.made) _ _ (pattern_steps_agree_at_depths_lem e flags.multi templates d i.pattern (expr_type a.made) (n + a.expansions) a.scope)))
 
@@ -64,10 +63,10 @@ module _ (e : Setting) (templates : TemplatesAreWhole e) (flags : Flags) (d : �
   -- what is made of all sides can be made by the last
   sides_agree : (r : RuleTree) (x : Name) (t : TermEntry) (n : ℕ) (s : Scope) → AgreesAtDepths n d (λ c. sides_reading e flags c r t s) (sides_step e flags d r x t n s)
   sides_agree r x t n s = same_at_depths n d _ _ _
-      (λ c. sym (within sides_of (λ t. t) (elaborated_parts e flags.multi c (root_parts r.pattern) t.arg_tys s) (λ a. ends_reading e flags c r t a.scope)))
+      (λ c. sym (within sides_of (elaborated_parts e flags.multi c (root_parts r.pattern) t.arg_tys s) (λ a. ends_reading e flags c r t a.scope)))
       (later_made n d _ _ _ (λ c a. made_into (sides_of a.made) (ends_reading e flags c r t a.scope)) (root_agrees r x t n s) (λ a h. same_at_depths (n + a.expansions) d _ _ _
-      (λ c. sym (ap (made_into (sides_of a.made)) (within last_sides (λ t. t) (iflets_reading e flags c r.iflets a.scope) (λ b. elaborated_expr (all_made e) flags c r.expr (Some t.ret_ty) b.scope))
-      ∙ both_made last_sides (λ t. t) (sides_of a.made) (iflets_reading e flags c r.iflets a.scope) (λ b. elaborated_expr (all_made e) flags c r.expr (Some t.ret_ty) b.scope)))
+      (λ c. sym (ap (made_into (sides_of a.made)) (within last_sides (iflets_reading e flags c r.iflets a.scope) (λ b. elaborated_expr (all_made e) flags c r.expr (Some t.ret_ty) b.scope))
+      ∙ both_made last_sides (sides_of a.made) (iflets_reading e flags c r.iflets a.scope) (λ b. elaborated_expr (all_made e) flags c r.expr (Some t.ret_ty) b.scope)))
       (later_made (n + a.expansions) d _ _ _ (λ c b. made_into (λ y. sides_of a.made (last_sides b.made y)) (elaborated_expr (all_made e) flags c r.expr (Some t.ret_ty) b.scope))
       (iflets_agree r.iflets (n + a.expansions) a.scope)
       (λ b i. made ((n + a.expansions) + b.expansions) d _ _ _ (expr_steps_agree_at_depths_lem e flags d r.expr (Some t.ret_ty) ((n + a.expansions) + b.expansions) b.scope)))))
