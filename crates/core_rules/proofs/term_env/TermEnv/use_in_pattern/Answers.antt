@@ -1,9 +1,11 @@
-use Rattle.std.proofs.Common.{Contains, ◌≡◌, Option, None, Some, map, option_map, refl, sym, ap, ◌∙◌, inl, [], ◌∷◌}
+use Rattle.std.proofs.Common.{Contains, ◌≡◌, ℕ, Option, None, Some, map, option_map, refl, sym, ap, subst, ◌∙◌, inl, [], ◌∷◌}
 use Rattle.core_syntax.specs.SyntaxViews.{name_view, position, pattern_view, pattern_views}
 use Rattle.model.specs.lists.Syntax.{PatternTree}
 use Rattle.model.specs.lists.Expansions.{substituted}
 use Rattle.core_terms.specs.TermViews.{term_view}
-use Rattle.core_rules.specs.PatternUses.{name_at}
+use Rattle.core_rules.specs.PatternTaking.{pattern_steps}
+use Rattle.core_rules.specs.PatternUses.{name_at, inside_term}
+use Rattle.core_rules.specs.Taking.{LeadsOn}
 use Rattle.core_rules.specs.Translating.{standing}
 use Rattle.core_rules.proofs.Readings.{stop_is}
 use Rattle.core_rules.proofs.PatternUsing.{list_is, list_length, template_expands}
@@ -81,10 +83,15 @@ returns-in_err-left-clause-reads c =
 
 pub returns-in-Some-pattern_converter-clause-reads : goal.returns-in-Some-pattern_converter-clause-reads
 returns-in-Some-pattern_converter-clause-reads c =
-    rw (c.in_ok-inside.ensures, c.requires.whole)
-    (taken.conversion_leads c.args.multi c.args.self.now (standing c.args.tyenv.now c.args.work.now) c.requires.inverse (name_view c.args.sym.now) (pattern_views c.args.args.now) (position c.args.pos) c.args.expected_ty.0 c.args.nesting
-    (term_view c.in-Some.term.now) c.in-Some.ensures (term_view c.in-Some-pattern_converter.by.now) c.in-Some-pattern_converter.ensures
-    (standing c.args.tyenv.now c.expand.new.self) c.in_ok-left.left refl c.in_ok-left.ensures.0 c.in_ok-left.ensures.1)
+    let env = c.args.self.now in
+    let old = standing c.args.tyenv.now c.args.work.now in
+    let new = standing c.args.tyenv.now c.expand.new.self in
+    let ty : ℕ = c.args.expected_ty.0 in
+    let leads = taken.conversion_leads c.args.multi env old c.requires.inverse (name_view c.args.sym.now) (pattern_views c.args.args.now) (position c.args.pos) ty c.args.nesting
+    (term_view c.in-Some.term.now) c.in-Some.ensures (term_view c.in-Some-pattern_converter.by.now) c.in-Some-pattern_converter.ensures new c.in_ok-left.left refl c.in_ok-left.ensures.0 c.in_ok-left.ensures.1 in
+    subst (λ (made : PatternTree). LeadsOn env old new (pattern_steps c.args.multi (pattern_view c.args.whole.now) ty c.args.nesting) (pattern_steps c.args.multi made ty c.in_ok-left.left) (λ r. r)) (sym c.in_ok-inside.ensures)
+    (subst (λ (whole : PatternTree). LeadsOn env old new (pattern_steps c.args.multi whole ty c.args.nesting)
+    (pattern_steps c.args.multi (inside_term c.args.tyenv.now (term_view c.in-Some-pattern_converter.by.now) (position c.args.pos) whole) ty c.in_ok-left.left) (λ r. r)) (sym c.requires.whole) leads)
 
 pub returns-in_default-template_of-clause-reads : goal.returns-in_default-template_of-clause-reads
 returns-in_default-template_of-clause-reads c =
