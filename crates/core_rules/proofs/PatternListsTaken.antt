@@ -16,16 +16,16 @@ use Rattle.core_typed.proofs.NotedErrors.{none_at}
 use Rattle.core_rules.specs.declared.term_env.TermEnv.{TermEnv}
 use Rattle.core_rules.specs.declared.typing.progress.Stop.{Stop}
 use Rattle.core_rules.specs.PatternTaking.{pattern_steps, parts_steps, each_steps, made_end}
-use Rattle.core_rules.specs.Taking.{Stepping, Ending, Took, took, EndsAs, StopsBy, LeadsOn}
+use Rattle.core_rules.specs.Taking.{Stepping, MadeOrLimit, Took, took, EndsAs, StopsBy, LeadsOn}
 use Rattle.core_rules.specs.Translating.{Standing, Keeps}
 use Rattle.core_rules.proofs.PatternLists.{appended}
 use Rattle.core_rules.proofs.Taken.{joined_end, one_on, one_stops}
 
 -- patterns after those that were made
-abbrev pub after_made : List Pattern → Ending TypedPatterns → Ending TypedPatterns
+abbrev pub after_made : List Pattern → MadeOrLimit TypedPatterns → MadeOrLimit TypedPatterns
 after_made ps = made_end (appended (pattern_parts (pattern_views ps)))
 
-pub after_none : (r : Ending TypedPatterns) → r ≡ after_made [] r
+pub after_none : (r : MadeOrLimit TypedPatterns) → r ≡ after_made [] r
 after_none (Ok None) = refl
 after_none (Ok (Some qs)) = refl
 after_none (Err l) = refl
@@ -43,10 +43,10 @@ part_between : (ps : List Pattern) (o : Option Pattern) (qs : TypedPatterns)
 part_between ps None qs = ap (λ zs. appended (pattern_parts (pattern_views zs)) qs) (sym (append-nil ps))
 part_between ps (Some p) qs = one_between ps p qs
 
-abbrev something : TypedPatterns → Ending TypedPatterns
+abbrev something : TypedPatterns → MadeOrLimit TypedPatterns
 something qs = Ok (Some qs)
 
-one_after : (ps : List Pattern) (o : Option Pattern) (r : Ending TypedPatterns) → after_made ps (joined_end with_part (option_map pattern_view o) r) ≡ after_made (ps ++ option_to_list o) r
+one_after : (ps : List Pattern) (o : Option Pattern) (r : MadeOrLimit TypedPatterns) → after_made ps (joined_end with_part (option_map pattern_view o) r) ≡ after_made (ps ++ option_to_list o) r
 one_after ps o (Ok None) = refl
 one_after ps o (Ok (Some qs)) = ap something (part_between ps o qs)
 one_after ps o (Err l) = refl

@@ -22,7 +22,7 @@ use Rattle.core_rules.specs.declared.typing.progress.Stop.TheVariants.{Memory, N
 use Rattle.core_rules.specs.Progress.{Remains, CountsOne, Counts}
 use Rattle.core_rules.specs.PatternTaking.{pattern_steps, parts_steps, made_end}
 use Rattle.core_rules.specs.PatternUses.{found_term, found_converter, found_template, inside_term}
-use Rattle.core_rules.specs.Taking.{Stepping, Ending, places_of, Took, took, ended, EndsAs, StopsBy, LeadsOn}
+use Rattle.core_rules.specs.Taking.{Stepping, MadeOrLimit, places_of, Took, took, ended, EndsAs, StopsBy, LeadsOn}
 use Rattle.core_rules.specs.Translating.{Standing, IsSettingOf, Shows, Wherever}
 use Rattle.core_rules.proofs.PatternUsing.{found_so, found, converter_is, differs}
 use Rattle.core_rules.proofs.Scopes.{still}
@@ -47,7 +47,7 @@ module _ (e : Setting) (multi : Bool) (p : PatternTree) (ty : ℕ) (s : Scope) w
       ∙ ap (λ (k : ℕ). counted_step (pattern_steps multi p ty left e k s)) (omega (arith, more))
 
   -- one more was made
-  pub went_deeper : (old mid new : Standing) (d left n : ℕ) → suc left ≡ d → n ≡ old.work.expansions → mid.work.expansions ≡ n + 1 → mid.work.errors.items ≡ old.work.errors.items → (r : Ending TypedPattern)
+  pub went_deeper : (old mid new : Standing) (d left n : ℕ) → suc left ≡ d → n ≡ old.work.expansions → mid.work.expansions ≡ n + 1 → mid.work.errors.items ≡ old.work.errors.items → (r : MadeOrLimit TypedPattern)
       → Took mid new (pattern_steps multi p ty left e mid.work.expansions s) r → Took old new (deeper_step e multi d p ty n s) r
   went_deeper old mid new d left n nests here more same r h =
       subst (λ t. Took old new t r) (sym (one_deeper d left n mid.work.expansions nests more mid.work.few))
@@ -67,7 +67,7 @@ module _ (e : Setting) (multi : Bool) (p : PatternTree) (ty : ℕ) (s : Scope) w
 -- where none may be the work on the whole stops
 pub expansion_stops : (env : TermEnv) (old mid new : Standing) (multi : Bool) (p : PatternTree) (ty d : ℕ) (whole : Stepping TypedPattern) → new.tyenv ≡ mid.tyenv → names_of mid.tyenv ≡ names_of old.tyenv
     → mid.work.expansions ≡ old.work.expansions → MayNoteMore old.work.errors.items mid.work.errors.items
-    → Wherever env old (λ e s. (r : Ending TypedPattern) → Took mid mid (deeper_step e multi d p ty old.work.expansions s) r → Took old mid (whole e old.work.expansions s) r)
+    → Wherever env old (λ e s. (r : MadeOrLimit TypedPattern) → Took mid mid (deeper_step e multi d p ty old.work.expansions s) r → Took old mid (whole e old.work.expansions s) r)
     → (stop : Stop) → Counts d mid.work new.work (Err stop) → StopsBy env old new whole stop
 expansion_stops env old mid new multi p ty d whole same names count may lift (Memory a) x = absurd x
 expansion_stops env old mid new multi p ty d whole same names count may lift Nesting x =
@@ -162,7 +162,7 @@ module _ (multi : Bool) (env : TermEnv) (old : Standing) (inv : IsInterned old.t
           (subst (λ (k : ℕ). NotesEachAt (place_unless (eqb t.ret_ty ty) at ++ place_unless (eqb k (length t.arg_tys)) at) old.work.errors.items mid.work.errors.items) as_many checks)
 
       -- behind what was checked
-      checked : (new : Standing) (e : Setting) (s : Scope) → IsSettingOf old.tyenv env e → Shows old s → (z : Ending TypedPattern) → Took mid new (itself e old.work.expansions s) z
+      checked : (new : Standing) (e : Setting) (s : Scope) → IsSettingOf old.tyenv env e → Shows old s → (z : MadeOrLimit TypedPattern) → Took mid new (itself e old.work.expansions s) z
           → Took old new (pattern_steps multi whole ty d e old.work.expansions s) z
       checked new e s is sh z h = elim (cases_Bool (eqb t.ret_ty ty)) [
         | inl alike ↦

@@ -24,7 +24,7 @@ use Rattle.core_rules.specs.declared.typing.progress.Stop.{Stop}
 use Rattle.core_rules.specs.declared.typing.progress.Stop.TheVariants.{Memory, Nesting, Expansions}
 use Rattle.core_rules.specs.Progress.{newest, BindsNext, Remains}
 use Rattle.core_rules.specs.PatternTaking.{pattern_steps, leaf_steps, around_steps}
-use Rattle.core_rules.specs.Taking.{Ending, Took, took, ended, EndsAs, StopsBy, Takes}
+use Rattle.core_rules.specs.Taking.{MadeOrLimit, Took, took, ended, EndsAs, StopsBy, Takes}
 use Rattle.core_rules.specs.Translating.{Standing, Keeps, Shows}
 use Rattle.core_rules.proofs.PatternLeaves.{constant_is}
 use Rattle.core_rules.proofs.Readings.{keep_setting}
@@ -122,7 +122,7 @@ any_taken env old at ty = (inl refl, λ e s is sh. took (Some (match_any ty)) s 
 
 -- a name around a pattern, by what the pattern came to
 module _ (x : List ℕ) (at : Position) (old mid : Standing) where
-  bound_behind : (new : Standing) (q : TypedPattern) (r : Ending TypedPattern) → ((u : Scope) → Shows mid u → Took mid new (bind_step x at (here q u)) r)
+  bound_behind : (new : Standing) (q : TypedPattern) (r : MadeOrLimit TypedPattern) → ((u : Scope) → Shows mid u → Took mid new (bind_step x at (here q u)) r)
       → (t : Step TypedPattern) → Goes old mid t (Ok (Some q)) → Took old new (bind_step x at t) r
   bound_behind new q r next (went_on None u k ws) y = absurd (none-some q y.0)
   bound_behind new q r next (went_on (Some p) u k ws) y =
@@ -141,7 +141,7 @@ module _ (x : List ℕ) (at : Position) (old mid : Standing) where
   bound_ended l (stopped j u ws) y = subst (λ (i : NamedLimit). Took {Q = TypedPattern} old mid (stopped j u ws) (Err i)) y.0 (ended j u ws y.1 y.2)
 
 module _ (env : TermEnv) (old mid : Standing) (multi : Bool) (x : Name) (of : PatternTree) (at : Position) (ty d : ℕ) where
-  pub around_ends : (new : Standing) → Keeps old.tyenv mid.tyenv → (q : TypedPattern) (r : Ending TypedPattern) → EndsAs env old mid (pattern_steps multi of ty d) (Ok (Some q))
+  pub around_ends : (new : Standing) → Keeps old.tyenv mid.tyenv → (q : TypedPattern) (r : MadeOrLimit TypedPattern) → EndsAs env old mid (pattern_steps multi of ty d) (Ok (Some q))
       → EndsAs env mid new (around_steps x.text at q) r → EndsAs env old new (pattern_steps multi (bind_pattern x of at) ty d) r
   around_ends new keeps q r h k = (
     may_both old.work.errors.items mid.work.errors.items new.work.errors.items h.0 k.0,

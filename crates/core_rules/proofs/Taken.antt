@@ -14,7 +14,7 @@ use Rattle.core_rules.specs.declared.term_env.TermEnv.{TermEnv}
 use Rattle.core_rules.specs.declared.typing.progress.Stop.{Stop}
 use Rattle.core_rules.specs.declared.typing.progress.Stop.TheVariants.{Memory, Nesting, Expansions}
 use Rattle.core_rules.specs.PatternTaking.{made_end}
-use Rattle.core_rules.specs.Taking.{Stepping, Ending, places_of, Took, took, ended, EndsAs, StopsBy, Takes, LeadsOn}
+use Rattle.core_rules.specs.Taking.{Stepping, MadeOrLimit, places_of, Took, took, ended, EndsAs, StopsBy, Takes, LeadsOn}
 use Rattle.core_rules.specs.Translating.{Standing, Keeps, IsSettingOf, Shows}
 use Rattle.core_rules.proofs.Readings.{keep_setting}
 
@@ -31,13 +31,13 @@ behind ws es a b c n m = subst (λ ps. NotesEachAt ps a c) (sym (map-append (λ 
 
 module _ {Q : Type 0} where
   -- 2. what a step says, to be computed with
-  abbrev pub Goes : Standing → Standing → Step Q → Ending Q → Type 0
+  abbrev pub Goes : Standing → Standing → Step Q → MadeOrLimit Q → Type 0
   Goes old new (went_on m s k ws) (Ok r) = (m ≡ r) × NotesEachAt (places_of ws) old.work.errors.items new.work.errors.items × Shows new s × (new.work.expansions ≡ old.work.expansions + k)
   Goes old new (went_on m s k ws) (Err l) = ⊥
   Goes old new (stopped l s ws) (Ok r) = ⊥
   Goes old new (stopped l s ws) (Err j) = (l ≡ j) × NotesEachAt (places_of ws) old.work.errors.items new.work.errors.items × (names_of new.tyenv ≡ s.names)
 
-  pub seen : (old new : Standing) (t : Step Q) (r : Ending Q) → Took old new t r → Goes old new t r
+  pub seen : (old new : Standing) (t : Step Q) (r : MadeOrLimit Q) → Took old new t r → Goes old new t r
   seen old new _ _ (took m s k ws n sh c) = (refl, n, sh, c)
   seen old new _ _ (ended l s ws n names) = (refl, n, names)
 
@@ -48,13 +48,13 @@ module _ {Q : Type 0} where
   -- 3. at once
   -- what is wrong first
   pub noted : (old mid new : Standing) (ws : List Mistake) → NotesEachAt (places_of ws) old.work.errors.items mid.work.errors.items → mid.work.expansions ≡ old.work.expansions
-      → (t : Step Q) (r : Ending Q) → Took mid new t r → Took old new (noting ws t) r
+      → (t : Step Q) (r : MadeOrLimit Q) → Took mid new t r → Took old new (noting ws t) r
   noted old mid new ws h xs _ _ (took m s k es n sh c) =
       took m s k (ws ++ es) (behind ws es old.work.errors.items mid.work.errors.items new.work.errors.items h n) sh (c ∙ ap (λ (j : ℕ). j + k) xs)
   noted old mid new ws h xs _ _ (ended l s es n names) = ended l s (ws ++ es) (behind ws es old.work.errors.items mid.work.errors.items new.work.errors.items h n) names
 
   pub noted_twice : (old mid new : Standing) (w : Mistake) (ws : List Mistake) → NotesEachAt (w.at ∷ places_of ws) old.work.errors.items mid.work.errors.items → mid.work.expansions ≡ old.work.expansions
-      → (t : Step Q) (r : Ending Q) → Took mid new t r → Took old new (noting (w ∷ []) (noting ws t)) r
+      → (t : Step Q) (r : MadeOrLimit Q) → Took mid new t r → Took old new (noting (w ∷ []) (noting ws t)) r
   noted_twice old mid new w ws h xs _ _ (took m s k es n sh c) =
       took m s k (w ∷ (ws ++ es)) (behind (w ∷ ws) es old.work.errors.items mid.work.errors.items new.work.errors.items h n) sh (c ∙ ap (λ (j : ℕ). j + k) xs)
   noted_twice old mid new w ws h xs _ _ (ended l s es n names) = ended l s (w ∷ (ws ++ es)) (behind (w ∷ ws) es old.work.errors.items mid.work.errors.items new.work.errors.items h n) names
@@ -68,39 +68,39 @@ module _ {Q : Type 0} where
       sh (omega (arith, c))
 
   -- one expansion more
-  pub counted : (old mid new : Standing) → mid.work.errors.items ≡ old.work.errors.items → mid.work.expansions ≡ old.work.expansions + 1 → (t : Step Q) (r : Ending Q) → Took mid new t r → Took old new (counted_step t) r
+  pub counted : (old mid new : Standing) → mid.work.errors.items ≡ old.work.errors.items → mid.work.expansions ≡ old.work.expansions + 1 → (t : Step Q) (r : MadeOrLimit Q) → Took mid new t r → Took old new (counted_step t) r
   counted old mid new es xs _ _ (took m s k ws n sh c) = took m s (suc k) ws (subst (λ v. NotesEachAt (places_of ws) v new.work.errors.items) es n) sh (omega (arith, c, xs))
   counted old mid new es xs _ _ (ended l s ws n names) = ended l s ws (subst (λ v. NotesEachAt (places_of ws) v new.work.errors.items) es n) names
 
   -- what goes on from a scope without an expansion, behind what went before
   pub later : (old mid new : Standing) (m : Option Q) (u : Scope) (k : ℕ) (ws es : List Mistake) → NotesEachAt (places_of ws) old.work.errors.items mid.work.errors.items → mid.work.expansions ≡ old.work.expansions + k
-      → (r : Ending Q) → Goes mid new (went_on m u 0 es) r → Took old new (went_on m u k (ws ++ es)) r
+      → (r : MadeOrLimit Q) → Goes mid new (went_on m u 0 es) r → Took old new (went_on m u k (ws ++ es)) r
   later old mid new m u k ws es h xs (Ok o) y =
       taken_as old new m o u k (ws ++ es) y.0 (behind ws es old.work.errors.items mid.work.errors.items new.work.errors.items h y.1) y.2 (let c = y.3 in omega (arith, xs, c))
   later old mid new m u k ws es h xs (Err l) y = absurd y
 
 -- the same of what was made
-pub made : {P Q : Type 0} (f : P → Q) (old new : Standing) (t : Step P) (r : Ending P) → Took old new t r → Took old new (made_step f t) (made_end f r)
+pub made : {P Q : Type 0} (f : P → Q) (old new : Standing) (t : Step P) (r : MadeOrLimit P) → Took old new t r → Took old new (made_step f t) (made_end f r)
 made f old new _ _ (took m s k ws n sh c) = took (option_map f m) s k ws n sh c
 made f old new _ _ (ended l s ws n names) = ended l s ws n names
 
 -- 4. one part, then the next
 -- what is made of a part and of what follows it
-abbrev pub joined_end : {X Y Z : Type 0} → (Option X → Y → Z) → Option X → Ending Y → Ending Z
+abbrev pub joined_end : {X Y Z : Type 0} → (Option X → Y → Z) → Option X → MadeOrLimit Y → MadeOrLimit Z
 joined_end g m (Ok None) = Ok None
 joined_end g m (Ok (Some y)) = Ok (Some (g m y))
 joined_end g m (Err l) = Err l
 
 module _ {X Y Z : Type 0} (g : Option X → Y → Z) where
   joined : (old mid new : Standing) (m : Option X) (k : ℕ) (ws : List Mistake) → NotesEachAt (places_of ws) old.work.errors.items mid.work.errors.items → mid.work.expansions ≡ old.work.expansions + k
-      → (t : Step Y) (r : Ending Y) → Took mid new t r → Took old new (noting ws (joined_step g m k t)) (joined_end g m r)
+      → (t : Step Y) (r : MadeOrLimit Y) → Took mid new t r → Took old new (noting ws (joined_step g m k t)) (joined_end g m r)
   joined old mid new m k ws h xs _ _ (took None s j es n sh c) =
       took None s (k + j) (ws ++ es) (behind ws es old.work.errors.items mid.work.errors.items new.work.errors.items h n) sh (omega (arith, c, xs))
   joined old mid new m k ws h xs _ _ (took (Some y) s j es n sh c) =
       took (Some (g m y)) s (k + j) (ws ++ es) (behind ws es old.work.errors.items mid.work.errors.items new.work.errors.items h n) sh (omega (arith, c, xs))
   joined old mid new m k ws h xs _ _ (ended l s es n names) = ended l s (ws ++ es) (behind ws es old.work.errors.items mid.work.errors.items new.work.errors.items h n) names
 
-  module _ (old mid new : Standing) (next : Option X → ℕ → Scope → Step Y) (m : Option X) (r : Ending Y) (rest : (u : Scope) → Shows mid u → Took mid new (next m mid.work.expansions u) r) where
+  module _ (old mid new : Standing) (next : Option X → ℕ → Scope → Step Y) (m : Option X) (r : MadeOrLimit Y) (rest : (u : Scope) → Shows mid u → Took mid new (next m mid.work.expansions u) r) where
     went : (t : Step X) → Goes old mid t (Ok m) → Took old new (then_step g t (λ o u k. next o (old.work.expansions + k) u)) (joined_end g m r)
     went (went_on o u k ws) x =
         let at_m : Took mid new (next o mid.work.expansions u) r = subst (λ (p : Option X). Took mid new (next p mid.work.expansions u) r) (sym x.0) (rest u x.2) in
@@ -122,7 +122,7 @@ module _ {X Y Z : Type 0} (g : Option X → Y → Z) where
 -- 5. whole calls
 -- of what a call did something is made
 module _ {P Q : Type 0} (f : P → Q) (env : TermEnv) (old new : Standing) (steps : Stepping P) where
-  pub made_ends : (r : Ending P) → EndsAs env old new steps r → EndsAs env old new (λ e n s. made_step f (steps e n s)) (made_end f r)
+  pub made_ends : (r : MadeOrLimit P) → EndsAs env old new steps r → EndsAs env old new (λ e n s. made_step f (steps e n s)) (made_end f r)
   made_ends r h = (h.0, λ e s is sh. made f old new (steps e old.work.expansions s) r (h.1 e s is sh))
 
   pub made_stopped : (stop : Stop) → StopsBy env old new steps stop → StopsBy env old new (λ e n s. made_step f (steps e n s)) stop
@@ -131,8 +131,8 @@ module _ {P Q : Type 0} (f : P → Q) (env : TermEnv) (old new : Standing) (step
   made_stopped Expansions h = made_ends (Err of_expansions) h
 
 -- the rest was done
-module _ {P Q : Type 0} (env : TermEnv) (old mid new : Standing) (same : mid.tyenv ≡ old.tyenv) (whole : Stepping Q) (rest : Stepping P) (become : Ending P → Ending Q) (on : LeadsOn env old mid whole rest become) where
-  pub rest_ends : (r : Ending P) → EndsAs env mid new rest r → EndsAs env old new whole (become r)
+module _ {P Q : Type 0} (env : TermEnv) (old mid new : Standing) (same : mid.tyenv ≡ old.tyenv) (whole : Stepping Q) (rest : Stepping P) (become : MadeOrLimit P → MadeOrLimit Q) (on : LeadsOn env old mid whole rest become) where
+  pub rest_ends : (r : MadeOrLimit P) → EndsAs env mid new rest r → EndsAs env old new whole (become r)
   rest_ends r h = (
     may_both old.work.errors.items mid.work.errors.items new.work.errors.items on.0 h.0,
     λ e s is sh. on.1 e s is sh new r (λ u shown. h.1 e u (subst (λ k. IsSettingOf k env e) (sym same) is) shown),
@@ -150,8 +150,8 @@ expansion_done env old mid new same whole made view on (Err stop) h = rest_stops
 
 -- a list is read on by one part
 module _ {X Y Z : Type 0} (g : Option X → Y → Y) (env : TermEnv) (old mid new : Standing) (keeps : Keeps old.tyenv mid.tyenv) (whole : Stepping Z) (first : Stepping X) (rest later : Stepping Y)
-    (law : (e : Setting) (n : ℕ) (u : Scope) → rest e n u ≡ then_step g (first e n u) (λ m t k. later e (n + k) t)) (become : Ending Y → Ending Z) (so_far : LeadsOn env old mid whole rest become) where
-  pub one_on : (m : Option X) (then_as : Ending Y → Ending Z) → ((r : Ending Y) → become (joined_end g m r) ≡ then_as r) → EndsAs env mid new first (Ok m) → LeadsOn env old new whole later then_as
+    (law : (e : Setting) (n : ℕ) (u : Scope) → rest e n u ≡ then_step g (first e n u) (λ m t k. later e (n + k) t)) (become : MadeOrLimit Y → MadeOrLimit Z) (so_far : LeadsOn env old mid whole rest become) where
+  pub one_on : (m : Option X) (then_as : MadeOrLimit Y → MadeOrLimit Z) → ((r : MadeOrLimit Y) → become (joined_end g m r) ≡ then_as r) → EndsAs env mid new first (Ok m) → LeadsOn env old new whole later then_as
   one_on m then_as grows h = (
     may_both old.work.errors.items mid.work.errors.items new.work.errors.items so_far.0 h.0,
     λ e s is sh after r more.

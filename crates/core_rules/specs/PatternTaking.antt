@@ -10,7 +10,7 @@ use Rattle.core_rules.specs.declared.term_env.TermEnv.{TermEnv}
 use Rattle.core_rules.specs.declared.typing.progress.Stop.{Stop}
 use Rattle.core_rules.specs.declared.typing.pattern_uses.PatternUse.{PatternUse}
 use Rattle.core_rules.specs.declared.typing.pattern_uses.PatternUse.TheVariants.{Wrong, Expansion, Parts}
-use Rattle.core_rules.specs.Taking.{Stepping, Ending, EndsAs, StopsBy, LeadsOn}
+use Rattle.core_rules.specs.Taking.{Stepping, MadeOrLimit, EndsAs, StopsBy, LeadsOn}
 use Rattle.core_rules.specs.Translating.{Standing}
 
 -- a pattern at a type, in a rule whose term is multi or not, where so many expansions may nest
@@ -34,7 +34,7 @@ abbrev pub around_steps : List ℕ → Position → TypedPattern → Stepping Ty
 around_steps x at q e n s = bind_step x at (here q s)
 
 -- what is made of what was made
-abbrev pub made_end : {P Q : Type 0} → (P → Q) → Ending P → Ending Q
+abbrev pub made_end : {P Q : Type 0} → (P → Q) → MadeOrLimit P → MadeOrLimit Q
 made_end f (Ok m) = Ok (option_map f m)
 made_end f (Err l) = Err l
 

@@ -18,8 +18,8 @@ abbrev pub Stepping : Type 0 → Type 0
 Stepping Q = Setting → ℕ → Scope → Step Q
 
 -- what was made, if anything; or the limit that ended the work
-abbrev pub Ending : Type 0 → Type 0
-Ending Q = Result (Option Q) NamedLimit
+abbrev pub MadeOrLimit : Type 0 → Type 0
+MadeOrLimit Q = Result (Option Q) NamedLimit
 
 -- where what is wrong stands
 abbrev pub places_of : List Mistake → List Position
@@ -27,13 +27,13 @@ places_of ws = map (λ w. w.at) ws
 
 -- the work did what a step says. Where it went on, the names, the variables and the expansions are those after the step; where a limit
 -- ended it, the names met stay. What the step finds wrong was noted, and nothing else
-pub data Took {Q : Type 0} (old new : Standing) : Step Q → Ending Q → Type 0 where
+pub data Took {Q : Type 0} (old new : Standing) : Step Q → MadeOrLimit Q → Type 0 where
   took : (m : Option Q) (s : Scope) (k : ℕ) (ws : List Mistake) → NotesEachAt (places_of ws) old.work.errors.items new.work.errors.items → Shows new s → new.work.expansions ≡ old.work.expansions + k
       → Took old new (went_on m s k ws) (Ok m)
   ended : (l : NamedLimit) (s : Scope) (ws : List Mistake) → NotesEachAt (places_of ws) old.work.errors.items new.work.errors.items → names_of new.tyenv ≡ s.names → Took old new (stopped l s ws) (Err l)
 
 -- the work came to this, as the steps say from where it stood. The errors so far stay
-abbrev pub EndsAs : {Q : Type 0} → TermEnv → Standing → Standing → Stepping Q → Ending Q → Type 0
+abbrev pub EndsAs : {Q : Type 0} → TermEnv → Standing → Standing → Stepping Q → MadeOrLimit Q → Type 0
 EndsAs env old new steps r = MayNoteMore old.work.errors.items new.work.errors.items × Wherever env old (λ e s. Took old new (steps e old.work.expansions s) r)
 
 -- it stopped as they say, unless memory was refused
@@ -49,7 +49,7 @@ Takes env old new steps view (Err stop) = StopsBy env old new steps stop
 
 -- as far as the work came, the whole did what is said of it if the rest does what is said of that from here on: it comes to the same,
 -- but for what is made of it. The errors so far stay
-abbrev pub LeadsOn : {P Q : Type 0} → TermEnv → Standing → Standing → Stepping Q → Stepping P → (Ending P → Ending Q) → Type 0
+abbrev pub LeadsOn : {P Q : Type 0} → TermEnv → Standing → Standing → Stepping Q → Stepping P → (MadeOrLimit P → MadeOrLimit Q) → Type 0
 LeadsOn {P} env old mid whole rest become =
     MayNoteMore old.work.errors.items mid.work.errors.items
-    × Wherever env old (λ e s. (new : Standing) (r : Ending P) → ((u : Scope) → Shows mid u → Took mid new (rest e mid.work.expansions u) r) → Took old new (whole e old.work.expansions s) (become r))
+    × Wherever env old (λ e s. (new : Standing) (r : MadeOrLimit P) → ((u : Scope) → Shows mid u → Took mid new (rest e mid.work.expansions u) r) → Took old new (whole e old.work.expansions s) (become r))
