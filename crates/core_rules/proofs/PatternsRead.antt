@@ -1,6 +1,7 @@
 -- What reading patterns makes, and which limit ends it, by their steps.
-use Rattle.std.proofs.Common.{◌≡◌, ℕ, Bool, true, false, cond, length, map, Option, Some, None, option_map, slice_get, Result, Vec, sym, ◌∙◌}
+use Rattle.std.proofs.Common.{◌≡◌, ℕ, Bool, true, false, cond, List, length, map, Option, Some, None, option_map, slice_get, Result, Vec, sym, ◌∙◌}
 use Rattle.std.specs.declared.alloc.Global.{Global}
+use Rattle.std.proofs.lemmas.List.{length-map}
 use Rattle.std.proofs.lemmas.Option.{none-some}
 use Rattle.core_syntax.specs.declared.syntax.Pattern as T
 use Rattle.core_syntax.specs.SyntaxViews as S
