@@ -29,7 +29,7 @@ use Rattle.laws_typing.proofs.TypedPatterns as patterns
 use Rattle.laws_typing.proofs.TypedExprs as exprs
 use Rattle.core_types.proofs.RightTypes.{all_left, all_right}
 use Rattle.core_rules.specs.Constructors.{has_constructor_if_there, AreMadeUses, uses_of_rule, AreTermsNamed}
-use Rattle.core_rules.specs.ExprReadings.{made_kind, made_entry, all_made}
+use Rattle.laws_errors.specs.AllMade.{made_kind, made_entry, all_made}
 use Rattle.core_rules.specs.RuleLists.{rules_within}
 use Rattle.core_rules.specs.RuleReadings.{iflets_reading, ends_reading, sides_reading, rule_reading}
 use Rattle.core_rules.proofs.MadeSettings.{term_made, converter_made}

@@ -23,11 +23,14 @@ use Rattle.core_rules.specs.declared.term_env.TermEnv.{TermEnv}
 use Rattle.core_rules.specs.declared.typing.progress.Stop.{Stop}
 use Rattle.core_typed.specs.Elaborating.{Checks}
 use Rattle.core_rules.specs.Progress.{newest, CountsOne, Counts}
-use Rattle.core_rules.specs.ExprReadings.{made_entry, all_made, expr_reading, args_reading}
-use Rattle.core_rules.specs.ExprUses.{found_expr_converter, declared_converter, inside_call, allowed, expr_list, TakesArgs}
+use Rattle.laws_errors.specs.AllMade.{made_entry, all_made}
+use Rattle.core_rules.specs.ExprReadings.{expr_reading, args_reading}
+use Rattle.laws_errors.specs.ExprSteps.{expr_list}
+use Rattle.core_rules.specs.ExprUses.{found_expr_converter, declared_converter, inside_call, allowed, TakesArgs}
 use Rattle.core_rules.specs.PatternUses.{found_term}
 use Rattle.laws_errors.specs.ReachedLimits.{or_after, where_counted}
-use Rattle.core_rules.specs.ReachedLimits.{Limits, deeper_expr_limit, expr_limits, args_limits}
+use Rattle.laws_errors.specs.ReachedLimits.{deeper_expr_limit}
+use Rattle.core_rules.specs.ReachedLimits.{Limits, expr_limits, args_limits}
 use Rattle.core_rules.specs.LimitStops.{ComesTo, StopEnds, MeetsLimits, Leads, LeadsTo}
 use Rattle.core_rules.specs.Translating.{Standing, Keeps, Reading, IsSettingOf, Shows, Wherever, IsReported, KeepsNoted, StaysNoted}
 use Rattle.core_rules.proofs.MadeSettings.{callable_made, term_made}

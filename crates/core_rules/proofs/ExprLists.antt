@@ -14,7 +14,8 @@ use Rattle.core_typed.specs.declared.exprs.Expr.{Expr}
 use Rattle.core_rules.specs.declared.term_env.TermEnv.{TermEnv}
 use Rattle.core_rules.specs.declared.typing.progress.Stop.{Stop}
 use Rattle.core_typed.specs.ExprViews.{expr_view, expr_views, expr_parts}
-use Rattle.core_rules.specs.ExprReadings.{all_made, expr_reading, args_reading}
+use Rattle.laws_errors.specs.AllMade.{all_made}
+use Rattle.core_rules.specs.ExprReadings.{expr_reading, args_reading}
 use Rattle.core_rules.specs.Translating.{Standing, Keeps, Reading, IsTranslated, IsReported, Stops, MayTranslate}
 use Rattle.core_rules.proofs.PatternLists.{same_typing}
 use Rattle.core_rules.proofs.Readings.{made_done, made_reported, made_stops, then_done, then_reported, then_stops, first_stops}

@@ -23,8 +23,10 @@ use Rattle.core_rules.specs.declared.term_env.TermEnv.{TermEnv}
 use Rattle.core_rules.specs.declared.typing.progress.Stop.{Stop}
 use Rattle.core_typed.specs.Elaborating.{Checks}
 use Rattle.core_rules.specs.Progress.{newest, Remains, CountsOne, Counts}
-use Rattle.core_rules.specs.ExprReadings.{made_entry, all_made, expr_reading, args_reading}
-use Rattle.core_rules.specs.ExprUses.{found_expr_converter, declared_converter, inside_call, allowed, expr_list, ConvertsExpr, TakesArgs}
+use Rattle.laws_errors.specs.AllMade.{made_entry, all_made}
+use Rattle.core_rules.specs.ExprReadings.{expr_reading, args_reading}
+use Rattle.laws_errors.specs.ExprSteps.{expr_list}
+use Rattle.core_rules.specs.ExprUses.{found_expr_converter, declared_converter, inside_call, allowed, ConvertsExpr, TakesArgs}
 use Rattle.core_rules.specs.PatternUses.{found_term, found_converter, name_at}
 use Rattle.core_rules.specs.Translating.{Standing, IsSettingOf, Shows, Wherever, IsTranslated, IsReported, Stops, converter_in, expanding}
 use Rattle.core_rules.proofs.MadeSettings.{callable_made, term_made, converter_made}

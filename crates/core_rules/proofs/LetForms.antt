@@ -30,7 +30,8 @@ use Rattle.core_typed.specs.declared.rules.BoundVar.{BoundVar}
 use Rattle.core_rules.specs.declared.term_env.TermEnv.{TermEnv}
 use Rattle.core_rules.specs.declared.typing.progress.Stop.{Stop}
 use Rattle.core_rules.specs.declared.typing.progress.Stop.TheVariants.{Memory, Nesting, Expansions}
-use Rattle.core_rules.specs.ExprReadings.{all_made, expr_reading, lets_reading}
+use Rattle.laws_errors.specs.AllMade.{all_made}
+use Rattle.core_rules.specs.ExprReadings.{expr_reading, lets_reading}
 use Rattle.core_typed.specs.ExprViews.{expr_view, let_views, let_parts}
 use Rattle.core_rules.specs.Lets.{with_let, before_all, HidesAs, Defines, BindsDef, Closes, DefinesOne}
 use Rattle.core_rules.specs.Progress.{newest, BindsNext, Remains}

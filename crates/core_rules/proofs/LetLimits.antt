@@ -22,7 +22,8 @@ use Rattle.core_typed.specs.ExprViews.{let_views, let_parts}
 use Rattle.core_rules.specs.declared.term_env.TermEnv.{TermEnv}
 use Rattle.core_rules.specs.declared.typing.progress.Stop.{Stop}
 use Rattle.core_rules.specs.declared.typing.progress.Stop.TheVariants.{Memory, Nesting, Expansions}
-use Rattle.core_rules.specs.ExprReadings.{all_made, expr_reading, lets_reading}
+use Rattle.laws_errors.specs.AllMade.{all_made}
+use Rattle.core_rules.specs.ExprReadings.{expr_reading, lets_reading}
 use Rattle.core_rules.specs.Lets.{with_let, Defines}
 use Rattle.core_rules.specs.Progress.{Remains}
 use Rattle.laws_errors.specs.ReachedLimits.{or_after}

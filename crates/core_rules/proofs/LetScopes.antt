@@ -11,7 +11,8 @@ use Rattle.laws_typing.proofs.TypedExprs as exprs
 use Rattle.core_types.specs.declared.ids.Sym.{Sym}
 use Rattle.core_typed.specs.declared.rules.BoundVar.{BoundVar}
 use Rattle.core_rules.specs.declared.term_env.TermEnv.{TermEnv}
-use Rattle.core_rules.specs.ExprReadings.{all_made, expr_reading}
+use Rattle.laws_errors.specs.AllMade.{all_made}
+use Rattle.core_rules.specs.ExprReadings.{expr_reading}
 use Rattle.core_rules.specs.Lets.{before_all}
 use Rattle.core_rules.specs.declared.typing.progress.Progress.{Progress}
 use Rattle.core_rules.specs.Progress.{newest, vars_of, PutsBack}

@@ -15,7 +15,8 @@ use Rattle.model.specs.lists.Elaborated.{before_rest, bound_let}
 use Rattle.model.specs.rules.Outcome.{then_option}
 use Rattle.model.specs.rules.Typed.{TypedLets, typed_expr_and}
 use Rattle.model.specs.claims.Refusals.{NamedLimit}
-use Rattle.core_rules.specs.ExprReadings.{all_made, expr_reading, args_reading, lets_reading}
+use Rattle.laws_errors.specs.AllMade.{all_made}
+use Rattle.core_rules.specs.ExprReadings.{expr_reading, args_reading, lets_reading}
 use Rattle.core_rules.specs.RuleReadings.{iflet_reading, iflets_reading}
 use Rattle.laws_errors.specs.ReachedLimits.{or_after}
 use Rattle.core_rules.specs.ReachedLimits.{expr_limits, args_limits, lets_limits, iflet_limits, iflets_limits}

@@ -23,7 +23,8 @@ use Rattle.laws_typing.proofs.TypedPatterns as patterns
 use Rattle.laws_typing.proofs.TypedExprs as exprs
 use Rattle.core_types.proofs.RightTypes.{all_left}
 use Rattle.core_rules.specs.Constructors.{has_constructor_if_there, AreMadeUses, IsMadeTerm, IfLetCallsMade, CallsMade, uses_of_rule, AreTermsNamed}
-use Rattle.core_rules.specs.ExprReadings.{all_made, expr_reading}
+use Rattle.laws_errors.specs.AllMade.{all_made}
+use Rattle.core_rules.specs.ExprReadings.{expr_reading}
 use Rattle.core_rules.specs.RuleLists.{rule_within, rules_within}
 use Rattle.core_rules.specs.RuleReadings.{iflet_reading, iflets_reading, ends_reading, sides_reading, rule_of_entry, rule_reading}
 use Rattle.core_rules.proofs.ConstructorLaws.{mapped, with_some, same_entry, own_kept}

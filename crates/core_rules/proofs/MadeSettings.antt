@@ -8,7 +8,7 @@ use Rattle.model.specs.rules.Outcome.{then_option}
 use Rattle.model.specs.lists.Tables.{Flags, TermKindEntry, variant_term, struct_term, declared_term, TermEntry}
 use Rattle.model.specs.lists.Setting.{Setting, Scope, entry_named, term_of, that, has_constructor, is_callable, expr_converter}
 use Rattle.core_rules.specs.ExprUses.{allowed}
-use Rattle.core_rules.specs.ExprReadings.{made_kind, made_entry, all_made}
+use Rattle.laws_errors.specs.AllMade.{made_kind, made_entry, all_made}
 
 pub callable_made : (flags : Flags) (k : TermKindEntry) → is_callable flags (made_kind k) ≡ allowed flags k
 callable_made flags (variant_term variant) = refl

@@ -1,5 +1,5 @@
 -- What the use of a name in an expression stands for: a conversion, a variable, or a term itself.
-use Rattle.std.specs.Prelude.{◌≡◌, ◌⊎◌, ℕ, suc, Bool, true, List, [], ◌∷◌, length, Option, Result, Ok, Err}
+use Rattle.std.specs.Prelude.{◌≡◌, ◌⊎◌, ℕ, suc, Bool, true, length, Option, Result, Ok, Err}
 use Rattle.core_syntax.specs.SyntaxViews as S
 use Rattle.model.specs.lists.Syntax.{Position, Name, ExprTree, term_expr, ExprTrees, no_expr, expr_and}
 use Rattle.model.specs.lists.Tables.{Flags, TermKindEntry, variant_term, struct_term, declared_term, TermEntry}
@@ -7,6 +7,7 @@ use Rattle.model.specs.lists.Setting.{allow}
 use Rattle.model.specs.lists.Typings.{made_into}
 use Rattle.model.specs.rules.Outcome.{then_option}
 use Rattle.model.specs.rules.Typed.{make_term, make_var}
+use Rattle.laws_errors.specs.ExprSteps.{expr_list}
 use Rattle.core_types.specs.declared.type_env.TypeEnv.{TypeEnv}
 use Rattle.core_terms.specs.Terms.{has_constructor_kind}
 use Rattle.core_terms.specs.TermViews.{term_view}
@@ -37,11 +38,6 @@ abbrev pub allowed : Flags → TermKindEntry → Bool
 allowed flags (variant_term variant) = true
 allowed flags struct_term = true
 allowed flags (declared_term own constructor_kind extractor_kind) = allow flags own
-
--- the expressions, as a list
-abbrev pub expr_list : ExprTrees → List ExprTree
-expr_list no_expr = []
-expr_list (expr_and x rest) = x ∷ expr_list rest
 
 -- an expression is found to be this one inside a use of a converter, in which one expansion fewer may nest
 pub record ConvertsExpr (env : TermEnv) (old new : Standing) (d : ℕ) (whole : ExprTree) (flags : Flags) (ty : Option ℕ) (made : ExprTree) (left : ℕ) : Type 0 where
