@@ -5,12 +5,14 @@ mod Deciding
 mod DefinedTerms
 mod EnvironmentsAtEnd
 mod ErrorPositions
+mod ExpansionsTaken
 mod ExprForms
 mod ExprLeaves
 mod ExprLimits
 mod ExprLists
 mod ExprSizes
 mod ExprUsing
+mod ExprsTaken
 mod FirstPastLimits
 mod IfLetLists
 mod LetForms

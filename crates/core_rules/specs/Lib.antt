@@ -1,5 +1,6 @@
 pub mod Constructors
 pub mod ExprReadings
+pub mod ExprTaking
 pub mod ExprUses
 pub mod Lets
 pub mod LimitStops

@@ -6,7 +6,7 @@ ghost use Rattle.model.specs.lists.Syntax.{bool_expr, int_expr, prim_expr};
 ghost use Rattle.model.specs.lists.Tables.{Flags};
 ghost use Rattle.model.specs.lists.Setting.{is_expected};
 ghost use Rattle.core_types.specs.Envs.{IsInterned};
-ghost use Rattle.core_typed.specs.Elaborating.{Checks};
+ghost use Rattle.core_typed.specs.Elaborating.{Checks, NotesEachAt, place_unless};
 ghost use Rattle.core_typed.specs.ExprViews.{expr_view};
 ghost use Rattle.core_rules.specs.ExprReadings.{expected, expr_reading};
 ghost use Rattle.core_rules.specs.LimitStops.{NotLimited};
@@ -117,6 +117,7 @@ fn check_truth(
 ) -> Result<(), AllocError>
     ensures checks { OnOk result (Checks errors.old.items errors.new.items (is_expected (expected expected_ty) 0 ≡ true)) }
     ensures places { OnOk result (NotesAt (position pos ∷ []) errors.old.items errors.new.items) }
+    ensures exact { OnOk result (NotesEachAt (place_unless (is_expected (expected expected_ty) 0) (position pos)) errors.old.items errors.new.items) }
 {
     match expected_ty {
         Some(ty) => check_bool(tyenv, errors, pos, val, ty),

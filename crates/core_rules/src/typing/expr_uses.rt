@@ -1,19 +1,22 @@
 //! What names in expressions stand for: variables and terms.
 
-ghost use Rattle.std.specs.Prelude.{◌≡◌, ◌||◌, [], ◌∷◌, true, not, IfOk, OnOk, option_map, option_and_then, length, string_bytes};
+ghost use Rattle.std.specs.Bool.{◌==◌};
+ghost use Rattle.std.specs.Prelude.{◌≡◌, ◌||◌, [], ◌∷◌, ◌++◌, true, not, IfOk, OnOk, option_map, option_and_then, length, string_bytes};
 ghost use Rattle.core_syntax.specs.SyntaxViews.{name_view, position, expr_view, expr_views};
 ghost use Rattle.model.specs.lists.Syntax.{term_expr, var_expr};
 ghost use Rattle.model.specs.lists.Setting.{is_expected};
 ghost use Rattle.model.specs.lists.Tables.{Flags};
+ghost use Rattle.laws_errors.specs.ExprSteps.{forbidden};
 ghost use Rattle.core_terms.specs.TermViews.{flags_view, term_view};
 ghost use Rattle.core_types.specs.Envs.{symbol_of, IsInterned};
 ghost use Rattle.core_syntax.specs.NotedErrors.{NotesMore};
-ghost use Rattle.core_typed.specs.Elaborating.{Checks};
+ghost use Rattle.core_typed.specs.Elaborating.{Checks, NotesEachAt, place_unless};
 ghost use Rattle.core_rules.specs.ExprReadings.{expected};
 ghost use Rattle.core_rules.specs.ExprUses.{found_expr_converter, declared_converter, inside_call, allowed, UsesVar, UsesCall};
 ghost use Rattle.core_rules.specs.UseLimits.{VarComes, CallComes};
 ghost use Rattle.core_rules.specs.Progress.{newest, Remains};
 ghost use Rattle.core_typed.specs.RuleViews.{var_view};
+ghost use Rattle.core_rules.specs.Taking.{places_of};
 ghost use Rattle.core_rules.specs.Translating.{standing};
 ghost use Rattle.core_syntax.specs.Positions.{NotesAt, expr_positions};
 ghost use Rattle.core_rules.specs.RulePositions.{StaysPlaced, ConvertsAmong, CallsAmong};
@@ -204,6 +207,7 @@ fn check_expected(
 ) -> Result<(), AllocError>
     ensures checks { OnOk result (Checks errors.old.items errors.new.items (is_expected (expected want) has.0 ≡ true)) }
     ensures places { OnOk result (NotesAt (position pos ∷ []) errors.old.items errors.new.items) }
+    ensures exact { OnOk result (NotesEachAt (place_unless (is_expected (expected want) has.0) (position pos)) errors.old.items errors.new.items) }
 {
     if meets_expected(has, want) {
         return Ok(());
@@ -228,6 +232,9 @@ fn check_call(
         (((is_expected (expected expected_ty) (term_view term.now).ret_ty ≡ true) × (allowed (flags_view flags) (term_view term.now).kind ≡ true)) × (args ≡ length (term_view term.now).arg_tys))) }
     ensures remains { Remains work.old work.new }
     ensures places { OnOk result (NotesAt (position pos ∷ []) work.old.errors.items work.new.errors.items) }
+    ensures exact { OnOk result (NotesEachAt (place_unless (is_expected (expected expected_ty) (term_view term.now).ret_ty) (position pos)
+        ++ (places_of (forbidden (flags_view flags) (string_bytes sym.now.0) (position pos) (term_view term.now).kind)
+        ++ place_unless (args == length (term_view term.now).arg_tys) (position pos))) work.old.errors.items work.new.errors.items) }
 {
     check_expected(
         tyenv,
@@ -254,6 +261,8 @@ fn check_flags(
 ) -> Result<(), AllocError>
     ensures checks { OnOk result (Checks errors.old.items errors.new.items (allowed (flags_view flags) (term_view term.now).kind ≡ true)) }
     ensures places { OnOk result (NotesAt (position pos ∷ []) errors.old.items errors.new.items) }
+    ensures exact { OnOk result (NotesEachAt (places_of (forbidden (flags_view flags) (string_bytes sym.now.0) (position pos) (term_view term.now).kind))
+        errors.old.items errors.new.items) }
 {
     let TermKind::Decl { flags: own, .. } = &term.kind else {
         return Ok(());
@@ -287,6 +296,7 @@ fn check_allowed(
 ) -> Result<(), AllocError>
     ensures checks { OnOk result (Checks errors.old.items errors.new.items (is_allowed ≡ true)) }
     ensures places { OnOk result (NotesAt (position pos ∷ []) errors.old.items errors.new.items) }
+    ensures exact { OnOk result (NotesEachAt (place_unless is_allowed (position pos)) errors.old.items errors.new.items) }
 {
     if is_allowed {
         return Ok(());
@@ -324,6 +334,7 @@ fn report_unknown(
 ) -> Result<(), AllocError>
     ensures noted { OnOk result (NotesMore work.old.errors.items work.new.errors.items) }
     ensures places { OnOk result (NotesAt (position pos ∷ []) work.old.errors.items work.new.errors.items) }
+    ensures exact { OnOk result (NotesEachAt (position pos ∷ []) work.old.errors.items work.new.errors.items) }
 {
     let wrong = match find_var(tyenv, work, sym) {
         Some(_) => Wrong::CalledVariable,
