@@ -6,9 +6,9 @@ use Rattle.std.proofs.lemmas.Option.{none-some}
 use Rattle.model.specs.lists.Syntax.{Position, Name, ExprTree, ExprTrees, no_expr, expr_and, term_expr, var_expr, bool_expr, int_expr, prim_expr}
 use Rattle.model.specs.lists.Names.{number, with_name}
 use Rattle.model.specs.lists.Ranges.{reduced}
-use Rattle.model.specs.lists.Tables.{Flags, TermEntry}
+use Rattle.model.specs.lists.Tables.{Flags, TermKindEntry, variant_term, struct_term, declared_term, TermEntry}
 use Rattle.model.specs.lists.Expansions.{term_name_at, wrapped_expr}
-use Rattle.model.specs.lists.Setting.{Setting, Scope, met, var_of, that, is_expected, converter, expr_converter}
+use Rattle.model.specs.lists.Setting.{Setting, Scope, met, var_of, that, has_constructor, is_expected, converter, expr_converter}
 use Rattle.model.specs.rules.Outcome.{then_option}
 use Rattle.model.specs.rules.Values.{is_atom_type}
 use Rattle.model.specs.rules.Typed.{TypedExpr, TypedExprs, TypedVar, make_term, make_var, make_bool, make_int, make_prim}
@@ -16,6 +16,8 @@ use Rattle.model.proofs.Names.{known_name}
 use Rattle.laws_errors.specs.Steps.{unknown_constructor, unknown_variable, unknown_constant, variable_type, constructor_type, constant_type, no_truth, no_integer, untyped_integer, argument_count, no_constructor, Why, Mistake, Step, went_on, stopped, unless, here, nothing, noting, made_step}
 use Rattle.laws_errors.specs.ExprSteps.{expr_list, converted_or, expected_step, forbidden, call_step, called_step, used_step, made_constant_step, deeper_expr_step}
 use Rattle.core_syntax.specs.declared.syntax.Error.{Error}
+use Rattle.core_syntax.specs.declared.syntax.Expr.{Expr}
+use Rattle.core_syntax.specs.SyntaxViews.{expr_views}
 use Rattle.core_types.specs.Envs.{names_of, symbol_of, constant_at, IsInterned}
 use Rattle.core_types.specs.TypeViews.{type_views}
 use Rattle.core_terms.specs.Terms.{has_constructor_kind}
@@ -32,9 +34,9 @@ use Rattle.core_rules.specs.Progress.{newest, Remains, CountsOne, Counts}
 use Rattle.core_rules.specs.Taking.{Stepping, Ending, places_of, Took, took, ended, EndsAs, StopsBy, LeadsOn}
 use Rattle.core_rules.specs.Translating.{Standing, IsSettingOf, Shows, Wherever, converter_in}
 use Rattle.core_rules.proofs.ExpansionsTaken.{counted_shows, Nested, expansion, went_deeper, expansion_stops}
-use Rattle.core_rules.proofs.ExprUsing.{converter_is, var_found}
+use Rattle.core_rules.proofs.ExprUsing.{var_found}
 use Rattle.core_rules.proofs.PatternLeaves.{constant_is}
-use Rattle.core_rules.proofs.PatternUsing.{found_so}
+use Rattle.core_rules.proofs.PatternUsing.{found_so, that_same}
 use Rattle.core_rules.proofs.Scopes.{is_met, still, met_shows}
 use Rattle.core_rules.proofs.Taken.{taken_as, noted, tested, made}
 
@@ -107,7 +109,19 @@ that_true : (o : Option TermEntry) → that (λ t. true) o ≡ o
 that_true None = refl
 that_true (Some t) = refl
 
+same_constructor : (k : TermKindEntry) → has_constructor k ≡ has_constructor_kind k
+same_constructor (variant_term variant) = refl
+same_constructor struct_term = refl
+same_constructor (declared_term flags constructor_kind extractor_kind) = refl
+
 module _ (env : TermEnv) (old : Standing) (e : Setting) (is : IsSettingOf old.tyenv env e) (own : ℕ) where
+  converter_is : (want : ℕ) → eqb own want ≡ false → expr_converter e own want ≡ found_converter env has_constructor_kind own want
+  converter_is want ne =
+      that_same (λ u. has_constructor u.kind) (λ u. has_constructor_kind u.kind) (λ u. same_constructor u.kind) _
+      ∙ ap (λ o. that (λ u. has_constructor_kind u.kind) (then_option o (slice_get e.terms))) (sym (is.converters own want))
+      ∙ ap (λ ts. that (λ u. has_constructor_kind u.kind) (then_option (converter_in env own want) (slice_get ts))) (sym is.terms)
+      ∙ sym (ap (λ b. cond b None (that (λ u. has_constructor_kind u.kind) (then_option (converter_in env own want) (slice_get (term_views env.terms.items))))) ne)
+
   declared_is : (want : ℕ) → eqb own want ≡ false → converter e own want ≡ found_converter env (λ k. true) own want
   declared_is want ne =
       ap (λ o. then_option o (slice_get e.terms)) (sym (is.converters own want))
@@ -120,7 +134,7 @@ module _ (env : TermEnv) (old : Standing) (e : Setting) (is : IsSettingOf old.ty
         → expected_step e own (Some want) at s itself convert ≡ converted_or at s itself convert o p
     by_converters want o p ne h k =
         ap (λ b. cond b itself (converted_or at s itself convert (expr_converter e own want) (converter e own want))) ne
-        ∙ ap (λ c. converted_or at s itself convert c (converter e own want)) (converter_is env old e is own want ne ∙ sym h)
+        ∙ ap (λ c. converted_or at s itself convert c (converter e own want)) (converter_is want ne ∙ sym h)
         ∙ ap (λ c. converted_or at s itself convert o c) (declared_is want ne ∙ sym k)
 
     pub stays_itself : (ty : Option ℕ) → None ≡ found_expr_converter env own ty → None ≡ declared_converter env own ty → expected_step e own ty at s itself convert ≡ itself
@@ -219,6 +233,10 @@ module _ (env : TermEnv) (old : Standing) (inv : IsInterned old.tyenv) (name : N
       )
 
 -- 5. the use of a term
+pub list_length : (xs : List Expr) → length (expr_list (expr_views xs)) ≡ length xs
+list_length [] = refl
+list_length (x ∷ xs) = ap suc (list_length xs)
+
 -- what is wrong by several checks
 noted_in_order : {Q : Type 0} (ws vs : List Mistake) (t : Step Q) → noting (ws ++ vs) t ≡ noting ws (noting vs t)
 noted_in_order ws vs (went_on m s k es) = ap (went_on m s k) (append_assoc ws vs es)

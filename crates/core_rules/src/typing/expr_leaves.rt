@@ -1,6 +1,6 @@
 //! How expressions without parts are typed, but for variables.
 
-ghost use Rattle.std.specs.Prelude.{◌≡◌, [], ◌∷◌, ℕ, true, OnOk};
+ghost use Rattle.std.specs.Prelude.{◌≡◌, [], ◌∷◌, ℕ, true, OnOk, option_map};
 ghost use Rattle.core_syntax.specs.SyntaxViews.{name_view, position};
 ghost use Rattle.model.specs.lists.Syntax.{bool_expr, int_expr, prim_expr};
 ghost use Rattle.model.specs.lists.Tables.{Flags};
@@ -9,7 +9,9 @@ ghost use Rattle.core_types.specs.Envs.{IsInterned};
 ghost use Rattle.core_typed.specs.Elaborating.{Checks, NotesEachAt, place_unless};
 ghost use Rattle.core_typed.specs.ExprViews.{expr_view};
 ghost use Rattle.core_rules.specs.ExprReadings.{expected, expr_reading};
+ghost use Rattle.core_rules.specs.ExprTaking.{expr_steps};
 ghost use Rattle.core_rules.specs.LimitStops.{NotLimited};
+ghost use Rattle.core_rules.specs.Taking.{Takes};
 ghost use Rattle.core_rules.specs.Translating.{standing, Keeps, MayTranslate};
 ghost use Rattle.core_syntax.specs.Positions.{NotesAt};
 ghost use Rattle.core_rules.specs.RulePositions.{StaysPlaced};
@@ -39,6 +41,8 @@ impl TermEnv {
             (expr_reading (bool_expr val (position pos)) flags (expected expected_ty)) expr_view result }
         ensures places { StaysPlaced (position pos ∷ []) work.old.errors.items work.new.errors.items result }
         ensures unlimited { NotLimited result }
+        ensures reads { (flags : Flags) (d : ℕ) → Takes self.now (standing tyenv.now work.old) (standing tyenv.now work.new)
+            (expr_steps (bool_expr val (position pos)) flags (expected expected_ty) d) (option_map expr_view) result }
     {
         check_truth(tyenv, &mut work.errors, pos, val, expected_ty)?;
         Ok(Some(Expr::ConstBool(TypeId::BOOL, val)))
@@ -58,6 +62,8 @@ impl TermEnv {
             (expr_reading (int_expr val (position pos)) flags (expected expected_ty)) expr_view result }
         ensures places { StaysPlaced (position pos ∷ []) work.old.errors.items work.new.errors.items result }
         ensures unlimited { NotLimited result }
+        ensures reads { (flags : Flags) (d : ℕ) → Takes self.now (standing tyenv.now work.old) (standing tyenv.now work.new)
+            (expr_steps (int_expr val (position pos)) flags (expected expected_ty) d) (option_map expr_view) result }
     {
         let Some(ty) = expected_ty else {
             report(&mut work.errors, pos, Why::UntypedInteger)?;
@@ -84,6 +90,8 @@ impl TermEnv {
             (expr_reading (prim_expr (name_view val.now) (position pos)) flags (expected expected_ty)) expr_view result }
         ensures places { StaysPlaced (position pos ∷ []) work.old.errors.items work.new.errors.items result }
         ensures unlimited { NotLimited result }
+        ensures reads { (flags : Flags) (d : ℕ) → Takes self.now (standing tyenv.old work.old) (standing tyenv.new work.new)
+            (expr_steps (prim_expr (name_view val.now) (position pos)) flags (expected expected_ty) d) (option_map expr_view) result }
     {
         let name = tyenv.intern_mut(val)?;
         let Some(ty) = constant_type(tyenv, name) else {

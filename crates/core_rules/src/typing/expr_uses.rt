@@ -12,6 +12,7 @@ ghost use Rattle.core_types.specs.Envs.{symbol_of, IsInterned};
 ghost use Rattle.core_syntax.specs.NotedErrors.{NotesMore};
 ghost use Rattle.core_typed.specs.Elaborating.{Checks, NotesEachAt, place_unless};
 ghost use Rattle.core_rules.specs.ExprReadings.{expected};
+ghost use Rattle.core_rules.specs.ExprTaking.{VarTakes, CallTakes};
 ghost use Rattle.core_rules.specs.ExprUses.{found_expr_converter, declared_converter, inside_call, allowed, UsesVar, UsesCall};
 ghost use Rattle.core_rules.specs.UseLimits.{VarComes, CallComes};
 ghost use Rattle.core_rules.specs.Progress.{newest, Remains};
@@ -102,6 +103,8 @@ impl TermEnv {
         ensures among { ConvertsAmong (expr_positions (expr_view whole.now)) result }
         ensures limits { (flags : Flags) → VarComes self.now (standing tyenv.now work.old) (standing tyenv.now work.new) nesting
             (expr_view whole.now) flags (expected expected_ty) result }
+        ensures reads { (flags : Flags) → VarTakes self.now (standing tyenv.now work.old) (standing tyenv.now work.new) nesting
+            (expr_view whole.now) flags (expected expected_ty) result }
     {
         let Some(bound) = find_var(tyenv, work, name) else {
             report_name(&mut work.errors, pos, Wrong::UnknownVariable, &name.0)?;
@@ -150,6 +153,8 @@ impl TermEnv {
         ensures places { StaysPlaced (position pos ∷ []) work.old.errors.items work.new.errors.items result }
         ensures among { CallsAmong (expr_positions (expr_view whole.now)) result }
         ensures limits { CallComes self.now (standing tyenv.now work.old) (standing tyenv.now work.new) nesting (expr_view whole.now)
+            (expr_views args.now) (flags_view flags) (expected expected_ty) result }
+        ensures reads { CallTakes self.now (standing tyenv.now work.old) (standing tyenv.now work.new) nesting (expr_view whole.now)
             (expr_views args.now) (flags_view flags) (expected expected_ty) result }
     {
         let Some(term) = self.find_term(tyenv, sym) else {
@@ -333,6 +338,7 @@ fn report_unknown(
     sym: &Ident,
 ) -> Result<(), AllocError>
     ensures noted { OnOk result (NotesMore work.old.errors.items work.new.errors.items) }
+    ensures remains { Remains work.old work.new }
     ensures places { OnOk result (NotesAt (position pos ∷ []) work.old.errors.items work.new.errors.items) }
     ensures exact { OnOk result (NotesEachAt (position pos ∷ []) work.old.errors.items work.new.errors.items) }
 {

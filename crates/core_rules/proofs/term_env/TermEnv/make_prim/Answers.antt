@@ -4,7 +4,9 @@ use Rattle.core_syntax.specs.SyntaxViews.{name_view, position}
 use Rattle.core_types.specs.Envs.{constant_at, symbol, same_symbol}
 use Rattle.core_rules.specs.ExprReadings.{expected}
 use Rattle.core_rules.specs.Translating.{standing}
+use Rattle.core_typed.proofs.NotedErrors.{told_at}
 use Rattle.core_rules.proofs.ExprLeaves.{constant_unknown, constant_made}
+use Rattle.core_rules.proofs.ExprsTaken as taken
 use Rattle.core_rules.proofs.term_env.TermEnv.make_prim.Goals as goal
 
 pub returns-in_default-clause-made : goal.returns-in_default-clause-made
@@ -20,3 +22,27 @@ returns-clause-made c flags d =
     c.in-Some.ty.0
     (c.in-Some.ensures ∙ ap (λ t. option_map (λ i. i.0) (look_up same_symbol t (symbol c.in_ok-name.name.0))) c.intern_mut.ensures.const_types ∙ ap (constant_at c.args.tyenv.now) c.in_ok-name.ensures.number)
     c.in_ok-name.name.0 c.in_ok-name.ensures.number (record { vars = refl; names = λ k. refl; expansions = refl }) refl (sym c.meets_expected.ensures ∙ c.if-not-meets_expected.false) d
+
+pub returns-in_default-clause-reads : goal.returns-in_default-clause-reads
+returns-in_default-clause-reads c flags d =
+    let none : ◌≡◌ {A = Option ℕ} None (constant_at c.intern_mut.new.self c.in_ok-name.name.0) = c.in_default.ensures in
+    taken.unknown_made c.args.self.now (standing c.args.tyenv.now c.args.work.now) _ (position c.args.pos) flags (expected c.args.expected_ty) d (record { vars = refl; names = λ k. refl; expansions = refl })
+    (name_view c.args.val.now) c.in_ok-name.ensures.names
+    (none ∙ ap (λ t. option_map (λ i. i.0) (look_up same_symbol t (symbol c.in_ok-name.name.0))) c.intern_mut.ensures.const_types ∙ ap (constant_at c.args.tyenv.now) c.in_ok-name.ensures.number)
+    (told_at (position c.args.pos) _ _ c.in_ok-report_name.ensures.told)
+
+pub returns-then-not-meets_expected-clause-reads : goal.returns-then-not-meets_expected-clause-reads
+returns-then-not-meets_expected-clause-reads c flags d =
+    taken.constant_refused c.args.self.now (standing c.args.tyenv.now c.args.work.now) _ (position c.args.pos) flags (expected c.args.expected_ty) d (record { vars = refl; names = λ k. refl; expansions = refl })
+    (name_view c.args.val.now) c.in_ok-name.ensures.names
+    c.in-Some.ty.0 c.in_ok-name.name.0
+    (c.in-Some.ensures ∙ ap (λ t. option_map (λ i. i.0) (look_up same_symbol t (symbol c.in_ok-name.name.0))) c.intern_mut.ensures.const_types ∙ ap (constant_at c.args.tyenv.now) c.in_ok-name.ensures.number)
+    c.in_ok-name.ensures.number (sym c.meets_expected.ensures ∙ c.if-not-meets_expected.true) c.in_ok-report_mismatch.ensures.exact
+
+pub returns-clause-reads : goal.returns-clause-reads
+returns-clause-reads c flags d =
+    taken.constant_made c.args.self.now (standing c.args.tyenv.now c.args.work.now) _ (position c.args.pos) flags (expected c.args.expected_ty) d (record { vars = refl; names = λ k. refl; expansions = refl })
+    (name_view c.args.val.now) c.in_ok-name.ensures.names
+    c.in-Some.ty.0 c.in_ok-name.name.0
+    (c.in-Some.ensures ∙ ap (λ t. option_map (λ i. i.0) (look_up same_symbol t (symbol c.in_ok-name.name.0))) c.intern_mut.ensures.const_types ∙ ap (constant_at c.args.tyenv.now) c.in_ok-name.ensures.number)
+    c.in_ok-name.ensures.number (sym c.meets_expected.ensures ∙ c.if-not-meets_expected.false) refl

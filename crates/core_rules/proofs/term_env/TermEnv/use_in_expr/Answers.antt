@@ -12,6 +12,8 @@ use Rattle.core_syntax.specs.Positions.{expr_positions, exprs_positions}
 use Rattle.core_rules.proofs.ErrorPositions.{counted_stop}
 use Rattle.core_rules.proofs.SubstitutedPlaces.{called_places}
 use Rattle.core_rules.proofs.ExprLimits as limits
+use Rattle.core_rules.proofs.ExprsTaken as taken
+use Rattle.core_typed.proofs.NotedErrors.{told_at}
 use Rattle.core_rules.proofs.ExprLimits.{call_unknown_comes, call_converts_comes, call_unmade_comes, args_lead, converted_leads}
 use Rattle.core_rules.proofs.term_env.TermEnv.use_in_expr.Goals as goal
 
@@ -99,3 +101,39 @@ returns-clause-limits c =
     (args_lead c.args.self.now (standing c.args.tyenv.now c.args.work.now) c.requires.inverse (name_view c.args.sym.now) (expr_views c.args.args.now) (position c.args.pos) (flags_view c.args.flags) (expected c.args.expected_ty)
     (term_view c.in-Some.term.now) c.in-Some.ensures c.in_default-expr_converter.ensures _ (sym (list_length c.args.args.now))
     _ _ c.args.nesting c.check_call.ensures.remains.expansions c.in_ok-check_call.ensures.checks)
+
+pub returns-in_default-clause-reads : goal.returns-in_default-clause-reads
+returns-in_default-clause-reads c =
+    rw c.requires.whole
+    (taken.no_term c.args.self.now (standing c.args.tyenv.now c.args.work.now) c.requires.inverse (name_view c.args.sym.now) (expr_views c.args.args.now) (position c.args.pos) (flags_view c.args.flags) (expected c.args.expected_ty) c.args.nesting
+    (standing c.args.tyenv.now c.report_unknown.new.work) c.in_default.ensures refl c.report_unknown.ensures.remains c.in_ok-report_unknown.ensures.exact)
+
+pub returns-in_err-left-clause-reads : goal.returns-in_err-left-clause-reads
+returns-in_err-left-clause-reads c =
+    rw (stop_is c.from_residual-in_err-left.result c.in_err-left.field-0.0 c.from_residual-in_err-left.ensures, c.requires.whole)
+    (taken.conversion_stops c.args.self.now (standing c.args.tyenv.now c.args.work.now) (term_expr (name_view c.args.sym.now) (expr_views c.args.args.now) (position c.args.pos)) (position c.args.pos) (flags_view c.args.flags) (expected c.args.expected_ty) c.args.nesting (term_view c.in-Some-expr_converter.by.now)
+    (taken.converted_call c.args.self.now (standing c.args.tyenv.now c.args.work.now) c.requires.inverse (name_view c.args.sym.now) (expr_views c.args.args.now) (position c.args.pos) (flags_view c.args.flags) (expected c.args.expected_ty) c.args.nesting
+    (term_view c.in-Some.term.now) c.in-Some.ensures (term_view c.in-Some-expr_converter.by.now) c.in-Some-expr_converter.ensures)
+    (standing c.args.tyenv.now c.expand.new.self) refl c.in_err-left.field-0.0 c.in_err-left.ensures)
+
+pub returns-in-Some-expr_converter-clause-reads : goal.returns-in-Some-expr_converter-clause-reads
+returns-in-Some-expr_converter-clause-reads c =
+    rw (c.in_ok-inside.ensures, c.requires.whole)
+    (taken.conversion_leads c.args.self.now (standing c.args.tyenv.now c.args.work.now) (term_expr (name_view c.args.sym.now) (expr_views c.args.args.now) (position c.args.pos)) (position c.args.pos) (flags_view c.args.flags) (expected c.args.expected_ty) c.args.nesting (term_view c.in-Some-expr_converter.by.now)
+    (taken.converted_call c.args.self.now (standing c.args.tyenv.now c.args.work.now) c.requires.inverse (name_view c.args.sym.now) (expr_views c.args.args.now) (position c.args.pos) (flags_view c.args.flags) (expected c.args.expected_ty) c.args.nesting
+    (term_view c.in-Some.term.now) c.in-Some.ensures (term_view c.in-Some-expr_converter.by.now) c.in-Some-expr_converter.ensures)
+    (standing c.args.tyenv.now c.expand.new.self) c.in_ok-left.left refl c.in_ok-left.ensures.0 c.in_ok-left.ensures.1)
+
+pub returns-in-Some-declared_converter-clause-reads : goal.returns-in-Some-declared_converter-clause-reads
+returns-in-Some-declared_converter-clause-reads c =
+    rw c.requires.whole
+    (taken.call_unconverted c.args.self.now (standing c.args.tyenv.now c.args.work.now) c.requires.inverse (name_view c.args.sym.now) (expr_views c.args.args.now) (position c.args.pos) (flags_view c.args.flags) (expected c.args.expected_ty) c.args.nesting
+    (term_view c.in-Some.term.now) c.in-Some.ensures _ refl (record { vars = refl; names = λ k. refl; expansions = refl }) c.in_default-expr_converter.ensures
+    (term_view c.in-Some-declared_converter.by.now) c.in-Some-declared_converter.ensures (told_at (position c.args.pos) _ _ c.in_ok-report_name.ensures.told))
+
+pub returns-clause-reads : goal.returns-clause-reads
+returns-clause-reads c =
+    rw c.requires.whole
+    (taken.parts_lead c.args.self.now (standing c.args.tyenv.now c.args.work.now) c.requires.inverse (name_view c.args.sym.now) (expr_views c.args.args.now) (position c.args.pos) (flags_view c.args.flags) (expected c.args.expected_ty) c.args.nesting
+    (term_view c.in-Some.term.now) c.in-Some.ensures (standing c.args.tyenv.now c.check_call.new.work) refl c.check_call.ensures.remains c.in_default-expr_converter.ensures
+    c.in_default-declared_converter.ensures _ (sym (taken.list_length c.args.args.now)) c.in_ok-check_call.ensures.exact)
