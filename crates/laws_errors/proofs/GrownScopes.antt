@@ -1,0 +1,296 @@
+-- What can be used behind an expression: what could be before it, and above that what was left open. A let that is made puts its names back.
+use Rattle.std.proofs.Common.{◌≡◌, ℕ, zero, suc, ◌+◌, ◌≤◌, true, false, cond, eqb, nat_le, List, [], ◌∷◌, ◌++◌, length, Option, Some, None, slice_get, append_assoc, append-nil, length-append, true≢false, inl, inr, refl, sym, ap, ◌∙◌, arith}
+use Rattle.std.proofs.lemmas.Bool.{cases_Bool, eq-eqb, eqb-true, ne_eqb}
+use Rattle.model.specs.lists.Syntax.{Position, Name, ExprTree, term_expr, var_expr, bool_expr, int_expr, prim_expr, let_expr, ExprTrees, no_expr, expr_and, LetTrees, no_let, let_and}
+use Rattle.model.specs.lists.Names.{number, with_name}
+use Rattle.model.specs.lists.Tables.{Flags, TermEntry}
+use Rattle.model.specs.lists.Setting.{Setting, Scope, new_var, var_named, met, bound, var_of, term_of, type_of_name, type_of_constant, is_expected, converter, expr_converter}
+use Rattle.model.specs.lists.Expansions.{wrapped_expr}
+use Rattle.model.specs.lists.Elaborated.{most_expansions}
+use Rattle.model.specs.rules.Typed.{TypedExpr, make_term, make_var, make_prim, TypedLets, no_typed_let, typed_let_and, TypedVar}
+use Rattle.model.specs.claims.Refusals.{of_expansions}
+use Rattle.laws_errors.specs.Steps.{variable_type, constructor_type, constant_type, argument_count, Mistake, Step, went_on, stopped, unless, here, nothing, noting, made_step, counted_step, joined_step, then_step, last_made, then_made}
+use Rattle.laws_errors.specs.ExprSteps.{expr_list, converted_or, expected_step, forbidden, call_step, called_step, used_step, made_constant_step, with_arg, with_def, def_step, let_step, uncovered, put_back, closed, ended_step, expr_step, args_step, lets_step, deeper_expr_step}
+
+-- 1. scopes
+abbrev pub AreNewer : ℕ → List TypedVar → Type 0
+AreNewer n [] = Unit {0}
+AreNewer n (w ∷ ws) = (n ≤ w.id) × AreNewer n ws
+
+newer_both : (n : ℕ) (ws vs : List TypedVar) → AreNewer n ws → AreNewer n vs → AreNewer n (ws ++ vs)
+newer_both n [] vs h k = k
+newer_both n (w ∷ ws) vs h k = (h.0, newer_both n ws vs h.1 k)
+
+newer_still : (n m : ℕ) (ws : List TypedVar) → n ≤ m → AreNewer m ws → AreNewer n ws
+newer_still n m [] l h = tt
+newer_still n m (w ∷ ws) l h = (let k = h.0 in omega (arith, l, k), newer_still n m ws l h.1)
+
+-- what can be used is what could be, and newer variables above it; all variables stay
+pub record GrowsOn (s t : Scope) : Type 0 where
+  pub top : List TypedVar
+  pub visible : t.visible ≡ top ++ s.visible
+  pub newer : AreNewer (length s.vars) top
+  pub more : List TypedVar
+  pub vars : t.vars ≡ s.vars ++ more
+
+pub grows_same : (s : Scope) → GrowsOn s s
+grows_same s = record { top = []; visible = refl; newer = tt; more = []; vars = sym (append-nil s.vars) }
+
+longer : (s t : Scope) → GrowsOn s t → length s.vars ≤ length t.vars
+longer s t a = let l = ap length a.vars ∙ length-append s.vars a.more in omega (arith, l)
+
+pub grows_both : (s t u : Scope) → GrowsOn s t → GrowsOn t u → GrowsOn s u
+grows_both s t u a b = record {
+  top = b.top ++ a.top;
+  visible = b.visible ∙ ap (λ vs. b.top ++ vs) a.visible ∙ sym (append_assoc b.top a.top s.visible);
+  newer = newer_both (length s.vars) b.top a.top (newer_still (length s.vars) (length t.vars) b.top (longer s t a) b.newer) a.newer;
+  more = a.more ++ b.more;
+  vars = b.vars ∙ ap (λ vs. vs ++ b.more) a.vars ∙ append_assoc s.vars a.more b.more;
+}
+
+pub grows_met : (s : Scope) (x : List ℕ) → GrowsOn s (met s x)
+grows_met s x = record { top = []; visible = refl; newer = tt; more = []; vars = sym (append-nil s.vars) }
+
+-- the variable that is bound
+abbrev fresh : Scope → List ℕ → ℕ → TypedVar
+fresh s x ty = new_var s.vars (number (with_name s.names x) x) ty
+
+pub grows_bound : (s : Scope) (x : List ℕ) (ty : ℕ) → GrowsOn s (bound s x ty)
+grows_bound s x ty = record { top = fresh s x ty ∷ []; visible = refl; newer = (omega arith, tt); more = fresh s x ty ∷ []; vars = refl }
+
+-- 2. names that are put back
+-- variables but those of a name
+abbrev pub but_named : ℕ → List TypedVar → List TypedVar
+but_named name [] = []
+but_named name (v ∷ vs) = cond (eqb name v.name) (but_named name vs) (v ∷ but_named name vs)
+
+newer_kept : (n name : ℕ) (vs : List TypedVar) → AreNewer n vs → AreNewer n (but_named name vs)
+newer_kept n name [] h = tt
+newer_kept n name (v ∷ vs) h = elim (eqb name v.name) as (λ b. AreNewer n (cond b (but_named name vs) (v ∷ but_named name vs))) [ true ↦ newer_kept n name vs h.1 | false ↦ (h.0, newer_kept n name vs h.1) ]
+
+pub uncovered_is : (x : ℕ) (w : TypedVar) (top rest : List TypedVar) → w.id ≡ x → AreNewer (suc x) top → uncovered x (Some w) (top ++ w ∷ rest) ≡ but_named w.name top ++ rest
+uncovered_is x w [] rest here newer = ap (λ b. cond b rest (cond (eqb w.name w.name) (uncovered x (Some w) rest) (w ∷ uncovered x (Some w) rest))) (eq-eqb w.id x here)
+uncovered_is x w (v ∷ top) rest here newer =
+    let other : eqb v.id x ≡ false = ne_eqb v.id x (λ same. let l = newer.0 in omega (arith, l, same)) in
+    ap (λ b. cond b (top ++ w ∷ rest) (cond (eqb w.name v.name) (uncovered x (Some w) (top ++ w ∷ rest)) (v ∷ uncovered x (Some w) (top ++ w ∷ rest)))) other
+    ∙ ap (λ us. cond (eqb w.name v.name) us (v ∷ us)) (uncovered_is x w top rest here newer.1)
+    ∙ (elim (eqb w.name v.name) as (λ b. cond b (but_named w.name top ++ rest) (v ∷ (but_named w.name top ++ rest)) ≡ cond b (but_named w.name top) (v ∷ but_named w.name top) ++ rest) [ true ↦ refl | false ↦ refl ])
+
+-- what a name stands for once a newer variable is put back
+but_is : (k : ℕ) (w : TypedVar) (top rest : List TypedVar) → var_named k (but_named w.name top ++ rest) ≡ cond (eqb w.name k) (var_named k rest) (var_named k (top ++ w ∷ rest))
+but_is k w [] rest = elim (eqb w.name k) as (λ b. var_named k rest ≡ cond b (var_named k rest) (cond b (Some w) (var_named k rest))) [ true ↦ refl | false ↦ refl ]
+but_is k w (v ∷ top) rest =
+    let before = but_is k w top rest in
+    let kept : List TypedVar = but_named w.name top in
+    let old : Option TypedVar = var_named k (top ++ w ∷ rest) in
+    let under : Option TypedVar = var_named k rest in
+    elim (cases_Bool (eqb w.name v.name)) [
+      | inl same ↦
+          let alike : eqb w.name k ≡ eqb v.name k = ap (λ (n : ℕ). eqb n k) (eqb-true w.name v.name same) in
+          ap (λ b. var_named k (cond b kept (v ∷ kept) ++ rest)) same ∙ before
+          ∙ (elim (eqb w.name k) as (λ b. cond b under old ≡ cond b under (cond b (Some v) old)) [ true ↦ refl | false ↦ refl ])
+          ∙ ap (λ b. cond (eqb w.name k) under (cond b (Some v) old)) alike
+      | inr other ↦
+          ap (λ b. var_named k (cond b kept (v ∷ kept) ++ rest)) other ∙ ap (cond (eqb v.name k) (Some v)) before
+          ∙ (elim (cases_Bool (eqb v.name k)) [
+            | inl here ↦
+                let apart : eqb w.name k ≡ false = ne_eqb w.name k (λ there. true≢false (sym (eq-eqb w.name v.name (there ∙ sym (eqb-true v.name k here))) ∙ other)) in
+                ap (λ b. cond b (Some v) (cond (eqb w.name k) under old)) here ∙ sym (ap (λ b. cond b under (cond (eqb v.name k) (Some v) old)) apart ∙ ap (λ b. cond b (Some v) old) here)
+            | inr not_here ↦
+                ap (λ b. cond b (Some v) (cond (eqb w.name k) under old)) not_here ∙ ap (cond (eqb w.name k) under) (sym (ap (λ b. cond b (Some v) old) not_here))
+          ])
+    ]
+
+pub named_back : (k x : ℕ) (w : TypedVar) (top rest : List TypedVar) → w.id ≡ x → AreNewer (suc x) top
+    → var_named k (uncovered x (Some w) (top ++ w ∷ rest)) ≡ cond (eqb w.name k) (var_named k rest) (var_named k (top ++ w ∷ rest))
+named_back k x w top rest here newer = ap (var_named k) (uncovered_is x w top rest here newer) ∙ but_is k w top rest
+
+there : (xs ys : List TypedVar) (v : TypedVar) → slice_get (xs ++ v ∷ ys) (length xs) ≡ Some v
+there [] ys v = refl
+there (x ∷ xs) ys v = there xs ys v
+
+pub put_back_grows : (s : Scope) (x : List ℕ) (ty id : ℕ) → id ≡ length s.vars → (u : Scope) → GrowsOn (bound s x ty) u → GrowsOn s (put_back id u)
+put_back_grows s x ty id place u a =
+    let v : TypedVar = fresh s x ty in
+    let all : u.vars ≡ s.vars ++ v ∷ a.more = a.vars ∙ append_assoc s.vars (v ∷ []) a.more in
+    let found : slice_get u.vars id ≡ Some v = ap (λ (k : ℕ). slice_get u.vars k) place ∙ ap (λ vs. slice_get vs (length s.vars)) all ∙ there s.vars a.more v in
+    let newer : AreNewer (suc id) a.top = newer_still (suc id) (length (bound s x ty).vars) a.top (let l = length-append s.vars (v ∷ []) in omega (arith, l, place)) a.newer in
+    record {
+      top = but_named v.name a.top;
+      visible = ap (λ o. uncovered id o u.visible) found ∙ ap (uncovered id (Some v)) a.visible ∙ uncovered_is id v a.top s.visible (sym place) newer;
+      newer = newer_kept (length s.vars) v.name a.top (newer_still (length s.vars) (suc id) a.top (omega (arith, place)) newer);
+      more = v ∷ a.more;
+      vars = all;
+    }
+
+-- 3. definitions that were made from one scope to another
+abbrev pub Opened : TypedLets → Scope → Scope → Type 0
+Opened no_typed_let s t = GrowsOn s t
+Opened (typed_let_and x ty value rest) s t = (mid : Scope) × (name : List ℕ) × GrowsOn s mid × (x ≡ length mid.vars) × Opened rest (bound mid name ty) t
+
+pub opened_after : (ds : TypedLets) (s u t : Scope) → GrowsOn s u → Opened ds u t → Opened ds s t
+opened_after no_typed_let s u t a o = grows_both s u t a o
+opened_after (typed_let_and x ty value rest) s u t a o = (o.0, o.1, grows_both s u o.0 a o.2, o.3, o.4)
+
+pub opened_before : (ds : TypedLets) (s t u : Scope) → Opened ds s t → GrowsOn t u → Opened ds s u
+opened_before no_typed_let s t u o a = grows_both s t u o a
+opened_before (typed_let_and x ty value rest) s t u o a = (o.0, o.1, o.2, o.3, opened_before rest (bound o.0 o.1 ty) t u o.4 a)
+
+pub opened_grows : (ds : TypedLets) (s t : Scope) → Opened ds s t → GrowsOn s t
+opened_grows no_typed_let s t o = o
+opened_grows (typed_let_and x ty value rest) s t o =
+    grows_both s o.0 t o.2 (grows_both o.0 (bound o.0 o.1 ty) t (grows_bound o.0 o.1 ty) (opened_grows rest (bound o.0 o.1 ty) t o.4))
+
+pub closed_grows : (ds : TypedLets) (s t : Scope) → Opened ds s t → GrowsOn s (closed ds t)
+closed_grows no_typed_let s t o = o
+closed_grows (typed_let_and x ty value rest) s t o = grows_both s o.0 (put_back x (closed rest t)) o.2 (put_back_grows o.0 o.1 ty x o.3 (closed rest t) (closed_grows rest (bound o.0 o.1 ty) t o.4))
+
+-- 4. steps
+module _ {X : Type 0} where
+  abbrev pub StepGrows : Scope → Step X → Type 0
+  StepGrows s (went_on m t k es) = GrowsOn s t
+  StepGrows s (stopped l t es) = Unit {0}
+
+  noting_grows : (s : Scope) (ws : List Mistake) (t : Step X) → StepGrows s t → StepGrows s (noting ws t)
+  noting_grows s ws (went_on m t k es) h = h
+  noting_grows s ws (stopped l t es) h = tt
+
+  counted_grows : (s : Scope) (t : Step X) → StepGrows s t → StepGrows s (counted_step t)
+  counted_grows s (went_on m t k es) h = h
+  counted_grows s (stopped l t es) h = tt
+
+  later_grows : (s u : Scope) (t : Step X) → GrowsOn s u → StepGrows u t → StepGrows s t
+  later_grows s u (went_on m t k es) a h = grows_both s u t a h
+  later_grows s u (stopped l t es) a h = tt
+
+made_grows : {X Y : Type 0} (f : X → Y) (s : Scope) (t : Step X) → StepGrows s t → StepGrows s (made_step f t)
+made_grows f s (went_on m t k es) h = h
+made_grows f s (stopped l t es) h = tt
+
+module _ {X Y Z : Type 0} (g : Option X → Y → Z) where
+  joined_grows : (s : Scope) (m : Option X) (k : ℕ) (t : Step Y) → StepGrows s t → StepGrows s (joined_step g m k t)
+  joined_grows s m k (went_on None t j es) h = h
+  joined_grows s m k (went_on (Some y) t j es) h = h
+  joined_grows s m k (stopped l t es) h = tt
+
+  in_order_grows : (s : Scope) (t : Step X) (next : Option X → Scope → ℕ → Step Y) → StepGrows s t → ((m : Option X) (u : Scope) (k : ℕ) → StepGrows u (next m u k)) → StepGrows s (then_step g t next)
+  in_order_grows s (went_on m u k es) next h r = noting_grows s es (joined_step g m k (next m u k)) (joined_grows s m k (next m u k) (later_grows s u (next m u k) h (r m u k)))
+  in_order_grows s (stopped l u es) next h r = tt
+
+converted_grows : (at : Position) (s : Scope) (itself : Step TypedExpr) (convert : TermEntry → Step TypedExpr) → StepGrows s itself → ((c : TermEntry) → StepGrows s (convert c)) → (o p : Option TermEntry)
+    → StepGrows s (converted_or at s itself convert o p)
+converted_grows at s itself convert h i (Some c) p = i c
+converted_grows at s itself convert h i None (Some c) = grows_same s
+converted_grows at s itself convert h i None None = h
+
+expected_grows : (e : Setting) (own : ℕ) (ty : Option ℕ) (at : Position) (s : Scope) (itself : Step TypedExpr) (convert : TermEntry → Step TypedExpr) → StepGrows s itself → ((c : TermEntry) → StepGrows s (convert c))
+    → StepGrows s (expected_step e own ty at s itself convert)
+expected_grows e own None at s itself convert h i = h
+expected_grows e own (Some ty) at s itself convert h i =
+    elim (eqb own ty) as (λ b. StepGrows s (cond b itself (converted_or at s itself convert (expr_converter e own ty) (converter e own ty)))) [
+      | true ↦ h
+      | false ↦ converted_grows at s itself convert h i (expr_converter e own ty) (converter e own ty)
+    ]
+
+-- 5. lets
+abbrev LetsGrow : Scope → Step TypedLets → Type 0
+LetsGrow s (went_on None t k es) = GrowsOn s t
+LetsGrow s (went_on (Some ds) t k es) = Opened ds s t
+LetsGrow s (stopped l t es) = Unit {0}
+
+ended_grows : (ds : TypedLets) (s u : Scope) (t : Step TypedExpr) → Opened ds s u → StepGrows u t → StepGrows s (ended_step ds t)
+ended_grows ds s u (went_on None t k es) o h = grows_both s u t (opened_grows ds s u o) h
+ended_grows ds s u (went_on (Some body) t k es) o h = closed_grows ds s t (opened_before ds s u t o h)
+ended_grows ds s u (stopped l t es) o h = tt
+
+let_grows : (s : Scope) (t : Step TypedLets) (next : TypedLets → Scope → ℕ → Step TypedExpr) → LetsGrow s t → ((ds : TypedLets) (u : Scope) (k : ℕ) → Opened ds s u → StepGrows s (next ds u k)) → StepGrows s (then_made t next)
+let_grows s (went_on None u k es) next h r = h
+let_grows s (went_on (Some ds) u k es) next h r = noting_grows s es (joined_step last_made (Some ds) k (next ds u k)) (joined_grows last_made s (Some ds) k (next ds u k) (r ds u k h))
+let_grows s (stopped l u es) next h r = tt
+
+-- one definition, by its value
+abbrev DefGrows : Scope → Step (TypedLets → TypedLets) → Type 0
+DefGrows s (went_on None t k es) = GrowsOn s t
+DefGrows s (went_on (Some f) t k es) = (rest : TypedLets) (u : Scope) → Opened rest t u → Opened (f rest) s u
+DefGrows s (stopped l t es) = Unit {0}
+
+def_grows : (x : List ℕ) (ty : ℕ) (s : Scope) (t : Step TypedExpr) → StepGrows s t → DefGrows s (def_step x ty t)
+def_grows x ty s (went_on None t k es) h = h
+def_grows x ty s (went_on (Some v) t k es) h = λ rest u o. (t, x, h, refl, o)
+def_grows x ty s (stopped l t es) h = tt
+
+one_def_grows : (x ty : List ℕ) (at : Position) (s : Scope) (value : ℕ → Step TypedExpr) (o : Option ℕ) → ((own : ℕ) → StepGrows (met s x) (value own)) → DefGrows s (let_step x ty at s value o)
+one_def_grows x ty at s value None h = grows_met s x
+one_def_grows x ty at s value (Some own) h = def_grows x own s (value own) (later_grows s (met s x) (value own) (grows_met s x) (h own))
+
+rest_grows : (s u : Scope) (es : List Mistake) (m : Option (TypedLets → TypedLets)) (k : ℕ) (t : Step TypedLets) → DefGrows s (went_on m u k es) → LetsGrow u t → LetsGrow s (noting es (joined_step with_def m k t))
+rest_grows s u es None k (went_on None t j ws) h i = grows_both s u t h i
+rest_grows s u es None k (went_on (Some ds) t j ws) h i = opened_after ds s u t h i
+rest_grows s u es (Some f) k (went_on None t j ws) h i = grows_both s u t (opened_grows_to (h no_typed_let u (grows_same u))) i
+  where
+    opened_grows_to : Opened (f no_typed_let) s u → GrowsOn s u
+    opened_grows_to o = opened_grows (f no_typed_let) s u o
+rest_grows s u es (Some f) k (went_on (Some ds) t j ws) h i = h ds t i
+rest_grows s u es None k (stopped l t ws) h i = tt
+rest_grows s u es (Some f) k (stopped l t ws) h i = tt
+
+defs_grow : (s : Scope) (t : Step (TypedLets → TypedLets)) (next : Option (TypedLets → TypedLets) → Scope → ℕ → Step TypedLets) → DefGrows s t → ((m : Option (TypedLets → TypedLets)) (u : Scope) (k : ℕ) → LetsGrow u (next m u k))
+    → LetsGrow s (then_step with_def t next)
+defs_grow s (went_on m u k es) next h r = rest_grows s u es m k (next m u k) h (r m u k)
+defs_grow s (stopped l u es) next h r = tt
+
+-- 6. expressions
+module _ (e : Setting) (flags : Flags) (d : ℕ) (deeper : (x : ExprTree) (ty : Option ℕ) (n : ℕ) (s : Scope) → StepGrows s (deeper_expr_step e flags d x ty n s)) where
+  called_grows : (name : Name) (args : ExprTrees) (at : Position) (ty : Option ℕ) (n : ℕ) (s : Scope) → ((tys : List ℕ) → StepGrows s (args_step e flags (deeper_expr_step e flags d) args tys n s)) → (o : Option TermEntry)
+      → StepGrows s (called_step e flags (deeper_expr_step e flags d) name args at ty n s (λ tys. args_step e flags (deeper_expr_step e flags d) args tys n s) o)
+  called_grows name args at ty n s parts None = grows_same s
+  called_grows name args at ty n s parts (Some t) =
+      expected_grows e t.ret_ty ty at s (call_step flags name args at ty t (λ tys. args_step e flags (deeper_expr_step e flags d) args tys n s)) (λ c. deeper_expr_step e flags d (wrapped_expr s c at (term_expr name args at)) ty n s)
+      (noting_grows s (unless (is_expected ty t.ret_ty) (constructor_type name.text ty t.ret_ty) at) _
+      (noting_grows s (forbidden flags name.text at t.kind) _
+      (noting_grows s (unless (eqb (length (expr_list args)) (length t.arg_tys)) (argument_count name.text (length (expr_list args)) (length t.arg_tys)) at) _
+      (made_grows (make_term t.ret_ty t.id) s (args_step e flags (deeper_expr_step e flags d) args t.arg_tys n s) (parts t.arg_tys)))))
+      (λ c. deeper (wrapped_expr s c at (term_expr name args at)) ty n s)
+
+  used_grows : (name : Name) (at : Position) (ty : Option ℕ) (n : ℕ) (s : Scope) (o : Option TypedVar) → StepGrows s (used_step e (deeper_expr_step e flags d) name at ty n s o)
+  used_grows name at ty n s None = grows_same s
+  used_grows name at ty n s (Some v) =
+      expected_grows e v.ty ty at s (noting (unless (is_expected ty v.ty) (variable_type name.text ty v.ty) at) (here (make_var v.ty v.id) s)) (λ c. deeper_expr_step e flags d (wrapped_expr s c at (var_expr name at)) ty n s)
+      (grows_same s) (λ c. deeper (wrapped_expr s c at (var_expr name at)) ty n s)
+
+  constant_grows : (ty : Option ℕ) (x : List ℕ) (at : Position) (s : Scope) (o : Option ℕ) → StepGrows s (made_constant_step ty x at s o)
+  constant_grows ty x at s None = grows_met s x
+  constant_grows ty x at s (Some own) = elim (is_expected ty own) as (λ b. StepGrows s (cond b (here (make_prim own (number s.names x)) s) (nothing s (constant_type x ty own) at))) [ true ↦ grows_same s | false ↦ grows_same s ]
+
+  mutual
+    pub expr_grows : (x : ExprTree) (ty : Option ℕ) (n : ℕ) (s : Scope) → StepGrows s (expr_step e flags (deeper_expr_step e flags d) x ty n s)
+    expr_grows (term_expr name args at) ty n s = called_grows name args at ty n s (λ tys. args_grow args tys n s) (term_of e s name.text)
+    expr_grows (var_expr name at) ty n s = used_grows name at ty n s (var_of s name.text)
+    expr_grows (bool_expr b at) ty n s = grows_same s
+    expr_grows (int_expr z at) None n s = grows_same s
+    expr_grows (int_expr z at) (Some own) n s = grows_same s
+    expr_grows (prim_expr name at) ty n s = constant_grows ty name.text at s (type_of_constant e s name.text)
+    expr_grows (let_expr defs body at) ty n s =
+        let_grows s (lets_step e flags (deeper_expr_step e flags d) defs at n s) (λ ds t k. ended_step ds (expr_step e flags (deeper_expr_step e flags d) body ty (n + k) t)) (lets_grow defs at n s)
+        (λ ds u k o. ended_grows ds s u (expr_step e flags (deeper_expr_step e flags d) body ty (n + k) u) o (expr_grows body ty (n + k) u))
+
+    args_grow : (args : ExprTrees) (tys : List ℕ) (n : ℕ) (s : Scope) → StepGrows s (args_step e flags (deeper_expr_step e flags d) args tys n s)
+    args_grow no_expr tys n s = grows_same s
+    args_grow (expr_and x rest) [] n s = grows_same s
+    args_grow (expr_and x rest) (ty ∷ tys) n s =
+        in_order_grows with_arg s (expr_step e flags (deeper_expr_step e flags d) x (Some ty) n s) (λ m t k. args_step e flags (deeper_expr_step e flags d) rest tys (n + k) t) (expr_grows x (Some ty) n s) (λ m u k. args_grow rest tys (n + k) u)
+
+    pub lets_grow : (defs : LetTrees) (at : Position) (n : ℕ) (s : Scope) → LetsGrow s (lets_step e flags (deeper_expr_step e flags d) defs at n s)
+    lets_grow no_let at n s = grows_same s
+    lets_grow (let_and name ty value own_at rest) at n s =
+        defs_grow s (let_step name.text ty.text at s (λ own. expr_step e flags (deeper_expr_step e flags d) value (Some own) n (met s name.text)) (type_of_name e s ty.text)) (λ m t k. lets_step e flags (deeper_expr_step e flags d) rest at (n + k) t)
+        (one_def_grows name.text ty.text at s (λ own. expr_step e flags (deeper_expr_step e flags d) value (Some own) n (met s name.text)) (type_of_name e s ty.text) (λ own. expr_grows value (Some own) n (met s name.text)))
+        (λ m u k. lets_grow rest at (n + k) u)
+
+-- what expansions make
+pub deeper_grows : (e : Setting) (flags : Flags) (d : ℕ) (x : ExprTree) (ty : Option ℕ) (n : ℕ) (s : Scope) → StepGrows s (deeper_expr_step e flags d x ty n s)
+deeper_grows e flags zero x ty n s = tt
+deeper_grows e flags (suc d) x ty n s = elim (nat_le most_expansions n) as (λ b. StepGrows s (cond b (stopped of_expansions s []) (counted_step (expr_step e flags (deeper_expr_step e flags d) x ty (suc n) s)))) [
+  | true ↦ tt
+  | false ↦ counted_grows s (expr_step e flags (deeper_expr_step e flags d) x ty (suc n) s) (expr_grows e flags d (deeper_grows e flags d) x ty (suc n) s)
+]
