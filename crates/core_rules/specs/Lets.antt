@@ -41,11 +41,11 @@ abbrev pub Defines : TermEnv → Standing → Standing → ℕ → Reading Typed
 Defines env old new d reading made earlier hidden =
     (IsTranslated env old new d reading made × Wherever env old (λ e s. HidesAs hidden new earlier old)) ⊎ IsReported env old new reading
 
--- the name and the type of a definition: the type is known, or it was noted that it isn't
+-- the name and the type of a definition: the type is known, or it was noted that it isn't. The name is met either way
 abbrev pub Begins : {E : Type 0} → TypeEnv → TypeEnv → List Error → List Error → Name → Name → Result (Option (Sym × TypeId)) E → Type 0
 Begins old new before after name ty (Ok (Some (x, t))) =
     (after ≡ before) × (names_of new ≡ with_name (names_of old) name.text) × (x.0 ≡ number (names_of old) name.text) × (Some t.0 ≡ type_of_name old ty.text)
-Begins old new before after name ty (Ok None) = NotesMore before after × (None ≡ type_of_name old ty.text)
+Begins old new before after name ty (Ok None) = NotesMore before after × (None ≡ type_of_name old ty.text) × (names_of new ≡ with_name (names_of old) name.text)
 Begins old new before after name ty (Err e) = ⊤
 
 -- a definition's name is bound to its value, and what it stood for before comes last among what is hidden

@@ -1,11 +1,12 @@
 //! The scopes of lets: the name and the type of a definition, what names stood for before, and the end of a scope.
 
-ghost use Rattle.std.specs.Prelude.{◌≡◌, [], ◌∷◌, ◌++◌, ℕ, IfOk, OnOk, length};
+ghost use Rattle.std.specs.Prelude.{◌≡◌, [], ◌∷◌, ◌++◌, ℕ, is_some, IfOk, OnOk, length};
 ghost use Rattle.std.specs.Option.{option_to_list};
 ghost use Rattle.core_syntax.specs.SyntaxViews.{name_view, position};
 ghost use Rattle.model.specs.lists.Elaborated.{typed_let};
 ghost use Rattle.core_types.specs.Envs.{IsInterned};
 ghost use Rattle.core_syntax.specs.NotedErrors.{NotesMore};
+ghost use Rattle.core_typed.specs.Elaborating.{place_unless, NotesEachAt};
 ghost use Rattle.core_typed.specs.ExprViews.{expr_view, let_views, let_parts};
 ghost use Rattle.core_rules.specs.Lets.{Begins, Binds, Closes};
 ghost use Rattle.core_rules.specs.Translating.{Keeps};
@@ -30,6 +31,7 @@ pub(crate) fn begin_def(
     ensures keeps { Keeps tyenv.old tyenv.new }
     ensures begins { OnOk result (Begins tyenv.old tyenv.new errors.old.items errors.new.items (name_view def.now.var) (name_view def.now.ty) result) }
     ensures places { OnOk result (NotesAt (position pos ∷ []) errors.old.items errors.new.items) }
+    ensures exact { IfOk result (λ o. NotesEachAt (place_unless (is_some o) (position pos)) errors.old.items errors.new.items) }
 {
     let ty = tyenv.get_type_by_name(&def.ty);
     let name = tyenv.intern_mut(&def.var)?;
@@ -44,6 +46,7 @@ pub(crate) fn begin_def(
 fn report_type(errors: &mut Vec<Error>, pos: Pos, def: &LetDef) -> Result<(), AllocError>
     ensures noted { OnOk result (NotesMore errors.old.items errors.new.items) }
     ensures places { OnOk result (NotesAt (position pos ∷ []) errors.old.items errors.new.items) }
+    ensures exact { OnOk result (NotesEachAt (position pos ∷ []) errors.old.items errors.new.items) }
 {
     let ty = def.ty.0.clone()?;
     let variable = def.var.0.clone()?;
