@@ -14,10 +14,12 @@ mod ExprSizes
 mod ExprUsing
 mod ExprsTaken
 mod FirstPastLimits
+mod HiddenNames
 mod IfLetLists
 mod LetForms
 mod LetLimits
 mod LetScopes
+mod LetsTaken
 mod LimitErrors
 mod LimitLists
 mod LimitSteps

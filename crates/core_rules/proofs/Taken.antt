@@ -26,7 +26,7 @@ places_unless false why at = refl
 pub unless_at : (b : Bool) (why : Why) (at : Position) (a c : List Error) → NotesEachAt (place_unless b at) a c → NotesEachAt (places_of (unless b why at)) a c
 unless_at b why at a c n = subst (λ ps. NotesEachAt ps a c) (sym (places_unless b why at)) n
 
-behind : (ws es : List Mistake) (a b c : List Error) → NotesEachAt (places_of ws) a b → NotesEachAt (places_of es) b c → NotesEachAt (places_of (ws ++ es)) a c
+pub behind : (ws es : List Mistake) (a b c : List Error) → NotesEachAt (places_of ws) a b → NotesEachAt (places_of es) b c → NotesEachAt (places_of (ws ++ es)) a c
 behind ws es a b c n m = subst (λ ps. NotesEachAt ps a c) (sym (map-append (λ (w : Mistake). w.at) ws es)) (both_at (places_of ws) (places_of es) a b c n m)
 
 module _ {Q : Type 0} where
@@ -92,7 +92,7 @@ joined_end g m (Ok (Some y)) = Ok (Some (g m y))
 joined_end g m (Err l) = Err l
 
 module _ {X Y Z : Type 0} (g : Option X → Y → Z) where
-  joined : (old mid new : Standing) (m : Option X) (k : ℕ) (ws : List Mistake) → NotesEachAt (places_of ws) old.work.errors.items mid.work.errors.items → mid.work.expansions ≡ old.work.expansions + k
+  pub joined : (old mid new : Standing) (m : Option X) (k : ℕ) (ws : List Mistake) → NotesEachAt (places_of ws) old.work.errors.items mid.work.errors.items → mid.work.expansions ≡ old.work.expansions + k
       → (t : Step Y) (r : MadeOrLimit Y) → Took mid new t r → Took old new (noting ws (joined_step g m k t)) (joined_end g m r)
   joined old mid new m k ws h xs _ _ (took None s j es n sh c) =
       took None s (k + j) (ws ++ es) (behind ws es old.work.errors.items mid.work.errors.items new.work.errors.items h n) sh (omega (arith, c, xs))

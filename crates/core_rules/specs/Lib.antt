@@ -2,6 +2,7 @@ pub mod Constructors
 pub mod ExprReadings
 pub mod ExprTaking
 pub mod ExprUses
+pub mod LetTaking
 pub mod Lets
 pub mod LimitStops
 pub mod LimitsNamed

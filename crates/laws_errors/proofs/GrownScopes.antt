@@ -52,7 +52,7 @@ pub grows_met : (s : Scope) (x : List ℕ) → GrowsOn s (met s x)
 grows_met s x = record { top = []; visible = refl; newer = tt; more = []; vars = sym (append-nil s.vars) }
 
 -- the variable that is bound
-abbrev fresh : Scope → List ℕ → ℕ → TypedVar
+abbrev pub fresh : Scope → List ℕ → ℕ → TypedVar
 fresh s x ty = new_var s.vars (number (with_name s.names x) x) ty
 
 pub grows_bound : (s : Scope) (x : List ℕ) (ty : ℕ) → GrowsOn s (bound s x ty)
@@ -101,7 +101,7 @@ but_is k w (v ∷ top) rest =
           ])
     ]
 
-pub named_back : (k x : ℕ) (w : TypedVar) (top rest : List TypedVar) → w.id ≡ x → AreNewer (suc x) top
+named_back : (k x : ℕ) (w : TypedVar) (top rest : List TypedVar) → w.id ≡ x → AreNewer (suc x) top
     → var_named k (uncovered x (Some w) (top ++ w ∷ rest)) ≡ cond (eqb w.name k) (var_named k rest) (var_named k (top ++ w ∷ rest))
 named_back k x w top rest here newer = ap (var_named k) (uncovered_is x w top rest here newer) ∙ but_is k w top rest
 
@@ -109,30 +109,46 @@ there : (xs ys : List TypedVar) (v : TypedVar) → slice_get (xs ++ v ∷ ys) (l
 there [] ys v = refl
 there (x ∷ xs) ys v = there xs ys v
 
-pub put_back_grows : (s : Scope) (x : List ℕ) (ty id : ℕ) → id ≡ length s.vars → (u : Scope) → GrowsOn (bound s x ty) u → GrowsOn s (put_back id u)
-put_back_grows s x ty id place u a =
-    let v : TypedVar = fresh s x ty in
-    let all : u.vars ≡ s.vars ++ v ∷ a.more = a.vars ∙ append_assoc s.vars (v ∷ []) a.more in
-    let found : slice_get u.vars id ≡ Some v = ap (λ (k : ℕ). slice_get u.vars k) place ∙ ap (λ vs. slice_get vs (length s.vars)) all ∙ there s.vars a.more v in
-    let newer : AreNewer (suc id) a.top = newer_still (suc id) (length (bound s x ty).vars) a.top (let l = length-append s.vars (v ∷ []) in omega (arith, l, place)) a.newer in
-    record {
-      top = but_named v.name a.top;
-      visible = ap (λ o. uncovered id o u.visible) found ∙ ap (uncovered id (Some v)) a.visible ∙ uncovered_is id v a.top s.visible (sym place) newer;
-      newer = newer_kept (length s.vars) v.name a.top (newer_still (length s.vars) (suc id) a.top (omega (arith, place)) newer);
-      more = v ∷ a.more;
-      vars = all;
-    }
+-- behind a variable that was bound
+module _ (s : Scope) (x : List ℕ) (ty id : ℕ) (place : id ≡ length s.vars) (u : Scope) (a : GrowsOn (bound s x ty) u) where
+  abbrev v : TypedVar
+  v = fresh s x ty
+
+  all : u.vars ≡ s.vars ++ v ∷ a.more
+  all = a.vars ∙ append_assoc s.vars (v ∷ []) a.more
+
+  -- it stays at its place
+  pub stays_there : slice_get u.vars id ≡ Some v
+  stays_there = ap (λ (k : ℕ). slice_get u.vars k) place ∙ ap (λ vs. slice_get vs (length s.vars)) all ∙ there s.vars a.more v
+
+  newer_than : AreNewer (suc id) a.top
+  newer_than = newer_still (suc id) (length (bound s x ty).vars) a.top (let l = length-append s.vars (v ∷ []) in omega (arith, l, place)) a.newer
+
+  pub put_back_grows : GrowsOn s (put_back id u)
+  put_back_grows = record {
+    top = but_named v.name a.top;
+    visible = ap (λ o. uncovered id o u.visible) stays_there ∙ ap (uncovered id (Some v)) a.visible ∙ uncovered_is id v a.top s.visible (sym place) newer_than;
+    newer = newer_kept (length s.vars) v.name a.top (newer_still (length s.vars) (suc id) a.top (omega (arith, place)) newer_than);
+    more = v ∷ a.more;
+    vars = all;
+  }
+
+  -- its name stands for what it stood for, and any other for what it stands for
+  pub put_back_names : (k : ℕ) → var_named k (put_back id u).visible ≡ cond (eqb v.name k) (var_named k s.visible) (var_named k u.visible)
+  put_back_names k =
+      ap (λ o. var_named k (uncovered id o u.visible)) stays_there ∙ ap (λ vs. var_named k (uncovered id (Some v) vs)) a.visible
+      ∙ named_back k id v a.top s.visible (sym place) newer_than ∙ ap (λ vs. cond (eqb v.name k) (var_named k s.visible) (var_named k vs)) (sym a.visible)
 
 -- 3. definitions that were made from one scope to another
 abbrev pub Opened : TypedLets → Scope → Scope → Type 0
 Opened no_typed_let s t = GrowsOn s t
 Opened (typed_let_and x ty value rest) s t = (mid : Scope) × (name : List ℕ) × GrowsOn s mid × (x ≡ length mid.vars) × Opened rest (bound mid name ty) t
 
-pub opened_after : (ds : TypedLets) (s u t : Scope) → GrowsOn s u → Opened ds u t → Opened ds s t
+abbrev pub opened_after : (ds : TypedLets) (s u t : Scope) → GrowsOn s u → Opened ds u t → Opened ds s t
 opened_after no_typed_let s u t a o = grows_both s u t a o
 opened_after (typed_let_and x ty value rest) s u t a o = (o.0, o.1, grows_both s u o.0 a o.2, o.3, o.4)
 
-pub opened_before : (ds : TypedLets) (s t u : Scope) → Opened ds s t → GrowsOn t u → Opened ds s u
+abbrev pub opened_before : (ds : TypedLets) (s t u : Scope) → Opened ds s t → GrowsOn t u → Opened ds s u
 opened_before no_typed_let s t u o a = grows_both s t u o a
 opened_before (typed_let_and x ty value rest) s t u o a = (o.0, o.1, o.2, o.3, opened_before rest (bound o.0 o.1 ty) t u o.4 a)
 
@@ -193,7 +209,7 @@ expected_grows e own (Some ty) at s itself convert h i =
     ]
 
 -- 5. lets
-abbrev LetsGrow : Scope → Step TypedLets → Type 0
+abbrev pub LetsGrow : Scope → Step TypedLets → Type 0
 LetsGrow s (went_on None t k es) = GrowsOn s t
 LetsGrow s (went_on (Some ds) t k es) = Opened ds s t
 LetsGrow s (stopped l t es) = Unit {0}
@@ -209,7 +225,7 @@ let_grows s (went_on (Some ds) u k es) next h r = noting_grows s es (joined_step
 let_grows s (stopped l u es) next h r = tt
 
 -- one definition, by its value
-abbrev DefGrows : Scope → Step (TypedLets → TypedLets) → Type 0
+abbrev pub DefGrows : Scope → Step (TypedLets → TypedLets) → Type 0
 DefGrows s (went_on None t k es) = GrowsOn s t
 DefGrows s (went_on (Some f) t k es) = (rest : TypedLets) (u : Scope) → Opened rest t u → Opened (f rest) s u
 DefGrows s (stopped l t es) = Unit {0}
@@ -294,3 +310,10 @@ deeper_grows e flags (suc d) x ty n s = elim (nat_le most_expansions n) as (λ b
   | true ↦ tt
   | false ↦ counted_grows s (expr_step e flags (deeper_expr_step e flags d) x ty (suc n) s) (expr_grows e flags d (deeper_grows e flags d) x ty (suc n) s)
 ]
+
+-- one definition
+pub def_grow : (e : Setting) (flags : Flags) (d : ℕ) (name ty : Name) (value : ExprTree) (at : Position) (n : ℕ) (s : Scope)
+    → DefGrows s (let_step name.text ty.text at s (λ own. expr_step e flags (deeper_expr_step e flags d) value (Some own) n (met s name.text)) (type_of_name e s ty.text))
+def_grow e flags d name ty value at n s =
+    one_def_grows name.text ty.text at s (λ own. expr_step e flags (deeper_expr_step e flags d) value (Some own) n (met s name.text)) (type_of_name e s ty.text)
+    (λ own. expr_grows e flags d (deeper_grows e flags d) value (Some own) n (met s name.text))
