@@ -12,7 +12,7 @@ use Rattle.core_rules.specs.declared.term_env.TermEnv.{TermEnv}
 use Rattle.core_rules.specs.declared.typing.progress.Stop.{Stop}
 use Rattle.core_rules.specs.declared.typing.progress.Stop.TheVariants.{Memory, Nesting, Expansions}
 use Rattle.core_rules.specs.Progress.{CountsOne, Counts}
-use Rattle.core_rules.specs.Taking.{Stepping, Ending, Took, ended, EndsAs, StopsBy}
+use Rattle.core_rules.specs.Taking.{Stepping, MadeOrLimit, Took, ended, EndsAs, StopsBy}
 use Rattle.core_rules.specs.Translating.{Standing, Shows, Wherever}
 use Rattle.core_rules.proofs.Taken.{counted}
 
@@ -43,7 +43,7 @@ module _ {Q : Type 0} (inner : Nested Q) (e : Setting) (s : Scope) where
       ∙ ap (λ (k : ℕ). counted_step (inner left e k s)) (omega (arith, more))
 
   -- one more was made
-  pub went_deeper : (old mid new : Standing) (d left n : ℕ) → suc left ≡ d → n ≡ old.work.expansions → mid.work.expansions ≡ n + 1 → mid.work.errors.items ≡ old.work.errors.items → (r : Ending Q)
+  pub went_deeper : (old mid new : Standing) (d left n : ℕ) → suc left ≡ d → n ≡ old.work.expansions → mid.work.expansions ≡ n + 1 → mid.work.errors.items ≡ old.work.errors.items → (r : MadeOrLimit Q)
       → Took mid new (inner left e mid.work.expansions s) r → Took old new (expansion inner d e n s) r
   went_deeper old mid new d left n nests here more same r h =
       subst (λ t. Took old new t r) (sym (one_deeper d left n mid.work.expansions nests more mid.work.few))
@@ -63,7 +63,7 @@ module _ {Q : Type 0} (inner : Nested Q) (e : Setting) (s : Scope) where
 -- where none may be the work on the whole stops
 pub expansion_stops : {Q : Type 0} (env : TermEnv) (old mid new : Standing) (inner : Nested Q) (d : ℕ) (whole : Stepping Q) → new.tyenv ≡ mid.tyenv → names_of mid.tyenv ≡ names_of old.tyenv
     → mid.work.expansions ≡ old.work.expansions → MayNoteMore old.work.errors.items mid.work.errors.items
-    → Wherever env old (λ e s. (r : Ending Q) → Took mid mid (expansion inner d e old.work.expansions s) r → Took old mid (whole e old.work.expansions s) r)
+    → Wherever env old (λ e s. (r : MadeOrLimit Q) → Took mid mid (expansion inner d e old.work.expansions s) r → Took old mid (whole e old.work.expansions s) r)
     → (stop : Stop) → Counts d mid.work new.work (Err stop) → StopsBy env old new whole stop
 expansion_stops env old mid new inner d whole same names count may lift (Memory a) x = absurd x
 expansion_stops env old mid new inner d whole same names count may lift Nesting x =

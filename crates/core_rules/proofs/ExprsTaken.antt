@@ -31,7 +31,7 @@ use Rattle.core_rules.specs.ExprUses.{found_expr_converter, declared_converter, 
 use Rattle.core_rules.specs.PatternTaking.{made_end}
 use Rattle.core_rules.specs.PatternUses.{found_term, found_converter}
 use Rattle.core_rules.specs.Progress.{newest, Remains, CountsOne, Counts}
-use Rattle.core_rules.specs.Taking.{Stepping, Ending, places_of, Took, took, ended, EndsAs, StopsBy, LeadsOn}
+use Rattle.core_rules.specs.Taking.{Stepping, MadeOrLimit, places_of, Took, took, ended, EndsAs, StopsBy, LeadsOn}
 use Rattle.core_rules.specs.Translating.{Standing, IsSettingOf, Shows, Wherever, converter_in}
 use Rattle.core_rules.proofs.ExpansionsTaken.{counted_shows, Nested, expansion, went_deeper, expansion_stops}
 use Rattle.core_rules.proofs.ExprUsing.{var_found}

@@ -38,7 +38,7 @@ use Rattle.core_rules.specs.ExprTaking.{expr_steps}
 use Rattle.core_rules.specs.LetTaking.{lets_steps, def_steps, def_view, defs_made, def_made, Hides, HidesIn, HidesBy}
 use Rattle.core_rules.specs.Lets.{before_all, BindsDef, Closes}
 use Rattle.core_rules.specs.Progress.{newest, BindsNext, Remains}
-use Rattle.core_rules.specs.Taking.{Stepping, Ending, places_of, Took, took, ended, EndsAs, StopsBy}
+use Rattle.core_rules.specs.Taking.{Stepping, MadeOrLimit, places_of, Took, took, ended, EndsAs, StopsBy}
 use Rattle.core_rules.specs.Translating.{Standing, Keeps, IsSettingOf, Shows, Wherever}
 use Rattle.core_rules.proofs.HiddenNames.{opened_joined, hides_joined, opened_one, bound_hides, closed_hides, closed_names, closed_vars, closed_some}
 use Rattle.core_rules.proofs.LetForms.{lets_joined, type_found}
@@ -119,7 +119,7 @@ module _ (env : TermEnv) (old mid : Standing) (name ty : Name) (value : ExprTree
 
   module _ (keeps : Keeps old.tyenv mid.tyenv) (own : ℕ) (there : Some own ≡ type_of_name old.tyenv ty.text) (errors : mid.work.errors.items ≡ old.work.errors.items) (next : Standing) where
     -- what its value comes to
-    goes_at : (end : Ending TypedExpr) → EndsAs env mid next (values own) end → (e : Setting) (s : Scope) → IsSettingOf old.tyenv env e → Shows old s → Goes mid next (values own e old.work.expansions (met s name.text)) end
+    goes_at : (end : MadeOrLimit TypedExpr) → EndsAs env mid next (values own) end → (e : Setting) (s : Scope) → IsSettingOf old.tyenv env e → Shows old s → Goes mid next (values own e old.work.expansions (met s name.text)) end
     goes_at end h e s is sh =
         subst (λ (n : ℕ). Goes mid next (values own e n (met s name.text)) end) r.expansions
         (seen mid next (values own e mid.work.expansions (met s name.text)) end (h.1 e (met s name.text) (keep_setting env old.tyenv mid.tyenv e keeps is) (shown s sh)))
@@ -307,7 +307,7 @@ module _ (env : TermEnv) (old mid : Standing) (whole rest : Stepping TypedLets) 
         goes_on_at (went_on m u k ws) y h = made_on u k ws (refl, y.1, y.2, y.3) (subst (λ (p : Option (TypedLets → TypedLets)). Next (went_on p u k ws)) y.0 h)
         goes_on_at (stopped l u ws) y h = absurd y
 
-      seen_next : (end : Ending (TypedLets → TypedLets)) → EndsAs env mid new next end → IsSettingOf old.tyenv env e → Goes mid new (next e n g.scope) end
+      seen_next : (end : MadeOrLimit (TypedLets → TypedLets)) → EndsAs env mid new next end → IsSettingOf old.tyenv env e → Goes mid new (next e n g.scope) end
       seen_next end h is =
           subst (λ (i : ℕ). Goes mid new (next e i g.scope) end) g.expansions
           (seen mid new (next e mid.work.expansions g.scope) end (h.1 e g.scope (keep_setting env old.tyenv mid.tyenv e keeps is) g.shows))
@@ -411,7 +411,7 @@ module _ (env : TermEnv) (old mid : Standing) (defs : LetTrees) (body : ExprTree
 
   module _ (ds : TypedLets) (hidden : List (Sym × Option BoundVar)) (keeps : Keeps old.tyenv mid.tyenv) (read : EndsAs env old mid lets (Ok (Some ds))) (hides : HidesBy env old lets defs_made [] hidden) (new : Standing) where
     -- what follows the definitions
-    module _ (last : Standing) (e : Setting) (r : Ending TypedExpr) where
+    module _ (last : Standing) (e : Setting) (r : MadeOrLimit TypedExpr) where
       abbrev Rest : Scope → Type 0
       Rest s = (u : Scope) → Shows mid u → Opened ds s u → Hides [] hidden ds u → Took mid last (ended_step ds (bodies e mid.work.expansions u)) r
 
@@ -439,7 +439,7 @@ module _ (env : TermEnv) (old mid : Standing) (defs : LetTrees) (body : ExprTree
     may_on : MayNoteMore mid.work.errors.items new.work.errors.items → MayNoteMore old.work.errors.items new.work.errors.items
     may_on h = may_both old.work.errors.items mid.work.errors.items new.work.errors.items read.0 h
 
-    body_goes : (r : Ending TypedExpr) → EndsAs env mid new bodies r → (e : Setting) → IsSettingOf old.tyenv env e → (u : Scope) → Shows mid u → Goes mid new (bodies e mid.work.expansions u) r
+    body_goes : (r : MadeOrLimit TypedExpr) → EndsAs env mid new bodies r → (e : Setting) → IsSettingOf old.tyenv env e → (u : Scope) → Shows mid u → Goes mid new (bodies e mid.work.expansions u) r
     body_goes r h e is u shown = seen mid new (bodies e mid.work.expansions u) r (h.1 e u (keep_setting env old.tyenv mid.tyenv e keeps is) shown)
 
     body_ends : (l : NamedLimit) → EndsAs env mid new bodies (Err l) → EndsAs env old new whole_let (Err l)
