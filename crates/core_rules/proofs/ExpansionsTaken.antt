@@ -1,10 +1,10 @@
 -- Expansions that are counted, or that no more may be of.
-use Rattle.std.proofs.Common.{◌≡◌, ℕ, zero, suc, ◌+◌, ◌<◌, ◌≤◌, true, false, cond, nat_le, List, [], length, Ok, Err, refl, sym, ap, subst, ◌∙◌, arith}
+use Rattle.std.proofs.Common.{◌≡◌, ℕ, zero, suc, ◌+◌, ◌<◌, ◌≤◌, false, cond, nat_le, List, [], length, Err, refl, sym, ap, subst, ◌∙◌, arith}
 use Rattle.std.proofs.lemmas.Bool.{lt-leb, le-leb}
 use Rattle.model.specs.lists.Elaborated.{most_expansions}
 use Rattle.model.specs.lists.Setting.{Setting, Scope}
 use Rattle.model.specs.claims.Refusals.{of_nesting, of_expansions}
-use Rattle.laws_errors.specs.Steps.{Step, stopped, counted_step}
+use Rattle.laws_errors.specs.Steps.{stopped, counted_step}
 use Rattle.core_types.specs.Envs.{names_of}
 use Rattle.core_syntax.specs.NotedErrors.{MayNoteMore}
 use Rattle.core_typed.proofs.NotedErrors.{none_at}

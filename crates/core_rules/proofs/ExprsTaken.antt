@@ -1,5 +1,5 @@
 -- What expressions without parts do as their steps say, and what the use of a name in an expression leads to.
-use Rattle.std.proofs.Common.{◌≡◌, ℕ, ℤ, zero, suc, ◌+◌, Bool, true, false, cond, eqb, List, [], ◌∷◌, ◌++◌, length, Option, Some, None, is_some, option_and_then, slice_get, unwrap_or, Ok, Err, append_assoc, refl, sym, ap, subst, ◌∙◌, inl, inr, arith}
+use Rattle.std.proofs.Common.{◌≡◌, ℕ, ℤ, zero, suc, Bool, true, false, cond, eqb, List, [], ◌∷◌, ◌++◌, length, Option, Some, None, is_some, option_and_then, slice_get, unwrap_or, Ok, Err, append_assoc, refl, sym, ap, subst, ◌∙◌, inl, inr, arith}
 use Rattle.std.proofs.lemmas.Bool.{cases_Bool}
 use Rattle.std.proofs.lemmas.List.{map-append}
 use Rattle.std.proofs.lemmas.Option.{none-some}
@@ -14,7 +14,7 @@ use Rattle.model.specs.rules.Values.{is_atom_type}
 use Rattle.model.specs.rules.Typed.{TypedExpr, TypedExprs, TypedVar, make_term, make_var, make_bool, make_int, make_prim}
 use Rattle.model.proofs.Names.{known_name}
 use Rattle.laws_errors.specs.Steps.{unknown_constructor, unknown_variable, unknown_constant, variable_type, constructor_type, constant_type, no_truth, no_integer, untyped_integer, argument_count, no_constructor, Why, Mistake, Step, went_on, stopped, unless, here, nothing, noting, made_step}
-use Rattle.laws_errors.specs.ExprSteps.{expr_list, converted_or, expected_step, forbidden, call_step, called_step, used_step, made_constant_step, deeper_expr_step}
+use Rattle.laws_errors.specs.ExprSteps.{expr_list, converted_or, expected_step, forbidden, called_step, used_step, made_constant_step, deeper_expr_step}
 use Rattle.core_syntax.specs.declared.syntax.Error.{Error}
 use Rattle.core_syntax.specs.declared.syntax.Expr.{Expr}
 use Rattle.core_syntax.specs.SyntaxViews.{expr_views}
@@ -31,7 +31,7 @@ use Rattle.core_rules.specs.ExprUses.{found_expr_converter, declared_converter, 
 use Rattle.core_rules.specs.PatternTaking.{made_end}
 use Rattle.core_rules.specs.PatternUses.{found_term, found_converter}
 use Rattle.core_rules.specs.Progress.{newest, Remains, CountsOne, Counts}
-use Rattle.core_rules.specs.Taking.{Stepping, MadeOrLimit, places_of, Took, took, ended, EndsAs, StopsBy, LeadsOn}
+use Rattle.core_rules.specs.Taking.{places_of, Took, took, EndsAs, StopsBy, LeadsOn}
 use Rattle.core_rules.specs.Translating.{Standing, IsSettingOf, Shows, Wherever, converter_in}
 use Rattle.core_rules.proofs.ExpansionsTaken.{counted_shows, Nested, expansion, went_deeper, expansion_stops}
 use Rattle.core_rules.proofs.ExprUsing.{var_found}

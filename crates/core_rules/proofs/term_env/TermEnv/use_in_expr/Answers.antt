@@ -111,7 +111,8 @@ returns-in_default-clause-reads c =
 pub returns-in_err-left-clause-reads : goal.returns-in_err-left-clause-reads
 returns-in_err-left-clause-reads c =
     rw (stop_is c.from_residual-in_err-left.result c.in_err-left.field-0.0 c.from_residual-in_err-left.ensures, c.requires.whole)
-    (taken.conversion_stops c.args.self.now (standing c.args.tyenv.now c.args.work.now) (term_expr (name_view c.args.sym.now) (expr_views c.args.args.now) (position c.args.pos)) (position c.args.pos) (flags_view c.args.flags) (expected c.args.expected_ty) c.args.nesting (term_view c.in-Some-expr_converter.by.now)
+    (taken.conversion_stops c.args.self.now (standing c.args.tyenv.now c.args.work.now) (term_expr (name_view c.args.sym.now) (expr_views c.args.args.now) (position c.args.pos)) (position c.args.pos) (flags_view c.args.flags) (expected c.args.expected_ty)
+    c.args.nesting (term_view c.in-Some-expr_converter.by.now)
     (taken.converted_call c.args.self.now (standing c.args.tyenv.now c.args.work.now) c.requires.inverse (name_view c.args.sym.now) (expr_views c.args.args.now) (position c.args.pos) (flags_view c.args.flags) (expected c.args.expected_ty) c.args.nesting
     (term_view c.in-Some.term.now) c.in-Some.ensures (term_view c.in-Some-expr_converter.by.now) c.in-Some-expr_converter.ensures)
     (standing c.args.tyenv.now c.expand.new.self) refl c.in_err-left.field-0.0 c.in_err-left.ensures)
@@ -119,7 +120,8 @@ returns-in_err-left-clause-reads c =
 pub returns-in-Some-expr_converter-clause-reads : goal.returns-in-Some-expr_converter-clause-reads
 returns-in-Some-expr_converter-clause-reads c =
     rw (c.in_ok-inside.ensures, c.requires.whole)
-    (taken.conversion_leads c.args.self.now (standing c.args.tyenv.now c.args.work.now) (term_expr (name_view c.args.sym.now) (expr_views c.args.args.now) (position c.args.pos)) (position c.args.pos) (flags_view c.args.flags) (expected c.args.expected_ty) c.args.nesting (term_view c.in-Some-expr_converter.by.now)
+    (taken.conversion_leads c.args.self.now (standing c.args.tyenv.now c.args.work.now) (term_expr (name_view c.args.sym.now) (expr_views c.args.args.now) (position c.args.pos)) (position c.args.pos) (flags_view c.args.flags) (expected c.args.expected_ty)
+    c.args.nesting (term_view c.in-Some-expr_converter.by.now)
     (taken.converted_call c.args.self.now (standing c.args.tyenv.now c.args.work.now) c.requires.inverse (name_view c.args.sym.now) (expr_views c.args.args.now) (position c.args.pos) (flags_view c.args.flags) (expected c.args.expected_ty) c.args.nesting
     (term_view c.in-Some.term.now) c.in-Some.ensures (term_view c.in-Some-expr_converter.by.now) c.in-Some-expr_converter.ensures)
     (standing c.args.tyenv.now c.expand.new.self) c.in_ok-left.left refl c.in_ok-left.ensures.0 c.in_ok-left.ensures.1)
