@@ -1,7 +1,7 @@
 -- How expressions are read step by step, and what the use of a name in an expression leads to.
-use Rattle.std.specs.Prelude.{ℕ, List, Option, None, Some, Result, Ok, Err}
+use Rattle.std.specs.Prelude.{◌≡◌, ℕ, suc, List, Option, None, Some, Result, Ok, Err, ⊤}
 use Rattle.core_syntax.specs.SyntaxViews as S
-use Rattle.model.specs.lists.Syntax.{Position, ExprTree, ExprTrees, LetTrees}
+use Rattle.model.specs.lists.Syntax.{Position, Name, ExprTree, term_expr, ExprTrees, no_expr, expr_and, LetTrees}
 use Rattle.model.specs.lists.Tables.{Flags}
 use Rattle.model.specs.rules.Typed.{TypedExpr, make_term, make_var, TypedExprs, TypedLets}
 use Rattle.laws_errors.specs.ExprSteps.{expr_step, args_step, lets_step, deeper_expr_step}
@@ -42,3 +42,19 @@ CallTakes env old new d whole args flags ty (Ok (C.Conversion made left)) = Lead
 CallTakes env old new d whole args flags ty (Ok (C.Parts t)) =
     LeadsOn env old new (expr_steps whole flags ty d) (args_steps args flags (term_view t.now).arg_tys d) (made_end (make_term (term_view t.now).ret_ty (term_view t.now).id))
 CallTakes env old new d whole args flags ty (Err stop) = StopsBy env old new (expr_steps whole flags ty d) stop
+
+-- what takes the place of a use stands inside a use of a converter, in which one expansion fewer may nest
+abbrev pub IsConverted : ℕ → ExprTree → ExprTree → ℕ → Type 0
+IsConverted d whole made left = (suc left ≡ d) × (name : Name) × (at : Position) × (made ≡ term_expr name (expr_and whole no_expr) at)
+
+abbrev pub VarDeepens : ℕ → ExprTree → Result VarUse Stop → Type 0
+VarDeepens d whole (Ok V.Wrong) = ⊤
+VarDeepens d whole (Ok (V.Conversion made left)) = IsConverted d whole (S.expr_view made) left
+VarDeepens d whole (Ok (V.Var v)) = ⊤
+VarDeepens d whole (Err stop) = ⊤
+
+abbrev pub CallDeepens : ℕ → ExprTree → Result CallUse Stop → Type 0
+CallDeepens d whole (Ok C.Wrong) = ⊤
+CallDeepens d whole (Ok (C.Conversion made left)) = IsConverted d whole (S.expr_view made) left
+CallDeepens d whole (Ok (C.Parts t)) = ⊤
+CallDeepens d whole (Err stop) = ⊤

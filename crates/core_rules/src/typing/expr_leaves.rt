@@ -8,11 +8,10 @@ ghost use Rattle.model.specs.lists.Setting.{is_expected};
 ghost use Rattle.core_types.specs.Envs.{IsInterned};
 ghost use Rattle.core_typed.specs.Elaborating.{Checks, NotesEachAt, place_unless};
 ghost use Rattle.core_typed.specs.ExprViews.{expr_view};
-ghost use Rattle.core_rules.specs.ExprReadings.{expected, expr_reading};
+ghost use Rattle.core_rules.specs.ExprReadings.{expected};
 ghost use Rattle.core_rules.specs.ExprTaking.{expr_steps};
-ghost use Rattle.core_rules.specs.LimitStops.{NotLimited};
 ghost use Rattle.core_rules.specs.Taking.{Takes};
-ghost use Rattle.core_rules.specs.Translating.{standing, Keeps, MayTranslate};
+ghost use Rattle.core_rules.specs.Translating.{standing, Keeps};
 ghost use Rattle.core_syntax.specs.Positions.{NotesAt};
 ghost use Rattle.core_rules.specs.RulePositions.{StaysPlaced};
 
@@ -37,10 +36,7 @@ impl TermEnv {
         pos: Pos,
         expected_ty: Option<TypeId>,
     ) -> Result<Option<Expr>, Stop>
-        ensures made { (flags : Flags) (d : ℕ) → MayTranslate self.now (standing tyenv.now work.old) (standing tyenv.now work.new) d
-            (expr_reading (bool_expr val (position pos)) flags (expected expected_ty)) expr_view result }
         ensures places { StaysPlaced (position pos ∷ []) work.old.errors.items work.new.errors.items result }
-        ensures unlimited { NotLimited result }
         ensures reads { (flags : Flags) (d : ℕ) → Takes self.now (standing tyenv.now work.old) (standing tyenv.now work.new)
             (expr_steps (bool_expr val (position pos)) flags (expected expected_ty) d) (option_map expr_view) result }
     {
@@ -58,10 +54,7 @@ impl TermEnv {
         pos: Pos,
         expected_ty: Option<TypeId>,
     ) -> Result<Option<Expr>, Stop>
-        ensures made { (flags : Flags) (d : ℕ) → MayTranslate self.now (standing tyenv.now work.old) (standing tyenv.now work.new) d
-            (expr_reading (int_expr val (position pos)) flags (expected expected_ty)) expr_view result }
         ensures places { StaysPlaced (position pos ∷ []) work.old.errors.items work.new.errors.items result }
-        ensures unlimited { NotLimited result }
         ensures reads { (flags : Flags) (d : ℕ) → Takes self.now (standing tyenv.now work.old) (standing tyenv.now work.new)
             (expr_steps (int_expr val (position pos)) flags (expected expected_ty) d) (option_map expr_view) result }
     {
@@ -86,10 +79,7 @@ impl TermEnv {
     ) -> Result<Option<Expr>, Stop>
         requires { IsInterned tyenv.old }
         ensures keeps { Keeps tyenv.old tyenv.new }
-        ensures made { (flags : Flags) (d : ℕ) → MayTranslate self.now (standing tyenv.old work.old) (standing tyenv.new work.new) d
-            (expr_reading (prim_expr (name_view val.now) (position pos)) flags (expected expected_ty)) expr_view result }
         ensures places { StaysPlaced (position pos ∷ []) work.old.errors.items work.new.errors.items result }
-        ensures unlimited { NotLimited result }
         ensures reads { (flags : Flags) (d : ℕ) → Takes self.now (standing tyenv.old work.old) (standing tyenv.new work.new)
             (expr_steps (prim_expr (name_view val.now) (position pos)) flags (expected expected_ty) d) (option_map expr_view) result }
     {

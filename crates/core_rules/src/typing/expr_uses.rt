@@ -12,9 +12,8 @@ ghost use Rattle.core_types.specs.Envs.{symbol_of, IsInterned};
 ghost use Rattle.core_syntax.specs.NotedErrors.{NotesMore};
 ghost use Rattle.core_typed.specs.Elaborating.{Checks, NotesEachAt, place_unless};
 ghost use Rattle.core_rules.specs.ExprReadings.{expected};
-ghost use Rattle.core_rules.specs.ExprTaking.{VarTakes, CallTakes};
-ghost use Rattle.core_rules.specs.ExprUses.{found_expr_converter, declared_converter, inside_call, allowed, UsesVar, UsesCall};
-ghost use Rattle.core_rules.specs.UseLimits.{VarComes, CallComes};
+ghost use Rattle.core_rules.specs.ExprTaking.{VarTakes, CallTakes, VarDeepens, CallDeepens};
+ghost use Rattle.core_rules.specs.ExprUses.{found_expr_converter, declared_converter, inside_call, allowed};
 ghost use Rattle.core_rules.specs.Progress.{newest, Remains};
 ghost use Rattle.core_typed.specs.RuleViews.{var_view};
 ghost use Rattle.core_rules.specs.Taking.{places_of};
@@ -97,12 +96,9 @@ impl TermEnv {
     ) -> Result<VarUse, Stop>
         requires inverse { IsInterned tyenv.now }
         requires whole { expr_view whole.now ≡ var_expr (name_view name.now) (position pos) }
-        ensures uses { (flags : Flags) → UsesVar self.now (standing tyenv.now work.old) (standing tyenv.now work.new) nesting
-            (expr_view whole.now) flags (expected expected_ty) result }
+        ensures deeper { VarDeepens nesting (expr_view whole.now) result }
         ensures places { StaysPlaced (position pos ∷ []) work.old.errors.items work.new.errors.items result }
         ensures among { ConvertsAmong (expr_positions (expr_view whole.now)) result }
-        ensures limits { (flags : Flags) → VarComes self.now (standing tyenv.now work.old) (standing tyenv.now work.new) nesting
-            (expr_view whole.now) flags (expected expected_ty) result }
         ensures reads { (flags : Flags) → VarTakes self.now (standing tyenv.now work.old) (standing tyenv.now work.new) nesting
             (expr_view whole.now) flags (expected expected_ty) result }
     {
@@ -148,12 +144,9 @@ impl TermEnv {
     ) -> Result<CallUse<'_>, Stop>
         requires inverse { IsInterned tyenv.now }
         requires whole { expr_view whole.now ≡ term_expr (name_view sym.now) (expr_views args.now) (position pos) }
-        ensures uses { UsesCall self.now (standing tyenv.now work.old) (standing tyenv.now work.new) nesting (expr_view whole.now)
-            (expr_views args.now) (flags_view flags) (expected expected_ty) result }
+        ensures deeper { CallDeepens nesting (expr_view whole.now) result }
         ensures places { StaysPlaced (position pos ∷ []) work.old.errors.items work.new.errors.items result }
         ensures among { CallsAmong (expr_positions (expr_view whole.now)) result }
-        ensures limits { CallComes self.now (standing tyenv.now work.old) (standing tyenv.now work.new) nesting (expr_view whole.now)
-            (expr_views args.now) (flags_view flags) (expected expected_ty) result }
         ensures reads { CallTakes self.now (standing tyenv.now work.old) (standing tyenv.now work.new) nesting (expr_view whole.now)
             (expr_views args.now) (flags_view flags) (expected expected_ty) result }
     {

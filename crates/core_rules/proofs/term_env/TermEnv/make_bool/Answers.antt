@@ -2,14 +2,8 @@ use Rattle.std.proofs.Common.{refl}
 use Rattle.core_syntax.specs.SyntaxViews.{position}
 use Rattle.core_rules.specs.ExprReadings.{expected}
 use Rattle.core_rules.specs.Translating.{standing}
-use Rattle.core_rules.proofs.ExprLeaves.{truth_made}
 use Rattle.core_rules.proofs.ExprsTaken as taken
 use Rattle.core_rules.proofs.term_env.TermEnv.make_bool.Goals as goal
-
-pub returns-clause-made : goal.returns-clause-made
-returns-clause-made c flags =
-    truth_made c.args.self.now (standing c.args.tyenv.now c.args.work.now) _ flags (position c.args.pos) refl (record { vars = refl; names = λ k. refl; expansions = refl })
-    (expected c.args.expected_ty) c.args.val c.in_ok-check_truth.ensures.checks
 
 pub returns-clause-reads : goal.returns-clause-reads
 returns-clause-reads c flags d =

@@ -1,31 +1,15 @@
-use Rattle.std.proofs.Common.{rules, ◌≡◌, slice_get, refl, inr, ap}
+use Rattle.std.proofs.Common.{rules, ◌≡◌, slice_get, refl, ap}
 use mir.Syntax.{w128}
 use mir.Val.{SFits}
 use Rattle.std.proofs.lemmas.Int.{to_z-of_z}
 use Rattle.core_syntax.specs.SyntaxViews.{position}
 use Rattle.model.specs.lists.Ranges.{reduced}
-use Rattle.model.specs.lists.Syntax.{int_expr}
 use Rattle.core_types.specs.TypeViews.{type_views}
-use Rattle.core_rules.specs.ExprReadings.{expected, expr_reading}
+use Rattle.core_rules.specs.ExprReadings.{expected}
 use Rattle.core_rules.specs.Translating.{standing}
 use Rattle.core_typed.proofs.NotedErrors.{told_at}
-use Rattle.core_rules.proofs.ExprLeaves.{int_made}
 use Rattle.core_rules.proofs.ExprsTaken.{untyped_made, integer_made}
 use Rattle.core_rules.proofs.term_env.TermEnv.make_int.Goals as goal
-
-pub returns-in_default-clause-made : goal.returns-in_default-clause-made
-returns-in_default-clause-made c flags d = record {
-  errors = inr c.in_ok-report.ensures.noted;
-  noted = λ e s is sh. record { reports = c.in_ok-report.ensures.noted; none = λ k. ap (λ ty. expr_reading (int_expr c.args.val (position c.args.pos)) flags (expected ty) e k s) c.in_default.is };
-}
-
-pub returns-clause-made : goal.returns-clause-made
-returns-clause-made c flags d =
-    let fits : SFits w128 c.literal_number-number.result = search rules in
-    let stands : c.literal_number-number.result ≡ reduced (slice_get (type_views c.args.tyenv.now.types.items) c.in-Some.ty.0) c.args.val = search rules in
-    rw (c.in-Some.is, to_z-of_z w128 c.literal_number-number.result fits)
-    (int_made c.args.self.now (standing c.args.tyenv.now c.args.work.now) _ flags (position c.args.pos) refl (record { vars = refl; names = λ k. refl; expansions = refl })
-    c.in-Some.ty.0 c.args.val c.literal_number-number.result stands c.in_ok-check_integer.ensures.checks d)
 
 pub returns-in_default-clause-reads : goal.returns-in_default-clause-reads
 returns-in_default-clause-reads c flags d =

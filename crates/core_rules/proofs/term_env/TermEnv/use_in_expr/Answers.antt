@@ -4,53 +4,16 @@ use Rattle.model.specs.lists.Syntax.{term_expr}
 use Rattle.core_terms.specs.TermViews.{flags_view, term_view}
 use Rattle.core_rules.specs.ExprReadings.{expected}
 use Rattle.core_rules.specs.Translating.{standing}
+use Rattle.core_rules.specs.PatternUses.{name_at}
 use Rattle.core_rules.proofs.Readings.{stop_is}
-use Rattle.core_rules.proofs.ExprUsing.{list_length, call_unknown, call_converts, converted, conversion_stops, args_used, call_unmade}
 use Rattle.core_syntax.proofs.Positioned.{notes_nothing}
 use Rattle.model.proofs.Members.{in_head}
 use Rattle.core_syntax.specs.Positions.{expr_positions, exprs_positions}
 use Rattle.core_rules.proofs.ErrorPositions.{counted_stop}
 use Rattle.core_rules.proofs.SubstitutedPlaces.{called_places}
-use Rattle.core_rules.proofs.ExprLimits as limits
 use Rattle.core_rules.proofs.ExprsTaken as taken
 use Rattle.core_typed.proofs.NotedErrors.{told_at}
-use Rattle.core_rules.proofs.ExprLimits.{call_unknown_comes, call_converts_comes, call_unmade_comes, args_lead, converted_leads}
 use Rattle.core_rules.proofs.term_env.TermEnv.use_in_expr.Goals as goal
-
-pub returns-in_default-clause-uses : goal.returns-in_default-clause-uses
-returns-in_default-clause-uses c =
-    rw c.requires.whole
-    (call_unknown c.args.self.now (standing c.args.tyenv.now c.args.work.now) c.requires.inverse (name_view c.args.sym.now) (expr_views c.args.args.now) (position c.args.pos) (flags_view c.args.flags) (expected c.args.expected_ty)
-    _ c.in_default.ensures c.in_ok-report_unknown.ensures.noted)
-
-pub returns-in_err-left-clause-uses : goal.returns-in_err-left-clause-uses
-returns-in_err-left-clause-uses c =
-    rw (stop_is c.from_residual-in_err-left.result c.in_err-left.field-0.0 c.from_residual-in_err-left.ensures, c.requires.whole)
-    (conversion_stops c.args.self.now (standing c.args.tyenv.now c.args.work.now) (term_expr (name_view c.args.sym.now) (expr_views c.args.args.now) (position c.args.pos)) (position c.args.pos) (flags_view c.args.flags) (expected c.args.expected_ty) (term_view c.in-Some-expr_converter.by.now)
-    (call_converts c.args.self.now (standing c.args.tyenv.now c.args.work.now) c.requires.inverse (name_view c.args.sym.now) (expr_views c.args.args.now) (position c.args.pos) (flags_view c.args.flags) (expected c.args.expected_ty)
-    (term_view c.in-Some.term.now) c.in-Some.ensures (term_view c.in-Some-expr_converter.by.now) c.in-Some-expr_converter.ensures)
-    (standing c.args.tyenv.now c.expand.new.self) c.args.nesting c.in_err-left.field-0.0 c.in_err-left.ensures)
-
-pub returns-in-Some-expr_converter-clause-uses : goal.returns-in-Some-expr_converter-clause-uses
-returns-in-Some-expr_converter-clause-uses c =
-    rw (c.in_ok-inside.ensures, c.requires.whole)
-    (converted c.args.self.now (standing c.args.tyenv.now c.args.work.now) (term_expr (name_view c.args.sym.now) (expr_views c.args.args.now) (position c.args.pos)) (position c.args.pos) (flags_view c.args.flags) (expected c.args.expected_ty) (term_view c.in-Some-expr_converter.by.now)
-    (call_converts c.args.self.now (standing c.args.tyenv.now c.args.work.now) c.requires.inverse (name_view c.args.sym.now) (expr_views c.args.args.now) (position c.args.pos) (flags_view c.args.flags) (expected c.args.expected_ty)
-    (term_view c.in-Some.term.now) c.in-Some.ensures (term_view c.in-Some-expr_converter.by.now) c.in-Some-expr_converter.ensures)
-    (standing c.args.tyenv.now c.expand.new.self) c.args.nesting c.in_ok-left.left c.in_ok-left.ensures.0 refl c.in_ok-left.ensures.1)
-
-pub returns-clause-uses : goal.returns-clause-uses
-returns-clause-uses c =
-    rw c.requires.whole
-    (args_used c.args.self.now (standing c.args.tyenv.now c.args.work.now) c.requires.inverse (name_view c.args.sym.now) (expr_views c.args.args.now) (position c.args.pos) (flags_view c.args.flags) (expected c.args.expected_ty)
-    (term_view c.in-Some.term.now) c.in-Some.ensures c.in_default-expr_converter.ensures _ (sym (list_length c.args.args.now))
-    _ refl (record { vars = c.check_call.ensures.remains.vars; names = c.check_call.ensures.remains.names; expansions = c.check_call.ensures.remains.expansions }) c.in_ok-check_call.ensures.checks)
-
-pub returns-in-Some-declared_converter-clause-uses : goal.returns-in-Some-declared_converter-clause-uses
-returns-in-Some-declared_converter-clause-uses c =
-    rw c.requires.whole
-    (call_unmade c.args.self.now (standing c.args.tyenv.now c.args.work.now) c.requires.inverse (name_view c.args.sym.now) (expr_views c.args.args.now) (position c.args.pos) (flags_view c.args.flags) (expected c.args.expected_ty)
-    (term_view c.in-Some.term.now) c.in-Some.ensures _ (term_view c.in-Some-declared_converter.by.now) c.in_default-expr_converter.ensures c.in-Some-declared_converter.ensures c.in_ok-report_name.ensures.noted)
 
 pub returns-in_err-left-clause-places : goal.returns-in_err-left-clause-places
 returns-in_err-left-clause-places c =
@@ -66,41 +29,6 @@ returns-in-Some-expr_converter-clause-among c =
     let at = position c.args.pos in
     let here : Contains (expr_positions (expr_view c.args.whole.now)) at = rw c.requires.whole (in_head at ((name_view c.args.sym.now).at ∷ exprs_positions (expr_views c.args.args.now))) in
     rw c.in_ok-inside.ensures (called_places c.args.tyenv.now (term_view c.in-Some-expr_converter.by.now) at (expr_view c.args.whole.now) here)
-
-pub returns-in_default-clause-limits : goal.returns-in_default-clause-limits
-returns-in_default-clause-limits c =
-    rw c.requires.whole
-    (call_unknown_comes c.args.self.now (standing c.args.tyenv.now c.args.work.now) c.requires.inverse (name_view c.args.sym.now) (expr_views c.args.args.now) (position c.args.pos) (flags_view c.args.flags) (expected c.args.expected_ty)
-    c.args.nesting c.in_default.ensures)
-
-pub returns-in_err-left-clause-limits : goal.returns-in_err-left-clause-limits
-returns-in_err-left-clause-limits c =
-    rw (stop_is c.from_residual-in_err-left.result c.in_err-left.field-0.0 c.from_residual-in_err-left.ensures, c.requires.whole)
-    (limits.conversion_ends c.args.self.now (standing c.args.tyenv.now c.args.work.now) (term_expr (name_view c.args.sym.now) (expr_views c.args.args.now) (position c.args.pos)) (position c.args.pos) (flags_view c.args.flags) (expected c.args.expected_ty) (term_view c.in-Some-expr_converter.by.now)
-    (call_converts_comes c.args.self.now (standing c.args.tyenv.now c.args.work.now) c.requires.inverse (name_view c.args.sym.now) (expr_views c.args.args.now) (position c.args.pos) (flags_view c.args.flags) (expected c.args.expected_ty)
-    (term_view c.in-Some.term.now) c.in-Some.ensures (term_view c.in-Some-expr_converter.by.now) c.in-Some-expr_converter.ensures)
-    (standing c.args.tyenv.now c.expand.new.self) c.args.nesting c.in_err-left.field-0.0 c.in_err-left.ensures)
-
-pub returns-in-Some-expr_converter-clause-limits : goal.returns-in-Some-expr_converter-clause-limits
-returns-in-Some-expr_converter-clause-limits c =
-    rw (c.in_ok-inside.ensures, c.requires.whole)
-    (converted_leads c.args.self.now (standing c.args.tyenv.now c.args.work.now) (term_expr (name_view c.args.sym.now) (expr_views c.args.args.now) (position c.args.pos)) (position c.args.pos) (flags_view c.args.flags) (expected c.args.expected_ty) (term_view c.in-Some-expr_converter.by.now)
-    (call_converts_comes c.args.self.now (standing c.args.tyenv.now c.args.work.now) c.requires.inverse (name_view c.args.sym.now) (expr_views c.args.args.now) (position c.args.pos) (flags_view c.args.flags) (expected c.args.expected_ty)
-    (term_view c.in-Some.term.now) c.in-Some.ensures (term_view c.in-Some-expr_converter.by.now) c.in-Some-expr_converter.ensures)
-    (standing c.args.tyenv.now c.expand.new.self) c.args.nesting c.in_ok-left.left c.in_ok-left.ensures.0 c.in_ok-left.ensures.1)
-
-pub returns-in-Some-declared_converter-clause-limits : goal.returns-in-Some-declared_converter-clause-limits
-returns-in-Some-declared_converter-clause-limits c =
-    rw c.requires.whole
-    (call_unmade_comes c.args.self.now (standing c.args.tyenv.now c.args.work.now) c.requires.inverse (name_view c.args.sym.now) (expr_views c.args.args.now) (position c.args.pos) (flags_view c.args.flags) (expected c.args.expected_ty)
-    (term_view c.in-Some.term.now) c.in-Some.ensures c.args.nesting (term_view c.in-Some-declared_converter.by.now) c.in_default-expr_converter.ensures c.in-Some-declared_converter.ensures)
-
-pub returns-clause-limits : goal.returns-clause-limits
-returns-clause-limits c =
-    rw c.requires.whole
-    (args_lead c.args.self.now (standing c.args.tyenv.now c.args.work.now) c.requires.inverse (name_view c.args.sym.now) (expr_views c.args.args.now) (position c.args.pos) (flags_view c.args.flags) (expected c.args.expected_ty)
-    (term_view c.in-Some.term.now) c.in-Some.ensures c.in_default-expr_converter.ensures _ (sym (list_length c.args.args.now))
-    _ _ c.args.nesting c.check_call.ensures.remains.expansions c.in_ok-check_call.ensures.checks)
 
 pub returns-in_default-clause-reads : goal.returns-in_default-clause-reads
 returns-in_default-clause-reads c =
@@ -139,3 +67,8 @@ returns-clause-reads c =
     (taken.parts_lead c.args.self.now (standing c.args.tyenv.now c.args.work.now) c.requires.inverse (name_view c.args.sym.now) (expr_views c.args.args.now) (position c.args.pos) (flags_view c.args.flags) (expected c.args.expected_ty) c.args.nesting
     (term_view c.in-Some.term.now) c.in-Some.ensures (standing c.args.tyenv.now c.check_call.new.work) refl c.check_call.ensures.remains c.in_default-expr_converter.ensures
     c.in_default-declared_converter.ensures _ (sym (taken.list_length c.args.args.now)) c.in_ok-check_call.ensures.exact)
+
+pub returns-in-Some-expr_converter-clause-deeper : goal.returns-in-Some-expr_converter-clause-deeper
+returns-in-Some-expr_converter-clause-deeper c =
+    let at = position c.args.pos in
+    rw c.in_ok-inside.ensures (c.in_ok-left.ensures.0, name_at c.args.tyenv.now (term_view c.in-Some-expr_converter.by.now) at, at, refl)
