@@ -66,8 +66,8 @@ pub hides_joined : (ds es : TypedLets) (s t u : Scope) (earlier mid hidden : Lis
 hides_joined ds es s t u earlier mid hidden o p h i k now =
     i k now ∙ h k (before_defs es u k now)
     ∙ ap (before_all earlier k) (
-      sym (stood_before ds s t o k (before_defs es u k now)) ∙ ap (stood ds s t o k) (sym (stood_before es t u p k now))
-      ∙ sym (stood_joined ds es s t u o p k now) ∙ stood_before (lets_joined ds es) s u (opened_joined ds es s t u o p) k now
+    sym (stood_before ds s t o k (before_defs es u k now)) ∙ ap (stood ds s t o k) (sym (stood_before es t u p k now))
+    ∙ sym (stood_joined ds es s t u o p k now) ∙ stood_before (lets_joined ds es) s u (opened_joined ds es s t u o p) k now
     )
 
 -- one definition, if it was made

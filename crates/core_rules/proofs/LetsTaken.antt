@@ -35,7 +35,7 @@ use Rattle.core_rules.specs.declared.term_env.TermEnv.{TermEnv}
 use Rattle.core_rules.specs.declared.typing.progress.Stop.{Stop}
 use Rattle.core_rules.specs.declared.typing.progress.Stop.TheVariants.{Memory, Nesting, Expansions}
 use Rattle.core_rules.specs.ExprTaking.{expr_steps}
-use Rattle.core_rules.specs.LetTaking.{lets_steps, def_steps, def_view, defs_made, def_made, Hides, HidesIn, HidesBy}
+use Rattle.core_rules.specs.LetTaking.{lets_steps, def_steps, one_def_steps, def_view, defs_made, def_made, Hides, HidesIn, HidesBy}
 use Rattle.core_rules.specs.Lets.{before_all, BindsDef, Closes}
 use Rattle.core_rules.specs.Progress.{newest, BindsNext, Remains}
 use Rattle.core_rules.specs.Taking.{Stepping, MadeOrLimit, places_of, Took, took, ended, EndsAs, StopsBy}
@@ -111,8 +111,11 @@ module _ (env : TermEnv) (old mid : Standing) (name ty : Name) (value : ExprTree
 
   -- its type isn't known
   pub unknown_def : None ≡ type_of_name old.tyenv ty.text → NotesEachAt (at ∷ []) old.work.errors.items mid.work.errors.items → EndsAs env old mid one (Ok None)
-  unknown_def none n = (may_note n, λ e s is sh. subst (λ t. Took old mid t (Ok None)) (sym (found_type None none e s is sh))
-      (took None (met s name.text) 0 (record { why = unknown_let_type ty.text name.text; at = at } ∷ []) n (shown s sh) (let k = r.expansions in omega (arith, k))))
+  unknown_def none n = (
+    may_note n,
+    λ e s is sh. subst (λ t. Took old mid t (Ok None)) (sym (found_type None none e s is sh))
+        (took None (met s name.text) 0 (record { why = unknown_let_type ty.text name.text; at = at } ∷ []) n (shown s sh) (let k = r.expansions in omega (arith, k))),
+  )
 
   pub unknown_hides : None ≡ type_of_name old.tyenv ty.text → (hidden : List (Sym × Option BoundVar)) → HidesBy env old one def_made hidden hidden
   unknown_hides none hidden e s is sh = subst (HidesIn def_made hidden hidden) (sym (found_type None none e s is sh)) (λ k now. refl)
@@ -128,8 +131,11 @@ module _ (env : TermEnv) (old mid : Standing) (name ty : Name) (value : ExprTree
     may h = subst (λ es. MayNoteMore es next.work.errors.items) errors h
 
     value_ends : (l : NamedLimit) → EndsAs env mid next (values own) (Err l) → EndsAs env old next one (Err l)
-    value_ends l h = (may h.0, λ e s is sh. subst (λ t. Took old next t (Err l)) (sym (found_type (Some own) there e s is sh))
-        (value_ended name.text own old mid next errors r.expansions l (values own e old.work.expansions (met s name.text)) (goes_at (Err l) h e s is sh)))
+    value_ends l h = (
+      may h.0,
+      λ e s is sh. subst (λ t. Took old next t (Err l)) (sym (found_type (Some own) there e s is sh))
+          (value_ended name.text own old mid next errors r.expansions l (values own e old.work.expansions (met s name.text)) (goes_at (Err l) h e s is sh)),
+    )
 
     pub value_stops : (stop : Stop) → StopsBy env mid next (values own) stop → StopsBy env old next one stop
     value_stops (Memory a) h = tt
@@ -137,8 +143,11 @@ module _ (env : TermEnv) (old mid : Standing) (name ty : Name) (value : ExprTree
     value_stops Expansions h = value_ends of_expansions h
 
     pub def_not_made : EndsAs env mid next (values own) (Ok None) → EndsAs env old next one (Ok None)
-    def_not_made h = (may h.0, λ e s is sh. subst (λ t. Took old next t (Ok None)) (sym (found_type (Some own) there e s is sh))
-        (no_value name.text own old mid next errors r.expansions (values own e old.work.expansions (met s name.text)) (goes_at (Ok None) h e s is sh)))
+    def_not_made h = (
+      may h.0,
+      λ e s is sh. subst (λ t. Took old next t (Ok None)) (sym (found_type (Some own) there e s is sh))
+          (no_value name.text own old mid next errors r.expansions (values own e old.work.expansions (met s name.text)) (goes_at (Ok None) h e s is sh)),
+    )
 
     pub def_not_hidden : EndsAs env mid next (values own) (Ok None) → (hidden : List (Sym × Option BoundVar)) → HidesBy env old one def_made hidden hidden
     def_not_hidden h hidden e s is sh = subst (HidesIn def_made hidden hidden) (sym (found_type (Some own) there e s is sh))
@@ -343,11 +352,8 @@ module _ (env : TermEnv) (old mid : Standing) (whole rest : Stepping TypedLets) 
 abbrev pub defs_from : List LetDef → Flags → Position → ℕ → ℕ → Stepping TypedLets
 defs_from defs flags at d i = lets_steps (S.let_views (drop i defs)) flags at d
 
-abbrev pub def_of : LetDef → Flags → Position → ℕ → Stepping (TypedLets → TypedLets)
-def_of def flags at d = def_steps (S.name_view def.var) (S.name_view def.ty) (S.expr_view def.val.value) flags at d
-
 pub def_first : (defs : List LetDef) (flags : Flags) (at : Position) (d i : ℕ) (def : LetDef) → i < length defs → def ≡ get_or defs i def → (e : Setting) (n : ℕ) (u : Scope)
-    → defs_from defs flags at d i e n u ≡ then_step with_def (def_of def flags at d e n u) (λ m t k. defs_from defs flags at d (i + 1) e (n + k) t)
+    → defs_from defs flags at d i e n u ≡ then_step with_def (one_def_steps def flags at d e n u) (λ m t k. defs_from defs flags at d (i + 1) e (n + k) t)
 def_first defs flags at d i def w is e n u = ap (λ ds. lets_steps (S.let_views ds) flags at d e n u) (drop_more defs i def w ∙ ap (λ q. q ∷ drop (i + 1) defs) (sym is))
 
 pub defs_read : (defs : List LetDef) (flags : Flags) (at : Position) (d i : ℕ) → length defs ≤ i → (e : Setting) (n : ℕ) (u : Scope) → defs_from defs flags at d i e n u ≡ here no_typed_let u

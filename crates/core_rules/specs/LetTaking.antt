@@ -1,6 +1,8 @@
 -- How lets are read step by step, and what is kept of what their names stood for before them.
 use Rattle.std.specs.Prelude.{◌≡◌, ℕ, Bool, false, ◌||◌, List, Option, None, Some, slice_get, unwrap_or, Box, if◌then◌else◌, ⊤}
 use Rattle.std.specs.declared.alloc.Global.{Global}
+use Rattle.core_syntax.specs.declared.syntax.LetDef.{LetDef}
+use Rattle.core_syntax.specs.SyntaxViews as S
 use Rattle.model.specs.lists.Syntax.{Position, Name, ExprTree, LetTrees}
 use Rattle.model.specs.lists.Tables.{Flags}
 use Rattle.model.specs.lists.Setting.{Scope, met, var_named, type_of_name}
@@ -26,6 +28,9 @@ lets_steps defs flags at d e n s = lets_step e flags (deeper_expr_step e flags d
 abbrev pub def_steps : Name → Name → ExprTree → Flags → Position → ℕ → Stepping (TypedLets → TypedLets)
 def_steps name ty value flags at d e n s =
     let_step name.text ty.text at s (λ own. expr_step e flags (deeper_expr_step e flags d) value (Some own) n (met s name.text)) (type_of_name e s ty.text)
+
+abbrev pub one_def_steps : LetDef → Flags → Position → ℕ → Stepping (TypedLets → TypedLets)
+one_def_steps def flags at d = def_steps (S.name_view def.var) (S.name_view def.ty) (S.expr_view def.val.value) flags at d
 
 -- a definition that was bound, before others
 abbrev pub def_view : VarId × TypeId × Box Expr Global → TypedLets → TypedLets

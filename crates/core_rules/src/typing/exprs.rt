@@ -1,16 +1,19 @@
 //! How expressions are typed.
 
-ghost use Rattle.std.specs.Prelude.{◌≡◌, ◌∷◌, ◌++◌, OnOk, length, map};
+ghost use Rattle.std.specs.Prelude.{◌≡◌, ◌∷◌, ◌++◌, Some, OnOk, length, map, option_map};
 ghost use Rattle.std.specs.Option.{option_to_list};
 ghost use Rattle.core_syntax.specs.SyntaxViews as S;
 ghost use Rattle.model.specs.lists.Syntax.{no_let, let_expr};
 ghost use Rattle.core_terms.specs.TermViews.{flags_view};
 ghost use Rattle.core_types.specs.Envs.{IsInterned};
 ghost use Rattle.core_rules.specs.ExprReadings.{expected, expr_reading, args_reading, lets_reading};
-ghost use Rattle.core_typed.specs.ExprViews.{expr_view, expr_views, expr_parts};
+ghost use Rattle.core_typed.specs.ExprViews.{expr_view, expr_views, expr_parts, let_views, let_parts};
+ghost use Rattle.core_rules.specs.ExprTaking.{expr_steps};
+ghost use Rattle.core_rules.specs.LetTaking.{lets_steps, one_def_steps, def_view, defs_made, def_made, HidesBy};
 ghost use Rattle.core_rules.specs.Lets.{DefinesAll, DefinesOne, with_let};
 ghost use Rattle.core_rules.specs.LimitStops.{MeetsLimits};
 ghost use Rattle.core_rules.specs.ReachedLimits.{expr_limits, args_limits, lets_limits};
+ghost use Rattle.core_rules.specs.Taking.{Takes};
 ghost use Rattle.core_rules.specs.Translating.{standing, Keeps, StaysNoted, MayTranslate, Translates};
 ghost use Rattle.core_syntax.specs.Positions.{expr_positions, exprs_positions, lets_positions};
 ghost use Rattle.core_rules.specs.RulePositions.{StaysPlaced};
@@ -51,6 +54,8 @@ impl TermEnv {
         ensures places { StaysPlaced (expr_positions (S.expr_view expr.now)) work.old.errors.items work.new.errors.items result }
         ensures limits { MeetsLimits self.now (standing tyenv.old work.old) (standing tyenv.new work.new) nesting
             (expr_reading (S.expr_view expr.now) (flags_view flags) (expected expected_ty)) (expr_limits (S.expr_view expr.now) (flags_view flags) (expected expected_ty)) result }
+        ensures reads { Takes self.now (standing tyenv.old work.old) (standing tyenv.new work.new)
+            (expr_steps (S.expr_view expr.now) (flags_view flags) (expected expected_ty) nesting) (option_map expr_view) result }
     {
         match expr {
             syntax::Expr::Term { sym, args, pos } => {
@@ -161,6 +166,8 @@ impl TermEnv {
         ensures limits { MeetsLimits self.now (standing tyenv.old work.old) (standing tyenv.new work.new) nesting
             (expr_reading (let_expr (S.let_views defs.now) (S.expr_view body.now) (S.position pos)) (flags_view flags) (expected expected_ty))
             (expr_limits (let_expr (S.let_views defs.now) (S.expr_view body.now) (S.position pos)) (flags_view flags) (expected expected_ty)) result }
+        ensures reads { Takes self.now (standing tyenv.old work.old) (standing tyenv.new work.new)
+            (expr_steps (let_expr (S.let_views defs.now) (S.expr_view body.now) (S.position pos)) (flags_view flags) (expected expected_ty) nesting) (option_map expr_view) result }
     {
         let mut hidden = Vec::new(*self.terms.allocator());
         let bindings = self.translate_defs(tyenv, work, &mut hidden, defs, pos, flags, nesting)?;
@@ -191,6 +198,10 @@ impl TermEnv {
         ensures places { StaysPlaced (S.position pos ∷ lets_positions (S.let_views defs.now)) work.old.errors.items work.new.errors.items result }
         ensures limits { MeetsLimits self.now (standing tyenv.old work.old) (standing tyenv.new work.new) nesting
             (lets_reading (S.let_views defs.now) (flags_view flags)) (lets_limits (S.let_views defs.now) (flags_view flags)) result }
+        ensures reads { Takes self.now (standing tyenv.old work.old) (standing tyenv.new work.new)
+            (lets_steps (S.let_views defs.now) (flags_view flags) (S.position pos) nesting) (λ v. Some (let_parts (let_views v.items))) result }
+        ensures hides { OnOk result (HidesBy self.now (standing tyenv.old work.old)
+            (lets_steps (S.let_views defs.now) (flags_view flags) (S.position pos) nesting) defs_made hidden.old.items hidden.new.items) }
     {
         let mut bindings = Vec::with_capacity(*self.terms.allocator(), defs.len())?;
         for def in defs {
@@ -219,6 +230,10 @@ impl TermEnv {
         ensures places { StaysPlaced (S.position pos ∷ lets_positions (with_let def.now no_let)) work.old.errors.items work.new.errors.items result }
         ensures limits { MeetsLimits self.now (standing tyenv.old work.old) (standing tyenv.new work.new) nesting
             (lets_reading (with_let def.now no_let) (flags_view flags)) (lets_limits (with_let def.now no_let) (flags_view flags)) result }
+        ensures reads { Takes self.now (standing tyenv.old work.old) (standing tyenv.new work.new)
+            (one_def_steps def.now (flags_view flags) (S.position pos) nesting) (option_map def_view) result }
+        ensures hides { OnOk result (HidesBy self.now (standing tyenv.old work.old)
+            (one_def_steps def.now (flags_view flags) (S.position pos) nesting) def_made hidden.old.items hidden.new.items) }
     {
         let Some((name, ty)) = begin_def(tyenv, &mut work.errors, def, pos)? else {
             return Ok(None);

@@ -27,6 +27,8 @@ use Rattle.core_rules.proofs.LimitSteps.{not_limited}
 use Rattle.core_rules.proofs.PatternLimits.{expanded_meets}
 use Rattle.core_rules.proofs.ExprLimits.{args_end, args_none, next_arg_none, arg_ends, all_args_none}
 use Rattle.core_rules.proofs.LetLimits.{def_unknown_comes, def_comes, def_ends, next_def_none, next_def_ends, all_defs_none, let_first_ends, let_none, let_ends}
+use Rattle.core_rules.specs.LetTaking.{lets_steps}
+use Rattle.core_rules.proofs.LetsTaken.{unknown_def, unknown_hides, value_stops, def_not_made, def_not_hidden, def_taken, def_hides, none_defined, one_defined, def_stops_all, all_defined, all_hidden, defs_from, def_first, defs_read, let_stops_first, body_stops, let_not_made, let_taken}
 use Rattle.core_rules.proofs.term_env.TermEnv.+translate_expr.Goals as goal
 
 pub translate_expr-use_in_expr-requires-clause-whole : goal.translate_expr-use_in_expr-requires-clause-whole
@@ -215,6 +217,7 @@ translate_defs-loop-def-init t c = (
   no_def_yet c.args.self.now (standing c.args.tyenv.now c.args.work.now) c.args.nesting (flags_view c.args.flags) c.args.hidden.now.items c.in_ok-bindings.bindings.items c.in_ok-bindings.ensures.items,
   notes_nothing _ _ _ refl,
   λ e s is sh. refl,
+  none_defined c.args.self.now (standing c.args.tyenv.now c.args.work.now) (lets_steps (S.let_views c.args.defs.now) (flags_view c.args.flags) (S.position c.args.pos) c.args.nesting) c.in_ok-bindings.bindings.items c.args.hidden.now.items c.in_ok-bindings.ensures.items,
 )
 
 pub translate_defs-translate_def-requires : goal.translate_defs-translate_def-requires
@@ -248,6 +251,13 @@ translate_defs-loop-def-preserved t c =
           ),
       next_def_none c.args.self.now (standing c.args.tyenv.now c.args.work.now) (standing c.loop-def.tyenv c.loop-def.work) (standing c.translate_def.new.tyenv c.translate_def.new.work) c.args.nesting (flags_view c.args.flags)
           c.args.defs.now c.loop-def.def-index c.def-item.result c.loop-def-test.true c.def-item.is c.loop-def.invariant.0 c.loop-def.bindings.items c.args.hidden.now.items c.loop-def.hidden.items c.loop-def.invariant.1 c.loop-def.invariant.3 c.in_ok-made.ensures.limits,
+      rw pushed
+          (one_defined c.args.self.now (standing c.args.tyenv.now c.args.work.now) (standing c.loop-def.tyenv c.loop-def.work) (lets_steps (S.let_views c.args.defs.now) (flags_view c.args.flags) (S.position c.args.pos) c.args.nesting)
+          (defs_from c.args.defs.now (flags_view c.args.flags) (S.position c.args.pos) c.args.nesting c.loop-def.def-index) c.loop-def.bindings.items c.args.hidden.now.items c.loop-def.hidden.items c.loop-def.invariant.4
+          (S.name_view c.def-item.result.var) (S.name_view c.def-item.result.ty) (S.expr_view c.def-item.result.val.value) (flags_view c.args.flags) (S.position c.args.pos) c.args.nesting
+          (defs_from c.args.defs.now (flags_view c.args.flags) (S.position c.args.pos) c.args.nesting (c.loop-def.def-index + 1)) (standing c.translate_def.new.tyenv c.translate_def.new.work) c.loop-def.invariant.0
+          (def_first c.args.defs.now (flags_view c.args.flags) (S.position c.args.pos) c.args.nesting c.loop-def.def-index c.def-item.result c.loop-def-test.true c.def-item.is)
+          c.in_ok-made.made c.translate_def.new.hidden.items c.in_ok-made.ensures.reads c.in_ok-made.ensures.hides),
     )
 
 pub translate_def-returns-in_default-clause-made : goal.translate_def-returns-in_default-clause-made
@@ -656,3 +666,105 @@ translate_exprs-returns-clause-limits t c count =
     let w : length c.args.args.now ≤ c.loop-i.i = search (rules, count) in
     let v : length c.args.tys.now ≤ c.loop-i.i = search (rules, count) in
     all_args_none c.args.self.now (standing c.args.tyenv.now c.args.work.now) c.args.nesting (flags_view c.args.flags) c.args.args.now c.args.tys.now c.loop-i.i w v c.loop-i.invariant.3
+
+pub translate_expr-returns-in-Let-clause-reads : goal.translate_expr-returns-in-Let-clause-reads
+translate_expr-returns-in-Let-clause-reads t c =
+    rw (seen_let c.args.expr.now c.in-Let.defs c.in-Let.body c.in-Let.pos c.deref-in-Let.result.now c.deref-in-Let-2.result.now c.in-Let.is c.deref-in-Let.ensures.value c.deref-in-Let-2.ensures)
+    c.translate_let.ensures.reads
+
+pub translate_let-returns-in_err-bindings-clause-reads : goal.translate_let-returns-in_err-bindings-clause-reads
+translate_let-returns-in_err-bindings-clause-reads t c =
+    rw (stop_is c.from_residual.result c.in_err-bindings.field-0.0 c.from_residual.ensures)
+    (let_stops_first c.args.self.now (standing c.args.tyenv.now c.args.work.now) (standing c.translate_defs.new.tyenv c.translate_defs.new.work)
+    (S.let_views c.args.defs.now) (S.expr_view c.args.body.now) (S.position c.args.pos) (flags_view c.args.flags) (expected c.args.expected_ty) c.args.nesting c.in_err-bindings.field-0.0 c.in_err-bindings.ensures.reads)
+
+pub translate_let-returns-in_err-made-clause-reads : goal.translate_let-returns-in_err-made-clause-reads
+translate_let-returns-in_err-made-clause-reads t c =
+    let hides = rw c.new-hidden.ensures.items at c.in_ok-bindings.ensures.hides in
+    rw (stop_is c.from_residual-in_err-made.result c.in_err-made.field-0.0 c.from_residual-in_err-made.ensures)
+    (body_stops c.args.self.now (standing c.args.tyenv.now c.args.work.now) (standing c.translate_defs.new.tyenv c.translate_defs.new.work)
+    (S.let_views c.args.defs.now) (S.expr_view c.args.body.now) (S.position c.args.pos) (flags_view c.args.flags) (expected c.args.expected_ty) c.args.nesting (let_parts (let_views c.in_ok-bindings.bindings.items)) c.translate_defs.new.hidden.items c.translate_defs.ensures.keeps c.in_ok-bindings.ensures.reads hides
+    (standing c.translate_expr.new.tyenv c.translate_expr.new.work) c.in_err-made.field-0.0 c.in_err-made.ensures.reads)
+
+pub translate_let-returns-in_default-clause-reads : goal.translate_let-returns-in_default-clause-reads
+translate_let-returns-in_default-clause-reads t c =
+    let hides = rw c.new-hidden.ensures.items at c.in_ok-bindings.ensures.hides in
+    let_not_made c.args.self.now (standing c.args.tyenv.now c.args.work.now) (standing c.translate_defs.new.tyenv c.translate_defs.new.work)
+    (S.let_views c.args.defs.now) (S.expr_view c.args.body.now) (S.position c.args.pos) (flags_view c.args.flags) (expected c.args.expected_ty) c.args.nesting (let_parts (let_views c.in_ok-bindings.bindings.items)) c.translate_defs.new.hidden.items c.translate_defs.ensures.keeps c.in_ok-bindings.ensures.reads hides
+    (standing c.translate_expr.new.tyenv c.translate_expr.new.work) (rw c.in_default.is at c.in_ok-made.ensures.reads)
+
+pub translate_let-returns-clause-reads : goal.translate_let-returns-clause-reads
+translate_let-returns-clause-reads t c =
+    let hides = rw c.new-hidden.ensures.items at c.in_ok-bindings.ensures.hides in
+    rw c.in_ok-whole.ensures.view
+    (let_taken c.args.self.now (standing c.args.tyenv.now c.args.work.now) (standing c.translate_defs.new.tyenv c.translate_defs.new.work)
+    (S.let_views c.args.defs.now) (S.expr_view c.args.body.now) (S.position c.args.pos) (flags_view c.args.flags) (expected c.args.expected_ty) c.args.nesting (let_parts (let_views c.in_ok-bindings.bindings.items)) c.translate_defs.new.hidden.items c.translate_defs.ensures.keeps c.in_ok-bindings.ensures.reads hides
+    (standing c.translate_expr.new.tyenv c.translate_expr.new.work) (standing c.translate_expr.new.tyenv c.end_let.new.work) refl c.in_ok-whole.ensures.closes (expr_view c.in-Some.body) (rw c.in-Some.is at c.in_ok-made.ensures.reads))
+
+pub translate_defs-returns-in_err-made-clause-reads : goal.translate_defs-returns-in_err-made-clause-reads
+translate_defs-returns-in_err-made-clause-reads t c =
+    rw (stop_is c.from_residual-in_err-made.result c.in_err-made.field-0.0 c.from_residual-in_err-made.ensures)
+    (def_stops_all c.args.self.now (standing c.args.tyenv.now c.args.work.now) (standing c.loop-def.tyenv c.loop-def.work) (lets_steps (S.let_views c.args.defs.now) (flags_view c.args.flags) (S.position c.args.pos) c.args.nesting)
+    (defs_from c.args.defs.now (flags_view c.args.flags) (S.position c.args.pos) c.args.nesting c.loop-def.def-index) c.loop-def.bindings.items c.args.hidden.now.items c.loop-def.hidden.items c.loop-def.invariant.4
+    (S.name_view c.def-item.result.var) (S.name_view c.def-item.result.ty) (S.expr_view c.def-item.result.val.value) (flags_view c.args.flags) (S.position c.args.pos) c.args.nesting
+    (defs_from c.args.defs.now (flags_view c.args.flags) (S.position c.args.pos) c.args.nesting (c.loop-def.def-index + 1)) (standing c.translate_def.new.tyenv c.translate_def.new.work) c.loop-def.invariant.0
+    (def_first c.args.defs.now (flags_view c.args.flags) (S.position c.args.pos) c.args.nesting c.loop-def.def-index c.def-item.result c.loop-def-test.true c.def-item.is)
+    c.in_err-made.field-0.0 c.in_err-made.ensures.reads)
+
+pub translate_defs-returns-clause-reads : goal.translate_defs-returns-clause-reads
+translate_defs-returns-clause-reads t c =
+    all_defined c.args.self.now (standing c.args.tyenv.now c.args.work.now) (standing c.loop-def.tyenv c.loop-def.work) (lets_steps (S.let_views c.args.defs.now) (flags_view c.args.flags) (S.position c.args.pos) c.args.nesting)
+    (defs_from c.args.defs.now (flags_view c.args.flags) (S.position c.args.pos) c.args.nesting c.loop-def.def-index) c.loop-def.bindings.items c.args.hidden.now.items c.loop-def.hidden.items c.loop-def.invariant.4
+    (defs_read c.args.defs.now (flags_view c.args.flags) (S.position c.args.pos) c.args.nesting c.loop-def.def-index c.loop-def-test.false)
+
+pub translate_defs-returns-clause-hides : goal.translate_defs-returns-clause-hides
+translate_defs-returns-clause-hides t c =
+    all_hidden c.args.self.now (standing c.args.tyenv.now c.args.work.now) (standing c.loop-def.tyenv c.loop-def.work) (lets_steps (S.let_views c.args.defs.now) (flags_view c.args.flags) (S.position c.args.pos) c.args.nesting)
+    (defs_from c.args.defs.now (flags_view c.args.flags) (S.position c.args.pos) c.args.nesting c.loop-def.def-index) c.loop-def.bindings.items c.args.hidden.now.items c.loop-def.hidden.items c.loop-def.invariant.4
+    (defs_read c.args.defs.now (flags_view c.args.flags) (S.position c.args.pos) c.args.nesting c.loop-def.def-index c.loop-def-test.false)
+
+pub translate_def-returns-in_default-clause-reads : goal.translate_def-returns-in_default-clause-reads
+translate_def-returns-in_default-clause-reads t c =
+    let u = rw c.in_default.is at c.in_ok-name.ensures.begins in
+    let noted = rw c.in_default.is at c.in_ok-name.ensures.exact in
+    unknown_def c.args.self.now (standing c.args.tyenv.now c.args.work.now) _ (S.name_view c.args.def.now.var) (S.name_view c.args.def.now.ty) (S.expr_view c.args.def.now.val.value) (flags_view c.args.flags) (S.position c.args.pos) c.args.nesting
+    c.requires u.2 (record { vars = refl; names = λ k. refl; expansions = refl }) u.1 noted
+
+pub translate_def-returns-in_default-clause-hides : goal.translate_def-returns-in_default-clause-hides
+translate_def-returns-in_default-clause-hides t c =
+    let u = rw c.in_default.is at c.in_ok-name.ensures.begins in
+    unknown_hides c.args.self.now (standing c.args.tyenv.now c.args.work.now) (standing c.begin_def.new.tyenv c.args.work.now) (S.name_view c.args.def.now.var) (S.name_view c.args.def.now.ty) (S.expr_view c.args.def.now.val.value) (flags_view c.args.flags) (S.position c.args.pos) c.args.nesting
+    c.requires u.2 (record { vars = refl; names = λ k. refl; expansions = refl }) u.1 c.args.hidden.now.items
+
+pub translate_def-returns-in_err-made-clause-reads : goal.translate_def-returns-in_err-made-clause-reads
+translate_def-returns-in_err-made-clause-reads t c =
+    let u = rw c.in-Some.is at c.in_ok-name.ensures.begins in
+    rw (stop_is c.from_residual-in_err-made.result c.in_err-made.field-0.0 c.from_residual-in_err-made.ensures)
+    (value_stops c.args.self.now (standing c.args.tyenv.now c.args.work.now) (standing c.begin_def.new.tyenv _) (S.name_view c.args.def.now.var) (S.name_view c.args.def.now.ty) (S.expr_view c.args.def.now.val.value) (flags_view c.args.flags) (S.position c.args.pos) c.args.nesting
+    c.requires u.1 (record { vars = refl; names = λ k. refl; expansions = refl }) c.begin_def.ensures.keeps c.in-Some.ty.0 u.3 u.0 (standing c.translate_expr.new.tyenv c.translate_expr.new.work) c.in_err-made.field-0.0 (rw c.deref.ensures at c.in_err-made.ensures.reads))
+
+pub translate_def-returns-in_default-made-clause-reads : goal.translate_def-returns-in_default-made-clause-reads
+translate_def-returns-in_default-made-clause-reads t c =
+    let u = rw c.in-Some.is at c.in_ok-name.ensures.begins in
+    def_not_made c.args.self.now (standing c.args.tyenv.now c.args.work.now) (standing c.begin_def.new.tyenv _) (S.name_view c.args.def.now.var) (S.name_view c.args.def.now.ty) (S.expr_view c.args.def.now.val.value) (flags_view c.args.flags) (S.position c.args.pos) c.args.nesting
+    c.requires u.1 (record { vars = refl; names = λ k. refl; expansions = refl }) c.begin_def.ensures.keeps c.in-Some.ty.0 u.3 u.0 (standing c.translate_expr.new.tyenv c.translate_expr.new.work) (rw (c.in_default-made.is, c.deref.ensures) at c.in_ok-made.ensures.reads)
+
+pub translate_def-returns-in_default-made-clause-hides : goal.translate_def-returns-in_default-made-clause-hides
+translate_def-returns-in_default-made-clause-hides t c =
+    let u = rw c.in-Some.is at c.in_ok-name.ensures.begins in
+    def_not_hidden c.args.self.now (standing c.args.tyenv.now c.args.work.now) (standing c.begin_def.new.tyenv _) (S.name_view c.args.def.now.var) (S.name_view c.args.def.now.ty) (S.expr_view c.args.def.now.val.value) (flags_view c.args.flags) (S.position c.args.pos) c.args.nesting
+    c.requires u.1 (record { vars = refl; names = λ k. refl; expansions = refl }) c.begin_def.ensures.keeps c.in-Some.ty.0 u.3 u.0 (standing c.translate_expr.new.tyenv c.translate_expr.new.work) (rw (c.in_default-made.is, c.deref.ensures) at c.in_ok-made.ensures.reads) c.args.hidden.now.items
+
+pub translate_def-returns-clause-reads : goal.translate_def-returns-clause-reads
+translate_def-returns-clause-reads t c =
+    let u = rw c.in-Some.is at c.in_ok-name.ensures.begins in
+    def_taken c.args.self.now (standing c.args.tyenv.now c.args.work.now) (standing c.begin_def.new.tyenv _) (S.name_view c.args.def.now.var) (S.name_view c.args.def.now.ty) (S.expr_view c.args.def.now.val.value) (flags_view c.args.flags) (S.position c.args.pos) c.args.nesting
+    c.requires u.1 (record { vars = refl; names = λ k. refl; expansions = refl }) c.begin_def.ensures.keeps c.in-Some.ty.0 u.3 u.0 (standing c.translate_expr.new.tyenv c.translate_expr.new.work) (standing c.translate_expr.new.tyenv c.bind_def.new.work) refl c.translate_expr.ensures.keeps c.args.hidden.now.items c.bind_def.new.hidden.items
+    c.in-Some.name.0 u.2 (expr_view c.in-Some-made.val) c.in_ok-bound.bound c.in_ok-bound.ensures (rw (c.in-Some-made.is, c.deref.ensures) at c.in_ok-made.ensures.reads)
+
+pub translate_def-returns-clause-hides : goal.translate_def-returns-clause-hides
+translate_def-returns-clause-hides t c =
+    let u = rw c.in-Some.is at c.in_ok-name.ensures.begins in
+    def_hides c.args.self.now (standing c.args.tyenv.now c.args.work.now) (standing c.begin_def.new.tyenv _) (S.name_view c.args.def.now.var) (S.name_view c.args.def.now.ty) (S.expr_view c.args.def.now.val.value) (flags_view c.args.flags) (S.position c.args.pos) c.args.nesting
+    c.requires u.1 (record { vars = refl; names = λ k. refl; expansions = refl }) c.begin_def.ensures.keeps c.in-Some.ty.0 u.3 u.0 (standing c.translate_expr.new.tyenv c.translate_expr.new.work) (standing c.translate_expr.new.tyenv c.bind_def.new.work) refl c.translate_expr.ensures.keeps c.args.hidden.now.items c.bind_def.new.hidden.items
+    c.in-Some.name.0 u.2 (expr_view c.in-Some-made.val) c.in_ok-bound.bound c.in_ok-bound.ensures (rw (c.in-Some-made.is, c.deref.ensures) at c.in_ok-made.ensures.reads)

@@ -4,12 +4,14 @@ use Rattle.core_syntax.specs.Positions.{NotesAt, exprs_positions, lets_positions
 use Rattle.core_terms.specs.TermViews.{flags_view}
 use Rattle.core_rules.specs.ExprReadings.{args_reading, lets_reading}
 use Rattle.core_typed.specs.ExprViews.{let_views, let_parts}
+use Rattle.core_rules.specs.LetTaking.{lets_steps}
 use Rattle.core_rules.specs.Lets.{Defines}
 use Rattle.core_rules.specs.ReachedLimits.{args_limits, lets_limits}
 use Rattle.core_rules.specs.LimitStops.{ComesTo}
 use Rattle.core_rules.specs.Translating.{standing, Keeps}
 use Rattle.core_rules.proofs.ExprLists.{SoFar}
 use Rattle.core_rules.proofs.ExprSizes.{expr_size, exprs_size, lets_size}
+use Rattle.core_rules.proofs.LetsTaken.{DefinesSoFar, defs_from}
 use Rattle.core_rules.proofs.PatternSizes.{grown}
 use Rattle.core_rules.proofs.term_env.TermEnv.+translate_expr.Given as goal
 
@@ -41,3 +43,5 @@ invariant-translate_defs-loop-def l =
     × Defines l.self (standing l.fn.tyenv l.fn.work) (standing l.tyenv l.work) l.nesting (lets_reading (S.let_views (take l.def-index l.defs)) (flags_view l.flags)) (let_parts (let_views l.bindings.items)) l.fn.hidden.items l.hidden.items
     × NotesAt (S.position l.pos ∷ lets_positions (S.let_views l.defs)) l.fn.work.errors.items l.work.errors.items
     × ComesTo l.self (standing l.fn.tyenv l.fn.work) l.nesting (lets_limits (S.let_views (take l.def-index l.defs)) (flags_view l.flags)) None
+    × DefinesSoFar l.self (standing l.fn.tyenv l.fn.work) (standing l.tyenv l.work) (lets_steps (S.let_views l.defs) (flags_view l.flags) (S.position l.pos) l.nesting) (defs_from l.defs (flags_view l.flags) (S.position l.pos) l.nesting l.def-index)
+    l.bindings.items l.fn.hidden.items l.hidden.items
