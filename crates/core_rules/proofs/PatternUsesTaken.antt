@@ -26,7 +26,7 @@ use Rattle.core_rules.proofs.Scopes.{still}
 use Rattle.core_rules.proofs.Taken.{noted, noted_twice, made, unless_at}
 
 -- 1. expansions
-abbrev pub pattern_nested : Bool → PatternTree → ℕ → Nested TypedPattern
+abbrev pattern_nested : Bool → PatternTree → ℕ → Nested TypedPattern
 pattern_nested multi p ty d = pattern_steps multi p ty d
 
 pattern_expansion : (multi : Bool) (p : PatternTree) (ty d : ℕ) (e : Setting) (n : ℕ) (s : Scope) → deeper_step e multi d p ty n s ≡ expansion (pattern_nested multi p ty) d e n s
