@@ -51,6 +51,8 @@ mod ShownSettings
 mod SidesTaken
 mod SubstitutedPlaces
 mod Taken
+mod StepErrors
+mod StepPlaces
 mod TakenReadings
 mod TemplateUses
 mod TermCopies

@@ -52,7 +52,7 @@ module _ (e : Setting) (d : ℕ) (flags : Flags) where
   limits_same [] n s = refl
   limits_same (i ∷ is) n s = λ j. or_after (iflet_limits i flags e d n s) (iflet_reading i flags e d s) (λ a. limits_same is (n + a.expansions) a.scope j)
 
-rule_same : (r : RuleTree) (id : ℕ) (e : Setting) (d : ℕ) (s : Scope) → rule_reading r id e d s ≡ A.rule_reading e d id r s
+pub rule_same : (r : RuleTree) (id : ℕ) (e : Setting) (d : ℕ) (s : Scope) → rule_reading r id e d s ≡ A.rule_reading e d id r s
 rule_same r id e d s =
     λ j. then_option (root_name r.pattern) (λ n. then_option (term_of e s n.text) (λ t. then_option (declared_flags t.kind) (λ flags.
     cond (may_have_priority flags r)
@@ -60,7 +60,7 @@ rule_same r id e d s =
     followed last_sides (iflets_same e d flags r.iflets a.scope j) (λ b. expr_reading r.expr flags (Some t.ret_ty) e d b.scope))))
     None)))
 
-limit_same : (r : RuleTree) (e : Setting) (d n : ℕ) (s : Scope) → rule_limits r e d n s ≡ L.rule_limits e d r n s
+pub limit_same : (r : RuleTree) (e : Setting) (d n : ℕ) (s : Scope) → rule_limits r e d n s ≡ L.rule_limits e d r n s
 limit_same r e d n s =
     λ j. then_option (root_name r.pattern) (λ x. then_option (term_of e s x.text) (λ t. then_option (declared_flags t.kind) (λ flags.
     or_after (root_limits flags.multi (root_parts r.pattern) t.arg_tys e d n s) (parts_reading flags.multi (root_parts r.pattern) t.arg_tys e d s) (λ a.

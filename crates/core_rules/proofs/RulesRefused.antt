@@ -6,6 +6,8 @@ use Rattle.core_syntax.specs.Answers.{NoLimit, OnErrors, limit_of}
 use Rattle.core_syntax.specs.declared.syntax.Fault.{Fault}
 use Rattle.core_syntax.specs.declared.syntax.Fault.TheVariants.{Errors, Memory}
 use Rattle.core_syntax.specs.declared.syntax.Error.{Error}
+use Rattle.core_syntax.specs.Positions.{ErrorStandsAt, HasSingleSpans, NotesAt}
+use Rattle.core_syntax.proofs.Positioned.{all_stand}
 use Rattle.core_syntax.specs.Stable.{Entries}
 use Rattle.model.specs.lists.Syntax.{Position, RuleTree, Definition}
 use Rattle.model.specs.lists.TermTable.{rule_trees, term_names_met, term_table}
@@ -34,12 +36,13 @@ use Rattle.core_terms.specs.TermBreaches.{FirstBreaksTerms}
 use Rattle.core_rules.specs.RuleBreaches.{BreaksReading, BeginsWrong, BreaksRules, of_terms, of_rules, FirstBreaksRules}
 use Rattle.core_rules.proofs.RuleBreaches.{of_list}
 use Rattle.core_rules.specs.RuleListTaking.{BeginsAsSteps, SaysSteps}
-use Rattle.core_rules.specs.RulesTold.{TellsStages, TellsAll, TellsReading}
+use Rattle.core_rules.specs.RulesTold.{TellsStages, TellsReading}
 use Rattle.core_rules.specs.ShownEnvs.{terms_shown_by}
 use Rattle.core_rules.specs.Translating.{IsSettingOf}
 use Rattle.core_rules.proofs.NamedLimits.{each_named}
 use Rattle.core_rules.proofs.NamedTerms.{terms_named}
 use Rattle.core_rules.proofs.RuleErrorSteps.{each_then, may_noted, wrong_of_rules, names_only_passed, refuses_rules, no_limit_named}
+use Rattle.core_rules.proofs.StepErrors.{names_once, stages_told}
 use Rattle.core_rules.proofs.ShownSettings.{setting_shown, terms_once}
 
 pub mapped_noted : (old new : List Error) (rules : List TypedRule) (m : Entries Sym RuleId) → MapsNames old new rules m → MayNoteMore old new
@@ -86,10 +89,11 @@ module _ (e : TypesRead) (r : AreReadable e) (defs : List Definition) (table : T
       ]
 
   -- what is said rule by rule
-  pub all_said : TellsAll env old (rule_trees defs) errors → SaysSteps env old (rule_trees defs) errors → TellsReading e defs expand errors
-  all_said told said = record {
+  pub all_said : (ps : List Position) → NotesAt ps [] errors → SaysSteps env old (rule_trees defs) errors → TellsReading e defs expand errors
+  all_said ps placed said = record {
     terms = λ no. absurd (no a.valid);
-    rules = λ valid. subst (λ ns. TellsStages (setting_of e defs expand) (rule_trees defs) ns errors) a.types.names (told (setting_of e defs expand) is);
+    rules = λ valid. subst (λ ns. TellsStages (setting_of e defs expand) (rule_trees defs) ns errors) a.types.names
+        (stages_told old env (setting_of e defs expand) is (rule_trees defs) (names_of old) (names_once old inverse) errors (said (setting_of e defs expand) is) (All-weaker (ErrorStandsAt ps) HasSingleSpans (λ x h. h.single) errors (all_stand ps errors placed)));
     steps = λ valid. subst (λ ns. BeginsAsSteps (setting_of e defs expand) (rule_trees defs) ns (error_views errors)) a.types.names (said (setting_of e defs expand) is);
   }
 

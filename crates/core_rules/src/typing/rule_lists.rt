@@ -9,7 +9,6 @@ ghost use Rattle.core_rules.specs.RuleBreaches.{BeginsWrong};
 ghost use Rattle.core_rules.specs.RuleErrors.{NotesOfRules};
 ghost use Rattle.core_rules.specs.RuleListTaking.{SaysSteps};
 ghost use Rattle.core_rules.specs.RulesRead.{ReadsRules};
-ghost use Rattle.core_rules.specs.RulesTold.{TellsAll};
 ghost use Rattle.core_rules.specs.ShownEnvs.{terms_shown_by};
 ghost use Rattle.core_rules.specs.Translating.{Keeps};
 ghost use Rattle.core_syntax.specs.Positions.{NotesAt, positions_of};
@@ -42,7 +41,6 @@ impl TermEnv {
         ensures reads { IfOk result (λ v. ReadsRules self.old tyenv.old tyenv.new (definition_views defs.now) self.new v.items) }
         ensures notes { IfOk result (λ v. NotesOfRules self.old tyenv.old (rule_trees (definition_views defs.now)) [] v.items) }
         ensures named { IfOk result (λ v. NamesPastLimits self.old tyenv.old (rule_trees (definition_views defs.now)) v.items) }
-        ensures tells { IfOk result (λ v. TellsAll self.old tyenv.old (rule_trees (definition_views defs.now)) v.items) }
         ensures exact { IfOk result (λ v. SaysSteps self.old tyenv.old (rule_trees (definition_views defs.now)) v.items) }
         ensures breach { IfOk result (λ v. BeginsWrong self.old tyenv.old (rule_trees (definition_views defs.now)) [] v.items) }
         ensures places { IfOk result (λ v. NotesAt (positions_of (definition_views defs.now) ++ terms_positions (term_views self.old.terms.items)) [] v.items) }

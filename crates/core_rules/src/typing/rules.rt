@@ -7,7 +7,6 @@ ghost use Rattle.core_types.specs.Envs.{IsInterned};
 ghost use Rattle.core_rules.specs.LimitsNamed.{NamesPastLimits};
 ghost use Rattle.core_rules.specs.RuleBreaches.{BeginsUntyped};
 ghost use Rattle.core_rules.specs.RuleErrors.{NotesOfRules, NotesOfDefinition};
-ghost use Rattle.core_rules.specs.RulesTold.{TellsTyping};
 ghost use Rattle.core_rules.specs.RuleListTaking.{DoesRule, DoesRules};
 ghost use Rattle.core_rules.specs.RuleLists.{CollectsRule, CollectsNext, CollectsRules};
 ghost use Rattle.core_typed.specs.RuleViews.{rule_view, rule_views};
@@ -43,7 +42,6 @@ impl TermEnv {
         ensures ends { IfOk result (λ o. CollectsRule self.now tyenv.old tyenv.new work.old.errors.items work.new.errors.items id.0 rule.now
             (option_map rule_view o)) }
         ensures places { OnOk result (NotesAt (with_templates self.now (rule_positions (tree_view rule.now))) work.old.errors.items work.new.errors.items) }
-        ensures tells { OnOk result (TellsTyping self.now tyenv.old tyenv.new (tree_view rule.now ∷ []) work.old.errors.items work.new.errors.items) }
         ensures exact { IfOk result (λ o. DoesRule self.now tyenv.old tyenv.new (tree_view rule.now) id.0 (option_map rule_view o)
             work.old.errors.items work.new.errors.items) }
         ensures stands { IfOk result (StandsIf (position rule.now.pos)) }
@@ -71,7 +69,6 @@ impl TermEnv {
         ensures ends { IfOk result (λ o. CollectsRule self.now tyenv.old tyenv.new work.old.errors.items work.new.errors.items id.0 rule.now
             (option_map rule_view o)) }
         ensures places { OnOk result (NotesAt (with_templates self.now (rule_positions (tree_view rule.now))) work.old.errors.items work.new.errors.items) }
-        ensures tells { OnOk result (TellsTyping self.now tyenv.old tyenv.new (tree_view rule.now ∷ []) work.old.errors.items work.new.errors.items) }
         ensures exact { IfOk result (λ o. DoesRule self.now tyenv.old tyenv.new (tree_view rule.now) id.0 (option_map rule_view o)
             work.old.errors.items work.new.errors.items) }
         ensures stands { IfOk result (StandsIf (position rule.now.pos)) }
@@ -98,7 +95,6 @@ impl TermEnv {
             (definition_view def.now) rules.old.items rules.new.items) }
         ensures notes { OnOk result (NotesOfDefinition self.now tyenv.old (definition_view def.now) work.old.errors.items work.new.errors.items) }
         ensures named { OnOk result (NamesPastLimits self.now tyenv.old (rule_of (definition_view def.now)) work.new.errors.items) }
-        ensures tells { OnOk result (TellsTyping self.now tyenv.old tyenv.new (rule_of (definition_view def.now)) work.old.errors.items work.new.errors.items) }
         ensures exact { OnOk result (DoesRules self.now tyenv.old tyenv.new (rule_of (definition_view def.now)) (rule_views rules.old.items)
             (rule_views rules.new.items) work.old.errors.items work.new.errors.items) }
         ensures places { OnOk result (NotesAt (with_templates self.now (definition_positions
@@ -136,8 +132,6 @@ impl TermEnv {
             (definition_views defs.now)) (rule_views v.items)) }
         ensures notes { OnOk result (NotesOfRules self.now tyenv.old (rule_trees (definition_views defs.now)) work.old.errors.items work.new.errors.items) }
         ensures named { OnOk result (NamesPastLimits self.now tyenv.old (rule_trees (definition_views defs.now)) work.new.errors.items) }
-        ensures tells { OnOk result (TellsTyping self.now tyenv.old tyenv.new (rule_trees
-            (definition_views defs.now)) work.old.errors.items work.new.errors.items) }
         ensures exact { IfOk result (λ v. DoesRules self.now tyenv.old tyenv.new (rule_trees (definition_views defs.now)) [] (rule_views v.items)
             work.old.errors.items work.new.errors.items) }
         ensures places { OnOk result (NotesAt (with_templates self.now (positions_of

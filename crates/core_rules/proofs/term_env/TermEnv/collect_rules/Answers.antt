@@ -15,7 +15,6 @@ use Rattle.core_typed.specs.RuleNaming.{rules_at}
 use Rattle.core_rules.proofs.ErrorPositions.{among_with}
 use Rattle.core_rules.proofs.PartPlaces.{each_inside}
 use Rattle.core_rules.proofs.RuleListsTaken.{none_done, next_done, all_done}
-use Rattle.core_rules.proofs.RulesTold.{nothing_told, next_told, all_told}
 use Rattle.core_rules.proofs.term_env.TermEnv.collect_rules.Goals as goal
 
 pub loop-def-init : goal.loop-def-init
@@ -27,7 +26,6 @@ loop-def-init c = (
   notes_nothing _ _ _ refl,
   rw c.in_ok-rules.ensures.items (among_none (positions_of (definition_views c.args.defs.now))),
   first_begins c.args.self.now c.args.tyenv.now c.args.work.now.errors.items (rule_trees (definition_views c.args.defs.now)) c.in_ok-rules.rules.items c.in_ok-rules.ensures.items,
-  nothing_told c.args.self.now c.args.tyenv.now c.args.work.now.errors.items,
   none_done c.args.self.now c.args.tyenv.now c.args.work.now.errors.items c.in_ok-rules.rules.items c.in_ok-rules.ensures.items,
 )
 
@@ -57,11 +55,9 @@ loop-def-preserved c = (
       ),
   next_begins c.args.self.now c.args.tyenv.now c.loop-def.tyenv c.collect_definition.new.tyenv c.loop-def.invariant.0 c.args.work.now.errors.items c.loop-def.work.errors.items c.collect_definition.new.work.errors.items c.args.defs.now c.loop-def.def-index c.def-item.result c.loop-def-test.true c.def-item.is c.loop-def.rules.items c.collect_definition.new.rules.items
       c.loop-def.invariant.6 c.in_ok-collect_definition.ensures.reads c.in_ok-collect_definition.ensures.notes c.in_ok-collect_definition.ensures.places,
-  next_told c.args.self.now c.args.tyenv.now c.loop-def.tyenv c.collect_definition.new.tyenv c.loop-def.invariant.0 c.args.work.now.errors.items c.loop-def.work.errors.items c.collect_definition.new.work.errors.items c.args.defs.now c.loop-def.def-index c.def-item.result c.loop-def-test.true c.def-item.is
-      c.loop-def.invariant.7 c.in_ok-collect_definition.ensures.tells,
   next_done c.args.self.now c.args.tyenv.now c.loop-def.tyenv c.collect_definition.new.tyenv c.loop-def.invariant.0 c.args.work.now.errors.items c.loop-def.work.errors.items c.collect_definition.new.work.errors.items
       c.args.defs.now c.loop-def.def-index c.def-item.result c.loop-def-test.true c.def-item.is
-      (rule_views c.loop-def.rules.items) (rule_views c.collect_definition.new.rules.items) c.loop-def.invariant.8 c.in_ok-collect_definition.ensures.exact,
+      (rule_views c.loop-def.rules.items) (rule_views c.collect_definition.new.rules.items) c.loop-def.invariant.7 c.in_ok-collect_definition.ensures.exact,
 )
 
 pub returns-clause-reads : goal.returns-clause-reads
@@ -85,10 +81,6 @@ pub returns-clause-breach : goal.returns-clause-breach
 returns-clause-breach c =
     last_begins c.args.self.now c.args.tyenv.now c.loop-def.tyenv (rule_trees (definition_views c.args.defs.now)) (rules_before c.args.defs.now c.loop-def.def-index) c.loop-def.rules.items c.args.work.now.errors.items c.loop-def.work.errors.items c.loop-def.invariant.6
 
-pub returns-clause-tells : goal.returns-clause-tells
-returns-clause-tells c =
-    all_told c.args.self.now c.args.tyenv.now c.loop-def.tyenv c.args.work.now.errors.items c.loop-def.work.errors.items c.args.defs.now c.loop-def.def-index c.loop-def-test.false c.loop-def.invariant.7
-
 pub returns-clause-exact : goal.returns-clause-exact
 returns-clause-exact c =
-    all_done c.args.self.now c.args.tyenv.now c.loop-def.tyenv c.args.work.now.errors.items c.loop-def.work.errors.items c.args.defs.now c.loop-def.def-index c.loop-def-test.false (rule_views c.loop-def.rules.items) c.loop-def.invariant.8
+    all_done c.args.self.now c.args.tyenv.now c.loop-def.tyenv c.args.work.now.errors.items c.loop-def.work.errors.items c.args.defs.now c.loop-def.def-index c.loop-def-test.false (rule_views c.loop-def.rules.items) c.loop-def.invariant.7

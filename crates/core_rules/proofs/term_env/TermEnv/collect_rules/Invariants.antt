@@ -8,7 +8,6 @@ use Rattle.core_rules.specs.RulePositions.{with_templates}
 use Rattle.core_rules.specs.LimitsNamed.{NamesPastLimits}
 use Rattle.core_rules.specs.RuleErrors.{NotesOfRules}
 use Rattle.core_rules.specs.RuleListTaking.{DoesRules}
-use Rattle.core_rules.specs.RulesTold.{TellsTyping}
 use Rattle.core_rules.specs.Translating.{Keeps}
 use Rattle.core_rules.proofs.NamedLimits.{rules_before}
 use Rattle.core_rules.proofs.RuleListSteps.{ReadingAt}
@@ -24,5 +23,4 @@ invariant-loop-def l =
     × NotesAt (with_templates l.self (positions_of (definition_views l.defs))) l.fn.work.errors.items l.work.errors.items
     × OccurAmong (rules_at (rule_views l.rules.items)) (positions_of (definition_views l.defs))
     × TypedUpTo l.self l.fn.tyenv l.tyenv (rule_trees (definition_views l.defs)) (rules_before l.defs l.def-index) l.rules.items l.fn.work.errors.items l.work.errors.items
-    × TellsTyping l.self l.fn.tyenv l.tyenv (rules_before l.defs l.def-index) l.fn.work.errors.items l.work.errors.items
     × DoesRules l.self l.fn.tyenv l.tyenv (rules_before l.defs l.def-index) [] (rule_views l.rules.items) l.fn.work.errors.items l.work.errors.items

@@ -2,6 +2,8 @@ use Rattle.std.proofs.Common.{◌++◌, All, refl, ◌∙◌}
 use Rattle.core_syntax.specs.SyntaxViews.{definition_views}
 use Rattle.model.specs.claims.Refusals.{PassedInReading}
 use Rattle.core_syntax.specs.Positions.{ErrorStandsAt, positions_of}
+use Rattle.core_terms.specs.TermPositions.{terms_positions}
+use Rattle.core_terms.specs.TermViews.{term_views}
 use Rattle.core_types.specs.EnvViews.{environment_view}
 use Rattle.core_types.specs.TypePositions.{types_positions}
 use Rattle.core_syntax.specs.ErrorViews.{error_views}
@@ -98,7 +100,7 @@ returns-in_err-table-clause-breach g c =
 pub returns-then-not-is_empty-clause-told : goal.returns-then-not-is_empty-clause-told
 returns-then-not-is_empty-clause-told g c =
     all_said g.read c.requires.0 (definition_views c.args.defs.now) c.in_ok-table.table c.from_ast.new.tyenv c.in_ok-table.ensures.answers.1 c.with_terms-env.result c.with_terms-env.ensures.terms c.args.expand_internal_extractors c.with_terms-env.ensures.expand
-    c.in_ok-errors.errors.items c.in_ok-errors.ensures.tells c.in_ok-errors.ensures.exact
+    c.in_ok-errors.errors.items (positions_of (definition_views c.args.defs.now) ++ terms_positions (term_views c.with_terms-env.result.terms.items)) c.in_ok-errors.ensures.places c.in_ok-errors.ensures.exact
 
 pub returns-in_err-table-clause-told : goal.returns-in_err-table-clause-told
 returns-in_err-table-clause-told g c =

@@ -25,9 +25,7 @@ use Rattle.core_terms.specs.TermPositions.{terms_positions}
 use Rattle.core_rules.proofs.SubstitutedPlaces.{templates_inside}
 use Rattle.core_rules.proofs.PartPlaces.{named_places, declared_inside}
 use Rattle.core_rules.specs.RuleListTaking.{DoesRules}
-use Rattle.core_rules.specs.RulesTold.{TellsTyping}
 use Rattle.core_rules.proofs.RuleListsTaken.{done_to_the_end}
-use Rattle.core_rules.proofs.RulesTold.{told_to_the_end}
 use Rattle.core_rules.proofs.term_env.TermEnv.read_rules.Goals as goal
 
 pub returns-clause-reads : goal.returns-clause-reads
@@ -138,23 +136,6 @@ returns-clause-places c =
     let by_name = notes_parts of_rules rules all [] found named inside at_rules read mapped in
     let by_terms = notes_parts all terms all [] named defined (among_same all) at_terms by_name c.in_ok-check_defined.ensures.places in
     notes_parts all defs all [] defined last (among_same all) (among_left defs (terms_positions entries)) by_terms c.in_ok-check_constructors.ensures.places
-
-pub returns-clause-tells : goal.returns-clause-tells
-returns-clause-tells c =
-    let defs = definition_views c.args.defs.now in
-    let env = c.args.self.now in
-    let old = c.args.tyenv.now in
-    let found = c.collect_rules.new.work.errors.items in
-    let named = c.map_names.new.errors.items in
-    let defined = c.check_defined.new.errors.items in
-    let last = c.check_constructors.new.errors.items in
-    let by_name = c.in_ok-rule_map.rule_map in
-    let rules = rule_views c.deref-3.result.now in
-    let mapped = subst (λ es. MapsNames es named rules by_name) (ap (λ v. v.items) c.replace-errors.ensures.value) c.in_ok-rule_map.ensures.maps in
-    let names = mapped_noted found named rules by_name mapped in
-    let told = subst (λ es. TellsTyping env old c.collect_rules.new.tyenv (rule_trees defs) es found) (c.new-work.ensures.errors ∙ c.new.ensures.items) c.in_ok-rules.ensures.tells in
-    told_to_the_end env old c.collect_rules.new.tyenv (rule_trees defs) found last told
-    (may_both found named last names (may_both named defined last (may_check c.in_ok-check_defined.ensures.checks) c.in_ok-check_constructors.ensures.notes))
 
 pub returns-clause-exact : goal.returns-clause-exact
 returns-clause-exact c =
