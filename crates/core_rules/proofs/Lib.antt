@@ -36,15 +36,12 @@ mod PlacesAtEnd
 mod Readings
 mod RuleBreachSteps
 mod RuleBreaches
-mod RuleEnds
 mod RuleForms
-mod RuleListSteps
 mod RuleListsTaken
 mod RulesAtEnd
 mod RulesRead
 mod RulesRefused
 mod RulesTaken
-mod RulesTold
 mod RulesTyped
 mod Scopes
 mod ShownSettings
@@ -53,7 +50,6 @@ mod SubstitutedPlaces
 mod Taken
 mod StepErrors
 mod StepPlaces
-mod TakenReadings
 mod TemplateUses
 mod TermCopies
 mod TermPlaces

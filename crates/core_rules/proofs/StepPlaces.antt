@@ -1,5 +1,5 @@
 -- What a rule's steps find wrong stands at positions of the rule, or at those of the templates that are expanded.
-use Rattle.std.proofs.Common.{◌≡◌, Bool, cond, List, [], ◌∷◌, ◌++◌, Contains, ℕ, None, subst, ◌∙◌, slice_get}
+use Rattle.std.proofs.Common.{cond, List, [], ◌∷◌, ◌++◌, Contains, ℕ, None, subst, ◌∙◌, slice_get}
 use Rattle.std.specs.List.{flat_map}
 use Rattle.model.specs.lists.Syntax.{Position, PatternTree, var_pattern, bind_pattern, bool_pattern, int_pattern, prim_pattern, term_pattern, wildcard_pattern, and_pattern, macro_arg, PatternTrees, no_pattern, pattern_and, ExprTree, term_expr, var_expr, bool_expr, int_expr, prim_expr, let_expr, ExprTrees, no_expr, expr_and, LetTrees, no_let, let_and, IfLetTree, RuleTree}
 use Rattle.model.specs.lists.Setting.{Setting, kind_template, new_scope}

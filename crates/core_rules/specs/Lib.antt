@@ -4,7 +4,6 @@ pub mod ExprTaking
 pub mod ExprUses
 pub mod LetTaking
 pub mod Lets
-pub mod LimitStops
 pub mod LimitsNamed
 pub mod PatternReadings
 pub mod PatternTaking
@@ -24,4 +23,3 @@ pub mod ShownEnvs
 pub mod Taking
 pub mod TermEnvs
 pub mod Translating
-pub mod UseLimits

@@ -1,10 +1,7 @@
-use Rattle.std.proofs.Common.{◌≡◌, [], length, option_map, rules, refl, sym, subst}
+use Rattle.std.proofs.Common.{◌≡◌, [], length, rules, refl, sym, subst}
 use Rattle.model.specs.lists.TermTable.{rule_of}
 use Rattle.core_rules.specs.RuleListTaking.{DoesRules}
-use Rattle.core_typed.specs.RuleViews.{rule_view, rule_views}
-use Rattle.core_rules.proofs.NamedLimits.{rule_named}
-use Rattle.core_rules.proofs.RuleErrorSteps.{rule_noted}
-use Rattle.core_rules.proofs.RuleEnds.{rule_added, rule_left_out}
+use Rattle.core_typed.specs.RuleViews.{rule_views}
 use Rattle.core_syntax.specs.SyntaxViews.{definition_view, rule_view as tree_view}
 use Rattle.core_syntax.specs.Positions.{definition_positions}
 use Rattle.core_syntax.proofs.Positioned.{among_left, notes_nothing}
@@ -12,40 +9,6 @@ use Rattle.core_typed.specs.RuleNaming.{rules_at}
 use Rattle.core_rules.proofs.PartPlaces.{added_rule}
 use Rattle.core_rules.proofs.RuleListsTaken.{nothing_done, rule_added as done_with, rule_left_out as done_without}
 use Rattle.core_rules.proofs.term_env.TermEnv.collect_definition.Goals as goal
-
-pub returns-in_default-2-clause-reads : goal.returns-in_default-2-clause-reads
-returns-in_default-2-clause-reads c =
-    let id : c.len.result ≡ length c.args.rules.now.items = search rules in
-    rw c.in-Rule.is
-    (rule_left_out c.args.self.now c.args.tyenv.now c.collect_rule.new.tyenv c.args.work.now.errors.items c.collect_rule.new.work.errors.items c.in-Rule.rule c.args.rules.now.items
-    c.len.result c.in_ok-made.field-0 id c.in_default-2.is c.in_ok-made.ensures.ends)
-
-pub returns-clause-reads : goal.returns-clause-reads
-returns-clause-reads c =
-    let id : c.len.result ≡ length c.args.rules.now.items = search rules in
-    rw c.in-Rule.is
-    (rule_added c.args.self.now c.args.tyenv.now c.collect_rule.new.tyenv c.args.work.now.errors.items c.collect_rule.new.work.errors.items c.in-Rule.rule c.args.rules.now.items
-    c.len.result c.in_ok-made.field-0 c.in-Some.made c.push.new.self.items id c.in-Some.is c.in_ok-push.ensures.items c.in_ok-made.ensures.ends)
-
-pub returns-in_default-2-clause-notes : goal.returns-in_default-2-clause-notes
-returns-in_default-2-clause-notes c =
-    rw c.in-Rule.is
-    (rule_noted c.args.self.now c.args.tyenv.now c.collect_rule.new.tyenv c.requires c.args.work.now.errors.items c.collect_rule.new.work.errors.items c.len.result c.in-Rule.rule (option_map rule_view c.in_ok-made.field-0) c.in_ok-made.ensures.ends)
-
-pub returns-clause-notes : goal.returns-clause-notes
-returns-clause-notes c =
-    rw c.in-Rule.is
-    (rule_noted c.args.self.now c.args.tyenv.now c.collect_rule.new.tyenv c.requires c.args.work.now.errors.items c.collect_rule.new.work.errors.items c.len.result c.in-Rule.rule (option_map rule_view c.in_ok-made.field-0) c.in_ok-made.ensures.ends)
-
-pub returns-in_default-2-clause-named : goal.returns-in_default-2-clause-named
-returns-in_default-2-clause-named c =
-    rw c.in-Rule.is
-    (rule_named c.args.self.now c.args.tyenv.now c.collect_rule.new.tyenv c.requires c.args.work.now.errors.items c.collect_rule.new.work.errors.items c.len.result c.in-Rule.rule (option_map rule_view c.in_ok-made.field-0) c.in_ok-made.ensures.ends)
-
-pub returns-clause-named : goal.returns-clause-named
-returns-clause-named c =
-    rw c.in-Rule.is
-    (rule_named c.args.self.now c.args.tyenv.now c.collect_rule.new.tyenv c.requires c.args.work.now.errors.items c.collect_rule.new.work.errors.items c.len.result c.in-Rule.rule (option_map rule_view c.in_ok-made.field-0) c.in_ok-made.ensures.ends)
 
 pub returns-in_default-2-clause-places : goal.returns-in_default-2-clause-places
 returns-in_default-2-clause-places c =

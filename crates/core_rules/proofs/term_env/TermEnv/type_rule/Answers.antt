@@ -1,28 +1,12 @@
 use Rattle.core_rules.specs.Translating.{standing}
-use Rattle.core_rules.proofs.RuleEnds.{at_end, at_stop}
-use Rattle.std.proofs.Common.{[], ◌∷◌, Ok, Err}
-use Rattle.model.specs.lists.Elaborated.{most_nested}
+use Rattle.std.proofs.Common.{[], ◌∷◌}
 use Rattle.core_syntax.specs.SyntaxViews.{rule_view}
 use Rattle.core_syntax.specs.Positions.{OccurAmong, rule_positions}
 use Rattle.core_rules.specs.RulePositions.{with_templates}
 use Rattle.core_rules.proofs.ErrorPositions.{among_here, stop_noted}
 use Rattle.core_rules.proofs.PartPlaces.{rule_at}
 use Rattle.core_rules.proofs.RuleListsTaken.{done_at_end, done_at_stop}
-use Rattle.core_rules.proofs.RulesRead.{rule_translated}
 use Rattle.core_rules.proofs.term_env.TermEnv.type_rule.Goals as goal
-
-pub returns-in-Ok-clause-ends : goal.returns-in-Ok-clause-ends
-returns-in-Ok-clause-ends c =
-    at_end c.args.self.now c.args.tyenv.now c.begin.new.self c.args.work.now.errors.items c.begin.ensures c.args.id.0 c.args.rule.now (standing c.translate_rule.new.tyenv c.translate_rule.new.work)
-    c.in-Ok.made c.translate_rule.new.work.few
-    (rule_translated c.args.self.now (standing c.args.tyenv.now c.begin.new.self) (standing c.translate_rule.new.tyenv c.translate_rule.new.work) (rule_view c.args.rule.now) c.args.id.0 most_nested (Ok c.in-Ok.made) c.in-Ok.ensures.reads)
-
-pub returns-in_ok-report-in-Err-clause-ends : goal.returns-in_ok-report-in-Err-clause-ends
-returns-in_ok-report-in-Err-clause-ends c =
-    at_stop c.args.self.now c.args.tyenv.now c.begin.new.self c.args.work.now.errors.items c.begin.ensures c.args.id.0 c.args.rule.now (standing c.translate_rule.new.tyenv c.translate_rule.new.work) c.report.new.errors.items
-    c.in-Err.stop
-    (rule_translated c.args.self.now (standing c.args.tyenv.now c.begin.new.self) (standing c.translate_rule.new.tyenv c.translate_rule.new.work) (rule_view c.args.rule.now) c.args.id.0 most_nested (Err c.in-Err.stop) c.in-Err.ensures.reads)
-    c.in_ok-report-in-Err.ensures.noted
 
 pub returns-in-Ok-clause-places : goal.returns-in-Ok-clause-places
 returns-in-Ok-clause-places c =
