@@ -1,10 +1,10 @@
 -- The names after a step go on from those before it, and where a limit stops it this is one on expansions.
 use Rattle.std.proofs.Common.{◌≡◌, ℕ, zero, suc, ◌+◌, Bool, true, false, cond, eqb, nat_le, List, [], ◌∷◌, ◌++◌, length, map, Option, Some, None, append_assoc, append-nil, refl, sym, ap, subst, ◌∙◌}
 use Rattle.model.specs.lists.Syntax.{Position, Name, PatternTree, var_pattern, bind_pattern, bool_pattern, int_pattern, prim_pattern, term_pattern, wildcard_pattern, and_pattern, macro_arg, PatternTrees, no_pattern, pattern_and, pattern_list, ExprTree, term_expr, var_expr, bool_expr, int_expr, prim_expr, let_expr, ExprTrees, no_expr, expr_and, LetTrees, no_let, let_and, IfLetTree, RuleTree}
-use Rattle.model.specs.lists.Names.{has_name, number, with_name, IsDistinct}
+use Rattle.model.specs.lists.Names.{has_name, number, with_name}
 use Rattle.model.specs.lists.Tables.{Flags, TermEntry}
 use Rattle.model.specs.lists.TermTable.{root_name}
-use Rattle.model.specs.lists.Setting.{Setting, Scope, met, bound, var_of, term_of, type_of_name, type_of_constant, is_expected, is_matchable, template_in, converter, expr_converter, pattern_converter, on_lhs, expr_type, declared_flags, new_scope}
+use Rattle.model.specs.lists.Setting.{Setting, Scope, met, var_of, term_of, type_of_name, type_of_constant, is_expected, is_matchable, template_in, converter, expr_converter, pattern_converter, on_lhs, expr_type, declared_flags, new_scope}
 use Rattle.model.specs.lists.Expansions.{wrapped_expr, wrapped_pattern, substituted}
 use Rattle.model.specs.lists.Elaborated.{most_expansions, typed_iflet, root_parts, Sides, with_own_name, most_nested}
 use Rattle.model.specs.rules.Typed.{TypedPattern, TypedExpr, match_and, match_term, make_term, make_var, make_prim, TypedLets, no_typed_let, typed_let_and, TypedVar, TypedRule}
@@ -12,7 +12,7 @@ use Rattle.model.specs.claims.Refusals.{of_expansions}
 use Rattle.model.proofs.Names.{distinct_names}
 use Rattle.laws_errors.specs.Steps.{variable_type, constructor_type, constant_type, argument_count, extractor_type, Mistake, Step, went_on, stopped, unless, here, nothing, noting, made_step, counted_step, joined_step, then_step, after_made, last_made, then_made}
 use Rattle.laws_errors.specs.PatternSteps.{var_step, bind_step, constant_step, with_part, template_step, why_not_matched, use_step, converted_step, found_step, pattern_step, parts_step, each_step, deeper_step}
-use Rattle.laws_errors.specs.ExprSteps.{expr_list, converted_or, expected_step, forbidden, call_step, called_step, used_step, made_constant_step, with_arg, with_def, def_step, let_step, put_back, closed, ended_step, expr_step, args_step, lets_step, deeper_expr_step}
+use Rattle.laws_errors.specs.ExprSteps.{expr_list, converted_or, expected_step, forbidden, call_step, called_step, used_step, made_constant_step, with_arg, with_def, def_step, let_step, closed, ended_step, expr_step, args_step, lets_step, deeper_expr_step}
 use Rattle.laws_errors.specs.RuleSteps.{is_wrong, passes, errors_of, rule_step, iflet_step, with_iflet, iflets_step, root_step, sides_step, finished_step, declared_step, of_term_step, rooted_step, step_of_rule, then_rules, rules_step}
 use Rattle.laws_errors.specs.NameLaws.{names_in, GoOn, NamesGoOn, IsOfExpansions, StopsOfExpansions, StepsStopOfExpansions, AreInOrder, no_rule, rule_first, RulesAreInOrder}
 
