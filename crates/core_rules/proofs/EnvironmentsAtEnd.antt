@@ -27,7 +27,7 @@ use Rattle.core_rules.specs.declared.term_env.TermEnv.{TermEnv}
 use Rattle.core_typed.specs.RuleViews.{rule_views}
 use Rattle.core_rules.specs.RulesRead.{CanBeRead, AreReadRules, ReadsRules, rules_of}
 use Rattle.core_rules.specs.ShownEnvs.{terms_shown_by, environment_shown_by}
-use Rattle.core_rules.specs.Translating.{Keeps, IsSettingOf}
+use Rattle.core_rules.specs.ShownSettings.{Keeps, IsSettingOf}
 use Rattle.core_rules.proofs.DefinedTerms.{terms_defined, all_defined}
 use Rattle.core_rules.proofs.NamedTerms.{terms_named}
 use Rattle.core_rules.proofs.ShownSettings.{setting_shown, terms_once}

@@ -13,7 +13,7 @@ use Rattle.core_rules.specs.declared.typing.progress.Stop.{Stop}
 use Rattle.core_rules.specs.declared.typing.progress.Stop.TheVariants.{Memory, Nesting, Expansions}
 use Rattle.core_rules.specs.Progress.{CountsOne, Counts}
 use Rattle.core_rules.specs.Taking.{Stepping, MadeOrLimit, Took, ended, EndsAs, StopsBy}
-use Rattle.core_rules.specs.Translating.{Standing, Shows, Wherever}
+use Rattle.core_rules.specs.ShownSettings.{Standing, Shows, Wherever}
 use Rattle.core_rules.proofs.Taken.{counted}
 
 -- one expansion was counted, and the scope is that before

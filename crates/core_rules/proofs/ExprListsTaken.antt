@@ -19,7 +19,7 @@ use Rattle.core_rules.specs.declared.typing.progress.Stop.{Stop}
 use Rattle.core_rules.specs.ExprTaking.{expr_steps, args_steps}
 use Rattle.core_rules.specs.PatternTaking.{made_end}
 use Rattle.core_rules.specs.Taking.{Stepping, MadeOrLimit, Took, took, EndsAs, StopsBy, LeadsOn}
-use Rattle.core_rules.specs.Translating.{Standing, Keeps}
+use Rattle.core_rules.specs.ShownSettings.{Standing, Keeps}
 use Rattle.core_rules.proofs.ExprLists.{appended}
 use Rattle.core_rules.proofs.Taken.{joined_end, one_on, one_stops}
 

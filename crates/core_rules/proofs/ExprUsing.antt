@@ -10,7 +10,7 @@ use Rattle.model.proofs.Names.{last}
 use Rattle.core_types.specs.Envs.{names_of, symbol_of, IsInterned}
 use Rattle.core_rules.specs.declared.term_env.TermEnv.{TermEnv}
 use Rattle.core_rules.specs.Progress.{newest}
-use Rattle.core_rules.specs.Translating.{Standing, Shows}
+use Rattle.core_rules.specs.ShownSettings.{Standing, Shows}
 
 -- a variable is found by its number
 module _ (env : TermEnv) (old : Standing) (inv : IsInterned old.tyenv) (name : Name) (at : Position) (flags : Flags) (ty : Option ℕ) where

@@ -32,7 +32,7 @@ use Rattle.core_rules.specs.PatternTaking.{made_end}
 use Rattle.core_rules.specs.PatternUses.{found_term, found_converter}
 use Rattle.core_rules.specs.Progress.{newest, Remains, CountsOne, Counts}
 use Rattle.core_rules.specs.Taking.{places_of, Took, took, EndsAs, StopsBy, LeadsOn}
-use Rattle.core_rules.specs.Translating.{Standing, IsSettingOf, Shows, Wherever, converter_in}
+use Rattle.core_rules.specs.ShownSettings.{Standing, IsSettingOf, Shows, Wherever, converter_in}
 use Rattle.core_rules.proofs.ExpansionsTaken.{counted_shows, Nested, expansion, went_deeper, expansion_stops}
 use Rattle.core_rules.proofs.ExprUsing.{var_found}
 use Rattle.core_rules.proofs.PatternLeaves.{constant_is}
@@ -137,7 +137,7 @@ module _ (env : TermEnv) (old : Standing) (e : Setting) (is : IsSettingOf old.ty
         ∙ ap (λ c. converted_or at s itself convert c (converter e own want)) (converter_is want ne ∙ sym h)
         ∙ ap (λ c. converted_or at s itself convert o c) (declared_is want ne ∙ sym k)
 
-    pub stays_itself : (ty : Option ℕ) → None ≡ found_expr_converter env own ty → None ≡ declared_converter env own ty → expected_step e own ty at s itself convert ≡ itself
+    stays_itself : (ty : Option ℕ) → None ≡ found_expr_converter env own ty → None ≡ declared_converter env own ty → expected_step e own ty at s itself convert ≡ itself
     stays_itself None h k = refl
     stays_itself (Some want) h k = elim (cases_Bool (eqb own want)) [
       | inl same ↦ ap (λ b. cond b itself (converted_or at s itself convert (expr_converter e own want) (converter e own want))) same
@@ -148,14 +148,14 @@ module _ (env : TermEnv) (old : Standing) (e : Setting) (is : IsSettingOf old.ty
     none_between : (p : TermEntry → Bool) (want : ℕ) (o : Option TermEntry) (by : TermEntry) → eqb own want ≡ true → Some by ≡ cond (eqb own want) None o → ⊥
     none_between p want o by same h = none-some by (sym (h ∙ ap (λ b. cond b None o) same))
 
-    pub is_converted : (ty : Option ℕ) (by : TermEntry) → Some by ≡ found_expr_converter env own ty → expected_step e own ty at s itself convert ≡ convert by
+    is_converted : (ty : Option ℕ) (by : TermEntry) → Some by ≡ found_expr_converter env own ty → expected_step e own ty at s itself convert ≡ convert by
     is_converted None by h = absurd (none-some by (sym h))
     is_converted (Some want) by h = elim (cases_Bool (eqb own want)) [
       | inl same ↦ absurd (none_between (λ t. true) want _ by same h)
       | inr ne ↦ by_converters want (Some by) (found_converter env (λ k. true) own want) ne h refl
     ]
 
-    pub has_no_value : (ty : Option ℕ) (by : TermEntry) → None ≡ found_expr_converter env own ty → Some by ≡ declared_converter env own ty → expected_step e own ty at s itself convert ≡ nothing s (no_constructor (term_name_at s by at).text) at
+    has_no_value : (ty : Option ℕ) (by : TermEntry) → None ≡ found_expr_converter env own ty → Some by ≡ declared_converter env own ty → expected_step e own ty at s itself convert ≡ nothing s (no_constructor (term_name_at s by at).text) at
     has_no_value None by h k = absurd (none-some by (sym k))
     has_no_value (Some want) by h k = elim (cases_Bool (eqb own want)) [
       | inl same ↦ absurd (none_between (λ t. true) want _ by same k)
@@ -163,7 +163,7 @@ module _ (env : TermEnv) (old : Standing) (e : Setting) (is : IsSettingOf old.ty
     ]
 
 -- 3. conversions
-abbrev pub expr_nested : ExprTree → Flags → Option ℕ → Nested TypedExpr
+abbrev expr_nested : ExprTree → Flags → Option ℕ → Nested TypedExpr
 expr_nested x flags ty d = expr_steps x flags ty d
 
 expr_expansion : (x : ExprTree) (flags : Flags) (ty : Option ℕ) (d : ℕ) (e : Setting) (n : ℕ) (s : Scope) → deeper_expr_step e flags d x ty n s ≡ expansion (expr_nested x flags ty) d e n s

@@ -29,7 +29,7 @@ use Rattle.core_rules.specs.ExprReadings.{expr_reading, lets_reading}
 use Rattle.core_typed.specs.ExprViews.{let_views, let_parts}
 use Rattle.core_rules.specs.Lets.{with_let, Defines, BindsDef}
 use Rattle.core_rules.specs.Progress.{Remains}
-use Rattle.core_rules.specs.Translating.{Standing, Keeps, IsSettingOf, Shows, Reading}
+use Rattle.core_rules.specs.ShownSettings.{Standing, Keeps, IsSettingOf, Shows, Reading}
 use Rattle.core_rules.proofs.PatternLists.{same_typing}
 
 -- one definition

@@ -38,7 +38,7 @@ use Rattle.core_rules.specs.LetTaking.{lets_steps, def_steps, one_def_steps, def
 use Rattle.core_rules.specs.Lets.{before_all, BindsDef, Closes}
 use Rattle.core_rules.specs.Progress.{newest, BindsNext, Remains}
 use Rattle.core_rules.specs.Taking.{Stepping, MadeOrLimit, places_of, Took, took, ended, EndsAs, StopsBy}
-use Rattle.core_rules.specs.Translating.{Standing, Keeps, IsSettingOf, Shows, Wherever}
+use Rattle.core_rules.specs.ShownSettings.{Standing, Keeps, IsSettingOf, Shows, Wherever}
 use Rattle.core_rules.proofs.HiddenNames.{opened_joined, hides_joined, opened_one, bound_hides, closed_hides, closed_names, closed_vars, closed_some}
 use Rattle.core_rules.proofs.LetForms.{lets_joined, type_found}
 use Rattle.core_rules.proofs.Readings.{keep_setting}

@@ -12,7 +12,7 @@ use Rattle.laws_typing.proofs.Typings.{then_gives}
 use Rattle.core_rules.specs.declared.term_env.TermEnv.{TermEnv}
 use Rattle.core_rules.specs.TermEnvs.{term_in_env}
 use Rattle.core_rules.specs.Constructors.{AreTermsNamed}
-use Rattle.core_rules.specs.Translating.{IsSettingOf}
+use Rattle.core_rules.specs.ShownSettings.{IsSettingOf}
 use Rattle.core_rules.proofs.ConstructorLaws.{named_is}
 
 -- a term that stands in a list is found by its name, or one before it of that name is

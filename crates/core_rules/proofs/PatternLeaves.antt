@@ -5,7 +5,7 @@ use Rattle.model.specs.lists.Names.{number}
 use Rattle.model.specs.lists.Setting.{Setting, Scope, type_of_constant}
 use Rattle.core_types.specs.Envs.{names_of, constant_at}
 use Rattle.core_rules.specs.declared.term_env.TermEnv.{TermEnv}
-use Rattle.core_rules.specs.Translating.{Standing, IsSettingOf, Shows}
+use Rattle.core_rules.specs.ShownSettings.{Standing, IsSettingOf, Shows}
 
 -- a named constant's type, as the environment has it
 pub constant_is : (env : TermEnv) (old : Standing) (x : Name) (e : Setting) (s : Scope) → IsSettingOf old.tyenv env e → Shows old s → (o : Option ℕ)

@@ -17,7 +17,7 @@ use Rattle.core_rules.specs.declared.term_env.TermEnv.{TermEnv}
 use Rattle.core_rules.specs.declared.typing.progress.Stop.{Stop}
 use Rattle.core_rules.specs.PatternTaking.{pattern_steps, parts_steps, each_steps, made_end}
 use Rattle.core_rules.specs.Taking.{Stepping, MadeOrLimit, Took, took, EndsAs, StopsBy, LeadsOn}
-use Rattle.core_rules.specs.Translating.{Standing, Keeps}
+use Rattle.core_rules.specs.ShownSettings.{Standing, Keeps}
 use Rattle.core_rules.proofs.PatternLists.{appended}
 use Rattle.core_rules.proofs.Taken.{joined_end, one_on, one_stops}
 

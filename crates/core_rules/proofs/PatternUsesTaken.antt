@@ -1,83 +1,37 @@
 -- What the use of a term in a pattern leads to, step by step as it is looked at.
-use Rattle.std.proofs.Common.{◌≡◌, ℕ, zero, suc, ◌+◌, ◌<◌, ◌≤◌, Bool, true, false, cond, eqb, nat_le, List, [], ◌∷◌, ◌++◌, length, Option, Some, None, Ok, Err, slice_get, unwrap_or, refl, sym, ap, subst, ◌∙◌, inl, inr, arith}
-use Rattle.std.proofs.lemmas.Bool.{cases_Bool, lt-leb, le-leb}
+use Rattle.std.proofs.Common.{◌≡◌, ℕ, zero, suc, ◌+◌, Bool, true, false, cond, eqb, List, [], ◌∷◌, ◌++◌, length, Option, Some, None, Ok, Err, slice_get, unwrap_or, refl, sym, ap, subst, ◌∙◌, inl, inr, arith}
+use Rattle.std.proofs.lemmas.Bool.{cases_Bool}
 use Rattle.model.specs.lists.Syntax.{Position, Name, PatternTree, PatternTrees, no_pattern, pattern_and, term_pattern, pattern_list}
 use Rattle.model.specs.lists.Tables.{TermEntry}
 use Rattle.model.specs.lists.Expansions.{substituted}
-use Rattle.model.specs.lists.Elaborated.{most_expansions}
 use Rattle.model.specs.lists.Setting.{Setting, Scope, is_matchable, kind_template, template_in, pattern_converter}
 use Rattle.model.specs.rules.Typed.{TypedPattern, TypedPatterns, match_term}
-use Rattle.model.specs.claims.Refusals.{of_nesting, of_expansions}
-use Rattle.laws_errors.specs.Steps.{unknown_extractor, extractor_type, argument_count, Step, stopped, unless, noting, made_step, counted_step}
+use Rattle.laws_errors.specs.Steps.{unknown_extractor, extractor_type, argument_count, Step, unless, noting, made_step}
 use Rattle.laws_errors.specs.PatternSteps.{template_step, why_not_matched, term_step, use_step, converted_step, found_step, deeper_step}
 use Rattle.core_types.specs.Envs.{names_of, IsInterned}
 use Rattle.core_terms.specs.Terms.{has_extractor_kind}
 use Rattle.core_typed.specs.Elaborating.{place_unless, NotesEachAt}
 use Rattle.core_typed.proofs.NotedErrors.{none_at, may_note}
-use Rattle.core_syntax.specs.NotedErrors.{MayNoteMore}
 use Rattle.core_syntax.proofs.NotedErrors.{may_both}
 use Rattle.core_rules.specs.declared.term_env.TermEnv.{TermEnv}
 use Rattle.core_rules.specs.declared.typing.progress.Stop.{Stop}
-use Rattle.core_rules.specs.declared.typing.progress.Stop.TheVariants.{Memory, Nesting, Expansions}
 use Rattle.core_rules.specs.Progress.{Remains, CountsOne, Counts}
 use Rattle.core_rules.specs.PatternTaking.{pattern_steps, parts_steps, made_end}
 use Rattle.core_rules.specs.PatternUses.{found_term, found_converter, found_template, inside_term}
-use Rattle.core_rules.specs.Taking.{Stepping, MadeOrLimit, places_of, Took, took, ended, EndsAs, StopsBy, LeadsOn}
-use Rattle.core_rules.specs.Translating.{Standing, IsSettingOf, Shows, Wherever}
+use Rattle.core_rules.specs.Taking.{MadeOrLimit, places_of, Took, took, EndsAs, StopsBy, LeadsOn}
+use Rattle.core_rules.specs.ShownSettings.{Standing, IsSettingOf, Shows}
+use Rattle.core_rules.proofs.ExpansionsTaken.{counted_shows, Nested, expansion, went_deeper, expansion_stops}
 use Rattle.core_rules.proofs.PatternUsing.{found_so, found, converter_is, differs}
 use Rattle.core_rules.proofs.Scopes.{still}
-use Rattle.core_rules.proofs.Taken.{noted, noted_twice, made, counted, unless_at}
-
--- one expansion was counted, and the scope is that before
-pub counted_shows : (old new : Standing) (s : Scope) → names_of new.tyenv ≡ names_of old.tyenv → CountsOne old.work new.work → Shows old s → Shows new s
-counted_shows old new s same one sh = record {
-  names = same ∙ sh.names;
-  vars = one.vars ∙ sh.vars;
-  visible = λ k. one.names k ∙ sh.visible k;
-  met = λ k v h. subst (λ (ns : List (List ℕ)). k < length ns) (sym same) (sh.met k v (sym (one.names k) ∙ h));
-}
+use Rattle.core_rules.proofs.Taken.{noted, noted_twice, made, unless_at}
 
 -- 1. expansions
-module _ (e : Setting) (multi : Bool) (p : PatternTree) (ty : ℕ) (s : Scope) where
-  one_deeper : (d left n m : ℕ) → suc left ≡ d → m ≡ n + 1 → m ≤ most_expansions → deeper_step e multi d p ty n s ≡ counted_step (pattern_steps multi p ty left e m s)
-  one_deeper d left n m nests more few =
-      let below : nat_le most_expansions n ≡ false = lt-leb most_expansions n (omega (arith, more, few)) in
-      ap (λ (k : ℕ). deeper_step e multi k p ty n s) (sym nests)
-      ∙ ap (λ b. cond b (stopped of_expansions s []) (counted_step (pattern_steps multi p ty left e (suc n) s))) below
-      ∙ ap (λ (k : ℕ). counted_step (pattern_steps multi p ty left e k s)) (omega (arith, more))
+abbrev pattern_nested : Bool → PatternTree → ℕ → Nested TypedPattern
+pattern_nested multi p ty d = pattern_steps multi p ty d
 
-  -- one more was made
-  pub went_deeper : (old mid new : Standing) (d left n : ℕ) → suc left ≡ d → n ≡ old.work.expansions → mid.work.expansions ≡ n + 1 → mid.work.errors.items ≡ old.work.errors.items → (r : MadeOrLimit TypedPattern)
-      → Took mid new (pattern_steps multi p ty left e mid.work.expansions s) r → Took old new (deeper_step e multi d p ty n s) r
-  went_deeper old mid new d left n nests here more same r h =
-      subst (λ t. Took old new t r) (sym (one_deeper d left n mid.work.expansions nests more mid.work.few))
-      (counted old mid new same (more ∙ ap (λ (k : ℕ). k + 1) here) (pattern_steps multi p ty left e mid.work.expansions s) r h)
-
-  -- none may be
-  too_deep : (old : Standing) (d n : ℕ) → d ≡ 0 → names_of old.tyenv ≡ s.names → Took old old (deeper_step e multi d p ty n s) (Err of_nesting)
-  too_deep old d n none names =
-      subst (λ (k : ℕ). Took old old (deeper_step e multi k p ty n s) (Err of_nesting)) (sym none) (ended of_nesting s [] (none_at old.work.errors.items old.work.errors.items refl) names)
-
-  too_many : (old : Standing) (d n : ℕ) → 0 < d → most_expansions ≤ n → names_of old.tyenv ≡ s.names → Took old old (deeper_step e multi d p ty n s) (Err of_expansions)
-  too_many old zero n some most names = absurd (omega (arith, some))
-  too_many old (suc d) n some most names =
-      subst (λ b. Took old old (cond b (stopped of_expansions s []) (counted_step (pattern_steps multi p ty d e (suc n) s))) (Err of_expansions)) (sym (le-leb most_expansions n most))
-      (ended of_expansions s [] (none_at old.work.errors.items old.work.errors.items refl) names)
-
--- where none may be the work on the whole stops
-pub expansion_stops : (env : TermEnv) (old mid new : Standing) (multi : Bool) (p : PatternTree) (ty d : ℕ) (whole : Stepping TypedPattern) → new.tyenv ≡ mid.tyenv → names_of mid.tyenv ≡ names_of old.tyenv
-    → mid.work.expansions ≡ old.work.expansions → MayNoteMore old.work.errors.items mid.work.errors.items
-    → Wherever env old (λ e s. (r : MadeOrLimit TypedPattern) → Took mid mid (deeper_step e multi d p ty old.work.expansions s) r → Took old mid (whole e old.work.expansions s) r)
-    → (stop : Stop) → Counts d mid.work new.work (Err stop) → StopsBy env old new whole stop
-expansion_stops env old mid new multi p ty d whole same names count may lift (Memory a) x = absurd x
-expansion_stops env old mid new multi p ty d whole same names count may lift Nesting x =
-    let moved : mid ≡ new = λ i. record { tyenv = sym same i; work = sym x.1 i } in
-    subst (λ (at : Standing). EndsAs env old at whole (Err of_nesting)) moved
-    (may, λ e s is sh. lift e s is sh (Err of_nesting) (too_deep e multi p ty s mid d old.work.expansions x.0 (names ∙ sh.names)))
-expansion_stops env old mid new multi p ty d whole same names count may lift Expansions x =
-    let moved : mid ≡ new = λ i. record { tyenv = sym same i; work = sym x.1 i } in
-    subst (λ (at : Standing). EndsAs env old at whole (Err of_expansions)) moved
-    (may, λ e s is sh. lift e s is sh (Err of_expansions) (too_many e multi p ty s mid d old.work.expansions x.2 (let m = x.0 in omega (arith, m, count)) (names ∙ sh.names)))
+pattern_expansion : (multi : Bool) (p : PatternTree) (ty d : ℕ) (e : Setting) (n : ℕ) (s : Scope) → deeper_step e multi d p ty n s ≡ expansion (pattern_nested multi p ty) d e n s
+pattern_expansion multi p ty zero e n s = refl
+pattern_expansion multi p ty (suc d) e n s = refl
 
 -- 2. the use of a term
 module _ (multi : Bool) (env : TermEnv) (old : Standing) (inv : IsInterned old.tyenv) (name : Name) (args : PatternTrees) (at : Position) (ty d : ℕ) where
@@ -111,13 +65,14 @@ module _ (multi : Bool) (env : TermEnv) (old : Standing) (inv : IsInterned old.t
       abbrev inside : PatternTree
       inside = inside_term old.tyenv by at whole
 
-      conversion : (e : Setting) (n : ℕ) (s : Scope) → IsSettingOf old.tyenv env e → Shows old s → pattern_steps multi whole ty d e n s ≡ deeper_step e multi d inside ty n s
+      conversion : (e : Setting) (n : ℕ) (s : Scope) → IsSettingOf old.tyenv env e → Shows old s → pattern_steps multi whole ty d e n s ≡ expansion (pattern_nested multi inside ty) d e n s
       conversion e n s is sh =
           let ne = differs multi env old inv name args at ty t known by converts in
           known_steps e n s is sh
           ∙ ap (λ b. cond b (use_step multi (deeper e) name args at ty n s t (parts e n s) (template_in e t.kind)) (converted_step e multi (deeper e) name args at ty n s t (parts e n s) (pattern_converter e t.ret_ty ty))) ne
           ∙ ap (λ o. converted_step e multi (deeper e) name args at ty n s t (parts e n s) o) (converter_is multi env old inv name args at ty t known e is ne ∙ sym converts)
           ∙ ap (λ ns. deeper_step e multi d (term_pattern (record { text = unwrap_or (slice_get ns by.name) []; at = at }) (pattern_and whole no_pattern) at) ty n s) (sym sh.names)
+          ∙ pattern_expansion multi inside ty d e n s
 
       pub conversion_leads : (new : Standing) (left : ℕ) → names_of new.tyenv ≡ names_of old.tyenv → suc left ≡ d → CountsOne old.work new.work
           → LeadsOn env old new (pattern_steps multi whole ty d) (pattern_steps multi inside ty left) (λ r. r)
@@ -125,12 +80,12 @@ module _ (multi : Bool) (env : TermEnv) (old : Standing) (inv : IsInterned old.t
         inl one.errors,
         λ e s is sh after r rest.
             subst (λ t. Took old after t r) (sym (conversion e old.work.expansions s is sh))
-            (went_deeper e multi inside ty s old new after d left old.work.expansions nests refl one.expansions one.errors r (rest s (counted_shows old new s same one sh))),
+            (went_deeper (pattern_nested multi inside ty) e s old new after d left old.work.expansions nests refl one.expansions one.errors r (rest s (counted_shows old new s same one sh))),
       )
 
       pub conversion_stops : (new : Standing) → new.tyenv ≡ old.tyenv → (stop : Stop) → Counts d old.work new.work (Err stop) → StopsBy env old new (pattern_steps multi whole ty d) stop
       conversion_stops new same stop x =
-          expansion_stops env old old new multi inside ty d (pattern_steps multi whole ty d) same refl refl (inl refl)
+          expansion_stops env old old new (pattern_nested multi inside ty) d (pattern_steps multi whole ty d) same refl refl (inl refl)
           (λ e s is sh r h. subst (λ t. Took old old t r) (sym (conversion e old.work.expansions s is sh)) h) stop x
 
     -- a use without a conversion, of a template or of the term itself
@@ -220,14 +175,15 @@ module _ (multi : Bool) (env : TermEnv) (old : Standing) (inv : IsInterned old.t
             λ e s is sh after z rest.
                 checked none (Some template) there mid count as_many same r checks after e s is sh z
                 (subst (λ o. Took mid after (template_step (deeper e) ty old.work.expansions s o) z) is_made
-                (went_deeper e multi p ty s mid new after d left old.work.expansions nests (sym r.expansions) (one.expansions ∙ ap (λ (k : ℕ). k + 1) r.expansions) one.errors z
-                (rest s (counted_shows mid new s here one (still old mid s same r sh))))),
+                (subst (λ t. Took mid after t z) (sym (pattern_expansion multi p ty d e old.work.expansions s))
+                (went_deeper (pattern_nested multi p ty) e s mid new after d left old.work.expansions nests (sym r.expansions) (one.expansions ∙ ap (λ (k : ℕ). k + 1) r.expansions) one.errors z
+                (rest s (counted_shows mid new s here one (still old mid s same r sh)))))),
           )
 
           pub template_stops : (new : Standing) → new.tyenv ≡ mid.tyenv → (stop : Stop) → Counts d mid.work new.work (Err stop) → StopsBy env old new (pattern_steps multi whole ty d) stop
           template_stops new here stop x =
-              expansion_stops env old mid new multi p ty d (pattern_steps multi whole ty d) here same r.expansions (may_note checks)
+              expansion_stops env old mid new (pattern_nested multi p ty) d (pattern_steps multi whole ty d) here same r.expansions (may_note checks)
               (λ e s is sh z h.
               checked none (Some template) there mid count as_many same r checks mid e s is sh z
-              (subst (λ o. Took mid mid (template_step (deeper e) ty old.work.expansions s o) z) is_made h))
+              (subst (λ o. Took mid mid (template_step (deeper e) ty old.work.expansions s o) z) is_made (subst (λ t. Took mid mid t z) (sym (pattern_expansion multi p ty d e old.work.expansions s)) h)))
               stop x

@@ -21,7 +21,7 @@ use Rattle.core_rules.specs.declared.term_env.TermEnv.{TermEnv}
 use Rattle.core_typed.specs.Elaborating.{Checks}
 use Rattle.core_rules.specs.TermEnvs.{term_in_env}
 use Rattle.core_rules.specs.PatternUses.{found_term, found_converter, found_template, IsExpansionOf}
-use Rattle.core_rules.specs.Translating.{Standing, IsSettingOf, Shows, converter_in}
+use Rattle.core_rules.specs.ShownSettings.{Standing, IsSettingOf, Shows, converter_in}
 use Rattle.core_rules.proofs.TermsFound.{found_named}
 
 -- one fact after another is checked

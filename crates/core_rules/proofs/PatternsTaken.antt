@@ -25,7 +25,7 @@ use Rattle.core_rules.specs.declared.typing.progress.Stop.TheVariants.{Memory, N
 use Rattle.core_rules.specs.Progress.{newest, BindsNext, Remains}
 use Rattle.core_rules.specs.PatternTaking.{pattern_steps, leaf_steps, around_steps}
 use Rattle.core_rules.specs.Taking.{MadeOrLimit, Took, took, ended, EndsAs, StopsBy, Takes}
-use Rattle.core_rules.specs.Translating.{Standing, Keeps, Shows}
+use Rattle.core_rules.specs.ShownSettings.{Standing, Keeps, Shows}
 use Rattle.core_rules.proofs.PatternLeaves.{constant_is}
 use Rattle.core_rules.proofs.Readings.{keep_setting}
 use Rattle.core_rules.proofs.Scopes.{is_met, still, met_shows, as_many, var_is, var_met, bound_shows}

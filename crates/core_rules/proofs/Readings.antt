@@ -9,7 +9,7 @@ use Rattle.core_types.specs.Envs.{names_of, symbol, same_symbol, IsInterned}
 use Rattle.core_types.specs.TypeViews.{type_views}
 use Rattle.core_rules.specs.declared.term_env.TermEnv.{TermEnv}
 use Rattle.core_rules.specs.declared.typing.progress.Stop.{Stop}
-use Rattle.core_rules.specs.Translating.{Keeps, IsSettingOf}
+use Rattle.core_rules.specs.ShownSettings.{Keeps, IsSettingOf}
 
 -- what the tables speak of stays
 pub keep_setting : (env : TermEnv) (old new : TypeEnv) (e : Setting) → Keeps old new → IsSettingOf old env e → IsSettingOf new env e

@@ -26,7 +26,7 @@ use Rattle.core_rules.specs.declared.term_env.TermEnv.{TermEnv}
 use Rattle.core_rules.specs.Constructors.{AreMadeUses, AreFoundMade, AreTermsNamed, uses_of_rule}
 use Rattle.core_rules.specs.RuleBreaches.{IsUntyped, UsesUnmade, uses_unmade, IsUndefined, BreaksReading, isnt_typed, takes_a_name, isnt_defined, uses_the_unmade}
 use Rattle.core_rules.specs.RuleLists.{rules_within}
-use Rattle.core_rules.specs.Translating.{Keeps, IsSettingOf}
+use Rattle.core_rules.specs.ShownSettings.{Keeps, IsSettingOf}
 use Rattle.core_rules.proofs.DefinedTerms.{all_defined, undefined_declared}
 use Rattle.core_rules.proofs.RulesTyped.{made_uses, found_uses}
 

@@ -1,7 +1,8 @@
 -- The errors of rules, exactly as their steps say: of one rule, then of rules one after another, then of a whole list.
 use Rattle.std.proofs.Common.{◌≡◌, ℕ, suc, ◌+◌, ◌<◌, ◌≤◌, List, [], ◌∷◌, ◌++◌, length, map, get_or, All, Contains, Option, Some, None, option_map, Ok, Err, append-nil, append_assoc, inl, inr, ⊎_elim, refl, sym, ap, subst, ◌∙◌, arith}
 use Rattle.std.proofs.lemmas.List.{map-append, length-map, take_all}
-use Rattle.std.proofs.lemmas.List.Elements.{All-nil, All-append, Contains-append_right}
+use Rattle.std.proofs.lemmas.List.Elements.{All-nil, All-append, Contains-append_right, Contains-append_cases}
+use Rattle.std.proofs.lemmas.Option.{none-some}
 use Rattle.std.specs.Option.{option_to_list}
 use Rattle.core_syntax.specs.declared.syntax.Def.{Def}
 use Rattle.core_syntax.specs.declared.syntax.Error.{Error}
@@ -21,25 +22,25 @@ use Rattle.model.specs.rules.Typed.{TypedRule}
 use Rattle.model.specs.claims.Refusals.{NamedLimit, of_nesting, of_expansions, ill_typed, past_limit, IsIllTyped}
 use Rattle.model.proofs.Members.{all_members}
 use Rattle.laws_errors.specs.Steps.{Mistake, Step, went_on, stopped}
+use Rattle.laws_errors.specs.NameLaws.{names_in}
 use Rattle.laws_errors.specs.RuleSteps.{RuleError, is_wrong, passes, errors_of, refusal_of_error, rule_step, step_of_rule, RulesStep, behind, with_rule, then_rules, rules_step}
 use Rattle.core_types.specs.declared.type_env.TypeEnv.{TypeEnv}
 use Rattle.core_types.specs.Envs.{names_of}
 use Rattle.core_typed.specs.declared.rules.Rule.{Rule}
-use Rattle.core_typed.specs.RuleViews.{rule_view, rule_views}
+use Rattle.core_typed.specs.RuleViews.{var_view, rule_view, rule_views}
 use Rattle.core_typed.specs.Elaborating.{NotesEachAt}
 use Rattle.core_rules.specs.declared.term_env.TermEnv.{TermEnv}
 use Rattle.core_rules.specs.declared.typing.progress.Progress.{Progress}
 use Rattle.core_rules.specs.declared.typing.progress.Stop.{Stop}
 use Rattle.core_rules.specs.declared.typing.progress.Stop.TheVariants as V
 use Rattle.core_rules.specs.Progress.{IsFresh}
-use Rattle.core_rules.specs.RuleListTaking.{made_in, names_in, NotesErrors, IsDoneAs, DoesRule, AreDoneAs, DoesRules, SaysSteps}
+use Rattle.core_rules.specs.RuleListTaking.{made_in, NotesErrors, IsDoneAs, DoesRule, AreDoneAs, DoesRules, SaysSteps}
 use Rattle.core_rules.specs.RuleLists.{NotesLimit, NotesStop}
 use Rattle.core_rules.specs.RuleTaking.{rule_steps}
 use Rattle.core_rules.specs.Taking.{MadeOrLimit, places_of, EndsAs, StopsBy}
-use Rattle.core_rules.specs.Translating.{Standing, standing, Keeps, IsSettingOf}
+use Rattle.core_rules.specs.ShownSettings.{Standing, standing, Shows, Keeps, IsSettingOf}
 use Rattle.core_rules.proofs.NamedLimits.{rules_before, one_more}
 use Rattle.core_rules.proofs.Readings.{keep_setting}
-use Rattle.core_rules.proofs.RuleEnds.{starts}
 use Rattle.core_rules.proofs.Taken.{Goes, seen}
 
 -- 1. errors
@@ -83,6 +84,9 @@ module _ (env : TermEnv) (tyenv : TypeEnv) (fresh : Progress) (found : List Erro
   abbrev start : Scope
   start = new_scope (names_of tyenv)
 
+  starts : Shows begun start
+  starts = record { names = refl; vars = ap (map var_view) f.vars; visible = f.names; met = λ k v h. absurd (none-some v (sym (f.names k) ∙ h)) }
+
   abbrev does : Setting → Step TypedRule
   does e = step_of_rule e id tree (names_of tyenv)
 
@@ -90,7 +94,7 @@ module _ (env : TermEnv) (tyenv : TypeEnv) (fresh : Progress) (found : List Erro
   from_here : (e : Setting) → IsSettingOf tyenv env e → (m : MadeOrLimit TypedRule) → EndsAs env begun new (rule_steps tree id most_nested) m → Goes begun new (does e) m
   from_here e is m h =
       subst (λ (n : ℕ). Goes begun new (rule_step e most_nested id tree n start) m) f.expansions
-      (seen begun new (rule_step e most_nested id tree fresh.expansions start) m (h.1 e start is (starts env tyenv fresh found f id r)))
+      (seen begun new (rule_step e most_nested id tree fresh.expansions start) m (h.1 e start is (starts)))
 
   -- what was noted before the end
   wrong_noted : (ws : List Mistake) → NotesEachAt (places_of ws) fresh.errors.items new.work.errors.items → NotesErrors (map is_wrong ws) found new.work.errors.items
@@ -134,6 +138,15 @@ rule_behind env before new r id made errors mid h e is =
     let d = h e is in
     record { errors = errors_behind (errors_of r.at (step_of_rule e id r (names_of before))) errors mid d.errors; made = d.made; names = d.names }
 
+pub placed_behind : (ps : List Position) (errors mid : List Error) → NotesAt ps [] mid → NotesAt ps errors (errors ++ mid)
+placed_behind ps errors mid placed = record {
+  each = λ x h.
+      ⊎_elim
+      (λ was. inl was)
+      (λ k. ⊎_elim (λ none. absurd (let l = none.1 in omega (arith, l))) (λ there. inr there) (placed.each x k))
+      (Contains-append_cases errors mid x h);
+}
+
 -- 3. the rule that a definition is
 pub nothing_done : (env : TermEnv) (tyenv : TypeEnv) (before : List TypedRule) (errors : List Error) → DoesRules env tyenv tyenv [] before before errors errors
 nothing_done env tyenv before errors e is = record { errors = no_error errors; made = sym (append-nil before); names = refl }
@@ -163,12 +176,6 @@ pub rule_added : (env : TermEnv) (old new : TypeEnv) (r : RuleTree) (id : ℕ) (
 rule_added env old new r id made q before rules errors after at is items h =
     rule_done env old new r id (option_map rule_view made) (rule_views before) (rule_views rules) errors after (at ∙ same_length before)
     (ap rule_views items ∙ map-append rule_view before (q ∷ []) ∙ ap (λ m. rule_views before ++ option_to_list (option_map rule_view m)) (sym is)) h
-
-pub rule_left_out : (env : TermEnv) (old new : TypeEnv) (r : RuleTree) (id : ℕ) (made : Option Rule) (before : List Rule) (errors after : List Error)
-    → id ≡ length before → made ≡ None → DoesRule env old new r id (option_map rule_view made) errors after → DoesRules env old new (r ∷ []) (rule_views before) (rule_views before) errors after
-rule_left_out env old new r id made before errors after at is h =
-    rule_done env old new r id (option_map rule_view made) (rule_views before) (rule_views before) errors after (at ∙ same_length before)
-    (sym (append-nil (rule_views before)) ∙ ap (λ m. rule_views before ++ option_to_list (option_map rule_view m)) (sym is)) h
 
 -- 4. rules one after another
 -- what the steps of rules come to, then those of the rules that follow

@@ -24,7 +24,7 @@ use Rattle.core_rules.specs.RuleLists.{CollectsRules}
 use Rattle.core_typed.specs.RuleNaming.{MapsNames, AreDefined}
 use Rattle.core_rules.specs.RulesRead.{CanBeRead, AreReadRules}
 use Rattle.core_typed.specs.RuleViews.{rule_views}
-use Rattle.core_rules.specs.Translating.{Keeps, IsSettingOf}
+use Rattle.core_rules.specs.ShownSettings.{Keeps, IsSettingOf}
 use Rattle.core_rules.proofs.RulesTyped.{still_some, rules_typed}
 
 module _ (env : TermEnv) (old new : TypeEnv) (defs : List Definition) (after : TermEnv) (keeps : Keeps old new) (typed : List Rule) (e : Setting) (is : IsSettingOf old env e) (k : AreTermsNamed e (names_of old))

@@ -1,32 +1,22 @@
 -- What reading a rule makes, and which limit ends it, by its steps.
-use Rattle.std.proofs.Common.{◌≡◌, ℕ, ◌+◌, cond, List, [], ◌∷◌, Option, Some, None, option_map, Result, refl, sym, subst, ◌∙◌, Bool, true, false, slice_get}
+use Rattle.std.proofs.Common.{◌≡◌, ℕ, ◌+◌, cond, List, [], ◌∷◌, Option, Some, None, refl, ◌∙◌, Bool, true, false, slice_get}
 use Rattle.model.specs.lists.Syntax.{IfLetTree, RuleTree, PatternTree}
 use Rattle.model.specs.lists.Tables.{Flags}
 use Rattle.model.specs.lists.TermTable.{root_name}
 use Rattle.model.specs.lists.Setting.{Setting, Scope, term_of, declared_flags, kind_template}
-use Rattle.model.specs.lists.Typings.{Typing, followed}
+use Rattle.model.specs.lists.Typings.{followed}
 use Rattle.model.specs.lists.Elaborated.{root_parts, sides_of, last_sides, finished_rule, may_have_priority}
 use Rattle.model.specs.rules.Outcome.{then_option}
-use Rattle.model.specs.rules.Typed.{TypedRule}
 use Rattle.laws_errors.specs.AllMade as A
 use Rattle.laws_errors.specs.ReachedLimits as L
 use Rattle.laws_errors.specs.ReachedLimits.{or_after}
-use Rattle.laws_errors.specs.StepLaws.{AgreesAtDepths, TemplatesAreWhole}
-use Rattle.laws_errors.proofs.RuleDepths.{rule_steps_agree_at_depths_lem}
-use Rattle.laws_errors.proofs.RuleLimits.{rule_limits_are_first_lem}
-use Rattle.core_typed.specs.declared.rules.Rule.{Rule}
-use Rattle.core_typed.specs.RuleViews.{rule_view}
+use Rattle.laws_errors.specs.StepLaws.{TemplatesAreWhole}
 use Rattle.core_rules.specs.declared.term_env.TermEnv.{TermEnv}
-use Rattle.core_rules.specs.declared.typing.progress.Stop.{Stop}
 use Rattle.core_rules.specs.ExprReadings.{expr_reading}
-use Rattle.core_rules.specs.LimitStops.{MeetsLimits}
 use Rattle.core_rules.specs.PatternReadings.{parts_reading}
 use Rattle.core_rules.specs.ReachedLimits.{expr_limits, iflet_limits, iflets_limits, root_limits, rule_limits}
 use Rattle.core_rules.specs.RuleReadings.{iflet_reading, iflets_reading, rule_reading}
-use Rattle.core_rules.specs.RuleTaking.{rule_steps}
-use Rattle.core_rules.specs.Taking.{Takes}
-use Rattle.core_rules.specs.Translating.{Standing, Wherever, MayTranslate, IsSettingOf}
-use Rattle.core_rules.proofs.TakenReadings.{may_translate, meets}
+use Rattle.core_rules.specs.ShownSettings.{IsSettingOf}
 use Rattle.std.proofs.lemmas.Option.{none-some}
 use Rattle.model.proofs.Options.{then_some}
 use Rattle.core_types.specs.declared.type_env.TypeEnv.{TypeEnv}
@@ -52,7 +42,7 @@ module _ (e : Setting) (d : ℕ) (flags : Flags) where
   limits_same [] n s = refl
   limits_same (i ∷ is) n s = λ j. or_after (iflet_limits i flags e d n s) (iflet_reading i flags e d s) (λ a. limits_same is (n + a.expansions) a.scope j)
 
-rule_same : (r : RuleTree) (id : ℕ) (e : Setting) (d : ℕ) (s : Scope) → rule_reading r id e d s ≡ A.rule_reading e d id r s
+pub rule_same : (r : RuleTree) (id : ℕ) (e : Setting) (d : ℕ) (s : Scope) → rule_reading r id e d s ≡ A.rule_reading e d id r s
 rule_same r id e d s =
     λ j. then_option (root_name r.pattern) (λ n. then_option (term_of e s n.text) (λ t. then_option (declared_flags t.kind) (λ flags.
     cond (may_have_priority flags r)
@@ -60,22 +50,8 @@ rule_same r id e d s =
     followed last_sides (iflets_same e d flags r.iflets a.scope j) (λ b. expr_reading r.expr flags (Some t.ret_ty) e d b.scope))))
     None)))
 
-limit_same : (r : RuleTree) (e : Setting) (d n : ℕ) (s : Scope) → rule_limits r e d n s ≡ L.rule_limits e d r n s
+pub limit_same : (r : RuleTree) (e : Setting) (d n : ℕ) (s : Scope) → rule_limits r e d n s ≡ L.rule_limits e d r n s
 limit_same r e d n s =
     λ j. then_option (root_name r.pattern) (λ x. then_option (term_of e s x.text) (λ t. then_option (declared_flags t.kind) (λ flags.
     or_after (root_limits flags.multi (root_parts r.pattern) t.arg_tys e d n s) (parts_reading flags.multi (root_parts r.pattern) t.arg_tys e d s) (λ a.
     or_after (limits_same e d flags r.iflets (n + a.expansions) a.scope j) (iflets_same e d flags r.iflets a.scope j) (λ b. expr_limits r.expr flags (Some t.ret_ty) e d ((n + a.expansions) + b.expansions) b.scope)))))
-
-module _ (env : TermEnv) (old new : Standing) (r : RuleTree) (id d : ℕ) (o : Result (Option Rule) Stop) (takes : Takes env old new (rule_steps r id d) (option_map rule_view) o) where
-  agree : Wherever env old (λ e s. AgreesAtDepths old.work.expansions d (λ c. rule_reading r id e c s) (rule_steps r id d e old.work.expansions s))
-  agree e s is sh =
-      subst (λ (o : ℕ → Option (Typing TypedRule)). AgreesAtDepths old.work.expansions d o (rule_steps r id d e old.work.expansions s)) (λ j c. sym (rule_same r id e c s) j)
-      (rule_steps_agree_at_depths_lem e (templates_are_whole_in old.tyenv env e is) d id r old.work.expansions s)
-
-  pub rule_translated : MayTranslate env old new d (rule_reading r id) rule_view o
-  rule_translated = may_translate env old new d (rule_steps r id d) (rule_reading r id) agree rule_view o takes
-
-  pub rule_meets : MeetsLimits env old new d (rule_reading r id) (rule_limits r) o
-  rule_meets =
-      meets env old new d (rule_steps r id d) (rule_reading r id) agree (rule_limits r)
-      (λ e s is sh. rule_limits_are_first_lem e (templates_are_whole_in old.tyenv env e is) d id r old.work.expansions s ∙ sym (limit_same r e d old.work.expansions s)) (option_map rule_view) o takes

@@ -6,8 +6,12 @@ use Rattle.core_syntax.specs.Answers.{NoLimit, OnErrors, limit_of}
 use Rattle.core_syntax.specs.declared.syntax.Fault.{Fault}
 use Rattle.core_syntax.specs.declared.syntax.Fault.TheVariants.{Errors, Memory}
 use Rattle.core_syntax.specs.declared.syntax.Error.{Error}
+use Rattle.core_syntax.specs.Positions.{ErrorStandsAt, HasSingleSpans, NotesAt}
+use Rattle.core_syntax.proofs.NotedErrors.{some_views}
+use Rattle.core_syntax.proofs.Positioned.{all_stand}
+use Rattle.model.specs.lists.Names.{IsDistinct}
 use Rattle.core_syntax.specs.Stable.{Entries}
-use Rattle.model.specs.lists.Syntax.{Position, RuleTree, Definition}
+use Rattle.model.specs.lists.Syntax.{Position, Definition}
 use Rattle.model.specs.lists.TermTable.{rule_trees, term_names_met, term_table}
 use Rattle.model.specs.claims.Environments.{TypesRead, AreReadable, HasTypedRules, setting_of, AreTermsOf}
 use Rattle.model.specs.claims.Refusals.{NamedLimit, Refusal, past_limit, NamesOnlyPassed, PassedInReading, IsIllTyped, IsOfReading, RefusesTerms, RefusesRules}
@@ -26,30 +30,26 @@ use Rattle.core_rules.specs.Constructors.{AreTermsNamed}
 use Rattle.core_syntax.specs.ErrorViews.{error_views}
 use Rattle.core_syntax.specs.NotedErrors.{MayNoteMore}
 use Rattle.laws_typing.proofs.RefusedTerms.{of_reading}
-use Rattle.core_rules.specs.LimitsNamed.{NamesPastLimits, NamesTypedPastLimits, NamesFirstPastLimits}
-use Rattle.core_rules.specs.RuleErrors.{NotesOfRules, IsOfRules}
+use Rattle.core_rules.specs.LimitsNamed.{NamesTypedPastLimits, NamesFirstPastLimits}
+use Rattle.core_rules.specs.RuleErrors.{IsOfRules}
 use Rattle.core_typed.specs.RuleNaming.{MapsNames, AreDefined, IsLeftUndefined}
 use Rattle.core_typed.proofs.FirstErrors.{begins_as}
 use Rattle.core_terms.specs.TermBreaches.{FirstBreaksTerms}
 use Rattle.core_rules.specs.RuleBreaches.{BreaksReading, BeginsWrong, BreaksRules, of_terms, of_rules, FirstBreaksRules}
 use Rattle.core_rules.proofs.RuleBreaches.{of_list}
 use Rattle.core_rules.specs.RuleListTaking.{BeginsAsSteps, SaysSteps}
-use Rattle.core_rules.specs.RulesTold.{TellsStages, TellsAll, TellsReading}
+use Rattle.core_rules.specs.RulesTold.{TellsReading}
 use Rattle.core_rules.specs.ShownEnvs.{terms_shown_by}
-use Rattle.core_rules.specs.Translating.{IsSettingOf}
+use Rattle.core_rules.specs.ShownSettings.{IsSettingOf}
 use Rattle.core_rules.proofs.NamedLimits.{each_named}
 use Rattle.core_rules.proofs.NamedTerms.{terms_named}
-use Rattle.core_rules.proofs.RuleErrorSteps.{each_then, may_noted, wrong_of_rules, names_only_passed, refuses_rules, no_limit_named}
+use Rattle.core_rules.proofs.RuleErrorSteps.{names_only_passed, refuses_rules, no_limit_named}
+use Rattle.core_rules.proofs.StepErrors.{names_once, stages_noted, stages_named, stages_told}
 use Rattle.core_rules.proofs.ShownSettings.{setting_shown, terms_once}
 
 pub mapped_noted : (old new : List Error) (rules : List TypedRule) (m : Entries Sym RuleId) → MapsNames old new rules m → MayNoteMore old new
 mapped_noted old new rules m (inl n) = inl n.0
 mapped_noted old new rules m (inr n) = inr n.0
-
--- what is checked after the rules notes no limit
-pub noted_to_the_end : (env : TermEnv) (old : TypeEnv) (trees : List RuleTree) (read after : List Error) → NotesOfRules env old trees [] read → MayNoteMore read after → NotesOfRules env old trees [] after
-noted_to_the_end env old trees read after notes more e is =
-    each_then (IsOfRules e trees (names_of old)) [] read after (notes e is) (may_noted (IsOfRules e trees (names_of old)) (wrong_of_rules e trees (names_of old)) read after more)
 
 -- the errors of the rules, by the tables of the terms
 module _ (e : TypesRead) (r : AreReadable e) (defs : List Definition) (table : TermTable) (old : TypeEnv) (a : AreTermsOf e defs (shown_by table) (environment_view old))
@@ -66,12 +66,33 @@ module _ (e : TypesRead) (r : AreReadable e) (defs : List Definition) (table : T
   terms : AreTermsNamed (setting_of e defs expand) (term_names_met e.known defs)
   terms = subst (AreTermsNamed (setting_of e defs expand)) a.types.names (terms_named env old (setting_of e defs expand) inverse is (terms_stand_at_ids_lem e.known defs) (terms_once e r defs a.valid))
 
-  module _ (notes : NotesOfRules env old (rule_trees defs) [] errors) where
+  module _ (said : SaysSteps env old (rule_trees defs) errors) where
+    steps : BeginsAsSteps (setting_of e defs expand) (rule_trees defs) (term_names_met e.known defs) (error_views errors)
+    steps = subst (λ ns. BeginsAsSteps (setting_of e defs expand) (rule_trees defs) ns (error_views errors)) a.types.names (said (setting_of e defs expand) is)
+
+    once : IsDistinct (term_names_met e.known defs)
+    once = subst (λ (ns : List (List ℕ)). IsDistinct ns) a.types.names (names_once old inverse)
+
+    all_of_list : All (IsOfRules (setting_of e defs expand) (rule_trees defs) (term_names_met e.known defs)) (error_views errors)
+    all_of_list = stages_noted old env (setting_of e defs expand) is (rule_trees defs) (term_names_met e.known defs) once (error_views errors) steps
+
     pub limits_named : NamesOnlyPassed (PassedInReading e defs expand) (error_views errors)
-    limits_named = names_only_passed e defs expand r a.valid terms env old is a.types.names errors errors notes (inl refl)
+    limits_named = names_only_passed e defs expand r a.valid terms (error_views errors) all_of_list
 
     pub refused_by_rules : errors ≢ [] → (HasTypedRules e defs expand → ⊥) → RefusesRules e defs expand (error_views errors)
-    refused_by_rules = refuses_rules e defs expand r a.valid terms env old is a.types.names errors errors notes (inl refl)
+    refused_by_rules some none = refuses_rules e defs expand r a.valid terms (error_views errors) all_of_list (some_views errors some) none
+
+    pub past_limits_named : NamesTypedPastLimits e defs expand (error_views errors)
+    past_limits_named =
+        each_named e defs expand r terms (error_views errors) (stages_named old env (setting_of e defs expand) is (rule_trees defs) (term_names_met e.known defs) once (error_views errors) steps)
+
+    -- what is said rule by rule
+    pub all_said : (ps : List Position) → NotesAt ps [] errors → TellsReading e defs expand errors
+    all_said ps placed = record {
+      terms = λ no. absurd (no a.valid);
+      rules = λ valid. stages_told old env (setting_of e defs expand) is (rule_trees defs) (term_names_met e.known defs) once errors steps (All-weaker (ErrorStandsAt ps) HasSingleSpans (λ x h. h.single) errors (all_stand ps errors placed));
+      steps = λ valid. steps;
+    }
 
   -- where there are errors the first stands at something that is broken
   pub first_broken : BeginsWrong env old (rule_trees defs) [] errors → errors ≢ [] → FirstBreaksRules e defs expand errors
@@ -84,17 +105,6 @@ module _ (e : TypesRead) (r : AreReadable e) (defs : List Definition) (table : T
         | inl none ↦ absurd (some none)
         | inr b ↦ begins_as (Tables (names_of old)) (BreaksRules e defs expand) (λ ps w. of_rules a.valid ps (of_list e defs expand ps (subst (λ ns. Tables ns ps) a.types.names w))) errors b
       ]
-
-  -- what is said rule by rule
-  pub all_said : TellsAll env old (rule_trees defs) errors → SaysSteps env old (rule_trees defs) errors → TellsReading e defs expand errors
-  all_said told said = record {
-    terms = λ no. absurd (no a.valid);
-    rules = λ valid. subst (λ ns. TellsStages (setting_of e defs expand) (rule_trees defs) ns errors) a.types.names (told (setting_of e defs expand) is);
-    steps = λ valid. subst (λ ns. BeginsAsSteps (setting_of e defs expand) (rule_trees defs) ns (error_views errors)) a.types.names (said (setting_of e defs expand) is);
-  }
-
-  pub past_limits_named : NamesPastLimits env old (rule_trees defs) errors → NamesTypedPastLimits e defs expand (error_views errors)
-  past_limits_named named = each_named e defs expand r terms env old is a.types.names errors named
 
 -- what the errors of the terms say is passed on
 pub passed_on : {X : Type 0} (P Q : List Error → Type 0) → ((es : List Error) → P es → Q es) → (r : Result X Fault) (f : Fault) → IsErr r × IsErrAnd r (λ y. y ≡ f) → OnErrors {A = TermTable} (Err f) P → OnErrors r Q

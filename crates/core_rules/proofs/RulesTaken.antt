@@ -25,7 +25,7 @@ use Rattle.core_rules.specs.Progress.{newest, vars_of, Remains}
 use Rattle.core_rules.specs.RuleReadings.{scope_of}
 use Rattle.core_rules.specs.RuleTaking.{sides_steps, rule_steps}
 use Rattle.core_rules.specs.Taking.{Stepping, Took, took, ended, EndsAs, StopsBy}
-use Rattle.core_rules.specs.Translating.{Standing, Keeps, IsSettingOf, Shows}
+use Rattle.core_rules.specs.ShownSettings.{Standing, Keeps, IsSettingOf, Shows}
 use Rattle.core_rules.proofs.PatternUsing.{found_so}
 use Rattle.core_rules.proofs.Scopes.{still}
 use Rattle.core_rules.proofs.Taken.{behind, unless_at, Goes, seen, taken_as}

@@ -19,7 +19,7 @@ use Rattle.core_rules.specs.Constructors.{has_constructor_if_there, AreMadeUses,
 use Rattle.core_typed.specs.Elaborating.{Checks}
 use Rattle.core_rules.specs.PatternUses.{found_term}
 use Rattle.core_rules.specs.RuleLists.{rules_within, CollectsRules}
-use Rattle.core_rules.specs.Translating.{Keeps, IsSettingOf}
+use Rattle.core_rules.specs.ShownSettings.{Keeps, IsSettingOf}
 use Rattle.core_types.proofs.RightTypes.{all_left, all_right}
 use Rattle.core_rules.proofs.ConstructorLaws.{same_entry, rules_same, rules_uses}
 use Rattle.core_rules.proofs.MadeCalls.{rules_made}

@@ -10,7 +10,7 @@ use Rattle.core_types.proofs.WellFormedEnvs.{longer}
 use Rattle.core_types.specs.Envs.{names_of}
 use Rattle.core_typed.specs.RuleViews.{var_view}
 use Rattle.core_rules.specs.Progress.{newest, vars_of, next_var, BindsNext, Remains}
-use Rattle.core_rules.specs.Translating.{Standing, Shows}
+use Rattle.core_rules.specs.ShownSettings.{Standing, Shows}
 
 -- a text whose number is that of a name that was met is this name
 pub is_met : (ns : List (List ℕ)) (x : List ℕ) → number ns x < length ns → has_name ns x ≡ true

@@ -24,7 +24,7 @@ use Rattle.core_types.specs.EnvViews.{environment_view}
 use Rattle.core_terms.proofs.TypesStaying.{with_names_more}
 use Rattle.core_rules.specs.declared.term_env.TermEnv.{TermEnv}
 use Rattle.core_rules.specs.ShownEnvs.{terms_shown_by}
-use Rattle.core_rules.specs.Translating.{IsSettingOf, IsWholeTemplate}
+use Rattle.core_rules.specs.ShownSettings.{IsSettingOf, IsWholeTemplate}
 use Rattle.core_rules.proofs.TemplateUses.{templates_are_whole}
 
 -- 1. look-ups

@@ -29,7 +29,7 @@ use Rattle.core_rules.specs.PatternTaking.{pattern_steps, parts_steps, made_end}
 use Rattle.core_rules.specs.Progress.{Remains}
 use Rattle.core_rules.specs.RuleTaking.{iflet_steps, iflets_steps, root_steps, sides_steps}
 use Rattle.core_rules.specs.Taking.{Stepping, MadeOrLimit, Took, took, EndsAs, StopsBy, LeadsOn}
-use Rattle.core_rules.specs.Translating.{Standing, Keeps, Shows}
+use Rattle.core_rules.specs.ShownSettings.{Standing, Keeps, Shows}
 use Rattle.core_rules.proofs.PatternUsing.{list_length}
 use Rattle.core_rules.proofs.Readings.{keep_setting}
 use Rattle.core_rules.proofs.Scopes.{still}

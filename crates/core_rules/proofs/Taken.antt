@@ -15,7 +15,7 @@ use Rattle.core_rules.specs.declared.typing.progress.Stop.{Stop}
 use Rattle.core_rules.specs.declared.typing.progress.Stop.TheVariants.{Memory, Nesting, Expansions}
 use Rattle.core_rules.specs.PatternTaking.{made_end}
 use Rattle.core_rules.specs.Taking.{Stepping, MadeOrLimit, places_of, Took, took, ended, EndsAs, StopsBy, Takes, LeadsOn}
-use Rattle.core_rules.specs.Translating.{Standing, Keeps, IsSettingOf, Shows}
+use Rattle.core_rules.specs.ShownSettings.{Standing, Keeps, IsSettingOf, Shows}
 use Rattle.core_rules.proofs.Readings.{keep_setting}
 
 -- 1. errors

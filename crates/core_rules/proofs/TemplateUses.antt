@@ -17,7 +17,7 @@ use Rattle.model.proofs.Bytes.{same_bytes, same_self}
 use Rattle.model.proofs.Mapped.{get_map}
 use Rattle.model.proofs.Members.{all_members, from_map, get_from_member}
 use Rattle.model.proofs.Positions.{get_front}
-use Rattle.core_rules.specs.Translating.{IsWholeTemplate}
+use Rattle.core_rules.specs.ShownSettings.{IsWholeTemplate}
 use Rattle.core_types.proofs.RightTypes.{all_left, all_right}
 
 some_mapped : {X Y : Type 0} (f : X → Y) (o : Option X) → is_some o ≡ true → is_some (option_map f o) ≡ true

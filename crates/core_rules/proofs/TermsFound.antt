@@ -10,7 +10,7 @@ use Rattle.core_types.specs.Envs.{names_of, symbol_of, IsInterned}
 use Rattle.core_rules.specs.declared.term_env.TermEnv.{TermEnv}
 use Rattle.core_rules.specs.TermEnvs.{term_in_env}
 use Rattle.core_rules.specs.PatternUses.{found_term}
-use Rattle.core_rules.specs.Translating.{IsSettingOf}
+use Rattle.core_rules.specs.ShownSettings.{IsSettingOf}
 
 module _ (env : TermEnv) (tyenv : TypeEnv) (inv : IsInterned tyenv) (x : List ℕ) (e : Setting) (is : IsSettingOf tyenv env e) where
   past : (o : Option ℕ) → term_in_env env (number (names_of tyenv) x) ≡ o → has_name (names_of tyenv) x ≡ false → o ≡ None

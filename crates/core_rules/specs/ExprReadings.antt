@@ -7,7 +7,7 @@ use Rattle.model.specs.rules.Typed.{TypedExpr, TypedLets}
 use Rattle.model.specs.lists.Elaborated.{elaborated_expr, lets_with, deeper_expr}
 use Rattle.laws_errors.specs.AllMade.{all_made}
 use Rattle.core_types.specs.declared.ids.TypeId.{TypeId}
-use Rattle.core_rules.specs.Translating.{Reading}
+use Rattle.core_rules.specs.ShownSettings.{Reading}
 
 -- the type that is expected, where one is
 abbrev pub expected : Option TypeId → Option ℕ

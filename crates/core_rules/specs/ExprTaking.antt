@@ -14,7 +14,7 @@ use Rattle.core_rules.specs.declared.typing.expr_uses.CallUse.{CallUse}
 use Rattle.core_rules.specs.declared.typing.expr_uses.CallUse.TheVariants as C
 use Rattle.core_rules.specs.PatternTaking.{made_end}
 use Rattle.core_rules.specs.Taking.{Stepping, EndsAs, StopsBy, LeadsOn}
-use Rattle.core_rules.specs.Translating.{Standing}
+use Rattle.core_rules.specs.ShownSettings.{Standing}
 
 -- an expression, under the flags in force, where a type, or any type, is expected, and where so many expansions may nest
 abbrev pub expr_steps : ExprTree → Flags → Option ℕ → ℕ → Stepping TypedExpr

@@ -18,7 +18,7 @@ use Rattle.core_typed.specs.ExprViews.{expr_view}
 use Rattle.core_rules.specs.declared.term_env.TermEnv.{TermEnv}
 use Rattle.core_rules.specs.Lets.{before_all}
 use Rattle.core_rules.specs.Taking.{Stepping}
-use Rattle.core_rules.specs.Translating.{Standing, Wherever}
+use Rattle.core_rules.specs.ShownSettings.{Standing, Wherever}
 
 -- the definitions of a let at a place
 abbrev pub lets_steps : LetTrees → Flags → Position → ℕ → Stepping TypedLets

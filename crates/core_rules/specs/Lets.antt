@@ -1,11 +1,11 @@
 -- The scopes of lets: what their names stood for before.
-use Rattle.std.specs.Prelude.{◌≡◌, ◌⊎◌, ⊤, ℕ, nat_eq, List, [], ◌∷◌, length, Option, Some, None, option_map, Result, Ok, Err, Box, if◌then◌else◌}
+use Rattle.std.specs.Prelude.{◌≡◌, ⊤, ℕ, nat_eq, List, [], ◌∷◌, length, Option, Some, None, option_map, Result, Ok, Err, Box, if◌then◌else◌}
 use Rattle.std.specs.declared.alloc.Global.{Global}
 use Rattle.model.specs.lists.Syntax.{Name, LetTrees, let_and}
 use Rattle.core_syntax.specs.declared.syntax.LetDef.{LetDef}
 use Rattle.core_syntax.specs.SyntaxViews.{position, name_view, expr_view}
 use Rattle.model.specs.lists.Names.{number, with_name}
-use Rattle.model.specs.rules.Typed.{TypedVar, TypedExpr, TypedLets}
+use Rattle.model.specs.rules.Typed.{TypedVar, TypedExpr}
 use Rattle.core_types.specs.declared.ids.Sym.{Sym}
 use Rattle.core_types.specs.declared.ids.TypeId.{TypeId}
 use Rattle.core_types.specs.declared.ids.VarId.{VarId}
@@ -17,10 +17,8 @@ use Rattle.core_typed.specs.declared.exprs.Expr.{Expr}
 use Rattle.core_typed.specs.declared.rules.BoundVar.{BoundVar}
 use Rattle.core_rules.specs.declared.typing.progress.Progress.{Progress}
 use Rattle.core_typed.specs.ExprViews.{let_view}
-use Rattle.core_rules.specs.declared.term_env.TermEnv.{TermEnv}
 use Rattle.core_typed.specs.RuleViews.{var_view}
 use Rattle.core_rules.specs.Progress.{newest, vars_of, BindsNext}
-use Rattle.core_rules.specs.Translating.{Standing, Reading, Wherever, IsTranslated, IsReported}
 
 -- one definition before others
 abbrev pub with_let : LetDef → LetTrees → LetTrees
@@ -30,15 +28,6 @@ with_let d rs = let_and (name_view d.var) (name_view d.ty) (expr_view d.val.valu
 abbrev pub before_all : List (Sym × Option BoundVar) → ℕ → Option TypedVar → Option TypedVar
 before_all [] k now = now
 before_all (h ∷ hs) k now = if nat_eq h.0.0 k then option_map var_view h.1 else before_all hs k now
-
--- each name stood for this before the names of a list were bound, and before those of another one
-abbrev pub HidesAs : List (Sym × Option BoundVar) → Standing → List (Sym × Option BoundVar) → Standing → Type 0
-HidesAs hidden at earlier old = (k : ℕ) → before_all hidden k (newest at.work k) ≡ before_all earlier k (newest old.work k)
-
--- definitions were read, and it is known what their names stood for before; or it was noted that they can't be
-abbrev pub Defines : TermEnv → Standing → Standing → ℕ → Reading TypedLets → TypedLets → List (Sym × Option BoundVar) → List (Sym × Option BoundVar) → Type 0
-Defines env old new d reading made earlier hidden =
-    (IsTranslated env old new d reading made × Wherever env old (λ e s. HidesAs hidden new earlier old)) ⊎ IsReported env old new reading
 
 -- the name and the type of a definition: the type is known, or it was noted that it isn't. The name is met either way
 abbrev pub Begins : {E : Type 0} → TypeEnv → TypeEnv → List Error → List Error → Name → Name → Result (Option (Sym × TypeId)) E → Type 0

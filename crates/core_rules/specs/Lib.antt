@@ -4,7 +4,6 @@ pub mod ExprTaking
 pub mod ExprUses
 pub mod LetTaking
 pub mod Lets
-pub mod LimitStops
 pub mod LimitsNamed
 pub mod PatternReadings
 pub mod PatternTaking
@@ -21,7 +20,6 @@ pub mod RuleTaking
 pub mod RulesRead
 pub mod RulesTold
 pub mod ShownEnvs
+pub mod ShownSettings
 pub mod Taking
 pub mod TermEnvs
-pub mod Translating
-pub mod UseLimits

@@ -1,8 +1,6 @@
 -- That limits are named: a rule that has a typed rule past the limits on expansions, and none within them, stands where an
 -- error says that one is passed.
-use Rattle.std.specs.Prelude.{◌≡◌, ◌⊎◌, ℕ, suc, Bool, List, [], ◌∷◌, ◌++◌, take, Option, Some, None, slice_get, All, Contains}
-use Rattle.core_syntax.specs.declared.syntax.Error.{Error}
-use Rattle.core_syntax.specs.ErrorViews.{error_views}
+use Rattle.std.specs.Prelude.{◌≡◌, ◌⊎◌, ℕ, suc, Bool, List, [], ◌∷◌, ◌++◌, take, Option, Some, None, slice_get, Contains}
 use Rattle.model.specs.lists.Syntax.{Position, RuleTree, Definition}
 use Rattle.model.specs.lists.Names.{IsDistinct}
 use Rattle.model.specs.lists.TermTable.{rule_trees, IsValidTerms, term_names_met}
@@ -13,11 +11,7 @@ use Rattle.model.specs.rules.Outcome.{then_option}
 use Rattle.model.specs.rules.Typed.{TypedRule}
 use Rattle.model.specs.claims.Environments.{TypesRead, setting_of}
 use Rattle.model.specs.claims.Refusals.{of_nesting, of_expansions, Refusal, past_limit}
-use Rattle.core_types.specs.declared.type_env.TypeEnv.{TypeEnv}
-use Rattle.core_types.specs.Envs.{names_of}
-use Rattle.core_rules.specs.declared.term_env.TermEnv.{TermEnv}
 use Rattle.core_rules.specs.RuleLists.{rule_from, rule_within}
-use Rattle.core_rules.specs.Translating.{IsSettingOf}
 
 -- an error says that the rule at a place passes a limit on expansions
 abbrev pub NamesALimit : Position → List Refusal → Type 0
@@ -25,19 +19,15 @@ NamesALimit at errors = Contains errors (past_limit of_nesting at) ⊎ Contains 
 
 -- if a rule has a typed rule from these names where expansions may nest to some depth, however many there are, and none within
 -- the limits, an error says so
-abbrev pub IsNamedFrom : Setting → ℕ → RuleTree → List Error → List (List ℕ) → Type 0
-IsNamedFrom e id r errors names = (d : ℕ) (a : Typing TypedRule) → rule_from e id r names d ≡ Some a → rule_within e id r names ≡ None → NamesALimit r.at (error_views errors)
+abbrev pub IsNamedFrom : Setting → ℕ → RuleTree → List Refusal → List (List ℕ) → Type 0
+IsNamedFrom e id r errors names = (d : ℕ) (a : Typing TypedRule) → rule_from e id r names d ≡ Some a → rule_within e id r names ≡ None → NamesALimit r.at errors
 
 -- likewise from some names that go on from these
-pub record IsNamedPastLimits (e : Setting) (names : List (List ℕ)) (errors : List Error) (r : RuleTree) : Type 0 where
+pub record IsNamedPastLimits (e : Setting) (names : List (List ℕ)) (errors : List Refusal) (r : RuleTree) : Type 0 where
   pub id : ℕ
   pub more : List (List ℕ)
   pub once : IsDistinct (names ++ more)
   pub named : IsNamedFrom e id r errors (names ++ more)
-
--- each of these rules is, by the tables
-abbrev pub NamesPastLimits : TermEnv → TypeEnv → List RuleTree → List Error → Type 0
-NamesPastLimits env old trees errors = (e : Setting) → IsSettingOf old env e → All (IsNamedPastLimits e (names_of old) errors) trees
 
 -- the terms are valid, and a rule has a typed rule where expansions may nest to some depth, however many there are, and none
 -- within the limits: all that it lacks is the limits. As where a limit is passed, it is read from the names of the terms

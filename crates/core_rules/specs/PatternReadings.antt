@@ -3,7 +3,7 @@ use Rattle.std.specs.Prelude.{ℕ, Bool, List}
 use Rattle.model.specs.lists.Syntax.{PatternTree, PatternTrees}
 use Rattle.model.specs.rules.Typed.{TypedPattern, TypedPatterns}
 use Rattle.model.specs.lists.Elaborated.{elaborated_pattern, elaborated_parts}
-use Rattle.core_rules.specs.Translating.{Reading}
+use Rattle.core_rules.specs.ShownSettings.{Reading}
 
 -- a pattern at a type, in a rule whose term is multi or not
 abbrev pub pattern_reading : Bool → PatternTree → ℕ → Reading TypedPattern

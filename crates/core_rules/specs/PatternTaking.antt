@@ -11,7 +11,7 @@ use Rattle.core_rules.specs.declared.typing.progress.Stop.{Stop}
 use Rattle.core_rules.specs.declared.typing.pattern_uses.PatternUse.{PatternUse}
 use Rattle.core_rules.specs.declared.typing.pattern_uses.PatternUse.TheVariants.{Wrong, Expansion, Parts}
 use Rattle.core_rules.specs.Taking.{Stepping, MadeOrLimit, EndsAs, StopsBy, LeadsOn}
-use Rattle.core_rules.specs.Translating.{Standing}
+use Rattle.core_rules.specs.ShownSettings.{Standing}
 
 -- a pattern at a type, in a rule whose term is multi or not, where so many expansions may nest
 abbrev pub pattern_steps : Bool → PatternTree → ℕ → ℕ → Stepping TypedPattern

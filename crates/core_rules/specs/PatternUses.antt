@@ -17,7 +17,7 @@ use Rattle.core_rules.specs.declared.typing.progress.Stop.{Stop}
 use Rattle.core_rules.specs.declared.typing.pattern_uses.PatternUse.{PatternUse}
 use Rattle.core_rules.specs.declared.typing.pattern_uses.PatternUse.TheVariants.{Wrong, Expansion, Parts}
 use Rattle.core_rules.specs.TermEnvs.{term_in_env}
-use Rattle.core_rules.specs.Translating.{converter_in}
+use Rattle.core_rules.specs.ShownSettings.{converter_in}
 
 -- the term of a name
 abbrev pub found_term : TermEnv → TypeEnv → List ℕ → Option TermEntry

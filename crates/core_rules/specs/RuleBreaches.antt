@@ -21,7 +21,7 @@ use Rattle.core_rules.specs.declared.term_env.TermEnv.{TermEnv}
 use Rattle.core_rules.specs.Constructors.{AreMadeUses, AreTermsNamed, uses_of_rule}
 use Rattle.core_rules.specs.RuleLists.{rule_within, rules_within}
 use Rattle.core_rules.specs.RulePositions.{templates_positions}
-use Rattle.core_rules.specs.Translating.{IsSettingOf}
+use Rattle.core_rules.specs.ShownSettings.{IsSettingOf}
 
 -- as if each term had a constructor, the rules before it are typed, and from the names met before it, it isn't: an error on it
 -- stands at its positions, or at those of the templates that are expanded

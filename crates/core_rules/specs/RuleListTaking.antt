@@ -11,21 +11,17 @@ use Rattle.model.specs.rules.Typed.{TypedRule}
 use Rattle.model.specs.claims.Environments.{TypesRead, setting_of}
 use Rattle.model.specs.claims.Refusals.{Refusal, IsIllTyped}
 use Rattle.laws_errors.specs.Steps.{Step, went_on, stopped}
+use Rattle.laws_errors.specs.NameLaws.{names_in}
 use Rattle.laws_errors.specs.RuleSteps.{RuleError, errors_of, refusal_of_error, step_of_rule, RulesStep, rules_step}
 use Rattle.core_types.specs.declared.type_env.TypeEnv.{TypeEnv}
 use Rattle.core_types.specs.Envs.{names_of}
 use Rattle.core_rules.specs.declared.term_env.TermEnv.{TermEnv}
-use Rattle.core_rules.specs.Translating.{IsSettingOf}
+use Rattle.core_rules.specs.ShownSettings.{IsSettingOf}
 
 -- what a step makes: nothing where a limit stops it
 abbrev pub made_in : {X : Type 0} → Step X → Option X
 made_in (went_on m s k es) = m
 made_in (stopped l s es) = None
-
--- the names met where it ends
-abbrev pub names_in : {X : Type 0} → Step X → List (List ℕ)
-names_in (went_on m s k es) = s.names
-names_in (stopped l s es) = s.names
 
 -- behind the errors so far comes one for each of these errors of rules, in order, and says this; each of its spans is that of one
 -- position

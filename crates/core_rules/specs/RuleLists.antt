@@ -1,13 +1,12 @@
 -- How a rule ends within the limits on expansions, and the rules of a list one after another, each from the names met before
 -- it: as if each term had a constructor.
-use Rattle.std.specs.Prelude.{◌≡◌, ◌≢◌, ◌⊎◌, ℕ, suc, List, [], ◌∷◌, ◌++◌, length, Option, Some, None}
+use Rattle.std.specs.Prelude.{◌≡◌, ◌≢◌, ◌⊎◌, ℕ, suc, List, [], ◌∷◌, ◌++◌, Option, Some, None}
 use Rattle.core_syntax.specs.declared.syntax.Error.{Error}
 use Rattle.core_syntax.specs.declared.syntax.Limit.{Limit}
 use Rattle.core_syntax.specs.declared.syntax.Limit.TheVariants.{Nesting, Expansions}
 use Rattle.core_syntax.specs.declared.syntax.Pos.{Pos}
-use Rattle.core_syntax.specs.declared.syntax.Rule as T
-use Rattle.core_syntax.specs.SyntaxViews.{position, rule_view}
-use Rattle.model.specs.lists.Syntax.{RuleTree, Definition, rule_definition}
+use Rattle.core_syntax.specs.SyntaxViews.{position}
+use Rattle.model.specs.lists.Syntax.{RuleTree}
 use Rattle.model.specs.rules.Outcome.{then_option}
 use Rattle.model.specs.rules.Typed.{TypedRule}
 use Rattle.model.specs.lists.Setting.{Setting, new_scope}
@@ -16,15 +15,12 @@ use Rattle.model.specs.lists.Elaborated.{few_enough, most_nested, TypedRules, wi
 use Rattle.model.specs.claims.Refusals.{past_limit}
 use Rattle.core_types.specs.declared.type_env.TypeEnv.{TypeEnv}
 use Rattle.core_types.specs.Envs.{names_of}
-use Rattle.core_syntax.specs.NotedErrors.{NotesMore, MayNoteMore}
 use Rattle.core_syntax.specs.ErrorViews.{limit_view, error_view}
 use Rattle.core_rules.specs.declared.term_env.TermEnv.{TermEnv}
-use Rattle.core_typed.specs.declared.rules.Rule.{Rule}
 use Rattle.core_rules.specs.declared.typing.progress.Stop.{Stop}
 use Rattle.core_rules.specs.declared.typing.progress.Stop.TheVariants as S
 use Rattle.core_rules.specs.RuleReadings.{rule_reading}
-use Rattle.core_typed.specs.RuleViews.{rule_views}
-use Rattle.core_rules.specs.Translating.{IsSettingOf}
+use Rattle.core_rules.specs.ShownSettings.{IsSettingOf}
 
 -- a rule from the names met before it, where so many expansions may nest
 abbrev pub rule_from : Setting → ℕ → RuleTree → List (List ℕ) → ℕ → Option (Typing TypedRule)
@@ -50,30 +46,6 @@ abbrev pub NotesStop : Stop → Pos → List Error → List Error → Type 0
 NotesStop (S.Memory e) at old new = ⊥
 NotesStop S.Nesting at old new = NotesLimit Nesting at old new
 NotesStop S.Expansions at old new = NotesLimit Expansions at old new
-
--- how a rule ends that is this, where so many expansions may nest: with a typed rule and its names met; with a report, and
--- then there is none, however many may nest; or with a limit that it passes, noted after what else was
-pub data EndsRule (o : ℕ → Option (Typing TypedRule)) (at : Pos) (old new : List Error) (names : List (List ℕ)) (made : Option TypedRule) : Type 0 where
-  is_typed : (a : Typing TypedRule) → new ≡ old → few_enough (o most_nested) ≡ Some a → made ≡ Some a.made → names ≡ a.scope.names → EndsRule o at old new names made
-  is_reported : NotesMore old new → ((d : ℕ) → o d ≡ None) → EndsRule o at old new names made
-  is_too_deep : (before : List Error) → MayNoteMore old before → NotesLimit Nesting at before new → o most_nested ≡ None → EndsRule o at old new names made
-  is_too_long : (before : List Error) → MayNoteMore old before → NotesLimit Expansions at before new → ((d : ℕ) → few_enough (o d) ≡ None) → EndsRule o at old new names made
-
--- how a rule ends by the tables, from the names met before it
-abbrev pub CollectsRule : TermEnv → TypeEnv → TypeEnv → List Error → List Error → ℕ → T.Rule → Option TypedRule → Type 0
-CollectsRule env old new errors after id rule made = (e : Setting) → IsSettingOf old env e → EndsRule (rule_from e id (rule_view rule) (names_of old)) rule.pos errors after (names_of new) made
-
--- a rule that is typed is the next one, and nothing is noted; or there are errors, and it isn't typed
-abbrev pub AddsNext : Option (Typing TypedRule) → List Error → List Error → List (List ℕ) → List Rule → List Rule → Type 0
-AddsNext o errors after names before rules =
-    ((a : Typing TypedRule) × (o ≡ Some a) × (after ≡ errors) × (rule_views rules ≡ rule_views before ++ a.made ∷ []) × (names ≡ a.scope.names))
-    ⊎ ((after ≢ []) × (o ≡ None))
-
--- the same for the rule that a definition is, if it is one
-abbrev pub CollectsNext : TermEnv → TypeEnv → TypeEnv → List Error → List Error → Definition → List Rule → List Rule → Type 0
-CollectsNext env old new errors after (rule_definition r) before rules =
-    (e : Setting) → IsSettingOf old env e → AddsNext (rule_within e (length before) r (names_of old)) errors after (names_of new) before rules
-CollectsNext env old new errors after _ before rules = (names_of new ≡ names_of old) × (after ≡ errors) × (rules ≡ before)
 
 -- all rules are typed, and nothing is noted; or there are errors, and they can't all be
 abbrev pub CollectsRules : TermEnv → TypeEnv → TypeEnv → List Error → List Error → List RuleTree → List TypedRule → Type 0

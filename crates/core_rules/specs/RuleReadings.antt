@@ -16,7 +16,7 @@ use Rattle.core_typed.specs.ExprViews.{expr_view}
 use Rattle.core_rules.specs.PatternReadings.{pattern_reading, parts_reading}
 use Rattle.core_typed.specs.PatternViews.{pattern_views, pattern_parts}
 use Rattle.core_typed.specs.RuleViews.{iflet_view, var_view}
-use Rattle.core_rules.specs.Translating.{Reading}
+use Rattle.core_rules.specs.ShownSettings.{Reading}
 
 -- the expression of an if-let, at any type, then its pattern at that type
 abbrev pub iflet_reading : IfLetTree → Flags → Reading TypedIfLet

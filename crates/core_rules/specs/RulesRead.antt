@@ -12,7 +12,7 @@ use Rattle.core_rules.specs.Constructors.{AreTermsNamed}
 use Rattle.core_typed.specs.RuleNaming.{AreDefined}
 use Rattle.core_typed.specs.RuleViews.{rule_views}
 use Rattle.core_rules.specs.TermEnvs.{rule_in_env}
-use Rattle.core_rules.specs.Translating.{IsSettingOf}
+use Rattle.core_rules.specs.ShownSettings.{IsSettingOf}
 
 -- from the names met before, these are the typed rules of a list, in which each term is defined
 pub record CanBeRead (e : Setting) (defs : List Definition) (before : List (List ℕ)) (rules : TypedRules) : Type 0 where

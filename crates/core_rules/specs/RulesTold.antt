@@ -15,14 +15,10 @@ use Rattle.model.specs.rules.Typed.{TypedRule}
 use Rattle.model.specs.claims.Environments.{TypesRead, setting_of}
 use Rattle.model.specs.claims.Refusals.{NamedLimit, past_limit}
 use Rattle.core_terms.specs.TermErrors.{AreErrorsOfTerms}
-use Rattle.core_types.specs.declared.type_env.TypeEnv.{TypeEnv}
-use Rattle.core_types.specs.Envs.{names_of}
 use Rattle.core_rules.specs.RuleListTaking.{RulesErrAs}
-use Rattle.core_rules.specs.declared.term_env.TermEnv.{TermEnv}
 use Rattle.core_rules.specs.ReachedLimits.{reached_limit}
 use Rattle.core_rules.specs.RuleLists.{rule_within}
 use Rattle.core_rules.specs.RulePositions.{templates_positions}
-use Rattle.core_rules.specs.Translating.{IsSettingOf}
 
 -- behind what is wrong with a rule at a place one limit may stand, which the work on it came to later
 abbrev pub IsLimitAtMost : Position → List Error → Type 0
@@ -43,10 +39,6 @@ pub data TellsRules (e : Setting) : List RuleTree → List (List ℕ) → List (
   rule_first : (r : RuleTree) (rs : List RuleTree) (names more after : List (List ℕ)) (errors later : List Error) → IsDistinct (names ++ more) → TellsRule e r names (names ++ more) errors → TellsRules e rs (names ++ more) after later
       → TellsRules e (r ∷ rs) names after (errors ++ later)
 
--- by the tables, what is noted of these rules
-abbrev pub TellsTyping : TermEnv → TypeEnv → TypeEnv → List RuleTree → List Error → List Error → Type 0
-TellsTyping env old new trees errors after = (e : Setting) → IsSettingOf old env e → (more : List Error) × (after ≡ errors ++ more) × TellsRules e trees (names_of old) (names_of new) more
-
 -- the errors of the rules, behind which come those of later stages, none of which names a limit
 pub record TellsStages (e : Setting) (trees : List RuleTree) (names : List (List ℕ)) (errors : List Error) : Type 0 where
   pub typing : List Error
@@ -55,10 +47,6 @@ pub record TellsStages (e : Setting) (trees : List RuleTree) (names : List (List
   pub after : List (List ℕ)
   pub rules : TellsRules e trees names after typing
   pub forms : AreIllTyped later
-
--- by the tables
-abbrev pub TellsAll : TermEnv → TypeEnv → List RuleTree → List Error → Type 0
-TellsAll env old trees errors = (e : Setting) → IsSettingOf old env e → TellsStages e trees (names_of old) errors
 
 -- what the errors of a whole list tell: of its terms, where these aren't valid, else of its rules. These are exactly those of the
 -- steps of its rules, before all others

@@ -4,7 +4,7 @@ use Rattle.core_terms.specs.TermViews.{term_views}
 use Rattle.core_rules.specs.declared.term_env.TermEnv.{TermEnv}
 use Rattle.core_typed.specs.RuleViews.{rule_views}
 use Rattle.core_rules.specs.TermEnvs.{term_in_env, rule_in_env}
-use Rattle.core_rules.specs.Translating.{converter_in}
+use Rattle.core_rules.specs.ShownSettings.{converter_in}
 
 -- its terms, the term of the number of each name, and the term that converts each type into another one
 abbrev pub terms_shown_by : TermEnv → TermsShown

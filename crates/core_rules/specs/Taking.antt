@@ -11,7 +11,7 @@ use Rattle.core_typed.specs.Elaborating.{NotesEachAt}
 use Rattle.core_rules.specs.declared.term_env.TermEnv.{TermEnv}
 use Rattle.core_rules.specs.declared.typing.progress.Stop.{Stop}
 use Rattle.core_rules.specs.declared.typing.progress.Stop.TheVariants.{Memory, Nesting, Expansions}
-use Rattle.core_rules.specs.Translating.{Standing, Shows, Wherever}
+use Rattle.core_rules.specs.ShownSettings.{Standing, Shows, Wherever}
 
 -- how something is read: in a setting, behind so many expansions, from a scope
 abbrev pub Stepping : Type 0 → Type 0

@@ -75,19 +75,7 @@ none_noted old new n m =
     let same : new ≡ old = n.added ∙ ap (λ es. old ++ es) (no_views n.more n.views) ∙ append-nil old in
     m.some_more (only_nothing old m.more (sym m.added ∙ same))
 
--- and something
-pub some_noted_at : (p : Position) (ps : List Position) (old new : List Error) → NotesEachAt (p ∷ ps) old new → new ≡ old → ⊥
-some_noted_at p ps old new n same = at_more n.more (only_nothing old n.more (sym n.added ∙ same)) n.views
-  where
-    at_more : (es : List Error) → es ≡ [] → error_views es ≡ map ill_typed (p ∷ ps) → ⊥
-    at_more [] h v = absurd (cc)
-    at_more (e ∷ es) h v = absurd (cc)
-
 -- by a test
-pub right_at : (b : Bool) (at : Position) (old new : List Error) → b ≡ true → new ≡ old → NotesEachAt (place_unless b at) old new
-right_at true at old new h same = none_at old new same
-right_at false at old new h same = absurd (true≢false (sym h))
-
 pub wrong_at : (b : Bool) (at : Position) (old new : List Error) → b ≡ false → NotesEachAt (at ∷ []) old new → NotesEachAt (place_unless b at) old new
 wrong_at true at old new h noted = absurd (true≢false h)
 wrong_at false at old new h noted = noted

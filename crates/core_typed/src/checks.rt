@@ -8,7 +8,7 @@ ghost use Rattle.model.specs.lists.Ranges.{reduced};
 ghost use Rattle.model.specs.rules.Values.{is_atom_type};
 ghost use Rattle.core_types.specs.Envs.{constant_at};
 ghost use Rattle.core_types.specs.TypeViews.{type_view, type_views};
-ghost use Rattle.core_typed.specs.Elaborating.{Checks, NotesEachAt, place_unless};
+ghost use Rattle.core_typed.specs.Elaborating.{NotesEachAt, place_unless};
 
 use crate::reports::{report_mismatch, type_text};
 use core_syntax::syntax::{Error, Ident, Pos};
@@ -25,7 +25,6 @@ pub fn check_integer(
     val: i128,
     ty: TypeId,
 ) -> Result<(), AllocError>
-    ensures checks { OnOk result (Checks errors.old.items errors.new.items (is_atom_type (slice_get (type_views tyenv.now.types.items) ty.0) ≡ true)) }
     ensures places { OnOk result (NotesAt (position pos ∷ []) errors.old.items errors.new.items) }
     ensures exact { OnOk result (NotesEachAt (place_unless (is_atom_type (slice_get (type_views tyenv.now.types.items) ty.0)) (position pos)) errors.old.items errors.new.items) }
 {
@@ -79,7 +78,6 @@ pub fn check_bool(
     val: bool,
     ty: TypeId,
 ) -> Result<(), AllocError>
-    ensures checks { OnOk result (Checks errors.old.items errors.new.items (ty.0 ≡ 0)) }
     ensures places { OnOk result (NotesAt (position pos ∷ []) errors.old.items errors.new.items) }
     ensures exact { OnOk result (NotesEachAt (place_unless (ty.0 == 0) (position pos)) errors.old.items errors.new.items) }
 {
@@ -101,7 +99,6 @@ pub fn check_same(
     has: TypeId,
     want: TypeId,
 ) -> Result<(), AllocError>
-    ensures checks { OnOk result (Checks errors.old.items errors.new.items (has.0 ≡ want.0)) }
     ensures places { OnOk result (NotesAt (position pos ∷ []) errors.old.items errors.new.items) }
     ensures exact { OnOk result (NotesEachAt (place_unless (has.0 == want.0) (position pos)) errors.old.items errors.new.items) }
 {
@@ -120,7 +117,6 @@ pub fn check_count(
     got: usize,
     expect: usize,
 ) -> Result<(), AllocError>
-    ensures checks { OnOk result (Checks errors.old.items errors.new.items (got ≡ expect)) }
     ensures places { OnOk result (NotesAt (position pos ∷ []) errors.old.items errors.new.items) }
     ensures exact { OnOk result (NotesEachAt (place_unless (got == expect) (position pos)) errors.old.items errors.new.items) }
 {

@@ -186,11 +186,6 @@ deeper_agrees e flags (suc d) x ty n s = same_at_depths n (suc d) (one_deeper (�
 pub expr_steps_agree_at_depths_lem : ExprStepsAgreeAtDepths
 expr_steps_agree_at_depths_lem e flags d x ty n s = agrees e flags d (deeper_agrees e flags d) x ty n s
 
--- expressions for arguments, as many as there are types
-pub args_agree_at_depths_lem : (e : Setting) (flags : Flags) (d : ℕ) (args : ExprTrees) (tys : List ℕ) (n : ℕ) (s : Scope) → length (expr_list args) ≡ length tys
-    → AgreesAtDepths n d (λ c. args_with (all_made e) flags (deeper_expr (all_made e) flags c) args tys s) (args_step e flags (deeper_expr_step e flags d) args tys n s)
-args_agree_at_depths_lem e flags d args tys n s h = args_agree e flags d (deeper_agrees e flags d) args tys n s h
-
 -- the definitions of a let
 pub lets_agree_at_depths_lem : (e : Setting) (flags : Flags) (d : ℕ) (defs : LetTrees) (at : Position) (n : ℕ) (s : Scope)
     → AgreesAtDepths n d (λ c. lets_with (all_made e) flags (deeper_expr (all_made e) flags c) defs s) (lets_step e flags (deeper_expr_step e flags d) defs at n s)

@@ -2,6 +2,7 @@
 pub mod AllMade
 pub mod ExprSteps
 pub mod LimitLaws
+pub mod NameLaws
 pub mod PatternSteps
 pub mod PlaceLaws
 pub mod ReachedLimits

@@ -11,7 +11,7 @@ ghost use Rattle.core_typed.specs.ExprViews.{expr_view};
 ghost use Rattle.core_rules.specs.ExprReadings.{expected};
 ghost use Rattle.core_rules.specs.ExprTaking.{expr_steps};
 ghost use Rattle.core_rules.specs.Taking.{Takes};
-ghost use Rattle.core_rules.specs.Translating.{standing, Keeps};
+ghost use Rattle.core_rules.specs.ShownSettings.{standing, Keeps};
 ghost use Rattle.core_syntax.specs.Positions.{NotesAt};
 ghost use Rattle.core_rules.specs.RulePositions.{StaysPlaced};
 

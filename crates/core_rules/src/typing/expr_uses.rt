@@ -17,7 +17,7 @@ ghost use Rattle.core_rules.specs.ExprUses.{found_expr_converter, declared_conve
 ghost use Rattle.core_rules.specs.Progress.{newest, Remains};
 ghost use Rattle.core_typed.specs.RuleViews.{var_view};
 ghost use Rattle.core_rules.specs.Taking.{places_of};
-ghost use Rattle.core_rules.specs.Translating.{standing};
+ghost use Rattle.core_rules.specs.ShownSettings.{standing};
 ghost use Rattle.core_syntax.specs.Positions.{NotesAt, expr_positions};
 ghost use Rattle.core_rules.specs.RulePositions.{StaysPlaced, ConvertsAmong, CallsAmong};
 

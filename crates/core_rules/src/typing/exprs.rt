@@ -12,7 +12,7 @@ ghost use Rattle.core_rules.specs.ExprTaking.{expr_steps, args_steps};
 ghost use Rattle.core_rules.specs.LetTaking.{lets_steps, one_def_steps, def_view, defs_made, def_made, HidesBy};
 ghost use Rattle.core_rules.specs.Lets.{with_let};
 ghost use Rattle.core_rules.specs.Taking.{Takes};
-ghost use Rattle.core_rules.specs.Translating.{standing, Keeps};
+ghost use Rattle.core_rules.specs.ShownSettings.{standing, Keeps};
 ghost use Rattle.core_syntax.specs.Positions.{expr_positions, exprs_positions, lets_positions};
 ghost use Rattle.core_rules.specs.RulePositions.{StaysPlaced};
 

@@ -9,7 +9,7 @@ ghost use Rattle.core_syntax.specs.NotedErrors.{NotesMore};
 ghost use Rattle.core_typed.specs.Elaborating.{place_unless, NotesEachAt};
 ghost use Rattle.core_typed.specs.ExprViews.{expr_view, let_views, let_parts};
 ghost use Rattle.core_rules.specs.Lets.{Begins, Binds, Closes};
-ghost use Rattle.core_rules.specs.Translating.{Keeps};
+ghost use Rattle.core_rules.specs.ShownSettings.{Keeps};
 ghost use Rattle.core_syntax.specs.Positions.{NotesAt};
 
 use crate::typing::progress::Progress;

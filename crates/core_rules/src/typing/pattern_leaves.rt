@@ -9,7 +9,7 @@ ghost use Rattle.core_typed.specs.PatternViews.{pattern_view};
 ghost use Rattle.core_rules.specs.PatternTaking.{leaf_steps, around_steps};
 ghost use Rattle.core_rules.specs.Progress.{newest, Remains};
 ghost use Rattle.core_rules.specs.Taking.{Takes};
-ghost use Rattle.core_rules.specs.Translating.{standing, Keeps};
+ghost use Rattle.core_rules.specs.ShownSettings.{standing, Keeps};
 ghost use Rattle.core_syntax.specs.Positions.{NotesAt};
 ghost use Rattle.core_rules.specs.RulePositions.{StaysPlaced};
 

@@ -12,7 +12,7 @@ ghost use Rattle.core_typed.specs.Elaborating.{NotesEachAt, place_unless};
 ghost use Rattle.core_rules.specs.Progress.{Remains};
 ghost use Rattle.core_rules.specs.PatternUses.{Deepens, found_term, found_converter, found_template, inside_term};
 ghost use Rattle.core_rules.specs.PatternTaking.{UseTakes};
-ghost use Rattle.core_rules.specs.Translating.{standing};
+ghost use Rattle.core_rules.specs.ShownSettings.{standing};
 ghost use Rattle.core_syntax.specs.Positions.{NotesAt, pattern_positions};
 ghost use Rattle.core_rules.specs.RulePositions.{with_templates, StaysPlaced, ExpandsAmong};
 

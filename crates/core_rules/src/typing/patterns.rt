@@ -7,7 +7,7 @@ ghost use Rattle.core_types.specs.Envs.{IsInterned};
 ghost use Rattle.core_typed.specs.PatternViews.{pattern_view, pattern_views, pattern_parts};
 ghost use Rattle.core_rules.specs.PatternTaking.{pattern_steps, parts_steps, each_steps};
 ghost use Rattle.core_rules.specs.Taking.{Takes};
-ghost use Rattle.core_rules.specs.Translating.{standing, Keeps};
+ghost use Rattle.core_rules.specs.ShownSettings.{standing, Keeps};
 ghost use Rattle.core_syntax.specs.Positions.{pattern_positions, patterns_positions};
 ghost use Rattle.core_rules.specs.RulePositions.{with_templates, StaysPlaced};
 

@@ -11,7 +11,7 @@ ghost use Rattle.core_rules.specs.RuleReadings.{sides_view, scope_of};
 ghost use Rattle.core_rules.specs.RuleTaking.{rule_steps};
 ghost use Rattle.core_rules.specs.Taking.{Takes};
 ghost use Rattle.core_typed.specs.RuleViews.{rule_view};
-ghost use Rattle.core_rules.specs.Translating.{standing, Keeps};
+ghost use Rattle.core_rules.specs.ShownSettings.{standing, Keeps};
 ghost use Rattle.core_syntax.specs.Positions.{NotesAt, rule_positions};
 ghost use Rattle.core_rules.specs.RulePositions.{with_templates, StaysPlaced, StandsIf};
 

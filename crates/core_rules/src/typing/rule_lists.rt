@@ -4,14 +4,11 @@ ghost use Rattle.std.specs.Prelude.{◌≡◌, [], ◌++◌, IfOk};
 ghost use Rattle.core_syntax.specs.SyntaxViews.{definition_views};
 ghost use Rattle.model.specs.lists.TermTable.{rule_trees};
 ghost use Rattle.core_types.specs.Envs.{IsInterned};
-ghost use Rattle.core_rules.specs.LimitsNamed.{NamesPastLimits};
 ghost use Rattle.core_rules.specs.RuleBreaches.{BeginsWrong};
-ghost use Rattle.core_rules.specs.RuleErrors.{NotesOfRules};
 ghost use Rattle.core_rules.specs.RuleListTaking.{SaysSteps};
 ghost use Rattle.core_rules.specs.RulesRead.{ReadsRules};
-ghost use Rattle.core_rules.specs.RulesTold.{TellsAll};
 ghost use Rattle.core_rules.specs.ShownEnvs.{terms_shown_by};
-ghost use Rattle.core_rules.specs.Translating.{Keeps};
+ghost use Rattle.core_rules.specs.ShownSettings.{Keeps};
 ghost use Rattle.core_syntax.specs.Positions.{NotesAt, positions_of};
 ghost use Rattle.core_terms.specs.TermPositions.{terms_positions};
 ghost use Rattle.core_terms.specs.TermViews.{term_views};
@@ -40,9 +37,6 @@ impl TermEnv {
         ensures terms { terms_shown_by self.new ≡ terms_shown_by self.old }
         ensures expand { self.new.expand_internal_extractors ≡ self.old.expand_internal_extractors }
         ensures reads { IfOk result (λ v. ReadsRules self.old tyenv.old tyenv.new (definition_views defs.now) self.new v.items) }
-        ensures notes { IfOk result (λ v. NotesOfRules self.old tyenv.old (rule_trees (definition_views defs.now)) [] v.items) }
-        ensures named { IfOk result (λ v. NamesPastLimits self.old tyenv.old (rule_trees (definition_views defs.now)) v.items) }
-        ensures tells { IfOk result (λ v. TellsAll self.old tyenv.old (rule_trees (definition_views defs.now)) v.items) }
         ensures exact { IfOk result (λ v. SaysSteps self.old tyenv.old (rule_trees (definition_views defs.now)) v.items) }
         ensures breach { IfOk result (λ v. BeginsWrong self.old tyenv.old (rule_trees (definition_views defs.now)) [] v.items) }
         ensures places { IfOk result (λ v. NotesAt (positions_of (definition_views defs.now) ++ terms_positions (term_views self.old.terms.items)) [] v.items) }

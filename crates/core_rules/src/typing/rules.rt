@@ -1,17 +1,12 @@
 //! How the rules of a list are typed, one after another and each within the limits on expansions.
 
-ghost use Rattle.std.specs.Prelude.{◌≡◌, [], ◌∷◌, ◌++◌, IfOk, OnOk, option_map};
+ghost use Rattle.std.specs.Prelude.{◌≡◌, [], ◌++◌, IfOk, OnOk, option_map};
 ghost use Rattle.core_syntax.specs.SyntaxViews.{position, definition_view, definition_views, rule_view as tree_view};
 ghost use Rattle.model.specs.lists.TermTable.{rule_of, rule_trees};
 ghost use Rattle.core_types.specs.Envs.{IsInterned};
-ghost use Rattle.core_rules.specs.LimitsNamed.{NamesPastLimits};
-ghost use Rattle.core_rules.specs.RuleBreaches.{BeginsUntyped};
-ghost use Rattle.core_rules.specs.RuleErrors.{NotesOfRules, NotesOfDefinition};
-ghost use Rattle.core_rules.specs.RulesTold.{TellsTyping};
 ghost use Rattle.core_rules.specs.RuleListTaking.{DoesRule, DoesRules};
-ghost use Rattle.core_rules.specs.RuleLists.{CollectsRule, CollectsNext, CollectsRules};
 ghost use Rattle.core_typed.specs.RuleViews.{rule_view, rule_views};
-ghost use Rattle.core_rules.specs.Translating.{Keeps};
+ghost use Rattle.core_rules.specs.ShownSettings.{Keeps};
 ghost use Rattle.core_syntax.specs.Positions.{NotesAt, OccurAmong, rule_positions, definition_positions, positions_of};
 ghost use Rattle.core_rules.specs.RulePositions.{with_templates, StandsIf};
 ghost use Rattle.core_typed.specs.RuleNaming.{rules_at};
@@ -40,10 +35,7 @@ impl TermEnv {
         requires inverse { IsInterned tyenv.old }
         requires nothing { work.old.errors.items ≡ [] }
         ensures keeps { Keeps tyenv.old tyenv.new }
-        ensures ends { IfOk result (λ o. CollectsRule self.now tyenv.old tyenv.new work.old.errors.items work.new.errors.items id.0 rule.now
-            (option_map rule_view o)) }
         ensures places { OnOk result (NotesAt (with_templates self.now (rule_positions (tree_view rule.now))) work.old.errors.items work.new.errors.items) }
-        ensures tells { OnOk result (TellsTyping self.now tyenv.old tyenv.new (tree_view rule.now ∷ []) work.old.errors.items work.new.errors.items) }
         ensures exact { IfOk result (λ o. DoesRule self.now tyenv.old tyenv.new (tree_view rule.now) id.0 (option_map rule_view o)
             work.old.errors.items work.new.errors.items) }
         ensures stands { IfOk result (StandsIf (position rule.now.pos)) }
@@ -68,10 +60,7 @@ impl TermEnv {
     ) -> Result<Option<Rule>, AllocError>
         requires { IsInterned tyenv.old }
         ensures keeps { Keeps tyenv.old tyenv.new }
-        ensures ends { IfOk result (λ o. CollectsRule self.now tyenv.old tyenv.new work.old.errors.items work.new.errors.items id.0 rule.now
-            (option_map rule_view o)) }
         ensures places { OnOk result (NotesAt (with_templates self.now (rule_positions (tree_view rule.now))) work.old.errors.items work.new.errors.items) }
-        ensures tells { OnOk result (TellsTyping self.now tyenv.old tyenv.new (tree_view rule.now ∷ []) work.old.errors.items work.new.errors.items) }
         ensures exact { IfOk result (λ o. DoesRule self.now tyenv.old tyenv.new (tree_view rule.now) id.0 (option_map rule_view o)
             work.old.errors.items work.new.errors.items) }
         ensures stands { IfOk result (StandsIf (position rule.now.pos)) }
@@ -94,11 +83,6 @@ impl TermEnv {
     ) -> Result<(), AllocError>
         requires { IsInterned tyenv.old }
         ensures keeps { Keeps tyenv.old tyenv.new }
-        ensures reads { OnOk result (CollectsNext self.now tyenv.old tyenv.new work.old.errors.items work.new.errors.items
-            (definition_view def.now) rules.old.items rules.new.items) }
-        ensures notes { OnOk result (NotesOfDefinition self.now tyenv.old (definition_view def.now) work.old.errors.items work.new.errors.items) }
-        ensures named { OnOk result (NamesPastLimits self.now tyenv.old (rule_of (definition_view def.now)) work.new.errors.items) }
-        ensures tells { OnOk result (TellsTyping self.now tyenv.old tyenv.new (rule_of (definition_view def.now)) work.old.errors.items work.new.errors.items) }
         ensures exact { OnOk result (DoesRules self.now tyenv.old tyenv.new (rule_of (definition_view def.now)) (rule_views rules.old.items)
             (rule_views rules.new.items) work.old.errors.items work.new.errors.items) }
         ensures places { OnOk result (NotesAt (with_templates self.now (definition_positions
@@ -132,17 +116,10 @@ impl TermEnv {
     ) -> Result<Vec<Rule>, AllocError>
         requires { IsInterned tyenv.old }
         ensures keeps { Keeps tyenv.old tyenv.new }
-        ensures reads { IfOk result (λ v. CollectsRules self.now tyenv.old tyenv.new work.old.errors.items work.new.errors.items (rule_trees
-            (definition_views defs.now)) (rule_views v.items)) }
-        ensures notes { OnOk result (NotesOfRules self.now tyenv.old (rule_trees (definition_views defs.now)) work.old.errors.items work.new.errors.items) }
-        ensures named { OnOk result (NamesPastLimits self.now tyenv.old (rule_trees (definition_views defs.now)) work.new.errors.items) }
-        ensures tells { OnOk result (TellsTyping self.now tyenv.old tyenv.new (rule_trees
-            (definition_views defs.now)) work.old.errors.items work.new.errors.items) }
         ensures exact { IfOk result (λ v. DoesRules self.now tyenv.old tyenv.new (rule_trees (definition_views defs.now)) [] (rule_views v.items)
             work.old.errors.items work.new.errors.items) }
         ensures places { OnOk result (NotesAt (with_templates self.now (positions_of
             (definition_views defs.now))) work.old.errors.items work.new.errors.items) }
-        ensures breach { OnOk result (BeginsUntyped self.now tyenv.old (rule_trees (definition_views defs.now)) work.old.errors.items work.new.errors.items) }
         ensures stand { IfOk result (λ v. OccurAmong (rules_at (rule_views v.items)) (positions_of (definition_views defs.now))) }
     {
         let mut rules = Vec::with_capacity(*self.terms.allocator(), defs.len())?;

@@ -11,7 +11,7 @@ ghost use Rattle.core_rules.specs.RuleReadings.{sides_view};
 ghost use Rattle.core_rules.specs.RuleTaking.{iflet_steps, iflets_steps, root_steps, sides_steps};
 ghost use Rattle.core_rules.specs.Taking.{Takes};
 ghost use Rattle.core_typed.specs.RuleViews.{iflet_view};
-ghost use Rattle.core_rules.specs.Translating.{standing, Keeps};
+ghost use Rattle.core_rules.specs.ShownSettings.{standing, Keeps};
 ghost use Rattle.std.specs.List.{flat_map};
 ghost use Rattle.core_syntax.specs.Positions.{patterns_positions, iflet_positions, rule_positions};
 ghost use Rattle.core_rules.specs.RulePositions.{with_templates, StaysPlaced};

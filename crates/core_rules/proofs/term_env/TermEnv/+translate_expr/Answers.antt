@@ -8,7 +8,7 @@ use Rattle.core_terms.specs.TermViews.{flags_view, term_view}
 use Rattle.core_types.specs.declared.ids.TypeId.{TypeId}
 use Rattle.core_rules.specs.ExprReadings.{expected}
 use Rattle.core_typed.specs.ExprViews.{expr_view, let_views, let_parts}
-use Rattle.core_rules.specs.Translating.{standing}
+use Rattle.core_rules.specs.ShownSettings.{standing}
 use Rattle.core_typed.proofs.Defaults.{same_default}
 use Rattle.core_typed.proofs.ExprBridges.{row_exprs-hidden}
 use Rattle.core_rules.proofs.ExprSizes.{expr_size, exprs_size, lets_size, less, inside_less, smaller_arg, smaller_def}

@@ -3,7 +3,7 @@ use Rattle.core_syntax.specs.SyntaxViews as S
 use Rattle.core_syntax.specs.Positions.{NotesAt, exprs_positions, lets_positions}
 use Rattle.core_terms.specs.TermViews.{flags_view}
 use Rattle.core_rules.specs.LetTaking.{lets_steps}
-use Rattle.core_rules.specs.Translating.{standing, Keeps}
+use Rattle.core_rules.specs.ShownSettings.{standing, Keeps}
 use Rattle.core_rules.proofs.ExprSizes.{expr_size, exprs_size, lets_size}
 use Rattle.core_rules.proofs.LetsTaken.{DefinesSoFar, defs_from}
 use Rattle.core_rules.proofs.PatternSizes.{grown}

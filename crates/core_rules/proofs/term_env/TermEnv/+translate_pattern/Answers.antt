@@ -8,7 +8,7 @@ use Rattle.core_types.specs.declared.ids.TypeId.{TypeId}
 use Rattle.core_syntax.specs.SyntaxViews as S
 use Rattle.core_terms.specs.TermViews.{term_view, term_views}
 use Rattle.core_typed.specs.PatternViews.{pattern_view, pattern_views, pattern_parts}
-use Rattle.core_rules.specs.Translating.{standing}
+use Rattle.core_rules.specs.ShownSettings.{standing}
 use Rattle.core_typed.proofs.Defaults.{same_default}
 use Rattle.core_typed.proofs.PatternBridges.{row_patterns-hidden}
 use Rattle.core_rules.proofs.PatternSizes.{tree_size, trees_size, growth, grown, smaller, deeper_smaller, expansion_smaller, smaller_part}

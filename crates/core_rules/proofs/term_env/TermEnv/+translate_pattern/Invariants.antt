@@ -3,7 +3,7 @@ use Rattle.core_syntax.specs.SyntaxViews as S
 use Rattle.core_syntax.specs.Positions.{NotesAt, patterns_positions}
 use Rattle.core_terms.specs.TermViews.{term_views}
 use Rattle.core_rules.specs.RulePositions.{with_templates}
-use Rattle.core_rules.specs.Translating.{standing, Keeps}
+use Rattle.core_rules.specs.ShownSettings.{standing, Keeps}
 use Rattle.core_rules.specs.PatternTaking.{parts_steps, each_steps}
 use Rattle.core_rules.specs.Taking.{LeadsOn}
 use Rattle.core_rules.proofs.PatternListsTaken.{after_made, args_from, each_from}

@@ -6,7 +6,7 @@ use Rattle.model.specs.lists.Formed.{pattern_type}
 use Rattle.model.specs.rules.Typed.{TypedPattern, match_bind}
 use Rattle.core_typed.specs.PatternViews.{pattern_view}
 use Rattle.core_rules.specs.Progress.{newest, BindsNext}
-use Rattle.core_rules.specs.Translating.{standing}
+use Rattle.core_rules.specs.ShownSettings.{standing}
 use Rattle.core_rules.proofs.term_env.TermEnv.bind_around.Goals as goal
 use Rattle.core_typed.specs.Elaborating.{place_unless, NotesEachAt}
 use Rattle.core_rules.specs.PatternTaking.{around_steps}

@@ -1,53 +1,14 @@
-use Rattle.std.proofs.Common.{◌≡◌, [], length, option_map, rules, refl, sym, subst}
+use Rattle.std.proofs.Common.{◌≡◌, [], length, rules, refl, sym, subst}
 use Rattle.model.specs.lists.TermTable.{rule_of}
 use Rattle.core_rules.specs.RuleListTaking.{DoesRules}
-use Rattle.core_rules.specs.RulesTold.{TellsTyping}
-use Rattle.core_typed.specs.RuleViews.{rule_view, rule_views}
-use Rattle.core_rules.proofs.NamedLimits.{rule_named}
-use Rattle.core_rules.proofs.RuleErrorSteps.{rule_noted}
-use Rattle.core_rules.proofs.RuleEnds.{rule_added, rule_left_out}
+use Rattle.core_typed.specs.RuleViews.{rule_views}
 use Rattle.core_syntax.specs.SyntaxViews.{definition_view, rule_view as tree_view}
 use Rattle.core_syntax.specs.Positions.{definition_positions}
 use Rattle.core_syntax.proofs.Positioned.{among_left, notes_nothing}
 use Rattle.core_typed.specs.RuleNaming.{rules_at}
 use Rattle.core_rules.proofs.PartPlaces.{added_rule}
 use Rattle.core_rules.proofs.RuleListsTaken.{nothing_done, rule_added as done_with, rule_left_out as done_without}
-use Rattle.core_rules.proofs.RulesTold.{nothing_told}
 use Rattle.core_rules.proofs.term_env.TermEnv.collect_definition.Goals as goal
-
-pub returns-in_default-2-clause-reads : goal.returns-in_default-2-clause-reads
-returns-in_default-2-clause-reads c =
-    let id : c.len.result ≡ length c.args.rules.now.items = search rules in
-    rw c.in-Rule.is
-    (rule_left_out c.args.self.now c.args.tyenv.now c.collect_rule.new.tyenv c.args.work.now.errors.items c.collect_rule.new.work.errors.items c.in-Rule.rule c.args.rules.now.items
-    c.len.result c.in_ok-made.field-0 id c.in_default-2.is c.in_ok-made.ensures.ends)
-
-pub returns-clause-reads : goal.returns-clause-reads
-returns-clause-reads c =
-    let id : c.len.result ≡ length c.args.rules.now.items = search rules in
-    rw c.in-Rule.is
-    (rule_added c.args.self.now c.args.tyenv.now c.collect_rule.new.tyenv c.args.work.now.errors.items c.collect_rule.new.work.errors.items c.in-Rule.rule c.args.rules.now.items
-    c.len.result c.in_ok-made.field-0 c.in-Some.made c.push.new.self.items id c.in-Some.is c.in_ok-push.ensures.items c.in_ok-made.ensures.ends)
-
-pub returns-in_default-2-clause-notes : goal.returns-in_default-2-clause-notes
-returns-in_default-2-clause-notes c =
-    rw c.in-Rule.is
-    (rule_noted c.args.self.now c.args.tyenv.now c.collect_rule.new.tyenv c.requires c.args.work.now.errors.items c.collect_rule.new.work.errors.items c.len.result c.in-Rule.rule (option_map rule_view c.in_ok-made.field-0) c.in_ok-made.ensures.ends)
-
-pub returns-clause-notes : goal.returns-clause-notes
-returns-clause-notes c =
-    rw c.in-Rule.is
-    (rule_noted c.args.self.now c.args.tyenv.now c.collect_rule.new.tyenv c.requires c.args.work.now.errors.items c.collect_rule.new.work.errors.items c.len.result c.in-Rule.rule (option_map rule_view c.in_ok-made.field-0) c.in_ok-made.ensures.ends)
-
-pub returns-in_default-2-clause-named : goal.returns-in_default-2-clause-named
-returns-in_default-2-clause-named c =
-    rw c.in-Rule.is
-    (rule_named c.args.self.now c.args.tyenv.now c.collect_rule.new.tyenv c.requires c.args.work.now.errors.items c.collect_rule.new.work.errors.items c.len.result c.in-Rule.rule (option_map rule_view c.in_ok-made.field-0) c.in_ok-made.ensures.ends)
-
-pub returns-clause-named : goal.returns-clause-named
-returns-clause-named c =
-    rw c.in-Rule.is
-    (rule_named c.args.self.now c.args.tyenv.now c.collect_rule.new.tyenv c.requires c.args.work.now.errors.items c.collect_rule.new.work.errors.items c.len.result c.in-Rule.rule (option_map rule_view c.in_ok-made.field-0) c.in_ok-made.ensures.ends)
 
 pub returns-in_default-2-clause-places : goal.returns-in_default-2-clause-places
 returns-in_default-2-clause-places c =
@@ -73,19 +34,6 @@ pub returns-clause-stand : goal.returns-clause-stand
 returns-clause-stand c =
     let stands = rw c.in-Some.is at c.in_ok-made.ensures.stands in
     rw (c.in_ok-push.ensures.items, c.in-Rule.is) (added_rule c.args.rules.now.items c.in-Some.made (tree_view c.in-Rule.rule) stands)
-
-pub returns-in_default-2-clause-tells : goal.returns-in_default-2-clause-tells
-returns-in_default-2-clause-tells c =
-    rw c.in-Rule.is c.in_ok-made.ensures.tells
-
-pub returns-clause-tells : goal.returns-clause-tells
-returns-clause-tells c =
-    rw c.in-Rule.is c.in_ok-made.ensures.tells
-
-pub returns-in_default-clause-tells : goal.returns-in_default-clause-tells
-returns-in_default-clause-tells c =
-    let none : rule_of (definition_view c.args.def.now) ≡ [] = search rules in
-    subst (λ rs. TellsTyping c.args.self.now c.args.tyenv.now c.args.tyenv.now rs c.args.work.now.errors.items c.args.work.now.errors.items) (sym none) (nothing_told c.args.self.now c.args.tyenv.now c.args.work.now.errors.items)
 
 pub returns-in_default-clause-exact : goal.returns-in_default-clause-exact
 returns-in_default-clause-exact c =

@@ -1,25 +1,11 @@
-use Rattle.std.proofs.Common.{[], ◌∷◌, ◌++◌, option_map, subst, sym, ap, ◌∙◌}
+use Rattle.std.proofs.Common.{◌++◌, option_map, subst, sym, ap, ◌∙◌}
 use Rattle.core_syntax.specs.Positions.{NotesAt, rule_positions}
 use Rattle.core_syntax.specs.SyntaxViews.{rule_view}
 use Rattle.core_typed.specs.RuleViews.{rule_view as typed_view}
 use Rattle.core_rules.specs.RuleListTaking.{DoesRule}
-use Rattle.core_rules.specs.RuleLists.{CollectsRule}
 use Rattle.core_rules.specs.RulePositions.{with_templates}
-use Rattle.core_rules.specs.RulesTold.{TellsTyping}
-use Rattle.core_rules.proofs.RuleListsTaken.{rule_behind}
-use Rattle.core_rules.proofs.RulesTold.{collected_behind, told_behind, placed_behind}
+use Rattle.core_rules.proofs.RuleListsTaken.{rule_behind, placed_behind}
 use Rattle.core_rules.proofs.term_env.TermEnv.collect_rule.Goals as goal
-
-pub returns-clause-ends : goal.returns-clause-ends
-returns-clause-ends c =
-    let env = c.args.self.now in
-    let old = c.args.tyenv.now in
-    let new = c.type_rule.new.tyenv in
-    let mid = c.type_rule.new.work.errors.items in
-    let made = option_map typed_view c.in_ok-made.made in
-    let alone = subst (λ es. CollectsRule env old new es mid c.args.id.0 c.args.rule.now made) (ap (λ v. v.items) c.replace-errors.ensures.after ∙ c.new-none.ensures.items) c.in_ok-made.ensures.ends in
-    let same = c.in_ok-append.ensures.items ∙ ap (λ v. v.items ++ mid) c.replace-errors.ensures.value in
-    subst (λ es. CollectsRule env old new c.args.work.now.errors.items es c.args.id.0 c.args.rule.now made) (sym same) (collected_behind env old new c.args.work.now.errors.items mid c.args.id.0 c.args.rule.now made alone)
 
 pub returns-clause-places : goal.returns-clause-places
 returns-clause-places c =
@@ -28,17 +14,6 @@ returns-clause-places c =
     let alone = subst (λ es. NotesAt ps es mid) (ap (λ v. v.items) c.replace-errors.ensures.after ∙ c.new-none.ensures.items) c.in_ok-made.ensures.places in
     let same = c.in_ok-append.ensures.items ∙ ap (λ v. v.items ++ mid) c.replace-errors.ensures.value in
     subst (NotesAt ps c.args.work.now.errors.items) (sym same) (placed_behind ps c.args.work.now.errors.items mid alone)
-
-pub returns-clause-tells : goal.returns-clause-tells
-returns-clause-tells c =
-    let env = c.args.self.now in
-    let old = c.args.tyenv.now in
-    let new = c.type_rule.new.tyenv in
-    let trees = rule_view c.args.rule.now ∷ [] in
-    let mid = c.type_rule.new.work.errors.items in
-    let alone = subst (λ es. TellsTyping env old new trees es mid) (ap (λ v. v.items) c.replace-errors.ensures.after ∙ c.new-none.ensures.items) c.in_ok-made.ensures.tells in
-    let same = c.in_ok-append.ensures.items ∙ ap (λ v. v.items ++ mid) c.replace-errors.ensures.value in
-    subst (TellsTyping env old new trees c.args.work.now.errors.items) (sym same) (told_behind env old new trees c.args.work.now.errors.items mid alone)
 
 pub returns-clause-exact : goal.returns-clause-exact
 returns-clause-exact c =

@@ -1,12 +1,6 @@
 use Rattle.std.proofs.Common.{◌++◌, refl}
-use Rattle.std.proofs.lemmas.List.{drop_all}
 use Rattle.core_syntax.specs.SyntaxViews.{definition_views, definition_view}
-use Rattle.model.specs.lists.TermTable.{rule_trees}
 use Rattle.core_rules.proofs.Readings.{keep_none, keep_on}
-use Rattle.core_rules.proofs.NamedLimits.{rules_before, none_named, next_named, all_named}
-use Rattle.core_rules.proofs.RuleBreachSteps.{first_begins, next_begins, last_begins}
-use Rattle.core_rules.proofs.RuleErrorSteps.{none_noted, next_noted}
-use Rattle.core_rules.proofs.RuleListSteps.{first_reading, next_reading, last_reading}
 use Rattle.core_syntax.specs.Positions.{OccurAmong, definition_positions, positions_of}
 use Rattle.core_syntax.proofs.Positioned.{among_same, among_both, notes_nothing, among_none, among_join, notes_parts}
 use Rattle.core_rules.specs.RulePositions.{with_templates}
@@ -15,37 +9,25 @@ use Rattle.core_typed.specs.RuleNaming.{rules_at}
 use Rattle.core_rules.proofs.ErrorPositions.{among_with}
 use Rattle.core_rules.proofs.PartPlaces.{each_inside}
 use Rattle.core_rules.proofs.RuleListsTaken.{none_done, next_done, all_done}
-use Rattle.core_rules.proofs.RulesTold.{nothing_told, next_told, all_told}
 use Rattle.core_rules.proofs.term_env.TermEnv.collect_rules.Goals as goal
 
 pub loop-def-init : goal.loop-def-init
 loop-def-init c = (
   keep_none c.args.tyenv.now c.requires,
-  first_reading c.args.self.now c.args.tyenv.now c.args.work.now.errors.items (rule_trees (definition_views c.args.defs.now)) c.in_ok-rules.rules.items c.in_ok-rules.ensures.items,
-  none_noted c.args.self.now c.args.tyenv.now c.args.work.now.errors.items (rule_trees (definition_views c.args.defs.now)),
-  none_named c.args.self.now c.args.tyenv.now c.args.work.now.errors.items,
   notes_nothing _ _ _ refl,
   rw c.in_ok-rules.ensures.items (among_none (positions_of (definition_views c.args.defs.now))),
-  first_begins c.args.self.now c.args.tyenv.now c.args.work.now.errors.items (rule_trees (definition_views c.args.defs.now)) c.in_ok-rules.rules.items c.in_ok-rules.ensures.items,
-  nothing_told c.args.self.now c.args.tyenv.now c.args.work.now.errors.items,
   none_done c.args.self.now c.args.tyenv.now c.args.work.now.errors.items c.in_ok-rules.rules.items c.in_ok-rules.ensures.items,
 )
 
 pub loop-def-preserved : goal.loop-def-preserved
 loop-def-preserved c = (
   keep_on c.args.tyenv.now c.loop-def.tyenv c.collect_definition.new.tyenv c.loop-def.invariant.0 c.collect_definition.ensures.keeps,
-  next_reading c.args.self.now c.args.tyenv.now c.loop-def.tyenv c.collect_definition.new.tyenv c.loop-def.invariant.0 c.args.work.now.errors.items c.loop-def.work.errors.items c.collect_definition.new.work.errors.items c.args.defs.now c.loop-def.def-index c.def-item.result c.loop-def-test.true c.def-item.is c.loop-def.rules.items c.collect_definition.new.rules.items
-      c.loop-def.invariant.1 c.in_ok-collect_definition.ensures.reads,
-  next_noted c.args.self.now c.args.tyenv.now c.loop-def.tyenv c.loop-def.invariant.0 c.args.work.now.errors.items c.loop-def.work.errors.items c.collect_definition.new.work.errors.items c.args.defs.now c.loop-def.def-index c.def-item.result c.loop-def-test.true c.def-item.is
-      c.loop-def.invariant.2 c.in_ok-collect_definition.ensures.notes,
-  next_named c.args.self.now c.args.tyenv.now c.loop-def.tyenv c.loop-def.invariant.0 c.loop-def.work.errors.items c.collect_definition.new.work.errors.items c.args.defs.now c.loop-def.def-index c.def-item.result c.loop-def-test.true c.def-item.is
-      c.loop-def.invariant.3 c.in_ok-collect_definition.ensures.notes c.in_ok-collect_definition.ensures.named,
   (
       let env = c.args.self.now in
       let all = positions_of (definition_views c.args.defs.now) in
       let one = definition_positions (definition_view c.def-item.result) in
       let inside : OccurAmong one all = each_inside definition_positions definition_view c.args.defs.now c.loop-def.def-index c.def-item.result c.loop-def-test.true c.def-item.is in
-      notes_parts (with_templates env all) (with_templates env one) (with_templates env all) c.args.work.now.errors.items c.loop-def.work.errors.items c.collect_definition.new.work.errors.items (among_same (with_templates env all)) (among_with env one all inside) c.loop-def.invariant.4 c.in_ok-collect_definition.ensures.places
+      notes_parts (with_templates env all) (with_templates env one) (with_templates env all) c.args.work.now.errors.items c.loop-def.work.errors.items c.collect_definition.new.work.errors.items (among_same (with_templates env all)) (among_with env one all inside) c.loop-def.invariant.1 c.in_ok-collect_definition.ensures.places
       ),
   (
       let env = c.args.self.now in
@@ -53,42 +35,21 @@ loop-def-preserved c = (
       let one = definition_positions (definition_view c.def-item.result) in
       let inside : OccurAmong one all = each_inside definition_positions definition_view c.args.defs.now c.loop-def.def-index c.def-item.result c.loop-def-test.true c.def-item.is in
       let before = rules_at (rule_views c.loop-def.rules.items) in
-      among_both (rules_at (rule_views c.collect_definition.new.rules.items)) (before ++ one) all c.in_ok-collect_definition.ensures.stand (among_join before one all c.loop-def.invariant.5 inside)
+      among_both (rules_at (rule_views c.collect_definition.new.rules.items)) (before ++ one) all c.in_ok-collect_definition.ensures.stand (among_join before one all c.loop-def.invariant.2 inside)
       ),
-  next_begins c.args.self.now c.args.tyenv.now c.loop-def.tyenv c.collect_definition.new.tyenv c.loop-def.invariant.0 c.args.work.now.errors.items c.loop-def.work.errors.items c.collect_definition.new.work.errors.items c.args.defs.now c.loop-def.def-index c.def-item.result c.loop-def-test.true c.def-item.is c.loop-def.rules.items c.collect_definition.new.rules.items
-      c.loop-def.invariant.6 c.in_ok-collect_definition.ensures.reads c.in_ok-collect_definition.ensures.notes c.in_ok-collect_definition.ensures.places,
-  next_told c.args.self.now c.args.tyenv.now c.loop-def.tyenv c.collect_definition.new.tyenv c.loop-def.invariant.0 c.args.work.now.errors.items c.loop-def.work.errors.items c.collect_definition.new.work.errors.items c.args.defs.now c.loop-def.def-index c.def-item.result c.loop-def-test.true c.def-item.is
-      c.loop-def.invariant.7 c.in_ok-collect_definition.ensures.tells,
   next_done c.args.self.now c.args.tyenv.now c.loop-def.tyenv c.collect_definition.new.tyenv c.loop-def.invariant.0 c.args.work.now.errors.items c.loop-def.work.errors.items c.collect_definition.new.work.errors.items
       c.args.defs.now c.loop-def.def-index c.def-item.result c.loop-def-test.true c.def-item.is
-      (rule_views c.loop-def.rules.items) (rule_views c.collect_definition.new.rules.items) c.loop-def.invariant.8 c.in_ok-collect_definition.ensures.exact,
+      (rule_views c.loop-def.rules.items) (rule_views c.collect_definition.new.rules.items) c.loop-def.invariant.3 c.in_ok-collect_definition.ensures.exact,
 )
-
-pub returns-clause-reads : goal.returns-clause-reads
-returns-clause-reads c =
-    last_reading c.args.self.now c.args.tyenv.now c.loop-def.tyenv c.args.work.now.errors.items c.loop-def.work.errors.items (rule_trees (definition_views c.args.defs.now)) c.loop-def.rules.items
-    (rw (drop_all c.loop-def.def-index c.args.defs.now c.loop-def-test.false) at c.loop-def.invariant.1)
-
-pub returns-clause-named : goal.returns-clause-named
-returns-clause-named c =
-    all_named c.args.self.now c.args.tyenv.now c.loop-def.work.errors.items c.args.defs.now c.loop-def.def-index c.loop-def-test.false c.loop-def.invariant.3
 
 pub returns-clause-places : goal.returns-clause-places
 returns-clause-places c =
-    c.loop-def.invariant.4
+    c.loop-def.invariant.1
 
 pub returns-clause-stand : goal.returns-clause-stand
 returns-clause-stand c =
-    c.loop-def.invariant.5
-
-pub returns-clause-breach : goal.returns-clause-breach
-returns-clause-breach c =
-    last_begins c.args.self.now c.args.tyenv.now c.loop-def.tyenv (rule_trees (definition_views c.args.defs.now)) (rules_before c.args.defs.now c.loop-def.def-index) c.loop-def.rules.items c.args.work.now.errors.items c.loop-def.work.errors.items c.loop-def.invariant.6
-
-pub returns-clause-tells : goal.returns-clause-tells
-returns-clause-tells c =
-    all_told c.args.self.now c.args.tyenv.now c.loop-def.tyenv c.args.work.now.errors.items c.loop-def.work.errors.items c.args.defs.now c.loop-def.def-index c.loop-def-test.false c.loop-def.invariant.7
+    c.loop-def.invariant.2
 
 pub returns-clause-exact : goal.returns-clause-exact
 returns-clause-exact c =
-    all_done c.args.self.now c.args.tyenv.now c.loop-def.tyenv c.args.work.now.errors.items c.loop-def.work.errors.items c.args.defs.now c.loop-def.def-index c.loop-def-test.false (rule_views c.loop-def.rules.items) c.loop-def.invariant.8
+    all_done c.args.self.now c.args.tyenv.now c.loop-def.tyenv c.args.work.now.errors.items c.loop-def.work.errors.items c.args.defs.now c.loop-def.def-index c.loop-def-test.false (rule_views c.loop-def.rules.items) c.loop-def.invariant.3

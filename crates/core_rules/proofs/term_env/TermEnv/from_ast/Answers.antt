@@ -2,6 +2,8 @@ use Rattle.std.proofs.Common.{◌++◌, All, refl, ◌∙◌}
 use Rattle.core_syntax.specs.SyntaxViews.{definition_views}
 use Rattle.model.specs.claims.Refusals.{PassedInReading}
 use Rattle.core_syntax.specs.Positions.{ErrorStandsAt, positions_of}
+use Rattle.core_terms.specs.TermPositions.{terms_positions}
+use Rattle.core_terms.specs.TermViews.{term_views}
 use Rattle.core_types.specs.EnvViews.{environment_view}
 use Rattle.core_types.specs.TypePositions.{types_positions}
 use Rattle.core_syntax.specs.ErrorViews.{error_views}
@@ -43,7 +45,7 @@ returns-clause-answers g c =
 pub returns-then-not-is_empty-clause-limits : goal.returns-then-not-is_empty-clause-limits
 returns-then-not-is_empty-clause-limits g c =
     limits_named g.read c.requires.0 (definition_views c.args.defs.now) c.in_ok-table.table c.from_ast.new.tyenv c.in_ok-table.ensures.answers.1 c.with_terms-env.result c.with_terms-env.ensures.terms c.args.expand_internal_extractors c.with_terms-env.ensures.expand
-    c.in_ok-errors.errors.items c.in_ok-errors.ensures.notes
+    c.in_ok-errors.errors.items c.in_ok-errors.ensures.exact
 
 pub returns-in_err-table-clause-limits : goal.returns-in_err-table-clause-limits
 returns-in_err-table-clause-limits g c =
@@ -52,7 +54,7 @@ returns-in_err-table-clause-limits g c =
 pub returns-then-not-is_empty-clause-named : goal.returns-then-not-is_empty-clause-named
 returns-then-not-is_empty-clause-named g c =
     past_limits_named g.read c.requires.0 (definition_views c.args.defs.now) c.in_ok-table.table c.from_ast.new.tyenv c.in_ok-table.ensures.answers.1 c.with_terms-env.result c.with_terms-env.ensures.terms c.args.expand_internal_extractors c.with_terms-env.ensures.expand
-    c.in_ok-errors.errors.items c.in_ok-errors.ensures.named
+    c.in_ok-errors.errors.items c.in_ok-errors.ensures.exact
 
 pub returns-in_err-table-clause-named : goal.returns-in_err-table-clause-named
 returns-in_err-table-clause-named g c =
@@ -70,7 +72,7 @@ pub returns-then-not-is_empty-clause-refused : goal.returns-then-not-is_empty-cl
 returns-then-not-is_empty-clause-refused g c =
     let wrong = returns-then-not-is_empty-clause-answers g c in
     refused_by_rules g.read c.requires.0 (definition_views c.args.defs.now) c.in_ok-table.table c.from_ast.new.tyenv c.in_ok-table.ensures.answers.1 c.with_terms-env.result c.with_terms-env.ensures.terms c.args.expand_internal_extractors c.with_terms-env.ensures.expand
-    c.in_ok-errors.errors.items c.in_ok-errors.ensures.notes wrong.0 wrong.1
+    c.in_ok-errors.errors.items c.in_ok-errors.ensures.exact wrong.0 wrong.1
 
 pub returns-in_err-table-clause-refused : goal.returns-in_err-table-clause-refused
 returns-in_err-table-clause-refused g c =
@@ -98,7 +100,7 @@ returns-in_err-table-clause-breach g c =
 pub returns-then-not-is_empty-clause-told : goal.returns-then-not-is_empty-clause-told
 returns-then-not-is_empty-clause-told g c =
     all_said g.read c.requires.0 (definition_views c.args.defs.now) c.in_ok-table.table c.from_ast.new.tyenv c.in_ok-table.ensures.answers.1 c.with_terms-env.result c.with_terms-env.ensures.terms c.args.expand_internal_extractors c.with_terms-env.ensures.expand
-    c.in_ok-errors.errors.items c.in_ok-errors.ensures.tells c.in_ok-errors.ensures.exact
+    c.in_ok-errors.errors.items c.in_ok-errors.ensures.exact (positions_of (definition_views c.args.defs.now) ++ terms_positions (term_views c.with_terms-env.result.terms.items)) c.in_ok-errors.ensures.places
 
 pub returns-in_err-table-clause-told : goal.returns-in_err-table-clause-told
 returns-in_err-table-clause-told g c =

@@ -1,7 +1,7 @@
 use Rattle.std.proofs.Common.{refl}
 use Rattle.core_syntax.specs.SyntaxViews.{position}
 use Rattle.core_rules.specs.ExprReadings.{expected}
-use Rattle.core_rules.specs.Translating.{standing}
+use Rattle.core_rules.specs.ShownSettings.{standing}
 use Rattle.core_rules.proofs.ExprsTaken as taken
 use Rattle.core_rules.proofs.term_env.TermEnv.make_bool.Goals as goal
 

@@ -6,7 +6,7 @@ use Rattle.core_syntax.specs.SyntaxViews.{position}
 use Rattle.model.specs.lists.Ranges.{reduced}
 use Rattle.core_types.specs.TypeViews.{type_views}
 use Rattle.core_rules.specs.ExprReadings.{expected}
-use Rattle.core_rules.specs.Translating.{standing}
+use Rattle.core_rules.specs.ShownSettings.{standing}
 use Rattle.core_typed.proofs.NotedErrors.{told_at}
 use Rattle.core_rules.proofs.ExprsTaken.{untyped_made, integer_made}
 use Rattle.core_rules.proofs.term_env.TermEnv.make_int.Goals as goal

@@ -3,7 +3,7 @@ use Rattle.core_syntax.specs.Stable.{look_up}
 use Rattle.core_syntax.specs.SyntaxViews.{name_view, position}
 use Rattle.core_types.specs.Envs.{constant_at, symbol, same_symbol}
 use Rattle.core_rules.specs.ExprReadings.{expected}
-use Rattle.core_rules.specs.Translating.{standing}
+use Rattle.core_rules.specs.ShownSettings.{standing}
 use Rattle.core_typed.proofs.NotedErrors.{told_at}
 use Rattle.core_rules.proofs.ExprsTaken as taken
 use Rattle.core_rules.proofs.term_env.TermEnv.make_prim.Goals as goal

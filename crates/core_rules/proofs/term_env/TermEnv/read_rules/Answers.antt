@@ -4,16 +4,13 @@ use Rattle.model.specs.lists.Elaborated.{named_rules}
 use Rattle.model.specs.lists.TermTable.{rule_trees}
 use Rattle.core_terms.specs.TermViews.{term_views}
 use Rattle.core_typed.specs.Elaborating.{Checks}
-use Rattle.core_rules.specs.RuleLists.{CollectsRules}
 use Rattle.core_typed.specs.RuleNaming.{MapsNames, TakesName, AreDefined, IsLeftUndefined, rules_at, terms_at}
 use Rattle.core_typed.specs.RuleViews.{rule_views}
 use Rattle.core_typed.specs.FirstErrors.{MayBegin}
 use Rattle.core_typed.proofs.FirstErrors.{goes_on, may_check}
-use Rattle.core_rules.specs.RuleBreaches.{BeginsUntyped}
 use Rattle.core_rules.proofs.RuleBreaches.{stages, once_mapped, right_checked}
-use Rattle.core_rules.specs.RuleErrors.{NotesOfRules}
-use Rattle.core_rules.proofs.NamedLimits.{named_to_the_end}
-use Rattle.core_rules.proofs.RulesRefused.{mapped_noted, noted_to_the_end}
+use Rattle.core_rules.proofs.RulesRefused.{mapped_noted}
+use Rattle.core_rules.proofs.StepErrors.{rules_collected, first_untyped}
 use Rattle.core_rules.proofs.RulesAtEnd.{rules_end}
 use Rattle.core_rules.proofs.RulesTyped.{used_where_called}
 use Rattle.core_rules.specs.Constructors.{CallsMade}
@@ -25,9 +22,7 @@ use Rattle.core_terms.specs.TermPositions.{terms_positions}
 use Rattle.core_rules.proofs.SubstitutedPlaces.{templates_inside}
 use Rattle.core_rules.proofs.PartPlaces.{named_places, declared_inside}
 use Rattle.core_rules.specs.RuleListTaking.{DoesRules}
-use Rattle.core_rules.specs.RulesTold.{TellsTyping}
 use Rattle.core_rules.proofs.RuleListsTaken.{done_to_the_end}
-use Rattle.core_rules.proofs.RulesTold.{told_to_the_end}
 use Rattle.core_rules.proofs.term_env.TermEnv.read_rules.Goals as goal
 
 pub returns-clause-reads : goal.returns-clause-reads
@@ -38,7 +33,8 @@ returns-clause-reads c e is k =
     let new = c.collect_rules.new.tyenv in
     let typed = c.in_ok-rules.rules.items in
     let found = c.collect_rules.new.work.errors.items in
-    let read = subst (λ es. CollectsRules env old new es found (rule_trees defs) (rule_views typed)) (c.new-work.ensures.errors ∙ c.new.ensures.items) c.in_ok-rules.ensures.reads in
+    let read = rules_collected env old new (rule_trees defs) (rule_views typed) found
+    (subst (λ es. DoesRules env old new (rule_trees defs) [] (rule_views typed) es found) (c.new-work.ensures.errors ∙ c.new.ensures.items) c.in_ok-rules.ensures.exact) in
     let named = c.in_ok-name_rules.ensures.names ∙ ap (λ ts. named_rules (term_views ts) (rule_views typed)) c.deref-2.ensures.value in
     let mapped = subst (λ rs. MapsNames c.replace-errors.result.items c.map_names.new.errors.items (rule_views rs) c.in_ok-rule_map.rule_map) c.deref-3.ensures.value c.in_ok-rule_map.ensures.maps in
     let from_found = subst (λ es. MapsNames es c.map_names.new.errors.items (rule_views c.name_rules.new.rules.items) c.in_ok-rule_map.rule_map) (ap (λ v. v.items) c.replace-errors.ensures.value) mapped in
@@ -46,40 +42,6 @@ returns-clause-reads c e is k =
     let by_name = mapped_noted found c.map_names.new.errors.items (rule_views c.name_rules.new.rules.items) c.in_ok-rule_map.rule_map from_found in
     let more = may_both found c.map_names.new.errors.items c.check_defined.new.errors.items by_name (may_check defined) in
     rules_end env old new defs _ c.in_ok-rules.ensures.keeps typed e is k named found c.map_names.new.errors.items c.check_defined.new.errors.items c.check_constructors.new.errors.items from_found defined (c.in_ok-check_constructors.ensures.checks (λ made none. used_where_called env old new c.in_ok-rules.ensures.keeps.inverse c.in_ok-rules.ensures.keeps e is k found c.check_defined.new.errors.items (rule_trees defs) (rule_views typed) read more (subst (λ ts. All (CallsMade ts) (rule_views typed)) is.terms (subst (λ rs. All (CallsMade (term_views env.terms.items)) (rule_views rs)) c.deref.ensures.value (c.rules_call_made-made.ensures.0 made))) none)) read
-
-pub returns-clause-notes : goal.returns-clause-notes
-returns-clause-notes c =
-    let defs = definition_views c.args.defs.now in
-    let env = c.args.self.now in
-    let old = c.args.tyenv.now in
-    let typed = c.in_ok-rules.rules.items in
-    let found = c.collect_rules.new.work.errors.items in
-    let named = c.map_names.new.errors.items in
-    let defined = c.check_defined.new.errors.items in
-    let last = c.check_constructors.new.errors.items in
-    let read = subst (λ es. NotesOfRules env old (rule_trees defs) es found) (c.new-work.ensures.errors ∙ c.new.ensures.items) c.in_ok-rules.ensures.notes in
-    let by_name = c.in_ok-rule_map.rule_map in
-    let rules = rule_views c.deref-3.result.now in
-    let mapped = subst (λ es. MapsNames es named rules by_name) (ap (λ v. v.items) c.replace-errors.ensures.value) c.in_ok-rule_map.ensures.maps in
-    let names = mapped_noted found named rules by_name mapped in
-    noted_to_the_end env old (rule_trees defs) found last read
-    (may_both found named last names (may_both named defined last (may_check c.in_ok-check_defined.ensures.checks) c.in_ok-check_constructors.ensures.notes))
-
-pub returns-clause-named : goal.returns-clause-named
-returns-clause-named c =
-    let defs = definition_views c.args.defs.now in
-    let env = c.args.self.now in
-    let old = c.args.tyenv.now in
-    let found = c.collect_rules.new.work.errors.items in
-    let named = c.map_names.new.errors.items in
-    let defined = c.check_defined.new.errors.items in
-    let last = c.check_constructors.new.errors.items in
-    let by_name = c.in_ok-rule_map.rule_map in
-    let rules = rule_views c.deref-3.result.now in
-    let mapped = subst (λ es. MapsNames es named rules by_name) (ap (λ v. v.items) c.replace-errors.ensures.value) c.in_ok-rule_map.ensures.maps in
-    let names = mapped_noted found named rules by_name mapped in
-    named_to_the_end env old (rule_trees defs) found last c.in_ok-rules.ensures.named
-    (may_both found named last names (may_both named defined last (may_check c.in_ok-check_defined.ensures.checks) c.in_ok-check_constructors.ensures.notes))
 
 pub returns-clause-breach : goal.returns-clause-breach
 returns-clause-breach c e is k none =
@@ -94,8 +56,9 @@ returns-clause-breach c e is k none =
     let last = c.check_constructors.new.errors.items in
     let nothing = c.new-work.ensures.errors ∙ c.new.ensures.items in
     let all = named_rules e.terms (rule_views typed) in
-    let read = subst (λ es. CollectsRules env old new es found trees (rule_views typed)) nothing c.in_ok-rules.ensures.reads in
-    let first = subst (λ es. BeginsUntyped env old trees es found) nothing c.in_ok-rules.ensures.breach in
+    let done = subst (λ es. DoesRules env old new trees [] (rule_views typed) es found) nothing c.in_ok-rules.ensures.exact in
+    let read = rules_collected env old new trees (rule_views typed) found done in
+    let first = first_untyped env old new trees (rule_views typed) found done in
     let by_name = c.in_ok-rule_map.rule_map in
     let rules = rule_views c.deref-3.result.now in
     let same : rules ≡ all =
@@ -138,23 +101,6 @@ returns-clause-places c =
     let by_name = notes_parts of_rules rules all [] found named inside at_rules read mapped in
     let by_terms = notes_parts all terms all [] named defined (among_same all) at_terms by_name c.in_ok-check_defined.ensures.places in
     notes_parts all defs all [] defined last (among_same all) (among_left defs (terms_positions entries)) by_terms c.in_ok-check_constructors.ensures.places
-
-pub returns-clause-tells : goal.returns-clause-tells
-returns-clause-tells c =
-    let defs = definition_views c.args.defs.now in
-    let env = c.args.self.now in
-    let old = c.args.tyenv.now in
-    let found = c.collect_rules.new.work.errors.items in
-    let named = c.map_names.new.errors.items in
-    let defined = c.check_defined.new.errors.items in
-    let last = c.check_constructors.new.errors.items in
-    let by_name = c.in_ok-rule_map.rule_map in
-    let rules = rule_views c.deref-3.result.now in
-    let mapped = subst (λ es. MapsNames es named rules by_name) (ap (λ v. v.items) c.replace-errors.ensures.value) c.in_ok-rule_map.ensures.maps in
-    let names = mapped_noted found named rules by_name mapped in
-    let told = subst (λ es. TellsTyping env old c.collect_rules.new.tyenv (rule_trees defs) es found) (c.new-work.ensures.errors ∙ c.new.ensures.items) c.in_ok-rules.ensures.tells in
-    told_to_the_end env old c.collect_rules.new.tyenv (rule_trees defs) found last told
-    (may_both found named last names (may_both named defined last (may_check c.in_ok-check_defined.ensures.checks) c.in_ok-check_constructors.ensures.notes))
 
 pub returns-clause-exact : goal.returns-clause-exact
 returns-clause-exact c =

@@ -2,7 +2,7 @@ use Rattle.std.proofs.Common.{refl}
 use Rattle.core_rules.proofs.term_env.TermEnv.refuse_macro_arg.Goals as goal
 use Rattle.core_syntax.specs.SyntaxViews.{position}
 use Rattle.core_typed.proofs.NotedErrors.{told_at}
-use Rattle.core_rules.specs.Translating.{standing}
+use Rattle.core_rules.specs.ShownSettings.{standing}
 use Rattle.core_rules.proofs.PatternsTaken.{refused_taken}
 
 pub returns-clause-reads : goal.returns-clause-reads

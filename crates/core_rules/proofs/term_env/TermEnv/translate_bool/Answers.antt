@@ -1,6 +1,6 @@
 use Rattle.std.proofs.Common.{refl}
 use Rattle.core_syntax.specs.SyntaxViews.{position}
-use Rattle.core_rules.specs.Translating.{standing}
+use Rattle.core_rules.specs.ShownSettings.{standing}
 use Rattle.core_rules.proofs.term_env.TermEnv.translate_bool.Goals as goal
 use Rattle.core_rules.proofs.PatternsTaken.{truth_taken}
 

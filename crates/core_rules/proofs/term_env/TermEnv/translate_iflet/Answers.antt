@@ -4,7 +4,7 @@ use Rattle.model.specs.lists.Setting.{on_lhs}
 use Rattle.core_terms.specs.TermViews.{flags_view}
 use Rattle.core_typed.specs.ExprViews.{expr_view}
 use Rattle.core_typed.specs.PatternViews.{pattern_view}
-use Rattle.core_rules.specs.Translating.{standing}
+use Rattle.core_rules.specs.ShownSettings.{standing}
 use Rattle.core_rules.proofs.Readings.{stop_is}
 use Rattle.core_syntax.specs.Positions.{OccurAmong, pattern_positions, expr_positions, iflet_positions}
 use Rattle.core_syntax.proofs.Positioned.{notes_among, notes_parts}

@@ -1,6 +1,6 @@
 use Rattle.core_syntax.specs.SyntaxViews as S
 use Rattle.core_terms.specs.TermViews.{flags_view}
-use Rattle.core_rules.specs.Translating.{standing}
+use Rattle.core_rules.specs.ShownSettings.{standing}
 use Rattle.core_rules.proofs.Readings.{stop_is, keep_none, keep_on}
 use Rattle.std.proofs.Common.{map, refl}
 use Rattle.std.specs.List.{flat_map}

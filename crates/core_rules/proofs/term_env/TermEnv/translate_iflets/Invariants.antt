@@ -4,7 +4,7 @@ use Rattle.std.specs.List.{flat_map}
 use Rattle.core_syntax.specs.Positions.{NotesAt, iflet_positions}
 use Rattle.core_terms.specs.TermViews.{flags_view}
 use Rattle.core_rules.specs.RulePositions.{with_templates}
-use Rattle.core_rules.specs.Translating.{standing, Keeps}
+use Rattle.core_rules.specs.ShownSettings.{standing, Keeps}
 use Rattle.core_rules.specs.RuleTaking.{iflets_steps}
 use Rattle.core_rules.specs.Taking.{LeadsOn}
 use Rattle.core_rules.proofs.SidesTaken.{after_iflets, iflets_from}

@@ -5,7 +5,7 @@ use Rattle.std.proofs.lemmas.Int.{to_z-of_z}
 use Rattle.core_syntax.specs.SyntaxViews.{position}
 use Rattle.model.specs.lists.Ranges.{reduced}
 use Rattle.core_types.specs.TypeViews.{type_views}
-use Rattle.core_rules.specs.Translating.{standing}
+use Rattle.core_rules.specs.ShownSettings.{standing}
 use Rattle.core_rules.proofs.term_env.TermEnv.translate_int.Goals as goal
 use Rattle.core_rules.proofs.PatternsTaken.{integer_taken}
 

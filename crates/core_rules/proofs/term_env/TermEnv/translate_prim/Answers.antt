@@ -2,7 +2,7 @@ use Rattle.std.proofs.Common.{◌≡◌, ℕ, Option, None, option_map, refl, ap
 use Rattle.core_syntax.specs.Stable.{look_up}
 use Rattle.core_syntax.specs.SyntaxViews.{name_view, position}
 use Rattle.core_types.specs.Envs.{constant_at, symbol, same_symbol}
-use Rattle.core_rules.specs.Translating.{standing}
+use Rattle.core_rules.specs.ShownSettings.{standing}
 use Rattle.core_rules.proofs.term_env.TermEnv.translate_prim.Goals as goal
 use Rattle.core_typed.proofs.NotedErrors.{told_at}
 use Rattle.core_rules.proofs.PatternsTaken.{unknown_taken, constant_taken}

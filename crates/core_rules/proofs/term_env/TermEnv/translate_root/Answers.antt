@@ -2,7 +2,7 @@ use Rattle.std.proofs.Common.{map, Some, refl, [], ◌∷◌}
 use Rattle.core_syntax.specs.SyntaxViews as S
 use Rattle.core_typed.specs.PatternViews.{pattern_views, pattern_parts}
 use Rattle.core_rules.specs.PatternTaking.{parts_steps}
-use Rattle.core_rules.specs.Translating.{standing}
+use Rattle.core_rules.specs.ShownSettings.{standing}
 use Rattle.core_syntax.specs.Positions.{patterns_positions}
 use Rattle.core_syntax.proofs.Positioned.{among_first, among_rest}
 use Rattle.core_rules.specs.RulePositions.{with_templates}

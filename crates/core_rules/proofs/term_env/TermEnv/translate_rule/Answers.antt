@@ -3,7 +3,7 @@ use Rattle.core_syntax.specs.SyntaxViews as S
 use Rattle.core_terms.specs.TermViews.{flags_view, term_view}
 use Rattle.core_rules.specs.RuleReadings.{sides_view}
 use Rattle.core_typed.specs.RuleViews.{rule_view}
-use Rattle.core_rules.specs.Translating.{standing}
+use Rattle.core_rules.specs.ShownSettings.{standing}
 use Rattle.core_rules.proofs.Readings.{stop_is}
 use Rattle.core_syntax.specs.Positions.{OccurAmong, rule_positions}
 use Rattle.core_syntax.proofs.Positioned.{among_same, notes_among, notes_parts}

@@ -4,7 +4,7 @@ use Rattle.core_terms.specs.TermViews.{flags_view, term_view}
 use Rattle.core_typed.specs.ExprViews.{expr_view}
 use Rattle.core_typed.specs.PatternViews.{pattern_views, pattern_parts}
 use Rattle.core_typed.specs.RuleViews.{iflet_view}
-use Rattle.core_rules.specs.Translating.{standing}
+use Rattle.core_rules.specs.ShownSettings.{standing}
 use Rattle.core_rules.proofs.Readings.{stop_is}
 use Rattle.std.specs.List.{flat_map}
 use Rattle.model.specs.lists.Syntax.{Position}

@@ -3,7 +3,7 @@ use Rattle.core_syntax.specs.SyntaxViews.{name_view, position}
 use Rattle.model.specs.rules.Typed.{TypedVar}
 use Rattle.core_rules.specs.Progress.{newest, BindsNext}
 use Rattle.core_typed.specs.RuleViews.{var_view}
-use Rattle.core_rules.specs.Translating.{standing}
+use Rattle.core_rules.specs.ShownSettings.{standing}
 use Rattle.core_rules.proofs.term_env.TermEnv.translate_var.Goals as goal
 use Rattle.core_rules.proofs.PatternsTaken.{var_taken, new_taken}
 

@@ -1,29 +1,12 @@
-use Rattle.core_rules.specs.Translating.{standing}
-use Rattle.core_rules.proofs.RuleEnds.{at_end, at_stop}
-use Rattle.std.proofs.Common.{[], ◌∷◌, Ok, Err}
-use Rattle.model.specs.lists.Elaborated.{most_nested}
+use Rattle.core_rules.specs.ShownSettings.{standing}
+use Rattle.std.proofs.Common.{[], ◌∷◌}
 use Rattle.core_syntax.specs.SyntaxViews.{rule_view}
 use Rattle.core_syntax.specs.Positions.{OccurAmong, rule_positions}
 use Rattle.core_rules.specs.RulePositions.{with_templates}
 use Rattle.core_rules.proofs.ErrorPositions.{among_here, stop_noted}
 use Rattle.core_rules.proofs.PartPlaces.{rule_at}
 use Rattle.core_rules.proofs.RuleListsTaken.{done_at_end, done_at_stop}
-use Rattle.core_rules.proofs.RulesRead.{rule_translated, rule_meets}
-use Rattle.core_rules.proofs.RulesTold.{told_at_end, told_at_stop}
 use Rattle.core_rules.proofs.term_env.TermEnv.type_rule.Goals as goal
-
-pub returns-in-Ok-clause-ends : goal.returns-in-Ok-clause-ends
-returns-in-Ok-clause-ends c =
-    at_end c.args.self.now c.args.tyenv.now c.begin.new.self c.args.work.now.errors.items c.begin.ensures c.args.id.0 c.args.rule.now (standing c.translate_rule.new.tyenv c.translate_rule.new.work)
-    c.in-Ok.made c.translate_rule.new.work.few
-    (rule_translated c.args.self.now (standing c.args.tyenv.now c.begin.new.self) (standing c.translate_rule.new.tyenv c.translate_rule.new.work) (rule_view c.args.rule.now) c.args.id.0 most_nested (Ok c.in-Ok.made) c.in-Ok.ensures.reads)
-
-pub returns-in_ok-report-in-Err-clause-ends : goal.returns-in_ok-report-in-Err-clause-ends
-returns-in_ok-report-in-Err-clause-ends c =
-    at_stop c.args.self.now c.args.tyenv.now c.begin.new.self c.args.work.now.errors.items c.begin.ensures c.args.id.0 c.args.rule.now (standing c.translate_rule.new.tyenv c.translate_rule.new.work) c.report.new.errors.items
-    c.in-Err.stop
-    (rule_translated c.args.self.now (standing c.args.tyenv.now c.begin.new.self) (standing c.translate_rule.new.tyenv c.translate_rule.new.work) (rule_view c.args.rule.now) c.args.id.0 most_nested (Err c.in-Err.stop) c.in-Err.ensures.reads)
-    c.in_ok-report-in-Err.ensures.noted
 
 pub returns-in-Ok-clause-places : goal.returns-in-Ok-clause-places
 returns-in-Ok-clause-places c =
@@ -37,21 +20,6 @@ returns-in_ok-report-in-Err-clause-places c =
     let here : OccurAmong (tree.at ∷ []) all = among_here env (tree.at ∷ []) (rule_positions tree) (rule_at tree) in
     rw (← c.begin.ensures.errors)
     (stop_noted (tree.at ∷ []) all c.begin.new.self.errors.items c.translate_rule.new.work.errors.items c.report.new.errors.items c.args.rule.now.pos c.in-Err.stop here c.in-Err.ensures.places c.in_ok-report-in-Err.ensures.places c.in_ok-report-in-Err.ensures.noted)
-
-pub returns-in-Ok-clause-tells : goal.returns-in-Ok-clause-tells
-returns-in-Ok-clause-tells c =
-    told_at_end c.args.self.now c.args.tyenv.now c.begin.new.self c.args.work.now.errors.items c.begin.ensures c.requires.nothing c.args.id.0 c.args.rule.now (standing c.translate_rule.new.tyenv c.translate_rule.new.work) c.translate_rule.ensures.keeps c.in-Ok.ensures.places
-    c.in-Ok.made c.translate_rule.new.work.few
-    (rule_translated c.args.self.now (standing c.args.tyenv.now c.begin.new.self) (standing c.translate_rule.new.tyenv c.translate_rule.new.work) (rule_view c.args.rule.now) c.args.id.0 most_nested (Ok c.in-Ok.made) c.in-Ok.ensures.reads)
-    (rule_meets c.args.self.now (standing c.args.tyenv.now c.begin.new.self) (standing c.translate_rule.new.tyenv c.translate_rule.new.work) (rule_view c.args.rule.now) c.args.id.0 most_nested (Ok c.in-Ok.made) c.in-Ok.ensures.reads)
-
-pub returns-in_ok-report-in-Err-clause-tells : goal.returns-in_ok-report-in-Err-clause-tells
-returns-in_ok-report-in-Err-clause-tells c =
-    told_at_stop c.args.self.now c.args.tyenv.now c.begin.new.self c.args.work.now.errors.items c.begin.ensures c.requires.nothing c.args.id.0 c.args.rule.now (standing c.translate_rule.new.tyenv c.translate_rule.new.work) c.translate_rule.ensures.keeps
-    c.report.new.errors.items c.in-Err.stop c.in-Err.ensures.places
-    (rule_translated c.args.self.now (standing c.args.tyenv.now c.begin.new.self) (standing c.translate_rule.new.tyenv c.translate_rule.new.work) (rule_view c.args.rule.now) c.args.id.0 most_nested (Err c.in-Err.stop) c.in-Err.ensures.reads)
-    (rule_meets c.args.self.now (standing c.args.tyenv.now c.begin.new.self) (standing c.translate_rule.new.tyenv c.translate_rule.new.work) (rule_view c.args.rule.now) c.args.id.0 most_nested (Err c.in-Err.stop) c.in-Err.ensures.reads)
-    c.in_ok-report-in-Err.ensures.noted
 
 pub returns-in-Ok-clause-exact : goal.returns-in-Ok-clause-exact
 returns-in-Ok-clause-exact c =

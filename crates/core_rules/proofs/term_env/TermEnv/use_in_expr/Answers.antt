@@ -3,7 +3,7 @@ use Rattle.core_syntax.specs.SyntaxViews.{name_view, position, expr_view, expr_v
 use Rattle.model.specs.lists.Syntax.{term_expr}
 use Rattle.core_terms.specs.TermViews.{flags_view, term_view}
 use Rattle.core_rules.specs.ExprReadings.{expected}
-use Rattle.core_rules.specs.Translating.{standing}
+use Rattle.core_rules.specs.ShownSettings.{standing}
 use Rattle.core_rules.specs.PatternUses.{name_at}
 use Rattle.core_rules.proofs.Readings.{stop_is}
 use Rattle.core_syntax.proofs.Positioned.{notes_nothing}

@@ -6,7 +6,7 @@ use Rattle.core_terms.specs.TermViews.{term_view}
 use Rattle.core_rules.specs.PatternTaking.{pattern_steps}
 use Rattle.core_rules.specs.PatternUses.{name_at, inside_term}
 use Rattle.core_rules.specs.Taking.{LeadsOn}
-use Rattle.core_rules.specs.Translating.{standing}
+use Rattle.core_rules.specs.ShownSettings.{standing}
 use Rattle.core_rules.proofs.Readings.{stop_is}
 use Rattle.core_rules.proofs.PatternUsing.{list_is, list_length, template_expands}
 use Rattle.model.proofs.Members.{in_head}

@@ -4,7 +4,7 @@ use Rattle.model.specs.lists.Syntax.{var_expr}
 use Rattle.core_terms.specs.TermViews.{term_view}
 use Rattle.core_rules.specs.ExprReadings.{expected}
 use Rattle.core_typed.specs.RuleViews.{var_view}
-use Rattle.core_rules.specs.Translating.{standing}
+use Rattle.core_rules.specs.ShownSettings.{standing}
 use Rattle.core_rules.specs.PatternUses.{name_at}
 use Rattle.core_rules.proofs.Readings.{stop_is}
 use Rattle.core_syntax.specs.Positions.{expr_positions}

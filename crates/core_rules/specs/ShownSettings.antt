@@ -1,6 +1,5 @@
--- What translating a part of a rule gives: what the function of typing gives, or a report and that it gives nothing, or that
--- a limit was passed. It is said of each setting and scope that the tables and the work show.
-use Rattle.std.specs.Prelude.{◌≡◌, ℕ, ◌+◌, ◌<◌, ◌⊎◌, true, ◌&&◌, List, ◌++◌, length, Option, Some, None, option_map, is_some, slice_get, Result, Ok, Err, ⊤}
+-- The setting and the scope that tables, the names met and the work on a rule show.
+use Rattle.std.specs.Prelude.{◌≡◌, ℕ, ◌+◌, ◌<◌, true, ◌&&◌, List, ◌++◌, length, Option, Some, option_map, is_some, slice_get}
 use Rattle.std.specs.Bool.{◌==◌}
 use Rattle.std.specs.List.{position_from}
 use Rattle.core_syntax.specs.Stable.{look_up}
@@ -12,18 +11,13 @@ use Rattle.model.specs.lists.Tables.{TermEntry}
 use Rattle.model.specs.lists.Expansions.{substituted}
 use Rattle.model.specs.lists.Setting.{Setting, Scope, var_named, entry_named, kind_template}
 use Rattle.model.specs.lists.Typings.{Typing}
-use Rattle.model.specs.lists.Elaborated.{most_expansions}
 use Rattle.core_types.specs.declared.type_env.TypeEnv.{TypeEnv}
 use Rattle.core_types.specs.Envs.{names_of, type_at, constant_at, IsInterned}
 use Rattle.core_types.specs.TypeViews.{type_views}
-use Rattle.core_syntax.specs.NotedErrors.{NotesMore, MayNoteMore}
 use Rattle.core_terms.specs.TermTables.{same_types}
 use Rattle.core_terms.specs.TermViews.{term_views}
-use Rattle.laws_errors.specs.StepLaws.{IsOnlyTyping}
 use Rattle.core_rules.specs.declared.term_env.TermEnv.{TermEnv}
 use Rattle.core_rules.specs.declared.typing.progress.Progress.{Progress}
-use Rattle.core_rules.specs.declared.typing.progress.Stop.{Stop}
-use Rattle.core_rules.specs.declared.typing.progress.Stop.TheVariants.{Memory, Nesting, Expansions}
 use Rattle.core_rules.specs.Progress.{newest, vars_of}
 use Rattle.core_rules.specs.TermEnvs.{term_in_env}
 
@@ -81,44 +75,3 @@ Reading Q = Setting → ℕ → Scope → Option (Typing Q)
 -- a fact of each setting and scope that are shown
 abbrev pub Wherever : TermEnv → Standing → (Setting → Scope → Type 0) → Type 0
 Wherever env at P = (e : Setting) (s : Scope) → IsSettingOf at.tyenv env e → Shows at s → P e s
-
--- what was made, where no error was noted
-pub record IsTranslatedAt {Q : Type 0} (o : ℕ → Option (Typing Q)) (d : ℕ) (q : Q) (old new : Standing) : Type 0 where
-  pub typing : Typing Q
-  pub becomes : IsOnlyTyping o d typing
-  pub made : typing.made ≡ q
-  pub shows : Shows new typing.scope
-  pub expansions : new.work.expansions ≡ old.work.expansions + typing.expansions
-
-pub record IsTranslated {Q : Type 0} (env : TermEnv) (old new : Standing) (d : ℕ) (reading : Reading Q) (q : Q) : Type 0 where
-  pub errors : new.work.errors.items ≡ old.work.errors.items
-  pub made : Wherever env old (λ e s. IsTranslatedAt (λ c. reading e c s) d q old new)
-
--- there is nothing to be made, and this was noted
-pub record IsNoted {Q : Type 0} (o : ℕ → Option (Typing Q)) (old new : Standing) : Type 0 where
-  pub reports : NotesMore old.work.errors.items new.work.errors.items
-  pub none : (c : ℕ) → o c ≡ None
-
-pub record IsReported {Q : Type 0} (env : TermEnv) (old new : Standing) (reading : Reading Q) : Type 0 where
-  pub errors : MayNoteMore old.work.errors.items new.work.errors.items
-  pub noted : Wherever env old (λ e s. IsNoted (λ c. reading e c s) old new)
-
--- nothing can be made where so many expansions may nest
-abbrev pub IsTooDeep : {Q : Type 0} → TermEnv → Standing → ℕ → Reading Q → Type 0
-IsTooDeep env old d reading = Wherever env old (λ e s. reading e d s ≡ None)
-
--- what can be made takes too many expansions, with those made before
-abbrev pub IsTooLong : {Q : Type 0} → TermEnv → Standing → Reading Q → Type 0
-IsTooLong {Q} env old reading = Wherever env old (λ e s. (c : ℕ) (a : Typing Q) → reading e c s ≡ Some a → most_expansions < old.work.expansions + a.expansions)
-
--- why the work stopped. At a limit what was noted stays
-abbrev pub Stops : {Q : Type 0} → TermEnv → Standing → Standing → ℕ → Reading Q → Stop → Type 0
-Stops env old new d reading (Memory e) = ⊤
-Stops env old new d reading Nesting = MayNoteMore old.work.errors.items new.work.errors.items × IsTooDeep env old d reading
-Stops env old new d reading Expansions = MayNoteMore old.work.errors.items new.work.errors.items × IsTooLong env old reading
-
--- likewise where something is given only if it can be told what it would be
-abbrev pub MayTranslate : {X Q : Type 0} → TermEnv → Standing → Standing → ℕ → Reading Q → (X → Q) → Result (Option X) Stop → Type 0
-MayTranslate env old new d reading view (Ok (Some x)) = IsTranslated env old new d reading (view x) ⊎ IsReported env old new reading
-MayTranslate env old new d reading view (Ok None) = IsReported env old new reading
-MayTranslate env old new d reading view (Err stop) = Stops env old new d reading stop

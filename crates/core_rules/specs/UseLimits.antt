@@ -1,1 +1,0 @@
--- Which limit the use of a name comes to, by what it stands for.
