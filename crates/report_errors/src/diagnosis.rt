@@ -32,13 +32,14 @@ pub const MOST_ERRORS: usize = 20;
 /// How many errors of a file are reported, if those of each file are wanted.
 pub const MOST_OF_FILE: usize = 100;
 
-// How many errors are explained. Of more, if all are wanted, only what is wrong is told, and where.
+// How many errors are explained. Of more, if all are wanted, only what is wrong is told, and where, and few of the rules that
+// overlap one are shown.
 const MOST_EXPLAINED: usize = 500;
 
 // How many rules' priorities a fix leaves out at most.
 const MOST_EDITS: usize = 1000;
 
-// How many of the rules that overlap one are shown, if not all are wanted.
+// How many of the rules that overlap one are shown, if not all are wanted, or the error isn't explained.
 const MOST_RULES: usize = 5;
 
 // How many of the rules that overlap one are shown with what both match.
@@ -59,6 +60,20 @@ struct Source<'a, 'd> {
     most_rules: usize,
     // Whether more is told than what is wrong, and where.
     is_explained: bool,
+}
+
+impl<'a, 'd> Source<'a, 'd> {
+    // The same for the report of this number: of an error that isn't explained few rules are shown.
+    fn for_report(self, number: usize) -> Source<'a, 'd> {
+        if number < MOST_EXPLAINED {
+            return self;
+        }
+        Source {
+            most_rules: MOST_RULES,
+            is_explained: false,
+            ..self
+        }
+    }
 }
 
 /// How many errors are reported.
@@ -146,10 +161,7 @@ pub fn reports_of(
         match templates.told_with(*number) {
             Some(one) => reports.push(report_of_template(alloc, defs, &extractors, one)?)?,
             None => {
-                let source = Source {
-                    is_explained: reports.len() < MOST_EXPLAINED,
-                    ..source
-                };
+                let source = source.for_report(reports.len());
                 let conflict = conflict_told(&mut conflicts, errors, &before, *number)?;
                 add_report(
                     source,

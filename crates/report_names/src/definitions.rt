@@ -172,6 +172,9 @@ fn count_up_to(defs: &[Def], pos: Pos) -> usize {
     let mut count = 0usize;
     let mut end = defs.len();
     for _ in 0..usize::BITS {
+        if count == end {
+            break;
+        }
         let middle = count.saturating_add(end) / 2;
         match first_placed(defs, middle, end) {
             Some((number, place)) if place <= pos => count = number.saturating_add(1),
