@@ -177,6 +177,12 @@ rule_added env old new r id made q before rules errors after at is items h =
     rule_done env old new r id (option_map rule_view made) (rule_views before) (rule_views rules) errors after (at ∙ same_length before)
     (ap rule_views items ∙ map-append rule_view before (q ∷ []) ∙ ap (λ m. rule_views before ++ option_to_list (option_map rule_view m)) (sym is)) h
 
+pub rule_left_out : (env : TermEnv) (old new : TypeEnv) (r : RuleTree) (id : ℕ) (made : Option Rule) (before : List Rule) (errors after : List Error)
+    → id ≡ length before → made ≡ None → DoesRule env old new r id (option_map rule_view made) errors after → DoesRules env old new (r ∷ []) (rule_views before) (rule_views before) errors after
+rule_left_out env old new r id made before errors after at is h =
+    rule_done env old new r id (option_map rule_view made) (rule_views before) (rule_views before) errors after (at ∙ same_length before)
+    (sym (append-nil (rule_views before)) ∙ ap (λ m. rule_views before ++ option_to_list (option_map rule_view m)) (sym is)) h
+
 -- 4. rules one after another
 -- what the steps of rules come to, then those of the rules that follow
 abbrev joined_rules : RulesStep → RulesStep → RulesStep

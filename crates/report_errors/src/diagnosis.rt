@@ -16,7 +16,7 @@ use report_names::meanings::meant_by;
 use report_names::mentions::Mentions;
 use report_names::names::rule_at;
 use report_names::rule_notes::{
-    ONE_OF_ALIKE, add_first, add_help, add_priority, add_rule, are_alike, are_one, left_side_at,
+    ONE_OF_ALIKE, add_first, add_help, add_priority, add_rule, are_one, left_side_at,
     priority_above, push_rule,
 };
 use report_print::report::{Edit, Fix, Level, Place, Report, Word};
@@ -33,13 +33,14 @@ pub const MOST_ERRORS: usize = 20;
 pub const MOST_OF_FILE: usize = 100;
 
 // How many errors are explained. Of more, if all are wanted, only what is wrong is told, and where, and few of the rules that
-// overlap one are shown.
+// overlap one, or that it shadows, are shown.
 const MOST_EXPLAINED: usize = 500;
 
 // How many rules' priorities a fix leaves out at most.
 const MOST_EDITS: usize = 1000;
 
-// How many of the rules that overlap one are shown, if not all are wanted, or the error isn't explained.
+// How many of the rules that overlap one are shown, if not all are wanted, or the error isn't explained; then as many of those that
+// one shadows.
 const MOST_RULES: usize = 5;
 
 // How many of the rules that overlap one are shown with what both match.
@@ -73,6 +74,14 @@ impl<'a, 'd> Source<'a, 'd> {
             is_explained: false,
             ..self
         }
+    }
+
+    // Those of the rules that another one shadows that are shown.
+    fn shadowed_shown<'s>(&self, shadowed: &'s [Span]) -> &'s [Span] {
+        if self.is_explained {
+            return shadowed;
+        }
+        shadowed.get(..MOST_RULES).unwrap_or(shadowed)
     }
 }
 
@@ -528,7 +537,8 @@ fn overlap(source: Source<'_, '_>, rules: &[Span]) -> Result<Report, AllocError>
     let shown = source.most_rules.saturating_add(1);
     let alike = add_overlapping(source, &mut report, rules, shown)?;
     add_values(source, &mut report, rules)?;
-    add_rest(alloc, &mut report, rules.len().saturating_sub(shown))?;
+    let rest = rules.len().saturating_sub(shown);
+    add_rest(alloc, &mut report, "it overlaps", rest)?;
     add_way_out(source, &mut report, rules, alike)?;
     if !source.expand {
         add_help(alloc, &mut report, NO_TEMPLATES)?;
@@ -641,12 +651,17 @@ fn add_way_out(
 // Why more rules overlap if internal extractors aren't expanded.
 const NO_TEMPLATES: &str = "--no-expand hides what internal extractors demand: check without it";
 
-// Adds how many of the rules that overlap one aren't shown.
-fn add_rest(alloc: Global, report: &mut Report, count: usize) -> Result<(), AllocError> {
+// Adds how many of the rules that overlap one, or that it shadows, aren't shown.
+fn add_rest(
+    alloc: Global,
+    report: &mut Report,
+    before: &'static str,
+    count: usize,
+) -> Result<(), AllocError> {
     if count == 0 {
         return Ok(());
     }
-    let text = format!(in alloc; "it overlaps {count} more")?;
+    let text = format!(in alloc; "{before} {count} more")?;
     report.add_counted("help", text)
 }
 
@@ -655,19 +670,8 @@ fn shadow(source: Source<'_, '_>, shadowed: &[Span], mask: Span) -> Result<Repor
     let alloc = source.alloc;
     let mut report = begun(alloc, "shadow", "a rule is never taken")?;
     add_suspect(source, &mut report, slice::from_ref(&mask))?;
-    let mut alike = 0usize;
-    for span in shadowed {
-        let is_alike = are_alike(alloc, source.defs, mask.from, span.from)?;
-        if is_alike {
-            alike = alike.saturating_add(1);
-        }
-        let after = if is_alike {
-            " has the same pattern, and is never taken"
-        } else {
-            " is never taken"
-        };
-        add_rule(alloc, &mut report, source.defs, span.from, "", after)?;
-    }
+    let shown = source.shadowed_shown(shadowed);
+    let alike = add_shadowed(source, &mut report, shown, mask)?;
     add_rule(
         alloc,
         &mut report,
@@ -676,14 +680,38 @@ fn shadow(source: Source<'_, '_>, shadowed: &[Span], mask: Span) -> Result<Repor
         "",
         " matches these values too, and comes first",
     )?;
+    let rest = shadowed.len().saturating_sub(shown.len());
+    add_rest(alloc, &mut report, "it shadows", rest)?;
     if alike > 0 {
         add_help(alloc, &mut report, ONE_OF_ALIKE)?;
     }
-    if alike < shadowed.len() {
+    if alike < shown.len() {
         add_help(alloc, &mut report, FIRST_TAKEN)?;
         add_first(alloc, &mut report, source.defs, mask.from)?;
     }
     Ok(report)
+}
+
+// Adds the places of rules that another one shadows. How many of them have its left side.
+fn add_shadowed(
+    source: Source<'_, '_>,
+    report: &mut Report,
+    shadowed: &[Span],
+    mask: Span,
+) -> Result<usize, AllocError> {
+    let first = left_side_at(source.alloc, source.defs, mask.from)?;
+    let mut alike = 0usize;
+    for span in shadowed {
+        let own = left_side_at(source.alloc, source.defs, span.from)?;
+        let after = if are_one(&first, &own) {
+            alike = alike.saturating_add(1);
+            " has the same pattern, and is never taken"
+        } else {
+            " is never taken"
+        };
+        add_rule(source.alloc, report, source.defs, span.from, "", after)?;
+    }
+    Ok(alike)
 }
 
 // What to do about a rule that another one is taken before.
