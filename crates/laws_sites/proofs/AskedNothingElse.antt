@@ -1,6 +1,7 @@
 -- A visit asks a call that may answer nothing only to answer, and the calls that a value unwraps are such calls.
-use Rattle.std.proofs.Common.{◌≡◌, Bool, true, false, not, ◌&&◌, List, [], ◌∷◌, refl, sym, ap, subst, inl, inr, ◌∙◌}
+use Rattle.std.proofs.Common.{◌≡◌, Bool, true, false, not, ◌&&◌, List, [], ◌∷◌, refl, sym, ap, subst, inl, inr, ◌∙◌, arith}
 use Rattle.std.proofs.lemmas.Bool.{false≢true}
+use Rattle.std.proofs.lemmas.Grind.{common_steps}
 use Rattle.model.specs.rules.Program.{Program, Kind, a_call, kind}
 use Rattle.model.specs.sites.Sites.{Constraint, is_present, SiteTerm, extractor_call, constructor_call, some_part, SiteTerms}
 use Rattle.model.specs.visits.Demands.{Demands, Visit, asking, equating, unwraps, unwraps_all, asking_all}
@@ -40,11 +41,7 @@ module _ (p : Program) where
   onward d e h = record { holds = h; stays = λ s o. o }
 
   after_asking : (s : SiteTerm) (c : Constraint) (v : Visit) → IsQuiet v.demands → (may_lack s ≡ true → c ≡ is_present) → IsQuiet (asking s c v).demands
-  after_asking s c v h o e i =
-      elim (in_either v.demands.constraints ((s, c) ∷ []) e i) [
-        | inl j ↦ h e j
-        | inr j ↦ elim j [ inl q ↦ subst (λ (x : SiteTerm × Constraint). may_lack x.0 ≡ true → x.1 ≡ is_present) q o | inr n ↦ absurd n ]
-      ]
+  after_asking s c v h o e i = grind (arith, common_steps, in_either)
 
   after_asking_all : (ss : List SiteTerm) (v : Visit) → IsQuiet v.demands → IsQuiet (asking_all ss v).demands
   after_asking_all [] v h = h
@@ -79,10 +76,7 @@ module _ (p : Program) where
     equates = λ a b v h m n. onward v.demands (equating a b v).demands (by_equating (λ w. IsQuiet w.demands) a b v h h);
     asks = λ s c v f h m. onward v.demands (asking s c v).demands (after_asking s c v h (λ t. absurd (false≢true (sym m.0 ∙ t))));
     asks_all = λ s v h m. onward v.demands (asking_all (unwraps s) v).demands (after_asking_all (unwraps s) v h);
-    asks_call = λ t s v flags e f c n h m.
-        let call = extractor_call t s in
-        let w = asking call is_present v in
-        record { onward = onward v.demands w.demands (after_asking call is_present v h (λ o. refl)); site = part_plain w.demands call (ap extractor_lacks e ∙ ap (λ b. not b && true) f) m.1 };
+    asks_call = grind (arith, common_steps, onward, after_asking, part_plain);
     iterates_extractor = λ t s v flags b e f c n h m. record { onward = record { holds = h; stays = λ u o. o }; site = (refl, m.1) };
     iterates_constructor = λ t i us v flags b e f n m h. record { holds = h; stays = λ u o. o };
   }

@@ -1,9 +1,10 @@
 -- What a visit asks of sites whose gates are demanded.
-use Rattle.std.proofs.Common.{◌≡◌, ◌⊎◌, ℕ, ◌==◌, Bool, true, false, List, [], ◌∷◌, ◌++◌, Some, is_some, Contains, refl, sym, ap, subst, inl, inr, ◌∙◌, eqb-true, eq-eqb}
-use Rattle.std.proofs.lemmas.Bool.{cases_Bool, cond-true, cond-false, false≢true}
+use Rattle.std.proofs.Common.{◌≡◌, ◌⊎◌, ℕ, ◌==◌, Bool, true, false, List, [], ◌∷◌, ◌++◌, Some, is_some, Contains, refl, sym, subst, inl, inr, ◌∙◌, eq-eqb, arith}
+use Rattle.std.proofs.lemmas.Bool.{cond-true}
+use Rattle.std.proofs.lemmas.Grind.{common_steps}
 use Rattle.model.specs.rules.Meaning.{look}
 use Rattle.model.specs.sites.Sites.{Constraint, is_present, SiteTerm}
-use Rattle.model.specs.visits.Demands.{Count, counting, site_term_eq, Visit, making, asking, equating, iterating, calling, binding, or_no_site, var_site, asking_all}
+use Rattle.model.specs.visits.Demands.{Count, counting, Visit, making, asking, equating, iterating, calling, binding, or_no_site, var_site, asking_all}
 use Rattle.model.specs.lists.Formed.{var_type}
 use Rattle.model.proofs.Elements.{In, in_from_contains, contains_from_in, in_left, in_right, in_either}
 use Rattle.model.specs.sites.DemandedGates.{GatesDemanded}
@@ -45,15 +46,7 @@ pub later_counting : (c : Count) (v : Visit) → Later v (counting c v)
 later_counting c v = record { sound = λ h. record { asked = h.asked; equal = h.equal; impure = h.impure }; more = λ x k. k; calls = λ x k. k }
 
 pub later_calling : (s : SiteTerm) (v : Visit) → Good false false v s → Later v (calling s v)
-later_calling s v g = record {
-  sound = λ h. record {
-    asked = h.asked;
-    equal = h.equal;
-    impure = λ u i. elim (in_either v.demands.impure (s ∷ []) u i) [ inl j ↦ h.impure u j | inr j ↦ elim j [ inl e ↦ subst (Good false false v) e g | inr n ↦ absurd n ] ];
-  };
-  more = λ x c. c;
-  calls = λ x c. c;
-}
+later_calling s v g = grind (arith, common_steps, in_either)
 
 pub later_binding : (x : ℕ) (s : SiteTerm) (v : Visit) → Later v (binding x s v)
 later_binding x s v = record { sound = λ h. record { asked = h.asked; equal = h.equal; impure = h.impure }; more = λ y c. c; calls = λ y c. c }
@@ -66,11 +59,7 @@ at_right xs y = contains_from_in (xs ++ y ∷ []) y (in_right xs (y ∷ []) y (i
 
 pub later_iterating : (s : SiteTerm) (v : Visit) → Later v (iterating s v)
 later_iterating s v = record {
-  sound = λ h. record {
-    asked = λ e i. keep true true e.0 (h.asked e i);
-    equal = λ e i. (keep true true e.0 (h.equal e i).0, keep true true e.1 (h.equal e i).1);
-    impure = λ u i. keep false false u (h.impure u i);
-  };
+  sound = grind (arith, common_steps, keep true true, keep false false);
   more = λ x c. c;
   calls = at_left v.demands.iterators (s ∷ []);
 }
@@ -80,14 +69,7 @@ later_iterating s v = record {
 
 pub later_asking : (s : SiteTerm) (c : Constraint) (v : Visit) → MayTest v s → Later v (asking s c v)
 later_asking s c v g = record {
-  sound = λ h. record {
-    asked = λ e i. elim (in_either v.demands.constraints ((s, c) ∷ []) e i) [
-      | inl j ↦ keep true true e.0 (h.asked e j)
-      | inr j ↦ elim j [ inl p ↦ subst (λ (q : SiteTerm × Constraint). MayTest (asking s c v) q.0) p (keep true true s g) | inr n ↦ absurd n ]
-    ];
-    equal = λ e i. (keep true true e.0 (h.equal e i).0, keep true true e.1 (h.equal e i).1);
-    impure = λ u i. keep false false u (h.impure u i);
-  };
+  sound = grind (arith, common_steps, keep true true, keep true true s g, keep false false, in_either v.demands.constraints ((s, c) ∷ []));
   more = at_left v.demands.constraints ((s, c) ∷ []);
   calls = λ x c. c;
 }
@@ -100,32 +82,13 @@ abbrev pub equated : SiteTerm → SiteTerm → Visit → Visit
 equated a b v = record { vars = v.vars; impure_calls = v.impure_calls; demands = record { constraints = v.demands.constraints; equalities = v.demands.equalities ++ (a, b) ∷ []; iterators = v.demands.iterators; impure = v.demands.impure; made = v.demands.made; counted = v.demands.counted } }
 
 later_equated : (a b : SiteTerm) (v : Visit) → MayTest v a → MayTest v b → Later v (equated a b v)
-later_equated a b v m n = record {
-  sound = λ h. record {
-    asked = h.asked;
-    equal = λ e i. elim (in_either v.demands.equalities ((a, b) ∷ []) e i) [
-      | inl j ↦ h.equal e j
-      | inr j ↦ elim j [ inl p ↦ subst (λ (q : SiteTerm × SiteTerm). MayTest v q.0 × MayTest v q.1) p (m, n) | inr x ↦ absurd x ]
-    ];
-    impure = h.impure;
-  };
-  more = λ x c. c;
-  calls = λ x c. c;
-}
+later_equated a b v m n = grind (arith, common_steps, in_either)
 
 pub later_equating : (a b : SiteTerm) (v : Visit) → MayTest v a → MayTest v b → Later v (equating a b v)
-later_equating a b v m n =
-    elim (cases_Bool (site_term_eq a b)) [
-      | inl t ↦ subst (Later v) (sym (cond-true (site_term_eq a b) v (equated a b v) t)) (now v)
-      | inr f ↦ subst (Later v) (sym (cond-false (site_term_eq a b) v (equated a b v) f)) (later_equated a b v m n)
-    ]
+later_equating a b v m n = grind (arith, now v, later_equated a b v m n)
 
 pub equating_binds : (a b : SiteTerm) (v : Visit) → (equating a b v).vars ≡ v.vars
-equating_binds a b v =
-    elim (cases_Bool (site_term_eq a b)) [
-      | inl t ↦ ap (λ (w : Visit). w.vars) (cond-true (site_term_eq a b) v (equated a b v) t)
-      | inr f ↦ ap (λ (w : Visit). w.vars) (cond-false (site_term_eq a b) v (equated a b v) f)
-    ]
+equating_binds a b v = grind (arith, common_steps)
 
 -- the calls that a value unwraps are asked to answer
 pub asked_binds : (ss : List SiteTerm) (v : Visit) → (asking_all ss v).vars ≡ v.vars
@@ -142,21 +105,12 @@ asked_calls (s ∷ ss) v x c = asked_calls ss (asking s is_present v) x c
 
 pub all_asked : (ss : List SiteTerm) (v : Visit) (s : SiteTerm) → In ss s → Contains (asking_all ss v).demands.constraints (s, is_present)
 all_asked [] v s i = absurd i
-all_asked (t ∷ ss) v s (inl e) =
-    asked_more ss (asking t is_present v) (s, is_present)
-    (subst (λ u. Contains (v.demands.constraints ++ (t, is_present) ∷ []) (u, is_present)) e (at_right v.demands.constraints (t, is_present)))
+all_asked (t ∷ ss) v s (inl e) = grind (arith, common_steps, asked_more ss (asking t is_present v) (s, is_present), at_right v.demands.constraints (t, is_present))
 all_asked (t ∷ ss) v s (inr i) = all_asked ss (asking t is_present v) s i
 
 asked_from : (ss : List SiteTerm) (v : Visit) (e : SiteTerm × Constraint) → In (asking_all ss v).demands.constraints e → In v.demands.constraints e ⊎ In ss e.0
 asked_from [] v e i = inl i
-asked_from (s ∷ ss) v e i =
-    elim (asked_from ss (asking s is_present v) e i) [
-      | inl j ↦ elim (in_either v.demands.constraints ((s, is_present) ∷ []) e j) [
-        | inl k ↦ inl k
-        | inr k ↦ elim k [ inl q ↦ inr (inl (ap (λ (d : SiteTerm × Constraint). d.0) q)) | inr n ↦ absurd n ]
-      ]
-      | inr j ↦ inr (inr j)
-    ]
+asked_from (s ∷ ss) v e i = grind (arith, common_steps, asked_from ss (asking s is_present v) e i, in_either)
 
 asked_equal : (ss : List SiteTerm) (v : Visit) → (asking_all ss v).demands.equalities ≡ v.demands.equalities
 asked_equal [] v = refl
@@ -168,13 +122,7 @@ asked_impure (s ∷ ss) v = asked_impure ss (asking s is_present v)
 
 pub later_asked : (ss : List SiteTerm) (v : Visit) → ((s : SiteTerm) → In ss s → MayTest (asking_all ss v) s) → Later v (asking_all ss v)
 later_asked ss v f = record {
-  sound = λ h. record {
-    asked = λ e i. elim (asked_from ss v e i) [ inl j ↦ keep true true e.0 (h.asked e j) | inr j ↦ f e.0 j ];
-    equal = λ e i.
-        let j : In v.demands.equalities e = subst (λ l. In l e) (asked_equal ss v) i in
-        (keep true true e.0 (h.equal e j).0, keep true true e.1 (h.equal e j).1);
-    impure = λ u i. keep false false u (h.impure u (subst (λ l. In l u) (asked_impure ss v) i));
-  };
+  sound = grind (arith, common_steps, keep true true, keep false false, asked_from ss v, asked_equal ss v, asked_impure ss v);
   more = asked_more ss v;
   calls = asked_calls ss v;
 }
@@ -196,30 +144,21 @@ Same vars v w = (x : ℕ) → is_some (var_type vars x) ≡ true → var_site w 
 
 -- without a binding
 pub keeps_vars : (v w : Visit) → Later v w → w.vars ≡ v.vars → Keeps v w
-keeps_vars v w l e x g =
-    subst (λ vars. MayTest w (or_no_site (look (λ k. k == x) vars))) (sym e) (good_stays v w l true true (var_site v x) g)
+keeps_vars v w l e x g = grind (arith, common_steps, good_stays)
 
 pub then_keeps : (u v w : Visit) → Keeps u v → Keeps v w → Keeps u w
 then_keeps u v w f g x h = g x (f x h)
 
 -- a binding of a site that may be tested
 pub keeps_binding : (y : ℕ) (s : SiteTerm) (v : Visit) → MayTest v s → Keeps v (binding y s v)
-keeps_binding y s v m x g =
-    elim (cases_Bool (y == x)) [
-      | inl t ↦ subst (λ o. MayTest v (or_no_site o)) (sym (cond-true (y == x) (Some s) (look (λ k. k == x) v.vars) t)) m
-      | inr f ↦ subst (λ o. MayTest v (or_no_site o)) (sym (cond-false (y == x) (Some s) (look (λ k. k == x) v.vars) f)) g
-    ]
+keeps_binding y s v m x g = grind (arith, common_steps)
 
 pub bound_good : (asked pure : Bool) (y : ℕ) (s : SiteTerm) (v : Visit) → Good asked pure v s → Good asked pure (binding y s v) (var_site (binding y s v) y)
 bound_good asked pure y s v g = subst (λ o. Good asked pure v (or_no_site o)) (sym (cond-true (y == y) (Some s) (look (λ k. k == y) v.vars) (eq-eqb y y refl))) g
 
 -- one more variable
 pub good_and : (asked pure : Bool) (y ty : ℕ) (vars : List (ℕ × ℕ)) (v : Visit) → AreGood asked pure vars v → Good asked pure v (var_site v y) → AreGood asked pure ((y, ty) ∷ vars) v
-good_and asked pure y ty vars v f g x h =
-    elim (cases_Bool (y == x)) [
-      | inl t ↦ subst (λ z. Good asked pure v (var_site v z)) (eqb-true y x t) g
-      | inr n ↦ f x (subst (λ o. is_some o ≡ true) (cond-false (y == x) (Some ty) (var_type vars x) n) h)
-    ]
+good_and asked pure y ty vars v f g x h = grind (arith, common_steps)
 
 pub good_later : (asked pure : Bool) (vars : List (ℕ × ℕ)) (v w : Visit) → Later v w → Same vars v w → AreGood asked pure vars v → AreGood asked pure vars w
 good_later asked pure vars v w l same f x h = subst (Good asked pure w) (sym (same x h)) (good_stays v w l asked pure (var_site v x) (f x h))
@@ -229,8 +168,4 @@ then_same vars u v w f g x h = g x h ∙ f x h
 
 -- a binding of a variable that can't be used yet
 pub same_binding : (vars : List (ℕ × ℕ)) (y : ℕ) (s : SiteTerm) (v : Visit) → is_some (var_type vars y) ≡ false → Same vars v (binding y s v)
-same_binding vars y s v new x h =
-    elim (cases_Bool (y == x)) [
-      | inl t ↦ absurd (false≢true (sym new ∙ subst (λ z. is_some (var_type vars z) ≡ true) (sym (eqb-true y x t)) h))
-      | inr f ↦ ap or_no_site (cond-false (y == x) (Some s) (look (λ k. k == x) v.vars) f)
-    ]
+same_binding vars y s v new x h = grind (arith, common_steps)

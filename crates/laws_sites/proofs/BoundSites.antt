@@ -1,11 +1,11 @@
 -- Of a rule that hangs together each variable is bound to a site before it is used, so the visit makes all the sites that
 -- it equates.
-use Rattle.std.proofs.Common.{◌≡◌, ◌⊎◌, ℕ, suc, Bool, true, false, if◌then◌else◌, List, [], ◌∷◌, Contains, refl, subst, inl, inr}
-use Rattle.model.specs.lists.Tables.{Flags}
-use Rattle.model.specs.rules.Program.{Program, Kind, a_variant, a_struct, a_call, unknown, kind}
+use Rattle.std.proofs.Common.{◌≡◌, ◌⊎◌, ℕ, Bool, List, [], ◌∷◌, Contains, inl, inr, arith}
+use Rattle.std.proofs.lemmas.Grind.{common_steps}
+use Rattle.model.specs.rules.Program.{Program, Kind, unknown}
 use Rattle.model.specs.rules.Typed.{TypedPatterns}
-use Rattle.model.specs.sites.Sites.{is_present, SiteTerm, extractor_call, constructor_call, pick_of, variant_field, struct_field, some_part, no_site, SiteTerms}
-use Rattle.model.specs.visits.Demands.{Demands, demands_of, Visit, asking, output_sites, open_call, open_term, ValuedAll, call_result, visit_call, visit_term, asking_all, visit_rule}
+use Rattle.model.specs.sites.Sites.{is_present, SiteTerm, no_site}
+use Rattle.model.specs.visits.Demands.{Demands, demands_of, Visit, asking, output_sites, open_call, open_term, ValuedAll, visit_term, asking_all, visit_rule}
 use Rattle.model.proofs.Elements.{In, in_from_contains, in_either}
 use Rattle.laws_sites.specs.VisitLaws.{FormedRulesMakeEqualSites}
 use Rattle.laws_sites.proofs.VisitedRules.{visits_make_lem}
@@ -28,11 +28,7 @@ abbrev sites : Facts
 sites = record { demands = EqualsSites; site = λ s ty. IsSite s; matched = λ t. Unit {0}; called = λ t. Unit {0} }
 
 after_equated : (a b : SiteTerm) (v : Visit) → IsSite a → IsSite b → EqualsSites v.demands → EqualsSites (equated a b v).demands
-after_equated a b v m n h e i =
-    elim (in_either v.demands.equalities ((a, b) ∷ []) e i) [
-      | inl j ↦ h e j
-      | inr j ↦ elim j [ inl p ↦ subst (λ (q : SiteTerm × SiteTerm). IsSite q.0 × IsSite q.1) p (m, n) | inr x ↦ absurd x ]
-    ]
+after_equated a b v m n h e i = grind (arith, common_steps, in_either)
 
 after_asking_all : (ss : List SiteTerm) (v : Visit) → EqualsSites v.demands → EqualsSites (asking_all ss v).demands
 after_asking_all [] v h = h
@@ -44,60 +40,22 @@ outputs_are_sites s args tys n m = outputs_each sites s args tys n (λ ty e. m) 
 
 call_opens : (pure multi partial rec infallible : Bool) (call : SiteTerm) (args : TypedPatterns) (tys : List ℕ) (v : Visit) → AsMany args tys → IsSite call
     → AtEachTyped sites (open_call (record { pure = pure; multi = multi; partial = partial; rec = rec }) infallible call args v).inputs tys
-call_opens pure true partial rec infallible call args tys v n m = outputs_are_sites (pick_of call) args tys n (λ e. cc)
-call_opens pure false partial rec true call args tys v n m = outputs_are_sites call args tys n m
-call_opens pure false partial rec false call args tys v n m = outputs_are_sites (some_part call) args tys n (λ e. cc)
+call_opens pure multi partial rec infallible call args tys v n m = grind (arith, common_steps, outputs_are_sites)
 
 call_equates : (pure multi partial rec infallible : Bool) (call : SiteTerm) (args : TypedPatterns) (v : Visit) → EqualsSites v.demands → EqualsSites (open_call (record { pure = pure; multi = multi; partial = partial; rec = rec }) infallible call args v).visit.demands
-call_equates pure true partial rec infallible call args v h = h
-call_equates pure false partial rec true call args v h = h
-call_equates pure false partial rec false call args v h = h
+call_equates pure multi partial rec infallible call args v h = grind (arith, common_steps)
 
 term_opens : (k : Kind) (t : ℕ) (s : SiteTerm) (args : TypedPatterns) (tys : List ℕ) (v : Visit) → (k ≡ unknown → ⊥) → AsMany args tys → EqualsSites v.demands
     → EqualsSites (open_term k t s args v).visit.demands × AtEachTyped sites (open_term k t s args v).inputs tys
-term_opens (a_variant ty variant) t s args tys v known n h = (h, all_fields_each sites (variant_field s variant) args tys n (λ j u e. λ q. cc))
-term_opens (a_struct ty) t s args tys v known n h = (h, all_fields_each sites (struct_field s) args tys n (λ j u e. λ q. cc))
-term_opens (a_call flags infallible) t s args tys v known n h =
-    let call = extractor_call t s in
-    (call_equates flags.pure flags.multi flags.partial flags.rec infallible call args v h, call_opens flags.pure flags.multi flags.partial flags.rec infallible call args tys v n (λ e. cc))
-term_opens unknown t s args tys v known n h = absurd (known refl)
+term_opens k t s args tys v known n h = grind (arith, common_steps, all_fields_each, call_equates, call_opens)
 
 -- 2. expressions
-result_is_site : (flags : Flags) (call : SiteTerm) → IsSite call → IsSite (call_result flags call)
-result_is_site flags call m = by flags.partial flags.multi
-  where
-    by : (partial multi : Bool) → IsSite (if partial then some_part call else (if multi then pick_of call else call))
-    by true multi = λ e. cc
-    by false true = λ e. cc
-    by false false = m
-
-call_is_site : (pure multi partial rec : Bool) (t : ℕ) (args : SiteTerms) (v : Visit) (ty : ℕ) → EqualsSites v.demands → IsGiven sites (visit_call (record { pure = pure; multi = multi; partial = partial; rec = rec }) t args v) ty
-call_is_site true true partial rec t args v ty h = (result_is_site (record { pure = true; multi = true; partial = partial; rec = rec }) (constructor_call t args 0) (λ e. cc), h)
-call_is_site true false partial rec t args v ty h = (result_is_site (record { pure = true; multi = false; partial = partial; rec = rec }) (constructor_call t args 0) (λ e. cc), h)
-call_is_site false true partial rec t args v ty h = (result_is_site (record { pure = false; multi = true; partial = partial; rec = rec }) (constructor_call t args (suc v.impure_calls)) (λ e. cc), h)
-call_is_site false false partial rec t args v ty h = (result_is_site (record { pure = false; multi = false; partial = partial; rec = rec }) (constructor_call t args (suc v.impure_calls)) (λ e. cc), h)
-
 term_is_site : (k : Kind) (t : ℕ) (a : ValuedAll) (ty : ℕ) → (k ≡ unknown → ⊥) → EqualsSites a.visit.demands → IsGiven sites (visit_term k t a) ty
-term_is_site (a_variant w variant) t a ty known h = (λ e. cc, h)
-term_is_site (a_struct w) t a ty known h = (λ e. cc, h)
-term_is_site (a_call flags infallible) t a ty known h = call_is_site flags.pure flags.multi flags.partial flags.rec t a.sites a.visit ty h
-term_is_site unknown t a ty known h = absurd (known refl)
+term_is_site k t a ty known h = grind (arith, common_steps)
 
 -- 3. rules
 sites_kept : (p : Program) → KeptWithTypes sites p
-sites_kept p = record {
-  equates = λ a b ty v m n h. by_equating (λ w. EqualsSites w.demands) a b v h (after_equated a b v m n h);
-  asks_bool = λ s b ty v e h. h;
-  asks_int = λ s z ty v e h. h;
-  asks_prim = λ s name ty v e u h. h;
-  opens = λ t e there x m s i args n v h. term_opens (kind p t) t s args e.arg_tys v (term_known p t e there) n h;
-  makes_bool = λ b ty v e h. (λ q. cc, h);
-  makes_int = λ z ty v e h. (λ q. cc, h);
-  makes_prim = λ name ty v e u h. (λ q. cc, h);
-  values = λ t e there c m a g h. term_is_site (kind p t) t a e.ret_ty (term_known p t e there) h;
-  asks_all = after_asking_all;
-  result = λ s ty v m h. h;
-}
+sites_kept p = grind (arith, by_equating, after_equated, term_opens, term_known, term_is_site, after_asking_all)
 
 only_made : (v : Visit) (s : SiteTerm) → Contains v.demands.made s ⊎ (s ≡ no_site) → IsSite s → Contains v.demands.made s
 only_made v s h n = elim h [ inl i ↦ i | inr e ↦ absurd (n e) ]

@@ -1,37 +1,30 @@
 -- A rule that is built is built within the limits: no count of its visit passes one, and its closing makes no more sites
 -- than there may be.
-use Rattle.std.proofs.Common.{◌≡◌, ◌≤◌, ℕ, true, false, not, nat_lt, List, length, Option, Some, None, is_none, refl, sym, ap, ◌∙◌, inl, inr, arith, ltb-false}
-use Rattle.std.proofs.lemmas.Bool.{cases_Bool, cond-true, cond-false, and_parts, false≢true, not-true}
+use Rattle.std.proofs.Common.{◌≡◌, ◌≤◌, ℕ, true, false, not, nat_lt, List, length, Option, None, is_none, ap, arith, ltb-false}
+use Rattle.std.proofs.lemmas.Bool.{and_parts, not-true}
+use Rattle.std.proofs.lemmas.Grind.{common_steps}
 use Rattle.model.specs.rules.Typed.{TypedRule}
 use Rattle.model.specs.rules.Program.{Program}
 use Rattle.model.specs.sites.Sites.{SiteTerm}
-use Rattle.model.specs.visits.Demands.{demands_of, with_sites}
+use Rattle.model.specs.visits.Demands.{demands_of}
 use Rattle.model.specs.sites.Closure.{is_unreachable, closed}
-use Rattle.model.specs.sites.Limits.{most_sites, RuleLimit, sites_limit, passed_in_visit, sites_until, limit_of_passed, sites_wanted, sites_reached, first_limit}
+use Rattle.model.specs.sites.Limits.{most_sites, RuleLimit, passed_in_visit, sites_until, limit_of_passed, sites_wanted, sites_reached, first_limit}
 use Rattle.model.specs.sites.Overlap.{is_built}
 use Rattle.model.proofs.Elements.{none_some}
 
 is_nothing : {X : Type 0} (o : Option X) → is_none o ≡ true → o ≡ None
-is_nothing None h = refl
-is_nothing (Some x) h = absurd (false≢true h)
+is_nothing o h = grind (arith, common_steps)
 
 none_passed : (o : Option (RuleLimit × ℕ)) → limit_of_passed o ≡ None → o ≡ None
-none_passed None e = refl
-none_passed (Some passed) e = absurd (none_some passed.0 (sym e))
+none_passed o e = grind (arith, common_steps, none_some)
 
 -- of a rule that passes no limit
 module _ (p : Program) (before : List SiteTerm) (r : TypedRule) (none : first_limit p before r ≡ None) where
   pub has_room : nat_lt most_sites (length (sites_reached p before r)) ≡ false
-  has_room =
-      elim (cases_Bool (nat_lt most_sites (length (sites_reached p before r)))) [
-        | inl t ↦ absurd (none_some sites_limit (sym none ∙ cond-true (nat_lt most_sites (length (sites_reached p before r))) (Some sites_limit) (limit_of_passed (passed_in_visit p r)) t))
-        | inr f ↦ f
-      ]
+  has_room = grind (arith, common_steps, none_some)
 
   none_in_visit : passed_in_visit p r ≡ None
-  none_in_visit =
-      none_passed (passed_in_visit p r)
-      (sym (cond-false (nat_lt most_sites (length (sites_reached p before r))) (Some sites_limit) (limit_of_passed (passed_in_visit p r)) has_room) ∙ none)
+  none_in_visit = grind (arith, common_steps, none_passed)
 
   pub all_wanted : sites_reached p before r ≡ sites_wanted p before r
   all_wanted = ap (sites_until p before r) none_in_visit
@@ -46,8 +39,7 @@ module _ (p : Program) (before : List SiteTerm) (r : TypedRule) (built : is_buil
 
   -- the sites that are reached are those of the closed demands
   pub reached_closed : sites_reached p before r ≡ (closed before (demands_of p r)).made
-  reached_closed =
-      all_wanted p before r no_limit ∙ cond-false (is_unreachable (demands_of p r)) (with_sites before (demands_of p r).made) (closed before (demands_of p r)).made is_reached
+  reached_closed = grind (arith, common_steps, all_wanted)
 
   -- there are no more of these than there may be
   pub few_made : length (closed before (demands_of p r)).made ≤ most_sites

@@ -1,8 +1,8 @@
 -- The calls that a visit goes over after an earlier one.
-use Rattle.std.proofs.Common.{Bool, [], ◌∷◌, ◌⊎◌, sym, subst, inl, inr}
-use Rattle.std.proofs.lemmas.Bool.{cases_Bool, cond-true, cond-false}
+use Rattle.std.proofs.Common.{Bool, ◌⊎◌, inl, arith}
+use Rattle.std.proofs.lemmas.Grind.{common_steps}
 use Rattle.model.specs.sites.Sites.{SiteTerm}
-use Rattle.model.specs.visits.Demands.{site_term_eq, Visit, equating, iterating}
+use Rattle.model.specs.visits.Demands.{Visit, equating, iterating}
 use Rattle.model.proofs.Elements.{In, in_either}
 use Rattle.laws_sites.proofs.AskedSites.{Good, Later, good_stays, equated}
 
@@ -14,22 +14,10 @@ pub no_call : (asked pure : Bool) (v : Visit) → NewCalls asked pure v v
 no_call asked pure v u i = inl i
 
 pub then_calls : (asked pure : Bool) (u v w : Visit) → Later v w → NewCalls asked pure u v → NewCalls asked pure v w → NewCalls asked pure u w
-then_calls asked pure u v w l f g s i =
-    elim (g s i) [
-      | inl j ↦ elim (f s j) [ inl k ↦ inl k | inr h ↦ inr (good_stays v w l asked pure s h) ]
-      | inr h ↦ inr h
-    ]
+then_calls asked pure u v w l f g s i = grind (arith, common_steps, good_stays)
 
 pub one_call : (asked pure : Bool) (s : SiteTerm) (v : Visit) → Good asked pure (iterating s v) s → NewCalls asked pure v (iterating s v)
-one_call asked pure s v h u i =
-    elim (in_either v.demands.iterators (s ∷ []) u i) [
-      | inl j ↦ inl j
-      | inr j ↦ elim j [ inl e ↦ inr (subst (Good asked pure (iterating s v)) e h) | inr n ↦ absurd n ]
-    ]
+one_call asked pure s v h u i = grind (arith, common_steps, in_either, Good)
 
 pub equating_calls : (asked pure : Bool) (a b : SiteTerm) (v : Visit) → NewCalls asked pure v (equating a b v)
-equating_calls asked pure a b v =
-    elim (cases_Bool (site_term_eq a b)) [
-      | inl t ↦ subst (NewCalls asked pure v) (sym (cond-true (site_term_eq a b) v (equated a b v) t)) (no_call asked pure v)
-      | inr f ↦ subst (NewCalls asked pure v) (sym (cond-false (site_term_eq a b) v (equated a b v) f)) (λ u i. inl i)
-    ]
+equating_calls asked pure a b v = grind (arith, equated, no_call)

@@ -1,11 +1,11 @@
 -- Classes that respect the demands hold all that must be equal; the names of a settled closure are such classes, once
 -- they are carried to the fields that no rule makes.
-use Rattle.std.proofs.Common.{◌≡◌, ◌⊎◌, ℕ, zero, suc, true, false, not, if◌then◌else◌, List, [], ◌∷◌, ◌++◌, map, length, Option, Some, None, slice_get, flat_map, refl, sym, ap, ◌∙◌, subst, inl, inr}
+use Rattle.std.proofs.Common.{◌≡◌, ◌⊎◌, ℕ, zero, suc, true, false, if◌then◌else◌, List, [], ◌∷◌, ◌++◌, map, length, Option, Some, None, slice_get, flat_map, refl, sym, ap, ◌∙◌, subst, inl, inr, arith}
 use Rattle.std.proofs.lemmas.Bool.{cases_Bool, cond-true, cond-false, and_from, false≢true}
-use Rattle.std.specs.List.{list_any, zip}
+use Rattle.std.proofs.lemmas.Grind.{common_steps}
 use Rattle.model.specs.sites.Sites.{Constraint, is_variant, is_struct, is_bool, is_int, is_prim, is_present, SiteTerm, bool_term, int_term, prim_term, argument, extractor_call, constructor_call, pick_of, variant_made, variant_field, struct_made, struct_field, some_made, some_part, tuple_part, no_site, fields_from, field_terms}
-use Rattle.model.specs.visits.Demands.{Demands, site_term_eq, has_site, with_sites, constraint_eq}
-use Rattle.model.specs.sites.Closure.{Joined, given, itself, turned, chained, at_field, HasConstraint, IsPartOf, IsProperPart, directly, deeper, class_name, same_class, due_with, due, with_owners, spoken_of, class_names, differs_in_class, has_conflict, constrained_in, fields_of_first, parts_of, goes_deeper, has_cycle}
+use Rattle.model.specs.visits.Demands.{Demands, site_term_eq, has_site, with_sites}
+use Rattle.model.specs.sites.Closure.{Joined, given, itself, turned, chained, at_field, HasConstraint, IsPartOf, IsProperPart, directly, deeper, class_name, due, with_owners, spoken_of, class_names, has_conflict, constrained_in, fields_of_first, parts_of, goes_deeper, has_cycle}
 use Rattle.laws_sites.specs.ClosureLaws.{IsEquivalence, RespectsDemands}
 use Rattle.model.proofs.Elements.{In, in_from_contains, some_is, none_some, in_left, in_right, in_either, in_slice, slice_in, any_in, in_any, map_in, from_flat_map, in_flat_map, zip_in}
 use Rattle.model.proofs.SameSites.{term_means, same_term, constraint_means}
@@ -20,8 +20,7 @@ classes_bound d f r a b (given h) = r.given a b h
 classes_bound d f r a b itself = refl
 classes_bound d f r a b (turned j) = sym (classes_bound d f r b a j)
 classes_bound d f r a b (chained {b = m} j k) = classes_bound d f r a m j ∙ classes_bound d f r m b k
-classes_bound d f r x y (at_field {a = a} {b = b} {t = t} {k = k} i j l c e g) =
-    r.fields a b t x y k i (classes_bound d f r a b j) (classes_bound d f r t a l) c e g
+classes_bound d f r x y (at_field {a = a} {b = b} {t = t} {k = k} i j l c e g) = grind (arith, common_steps, classes_bound d f r a b j, classes_bound d f r t a l)
 
 -- the same field of another site
 pub moved : SiteTerm → SiteTerm → SiteTerm
@@ -46,10 +45,7 @@ struct_fields_at a b j (suc n) (suc i) x e = struct_fields_at a b (suc j) n i x 
 pub fields_at : (c : Constraint) (a b : SiteTerm) (i : ℕ) (x : SiteTerm) → slice_get (field_terms c a) i ≡ Some x → slice_get (field_terms c b) i ≡ Some (moved b x)
 fields_at (is_variant ty variant n) a b i x e = (variant_fields_at a b variant 0 n i x e).0
 fields_at (is_struct ty n) a b i x e = (struct_fields_at a b 0 n i x e).0
-fields_at (is_bool v ty) a b i x e = absurd (none_some x e)
-fields_at (is_int z ty) a b i x e = absurd (none_some x e)
-fields_at (is_prim name) a b i x e = absurd (none_some x e)
-fields_at is_present a b i x e = absurd (none_some x e)
+fields_at _ a b i x e = absurd (none_some x e)
 
 -- the place of a site is its class's name; a field of a class with a constraint has the name of that field of the
 -- class's first constrained site
@@ -78,35 +74,18 @@ place_of_field rs cs is_present a i x e = absurd (none_some x e)
 
 -- the sites of a list without repetition are those of the list
 in_with_one : (ts : List SiteTerm) (s x : SiteTerm) → In ts x ⊎ (s ≡ x) → In (if has_site ts s then ts else ts ++ s ∷ []) x
-in_with_one ts s x h =
-    elim (cases_Bool (has_site ts s)) [
-      | inl t ↦ subst (λ l. In l x) (sym (cond-true (has_site ts s) ts (ts ++ s ∷ []) t)) (elim h [ inl i ↦ i | inr e ↦ subst (In ts) e (has_in ts s t) ])
-      | inr f ↦ subst (λ l. In l x) (sym (cond-false (has_site ts s) ts (ts ++ s ∷ []) f)) (elim h [ inl i ↦ in_left ts (s ∷ []) x i | inr e ↦ in_right ts (s ∷ []) x (inl e) ])
-    ]
+in_with_one ts s x h = grind (arith, common_steps, has_in, in_left, in_right)
 
 with_site_in : (ts : List SiteTerm) (s x : SiteTerm) → In (if has_site ts s then ts else ts ++ s ∷ []) x → In ts x ⊎ (s ≡ x)
-with_site_in ts s x h =
-    elim (cases_Bool (has_site ts s)) [
-      | inl t ↦ inl (subst (λ l. In l x) (cond-true (has_site ts s) ts (ts ++ s ∷ []) t) h)
-      | inr f ↦ elim (in_either ts (s ∷ []) x (subst (λ l. In l x) (cond-false (has_site ts s) ts (ts ++ s ∷ []) f) h)) [ inl i ↦ inl i | inr j ↦ elim j [ inl e ↦ inr e | inr n ↦ absurd n ] ]
-    ]
+with_site_in ts s x h = grind (arith, common_steps, in_either)
 
 pub in_with_sites : (ts ss : List SiteTerm) (x : SiteTerm) → In ts x ⊎ In ss x → In (with_sites ts ss) x
 in_with_sites ts [] x h = elim h [ inl i ↦ i | inr n ↦ absurd n ]
-in_with_sites ts (s ∷ ss) x h =
-    in_with_sites (if has_site ts s then ts else ts ++ s ∷ []) ss x
-    (elim h [
-      | inl i ↦ inl (in_with_one ts s x (inl i))
-      | inr j ↦ elim j [ inl e ↦ inl (in_with_one ts s x (inr e)) | inr k ↦ inr k ]
-    ])
+in_with_sites ts (s ∷ ss) x h = grind (arith, common_steps, in_with_sites (if has_site ts s then ts else ts ++ s ∷ []) ss x, in_with_one)
 
 pub with_sites_in : (ts ss : List SiteTerm) (x : SiteTerm) → In (with_sites ts ss) x → In ts x ⊎ In ss x
 with_sites_in ts [] x h = inl h
-with_sites_in ts (s ∷ ss) x h =
-    elim (with_sites_in (if has_site ts s then ts else ts ++ s ∷ []) ss x h) [
-      | inl i ↦ elim (with_site_in ts s x i) [ inl j ↦ inl j | inr e ↦ inr (inl e) ]
-      | inr j ↦ inr (inr j)
-    ]
+with_sites_in ts (s ∷ ss) x h = grind (arith, common_steps, with_sites_in (if has_site ts s then ts else ts ++ s ∷ []) ss x h, with_site_in)
 
 -- owners of owners are owners
 own_first : (s : SiteTerm) → In (with_owners s) s
@@ -174,33 +153,16 @@ equal_have es x i =
     ])
 
 spoken_in : (d : Demands) (x : SiteTerm) → In (flat_map owners_of_asked d.constraints) x ⊎ In (flat_map owners_of_equal d.equalities) x → In (spoken_of d) x
-spoken_in d x h =
-    in_with_sites [] (flat_map owners_of_asked d.constraints ++ flat_map owners_of_equal d.equalities) x
-    (inr (elim h [
-      | inl a ↦ in_left (flat_map owners_of_asked d.constraints) (flat_map owners_of_equal d.equalities) x a
-      | inr b ↦ in_right (flat_map owners_of_asked d.constraints) (flat_map owners_of_equal d.equalities) x b
-    ]))
+spoken_in d x h = grind (arith, common_steps, in_with_sites, in_left, in_right)
 
 spoken_owner : (d : Demands) (x : SiteTerm) → In (spoken_of d) x → In (spoken_of d) (owner x)
-spoken_owner d x i =
-    elim (with_sites_in [] (flat_map owners_of_asked d.constraints ++ flat_map owners_of_equal d.equalities) x i) [
-      | inl n ↦ absurd n
-      | inr j ↦
-          spoken_in d (owner x)
-          (elim (in_either (flat_map owners_of_asked d.constraints) (flat_map owners_of_equal d.equalities) x j) [
-            | inl a ↦ inl (asked_have d.constraints x a)
-            | inr b ↦ inr (equal_have d.equalities x b)
-          ])
-    ]
+spoken_owner d x i = grind (arith, common_steps, with_sites_in, spoken_in, owner, in_either, asked_have, equal_have)
 
 pub asked_spoken : (d : Demands) (c : SiteTerm × Constraint) → In d.constraints c → In (spoken_of d) c.0
 asked_spoken d c i = spoken_in d c.0 (inl (in_flat_map owners_of_asked d.constraints c c.0 i (own_first c.0)))
 
 pub equal_spoken : (d : Demands) (e : SiteTerm × SiteTerm) → In d.equalities e → In (spoken_of d) e.0 × In (spoken_of d) e.1
-equal_spoken d e i = (
-  spoken_in d e.0 (inr (in_flat_map owners_of_equal d.equalities e e.0 i (in_left (with_owners e.0) (with_owners e.1) e.0 (own_first e.0)))),
-  spoken_in d e.1 (inr (in_flat_map owners_of_equal d.equalities e e.1 i (in_right (with_owners e.0) (with_owners e.1) e.1 (own_first e.1)))),
-)
+equal_spoken d e i = grind (arith, common_steps, spoken_in, in_flat_map, in_left, own_first, in_right)
 
 -- names under which the fields of a constrained class have one name, place by place
 abbrev pub IsSettled : List (SiteTerm × SiteTerm) → Demands → Type 0
@@ -209,24 +171,12 @@ IsSettled rs d = (s : SiteTerm) (c : SiteTerm × Constraint) (i : ℕ) (x y : Si
 
 pub in_due : (rs : List (SiteTerm × SiteTerm)) (d : Demands) (s : SiteTerm) (c : SiteTerm × Constraint) (i : ℕ) (x y : SiteTerm) → In (spoken_of d) s → In d.constraints c → SameName rs s c.0
     → slice_get (field_terms c.1 s) i ≡ Some x → slice_get (field_terms c.1 c.0) i ≡ Some y → In (due rs d.constraints (spoken_of d)) (x, y)
-in_due rs d s c i x y m n e f g =
-    in_flat_map (λ u. flat_map (due_with rs u) d.constraints) (spoken_of d) s (x, y) m
-    (in_flat_map (due_with rs s) d.constraints c (x, y) n
-    (subst (λ l. In l (x, y)) (sym (cond-true (same_class rs s c.0) (zip (field_terms c.1 s) (field_terms c.1 c.0)) [] (name_same rs s c.0 e)))
-    (zip_in (field_terms c.1 s) (field_terms c.1 c.0) i x y f g)))
+in_due rs d s c i x y m n e f g = grind (arith, common_steps, in_flat_map, name_same, zip_in)
 
 -- the first constrained site of a class is one
 pub constrained_means : (rs : List (SiteTerm × SiteTerm)) (cs : List (SiteTerm × Constraint)) (n : SiteTerm) (c : SiteTerm × Constraint) → constrained_in rs cs n ≡ Some c → In cs c × (class_name rs c.0 ≡ n)
 constrained_means rs [] n c e = absurd (none_some c e)
-constrained_means rs (d ∷ ds) n c e =
-    elim (cases_Bool (site_term_eq (class_name rs d.0) n)) [
-      | inl t ↦
-          let same = some_is d c (sym (cond-true (site_term_eq (class_name rs d.0) n) (Some d) (constrained_in rs ds n) t) ∙ e) in
-          (inl same, ap (λ (q : SiteTerm × Constraint). class_name rs q.0) (sym same) ∙ term_means (class_name rs d.0) n t)
-      | inr f ↦
-          let r = constrained_means rs ds n c (sym (cond-false (site_term_eq (class_name rs d.0) n) (Some d) (constrained_in rs ds n) f) ∙ e) in
-          (inr r.0, r.1)
-    ]
+constrained_means rs (d ∷ ds) n c e = grind (arith, constrained_means rs ds n c, some_is d c, term_means (class_name rs d.0) n)
 
 pub constrained_there : (rs : List (SiteTerm × SiteTerm)) (cs : List (SiteTerm × Constraint)) (n : SiteTerm) (c : SiteTerm × Constraint) → In cs c → class_name rs c.0 ≡ n
     → (b : SiteTerm × Constraint) × (constrained_in rs cs n ≡ Some b)
@@ -234,9 +184,7 @@ constrained_there rs [] n c i e = absurd i
 constrained_there rs (d ∷ ds) n c i e =
     elim (cases_Bool (site_term_eq (class_name rs d.0) n)) [
       | inl t ↦ (d, cond-true (site_term_eq (class_name rs d.0) n) (Some d) (constrained_in rs ds n) t)
-      | inr f ↦
-          let r = constrained_there rs ds n c (rest f i) e in
-          (r.0, cond-false (site_term_eq (class_name rs d.0) n) (Some d) (constrained_in rs ds n) f ∙ r.1)
+      | inr f ↦ grind (arith, common_steps, constrained_there rs ds n c, rest f i)
     ]
   where
     rest : site_term_eq (class_name rs d.0) n ≡ false → In (d ∷ ds) c → In ds c
@@ -248,14 +196,7 @@ abbrev pub HasNoConflict : List (SiteTerm × SiteTerm) → Demands → Type 0
 HasNoConflict rs d = (a b : SiteTerm × Constraint) → In d.constraints a → In d.constraints b → SameName rs a.0 b.0 → a.1 ≡ b.1
 
 pub no_conflict : (rs : List (SiteTerm × SiteTerm)) (d : Demands) → has_conflict rs d.constraints ≡ false → HasNoConflict rs d
-no_conflict rs d h a b i j e =
-    elim (cases_Bool (constraint_eq a.1 b.1)) [
-      | inl t ↦ constraint_means a.1 b.1 t
-      | inr f ↦
-          absurd (false≢true (sym h
-          ∙ any_in (λ x. list_any (differs_in_class rs x) d.constraints) d.constraints a i
-          (any_in (differs_in_class rs a) d.constraints b j (and_from (same_class rs a.0 b.0) (not (constraint_eq a.1 b.1)) (name_same rs a.0 b.0 e) (ap not f)))))
-    ]
+no_conflict rs d h a b i j e = grind (arith, common_steps, constraint_means, any_in, and_from, name_same)
 
 -- under settled names without conflict
 module _ (d : Demands) (settled : IsSettled (class_names d) d) (agreed : HasNoConflict (class_names d) d) where
@@ -375,9 +316,7 @@ module _ (d : Demands) (settled : IsSettled (class_names d) d) (agreed : HasNoCo
 
   less_deep : (n : ℕ) (s : SiteTerm) → goes_deeper (suc n) (class_names d) d.constraints s ≡ true → goes_deeper n (class_names d) d.constraints s ≡ true
   less_deep zero s h = refl
-  less_deep (suc n) s h =
-      let r = in_any (goes_deeper (suc n) (class_names d) d.constraints) (parts_of (class_names d) d.constraints s) h in
-      any_in (goes_deeper n (class_names d) d.constraints) (parts_of (class_names d) d.constraints s) r.0 r.1 (less_deep n r.0 r.2)
+  less_deep (suc n) s h = grind (arith, common_steps, less_deep n, in_any, any_in)
 
   part_deeper : (s t : SiteTerm) → IsProperPart d s t → (n : ℕ) → goes_deeper n (class_names d) d.constraints (place (class_names d) d.constraints s) ≡ true
       → goes_deeper (suc n) (class_names d) d.constraints (place (class_names d) d.constraints t) ≡ true
@@ -403,6 +342,4 @@ module _ (d : Demands) (settled : IsSettled (class_names d) d) (agreed : HasNoCo
   no_cycle f s h =
       let w = whole_constrained s s h in
       let n = suc (length d.constraints) in
-      false≢true (sym f
-      ∙ any_in (λ (c : SiteTerm × Constraint). goes_deeper n (class_names d) d.constraints (class_name (class_names d) c.0)) d.constraints w.0 w.1
-      (ap (goes_deeper n (class_names d) d.constraints) w.2 ∙ cycle_deep s h n))
+      false≢true (grind (arith, common_steps, any_in, cycle_deep s h n))

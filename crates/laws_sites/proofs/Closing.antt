@@ -1,9 +1,10 @@
 -- Closing demands without equalities adds nothing; closing never asks what doesn't follow.
-use Rattle.std.proofs.Common.{◌≡◌, ◌⊎◌, ◌↔◌, ℕ, zero, suc, not, if◌then◌else◌, List, [], ◌∷◌, ◌++◌, map, Option, Some, None, is_some, Contains, filter, flat_map, refl, sym, ap, ◌∙◌, subst, inl, inr}
+use Rattle.std.proofs.Common.{◌≡◌, ◌⊎◌, ◌↔◌, ℕ, zero, suc, not, if◌then◌else◌, List, [], ◌∷◌, ◌++◌, map, Option, Some, None, is_some, Contains, filter, flat_map, refl, sym, ap, ◌∙◌, subst, inl, inr, arith}
 use Rattle.std.proofs.lemmas.Bool.{cases_Bool, cond-true, cond-false}
 use Rattle.std.specs.List.{zip}
+use Rattle.std.proofs.lemmas.Grind.{common_steps}
 use Rattle.model.specs.sites.Sites.{Constraint, SiteTerm, field_terms}
-use Rattle.model.specs.visits.Demands.{Demands, site_term_eq, has_site, with_sites}
+use Rattle.model.specs.visits.Demands.{Demands, has_site, with_sites}
 use Rattle.model.specs.sites.Closure.{Joined, given, itself, turned, chained, at_field, HasConstraint, IsUnreachable, two_at_a_site, constraint_of, Closed, class_at, without_class_of, merged_classes, merged_all, with_constraint, with_constraints, ascending, is_in_class, next_constrained, field_equalities, taken, closing, before_closing, begins_with, in_order, most_closing_steps, closed, two_in_a_class}
 use Rattle.laws_sites.specs.ClosureLaws.{ClosedFollows, HasEnded}
 use Rattle.model.proofs.Elements.{In, in_from_contains, contains_from_in, some_is, none_some, in_left, in_right, in_either, in_map, from_flat_map, in_zip, in_filter, passed_filter}
@@ -14,17 +15,14 @@ use Rattle.model.proofs.Options.{is_there}
 -- where no class is left, nothing is taken
 nothing_at : (cs : List (SiteTerm × Constraint)) (s : SiteTerm) (ss : List SiteTerm) (o : Option Constraint) → next_constrained [] cs ss ≡ None
     → elim o as (λ _. Option (SiteTerm × Constraint)) [ None ↦ next_constrained [] cs ss | Some c ↦ if is_in_class [] s then Some (s, c) else next_constrained [] cs ss ] ≡ None
-nothing_at cs s ss None e = e
-nothing_at cs s ss (Some c) e = e
+nothing_at cs s ss o e = grind (arith, common_steps)
 
 nothing_next : (cs : List (SiteTerm × Constraint)) (order : List SiteTerm) → next_constrained [] cs order ≡ None
 nothing_next cs [] = refl
 nothing_next cs (s ∷ ss) = nothing_at cs s ss (constraint_of cs s) (nothing_next cs ss)
 
 pub closing_ends : (n : ℕ) (k : Closed) → next_constrained k.classes k.constraints k.made ≡ None → closing n k ≡ k
-closing_ends zero k e = refl
-closing_ends (suc n) k e =
-    ap (λ o. elim o as (λ _. Closed) [ None ↦ k | Some c ↦ closing n (taken k c (ascending k.made (class_at k.classes c.0))) ]) e
+closing_ends n k e = grind (arith, common_steps)
 
 no_classes : (order made : List SiteTerm) → flat_map (λ s. filter (begins_with s) (map (ascending made) [])) order ≡ []
 no_classes [] made = refl
@@ -42,51 +40,26 @@ stays before d e = ap (closing most_closing_steps) opened ∙ closing_ends most_
 
 pub closing_adds_nothing_lem : (before : List SiteTerm) (d : Demands) → d.equalities ≡ []
     → closed before d ≡ record { constraints = with_constraints [] d.constraints; classes = []; made = with_sites before d.made }
-closing_adds_nothing_lem before d e =
-    ap in_order (stays before d e)
-    ∙ (λ i. record { constraints = with_constraints [] d.constraints; classes = no_classes (with_sites before d.made) (with_sites before d.made) i; made = with_sites before d.made })
+closing_adds_nothing_lem before d e = grind (arith, common_steps, stays before d e, no_classes (with_sites before d.made) (with_sites before d.made))
 
 pub plain_closing_ends_lem : (before : List SiteTerm) (d : Demands) → d.equalities ≡ [] → HasEnded (closing most_closing_steps (before_closing before d))
 plain_closing_ends_lem before d e = subst HasEnded (sym (stays before d e)) (nothing_next (with_constraints [] d.constraints) (with_sites before d.made))
 
 pub found_constraint : (cs : List (SiteTerm × Constraint)) (s : SiteTerm) (c : Constraint) → constraint_of cs s ≡ Some c → In cs (s, c)
 found_constraint [] s c e = absurd (none_some c e)
-found_constraint (d ∷ ds) s c e =
-    elim (cases_Bool (site_term_eq d.0 s)) [
-      | inl t ↦
-          let same = term_means d.0 s t in
-          let this = some_is d.1 c (sym (cond-true (site_term_eq d.0 s) (Some d.1) (constraint_of ds s) t) ∙ e) in
-          inl (λ k. (same k, this k))
-      | inr f ↦ inr (found_constraint ds s c (sym (cond-false (site_term_eq d.0 s) (Some d.1) (constraint_of ds s) f) ∙ e))
-    ]
+found_constraint (d ∷ ds) s c e = grind (arith, common_steps, found_constraint ds s c, term_means d.0 s, some_is d.1 c)
 
 -- constraints of a list, each site once
 with_one_in : (cs : List (SiteTerm × Constraint)) (c x : SiteTerm × Constraint) → In (with_constraint cs c) x → In cs x ⊎ (c ≡ x)
-with_one_in cs c x i =
-    elim (cases_Bool (is_some (constraint_of cs c.0))) [
-      | inl t ↦ inl (subst (λ l. In l x) (cond-true (is_some (constraint_of cs c.0)) cs (cs ++ c ∷ []) t) i)
-      | inr f ↦
-          elim (in_either cs (c ∷ []) x (subst (λ l. In l x) (cond-false (is_some (constraint_of cs c.0)) cs (cs ++ c ∷ []) f) i)) [
-            | inl j ↦ inl j
-            | inr j ↦ elim j [ inl e ↦ inr e | inr n ↦ absurd n ]
-          ]
-    ]
+with_one_in cs c x i = grind (arith, common_steps, in_either)
 
 pub constraints_in : (cs ds : List (SiteTerm × Constraint)) (x : SiteTerm × Constraint) → In (with_constraints cs ds) x → In cs x ⊎ In ds x
 constraints_in cs [] x i = inl i
-constraints_in cs (d ∷ ds) x i =
-    elim (constraints_in (with_constraint cs d) ds x i) [
-      | inl j ↦ elim (with_one_in cs d x j) [ inl k ↦ inl k | inr e ↦ inr (inl e) ]
-      | inr j ↦ inr (inr j)
-    ]
+constraints_in cs (d ∷ ds) x i = grind (arith, common_steps, constraints_in (with_constraint cs d) ds x i, with_one_in)
 
 -- constraints stay
 pub keeps_one : (cs : List (SiteTerm × Constraint)) (c x : SiteTerm × Constraint) → In cs x → In (with_constraint cs c) x
-keeps_one cs c x i =
-    elim (cases_Bool (is_some (constraint_of cs c.0))) [
-      | inl t ↦ subst (λ l. In l x) (sym (cond-true (is_some (constraint_of cs c.0)) cs (cs ++ c ∷ []) t)) i
-      | inr f ↦ subst (λ l. In l x) (sym (cond-false (is_some (constraint_of cs c.0)) cs (cs ++ c ∷ []) f)) (in_left cs (c ∷ []) x i)
-    ]
+keeps_one cs c x i = grind (arith, common_steps, in_left)
 
 pub keeps_all : (cs ds : List (SiteTerm × Constraint)) (x : SiteTerm × Constraint) → In cs x → In (with_constraints cs ds) x
 keeps_all cs [] x i = i
@@ -110,22 +83,13 @@ module _ (all : List (SiteTerm × Constraint)) (once : OneEach all) where
             let same : o.0 ≡ c.1 = once c.0 o.0 c.1 (within (c.0, o.0) i) m in
             subst (λ l. In l x) (sym (cond-true (is_some (constraint_of cs c.0)) cs (cs ++ c ∷ []) t))
             (elim h [ inl j ↦ j | inr e ↦ subst (In cs) e (subst (λ k. In cs (c.0, k)) same i) ])
-        | inr f ↦
-            subst (λ l. In l x) (sym (cond-false (is_some (constraint_of cs c.0)) cs (cs ++ c ∷ []) f))
-            (elim h [ inl j ↦ in_left cs (c ∷ []) x j | inr e ↦ in_right cs (c ∷ []) x (inl e) ])
+        | inr f ↦ grind (arith, common_steps, in_left cs (c ∷ []) x, in_right cs (c ∷ []) x)
       ]
 
   pub in_constraints : (cs ds : List (SiteTerm × Constraint)) (x : SiteTerm × Constraint) → ((y : SiteTerm × Constraint) → In cs y → In all y) → ((y : SiteTerm × Constraint) → In ds y → In all y)
       → In cs x ⊎ In ds x → In (with_constraints cs ds) x
   in_constraints cs [] x f g h = elim h [ inl i ↦ i | inr n ↦ absurd n ]
-  in_constraints cs (d ∷ ds) x f g h =
-      in_constraints (with_constraint cs d) ds x
-      (λ y i. elim (with_one_in cs d y i) [ inl j ↦ f y j | inr e ↦ g y (inl e) ])
-      (λ y i. g y (inr i))
-      (elim h [
-        | inl i ↦ inl (one_kept cs d x f (g d (inl refl)) (inl i))
-        | inr j ↦ elim j [ inl e ↦ inl (one_kept cs d x f (g d (inl refl)) (inr e)) | inr k ↦ inr k ]
-      ])
+  in_constraints cs (d ∷ ds) x f g h = grind (arith, common_steps, in_constraints (with_constraint cs d) ds x, with_one_in, one_kept)
 
 -- each constraint of a list in which no site has two is kept
 pub constraints_kept : (ds : List (SiteTerm × Constraint)) → OneEach ds → (x : SiteTerm × Constraint) → In ds x → In (with_constraints [] ds) x
@@ -146,12 +110,7 @@ pub closing_keeps : (P : Closed → Type 0)
     → ((k : Closed) → P k → (c : SiteTerm × Constraint) → next_constrained k.classes k.constraints k.made ≡ Some c → P (taken k c (ascending k.made (class_at k.classes c.0))))
     → (n : ℕ) (k : Closed) → P k → P (closing n k)
 closing_keeps P step zero k h = h
-closing_keeps P step (suc n) k h = go_on (next_constrained k.classes k.constraints k.made) refl (closing_keeps P step n)
-  where
-    go_on : (o : Option (SiteTerm × Constraint)) → next_constrained k.classes k.constraints k.made ≡ o → ((j : Closed) → P j → P (closing n j))
-        → P (elim o [ None ↦ k | Some c ↦ closing n (taken k c (ascending k.made (class_at k.classes c.0))) ])
-    go_on None e later = h
-    go_on (Some c) e later = later (taken k c (ascending k.made (class_at k.classes c.0))) (step k h c e)
+closing_keeps P step (suc n) k h = grind (arith, common_steps, closing_keeps P step n)
 
 -- what closing asks follows from the demands
 module _ (d : Demands) where
@@ -164,11 +123,7 @@ module _ (d : Demands) where
 
   pub in_class_joined : (ks : List (List SiteTerm)) → AreJoined ks → (s x : SiteTerm) → In (class_at ks s) x → Joined d s x
   in_class_joined [] j s x i = elim i [ inl e ↦ subst (Joined d s) e itself | inr n ↦ absurd n ]
-  in_class_joined (k ∷ ks) j s x i =
-      elim (cases_Bool (has_site k s)) [
-        | inl t ↦ j k s x (inl refl) (has_in k s t) (subst (λ l. In l x) (cond-true (has_site k s) k (class_at ks s) t) i)
-        | inr f ↦ in_class_joined ks (λ l a b m. j l a b (inr m)) s x (subst (λ l. In l x) (cond-false (has_site k s) k (class_at ks s) f) i)
-      ]
+  in_class_joined (k ∷ ks) j s x i = grind (arith, in_class_joined ks (λ l a b m. j l a b (inr m)) s x, has_in k s, j k s x (inl refl))
 
   without_joined : (ks : List (List SiteTerm)) → AreJoined ks → (s : SiteTerm) → AreJoined (without_class_of ks s)
   without_joined ks j s k a b i = j k a b (in_filter (λ l. not (has_site l s)) ks k i)
@@ -215,17 +170,7 @@ module _ (d : Demands) where
 
   pub next_asked : (ks : List (List SiteTerm)) (cs : List (SiteTerm × Constraint)) (order : List SiteTerm) (c : SiteTerm × Constraint) → next_constrained ks cs order ≡ Some c → In cs c
   next_asked ks cs [] c e = absurd (none_some c e)
-  next_asked ks cs (s ∷ ss) c e = at_site (constraint_of cs s) refl e (next_asked ks cs ss c)
-    where
-      at_site : (o : Option Constraint) → constraint_of cs s ≡ o
-          → elim o [ None ↦ next_constrained ks cs ss | Some b ↦ if is_in_class ks s then Some (s, b) else next_constrained ks cs ss ] ≡ Some c
-          → (next_constrained ks cs ss ≡ Some c → In cs c) → In cs c
-      at_site None q f later = later f
-      at_site (Some b) q f later =
-          elim (cases_Bool (is_in_class ks s)) [
-            | inl t ↦ subst (In cs) (some_is (s, b) c (sym (cond-true (is_in_class ks s) (Some (s, b)) (next_constrained ks cs ss) t) ∙ f)) (found_constraint cs s b q)
-            | inr n ↦ later (sym (cond-false (is_in_class ks s) (Some (s, b)) (next_constrained ks cs ss) n) ∙ f)
-          ]
+  next_asked ks cs (s ∷ ss) c e = grind (arith, common_steps, next_asked ks cs ss c, some_is, found_constraint)
 
   pub taken_follows : (k : Closed) → FollowsSoFar k → (c : SiteTerm × Constraint) → In k.constraints c → FollowsSoFar (taken k c (ascending k.made (class_at k.classes c.0)))
   taken_follows k f c i =
@@ -255,13 +200,7 @@ module _ (d : Demands) where
   }
 
   pub in_order_follows : (k : Closed) → FollowsSoFar k → FollowsSoFar (in_order k)
-  in_order_follows k f = record {
-    constraints = f.constraints;
-    classes = λ l a b i m n.
-        let s = from_flat_map (λ u. filter (begins_with u) (map (ascending k.made) k.classes)) k.made l i in
-        let w = in_map (ascending k.made) k.classes l (in_filter (begins_with s.0) (map (ascending k.made) k.classes) l s.2) in
-        f.classes w.0 a b w.1 (has_in w.0 a (passed_filter (has_site w.0) k.made a (subst (λ q. In q a) (sym w.2) m))) (has_in w.0 b (passed_filter (has_site w.0) k.made b (subst (λ q. In q b) (sym w.2) n)));
-  }
+  in_order_follows k f = grind (arith, common_steps, from_flat_map, in_map, in_filter, has_in, passed_filter)
 
   pub closed_follows : (before : List SiteTerm) → FollowsSoFar (closed before d)
   closed_follows before = in_order_follows (closing most_closing_steps (before_closing before d)) (closing_follows most_closing_steps (before_closing before d) (before_closing_follows before))

@@ -1,11 +1,12 @@
 -- The closing of a rule that is built ends: each step lessens the number of pairs of a made site and one of its owners
 -- that stands in a class, and there are no more pairs than steps.
-use Rattle.std.proofs.Common.{◌≡◌, ◌⊎◌, ◌+◌, ℕ, zero, suc, ◌<◌, ◌≤◌, Bool, true, false, not, ◌&&◌, cond, if◌then◌else◌, ◌*◌, List, [], ◌∷◌, length, Option, Some, None, sum_by, count_by, flat_map, refl, sym, ap, ◌∙◌, subst, inl, inr, arith}
-use Rattle.std.proofs.lemmas.Bool.{cases_Bool, cond-true, cond-false, and_parts, and_from, false≢true}
+use Rattle.std.proofs.Common.{◌≡◌, ◌⊎◌, ◌+◌, ℕ, zero, suc, ◌<◌, ◌≤◌, Bool, true, false, not, ◌&&◌, cond, ◌*◌, List, [], ◌∷◌, length, Option, Some, None, sum_by, count_by, flat_map, refl, sym, ap, ◌∙◌, subst, inl, inr, arith}
+use Rattle.std.proofs.lemmas.Bool.{cases_Bool, and_parts, and_from}
 use Rattle.std.proofs.lemmas.List.Sums.{sum_by-cons}
+use Rattle.std.proofs.lemmas.Grind.{common_steps}
 use Rattle.model.specs.sites.Sites.{Constraint, SiteTerm, bool_term, int_term, prim_term, argument, extractor_call, constructor_call, pick_of, variant_made, variant_field, struct_made, struct_field, some_made, some_part, tuple_part, no_site, field_terms}
 use Rattle.model.specs.visits.Demands.{Demands, site_term_eq, has_site}
-use Rattle.model.specs.sites.Closure.{with_owners, constraint_of, Closed, class_at, without_class_of, merged_all, ascending, is_in_class, next_constrained, field_equalities, taken, closing, before_closing, most_closing_steps}
+use Rattle.model.specs.sites.Closure.{with_owners, Closed, class_at, without_class_of, merged_all, ascending, is_in_class, next_constrained, field_equalities, taken, closing, before_closing, most_closing_steps}
 use Rattle.model.specs.sites.Limits.{most_sites}
 use Rattle.laws_sites.specs.ClosureLaws.{HasEnded}
 use Rattle.model.proofs.Elements.{In, some_is, none_some, any_in, in_any, in_filter, filter_from, passed_filter}
@@ -33,12 +34,7 @@ counted_field p s a e = ap (count_by p) e ∙ sum_by-cons (λ x. bit (p x)) s (w
 -- a site that passes after passed before and isn't taken, or its owner is taken; one that is taken passed before
 no_more_than : (took after was owner : Bool) → (took ≡ true → was ≡ true) → (after ≡ true → ((was ≡ true) × (took ≡ false)) ⊎ (owner ≡ true))
     → bit took + bit after ≤ bit was + bit owner
-no_more_than true true was owner f g =
-    elim (g refl) [ inl h ↦ absurd (false≢true (sym h.1)) | inr h ↦ let a = ap bit (f refl) in let b = ap bit h in omega (arith, a, b) ]
-no_more_than true false was owner f g = let a = ap bit (f refl) in omega (arith, a)
-no_more_than false true was owner f g =
-    elim (g refl) [ inl h ↦ let a = ap bit h.0 in omega (arith, a) | inr h ↦ let a = ap bit h in omega (arith, a) ]
-no_more_than false false was owner f g = omega arith
+no_more_than took after was owner f g = grind (arith, common_steps)
 
 -- each site that is taken passed before; each that passes after passed before and isn't taken, or is a field of one that is
 record TakesOwners (took after was : SiteTerm → Bool) : Type 0 where
@@ -50,18 +46,8 @@ module _ (took after was : SiteTerm → Bool) (of : TakesOwners took after was) 
   lessened : (u : SiteTerm) → bit (took u) + owners_by after u ≤ owners_by was u
   lessened =
       by_owners (λ u. bit (took u) + owners_by after u ≤ owners_by was u)
-      (λ s o e.
-      let x = counted_alone after s e in
-      let y = counted_alone was s e in
-      let l = no_more_than (took s) (after s) (was s) false (of.from s)
-      (λ t. elim (of.new s t) [ inl h ↦ inl h | inr h ↦ absurd (none_some h.0 (sym o ∙ h.1)) ]) in
-      omega (arith, x, y, l))
-      (λ s a o e h.
-      let x = counted_field after s a e in
-      let y = counted_field was s a e in
-      let l = no_more_than (took s) (after s) (was s) (took a) (of.from s)
-      (λ t. elim (of.new s t) [ inl k ↦ inl k | inr k ↦ inr (ap took (some_is a k.0 (sym o ∙ k.1)) ∙ k.2) ]) in
-      omega (arith, x, y, l, h))
+      (λ s o e. grind (arith, common_steps, counted_alone, no_more_than, none_some))
+      (λ s a o e h. grind (arith, common_steps, counted_field, no_more_than, some_is))
 
 -- 2. a site has no more owners among sites than there are
 -- how deep a field stands
@@ -96,11 +82,7 @@ module _ (y : SiteTerm) where
   not_owner : (s : SiteTerm) → depth s < depth y → owners_by (site_term_eq y) s ≡ 0
   not_owner =
       by_owners (λ s. depth s < depth y → owners_by (site_term_eq y) s ≡ 0)
-      (λ s o e l.
-      elim (cases_Bool (site_term_eq y s)) [
-        | inl t ↦ let d = depth_same y s t in absurd (omega (arith, d, l))
-        | inr f ↦ counted_alone (site_term_eq y) s e ∙ ap bit f
-      ])
+      (λ s o e l. grind (arith, common_steps, depth_same, counted_alone))
       (λ s a o e h l.
       let d = depth_of_field s a o in
       elim (cases_Bool (site_term_eq y s)) [
@@ -112,9 +94,7 @@ module _ (y : SiteTerm) where
   owner_once : (s : SiteTerm) → owners_by (site_term_eq y) s ≤ 1
   owner_once =
       by_owners (λ s. owners_by (site_term_eq y) s ≤ 1)
-      (λ s o e.
-      let x = counted_alone (site_term_eq y) s e in
-      elim (cases_Bool (site_term_eq y s)) [ inl t ↦ let z = ap bit t in omega (arith, x, z) | inr f ↦ let z = ap bit f in omega (arith, x, z) ])
+      (λ s o e. grind (arith, common_steps, counted_alone))
       (λ s a o e h.
       let x = counted_field (site_term_eq y) s a e in
       elim (cases_Bool (site_term_eq y s)) [
@@ -131,36 +111,14 @@ module _ (y : SiteTerm) where
 either_passes : (p q r : SiteTerm → Bool) → ((x : SiteTerm) → p x ≡ true → (q x ≡ true) ⊎ (r x ≡ true)) → (s : SiteTerm) → owners_by p s ≤ owners_by q s + owners_by r s
 either_passes p q r h =
     by_owners (λ s. owners_by p s ≤ owners_by q s + owners_by r s)
-    (λ s o e.
-    let x = counted_alone p s e in
-    let y = counted_alone q s e in
-    let z = counted_alone r s e in
-    let l = one s in
-    omega (arith, x, y, z, l))
-    (λ s a o e k.
-    let x = counted_field p s a e in
-    let y = counted_field q s a e in
-    let z = counted_field r s a e in
-    let l = one s in
-    omega (arith, x, y, z, l, k))
+    (λ s o e. grind (arith, common_steps, one s, counted_alone))
+    (λ s a o e k. grind (arith, common_steps, one s, counted_field))
   where
     one : (s : SiteTerm) → bit (p s) ≤ bit (q s) + bit (r s)
-    one s =
-        elim (cases_Bool (p s)) [
-          | inl t ↦
-              let x = ap bit t in
-              elim (h s t) [ inl a ↦ let y = ap bit a in omega (arith, x, y) | inr b ↦ let y = ap bit b in omega (arith, x, y) ]
-          | inr f ↦ let x = ap bit f in omega (arith, x)
-        ]
+    one s = grind (arith, common_steps)
 
 none_owned : (p : SiteTerm → Bool) → ((x : SiteTerm) → p x ≡ true → ⊥) → (s : SiteTerm) → owners_by p s ≡ 0
-none_owned p h =
-    by_owners (λ s. owners_by p s ≡ 0)
-    (λ s o e. counted_alone p s e ∙ none s)
-    (λ s a o e k. let x = counted_field p s a e in let y = none s in omega (arith, x, y, k))
-  where
-    none : (s : SiteTerm) → bit (p s) ≡ 0
-    none s = elim (cases_Bool (p s)) [ inl t ↦ absurd (h s t) | inr f ↦ ap bit f ]
+none_owned p h = grind (arith, common_steps, by_owners (λ s. owners_by p s ≡ 0), counted_alone p, counted_field p)
 
 owners_among : (us : List SiteTerm) (p : SiteTerm → Bool) → ((x : SiteTerm) → p x ≡ true → In us x) → (s : SiteTerm) → owners_by p s ≤ length us
 owners_among [] p h s = let e = none_owned p h s in omega (arith, e)
@@ -171,19 +129,10 @@ owners_among (y ∷ us) p h s =
     omega (arith, a, b, c)
   where
     rest : (x : SiteTerm) → (p x && not (site_term_eq y x)) ≡ true → In us x
-    rest x t =
-        let k = and_parts (p x) (not (site_term_eq y x)) t in
-        elim (h x k.0) [
-          | inl e ↦ absurd (false≢true (sym (ap not (term_same y)) ∙ subst (λ z. not (site_term_eq y z) ≡ true) (sym e) k.1))
-          | inr i ↦ i
-        ]
+    rest x t = grind (arith, common_steps, and_parts (p x) (not (site_term_eq y x)) t, term_same y)
 
     split : (x : SiteTerm) → p x ≡ true → ((p x && not (site_term_eq y x)) ≡ true) ⊎ (site_term_eq y x ≡ true)
-    split x t =
-        elim (cases_Bool (site_term_eq y x)) [
-          | inl e ↦ inr e
-          | inr f ↦ inl (and_from (p x) (not (site_term_eq y x)) t (ap not f))
-        ]
+    split x t = grind (arith, common_steps, and_from (p x) (not (site_term_eq y x)) t)
 
 -- 3. pairs of a site of a list and one of its owners that is in the list and in a class
 abbrev is_held : List SiteTerm → List (List SiteTerm) → SiteTerm → Bool
@@ -194,35 +143,16 @@ pairs_held us ks = sum_by (owners_by (is_held us ks)) us
 
 held_few : (us : List SiteTerm) (ks : List (List SiteTerm)) (n : ℕ) → length us ≤ n → (xs : List SiteTerm) → sum_by (owners_by (is_held us ks)) xs ≤ length xs * n
 held_few us ks n l [] = omega arith
-held_few us ks n l (x ∷ xs) =
-    let a = sum_by-cons (owners_by (is_held us ks)) x xs in
-    let b = held_few us ks n l xs in
-    let c = owners_among us (is_held us ks) (λ y t. has_in us y (and_parts (has_site us y) (is_in_class ks y) t).0) x in
-    omega (arith, a, b, c, l)
+held_few us ks n l (x ∷ xs) = grind (arith, common_steps, held_few us ks n l xs, sum_by-cons, owners_among, has_in, and_parts)
 
 less_in_all : (f g : SiteTerm → ℕ) → ((x : SiteTerm) → f x ≤ g x) → (xs : List SiteTerm) → sum_by f xs ≤ sum_by g xs
 less_in_all f g h [] = omega arith
-less_in_all f g h (x ∷ xs) =
-    let a = sum_by-cons f x xs in
-    let b = sum_by-cons g x xs in
-    let c = less_in_all f g h xs in
-    let d = h x in
-    omega (arith, a, b, c, d)
+less_in_all f g h (x ∷ xs) = grind (arith, common_steps, less_in_all f g h xs, sum_by-cons)
 
 less_in_one : (f g : SiteTerm → ℕ) → ((x : SiteTerm) → f x ≤ g x) → (xs : List SiteTerm) (m : SiteTerm) → In xs m → f m < g m → sum_by f xs < sum_by g xs
 less_in_one f g h [] m i l = absurd i
-less_in_one f g h (x ∷ xs) m (inl e) l =
-    let a = sum_by-cons f x xs in
-    let b = sum_by-cons g x xs in
-    let c = less_in_all f g h xs in
-    let d : f x < g x = subst (λ y. f y < g y) (sym e) l in
-    omega (arith, a, b, c, d)
-less_in_one f g h (x ∷ xs) m (inr i) l =
-    let a = sum_by-cons f x xs in
-    let b = sum_by-cons g x xs in
-    let c = less_in_one f g h xs m i l in
-    let d = h x in
-    omega (arith, a, b, c, d)
+less_in_one f g h (x ∷ xs) m (inl e) l = grind (arith, common_steps, sum_by-cons, less_in_all)
+less_in_one f g h (x ∷ xs) m (inr i) l = grind (arith, common_steps, less_in_one f g h xs m i l, sum_by-cons)
 
 -- 4. a step
 -- the site that is taken is made, and in a class
@@ -232,18 +162,7 @@ record IsNext (ks : List (List SiteTerm)) (made : List SiteTerm) (s : SiteTerm) 
 
 next_is : (ks : List (List SiteTerm)) (cs : List (SiteTerm × Constraint)) (order : List SiteTerm) (c : SiteTerm × Constraint) → next_constrained ks cs order ≡ Some c → IsNext ks order c.0
 next_is ks cs [] c e = absurd (none_some c e)
-next_is ks cs (s ∷ ss) c e = at_site (constraint_of cs s) e (λ f. let k = next_is ks cs ss c f in record { made_site = inr k.made_site; in_class = k.in_class })
-  where
-    at_site : (o : Option Constraint) → elim o [ None ↦ next_constrained ks cs ss | Some b ↦ if is_in_class ks s then Some (s, b) else next_constrained ks cs ss ] ≡ Some c
-        → (next_constrained ks cs ss ≡ Some c → IsNext ks (s ∷ ss) c.0) → IsNext ks (s ∷ ss) c.0
-    at_site None f later = later f
-    at_site (Some b) f later =
-        elim (cases_Bool (is_in_class ks s)) [
-          | inl t ↦
-              let same = some_is (s, b) c (sym (cond-true (is_in_class ks s) (Some (s, b)) (next_constrained ks cs ss) t) ∙ f) in
-              subst (λ (x : SiteTerm × Constraint). IsNext ks (s ∷ ss) x.0) same (record { made_site = inl refl; in_class = t })
-          | inr n ↦ later (sym (cond-false (is_in_class ks s) (Some (s, b)) (next_constrained ks cs ss) n) ∙ f)
-        ]
+next_is ks cs (s ∷ ss) c e = grind (arith, common_steps, next_is ks cs ss c, some_is)
 
 -- a step of a closing: the class of the next constraint is taken, where all that is made stands among some sites
 record StepAmong (us : List SiteTerm) : Type 0 where
@@ -282,9 +201,7 @@ module _ (us : List SiteTerm) (step : StepAmong us) where
   classes_after = merged_all (without_class_of k.classes c.0) (field_equalities c.1 (ascending k.made (class_at k.classes c.0)))
 
   class_there : In k.classes class
-  class_there =
-      let o = in_any (λ l. has_site l c.0) k.classes next.in_class in
-      class_found k.classes o.0 c.0 o.1 (has_in o.0 c.0 o.2)
+  class_there = grind (arith, common_steps, in_any, class_found, has_in)
 
   left_apart : IsApart left
   left_apart l n s i j x y = apart l n s (without_in k.classes c.0 l i).0 (without_in k.classes c.0 n j).0 x y
@@ -312,11 +229,7 @@ module _ (us : List SiteTerm) (step : StepAmong us) where
   Comes x = ((l : List SiteTerm) × In left l × In l x) ⊎ ((a : SiteTerm) × (owner_of x ≡ Some a) × In members a)
 
   all_come : AllIn Comes classes_after
-  all_come =
-      each_all_in Comes (field_equalities c.1 members) left (λ l x i j. inl (l, i, j))
-      (λ e i.
-      let q = equality_members c.1 members e i in
-      (inr (q.0, owner_of_field c.1 q.0 e.0 q.4, q.2), inr (q.1, owner_of_field c.1 q.1 e.1 q.5, q.3)))
+  all_come = grind (arith, each_all_in Comes (field_equalities c.1 members) left (λ l x i j. inl (l, i, j)), equality_members c.1 members, owner_of_field c.1)
 
   held_after : (x : SiteTerm) → is_held us classes_after x ≡ true
       → ((is_held us k.classes x ≡ true) × (has_site members x ≡ false)) ⊎ ((a : SiteTerm) × (owner_of x ≡ Some a) × (has_site members a ≡ true))
@@ -349,14 +262,7 @@ module _ (us : List SiteTerm) (step : StepAmong us) where
 -- sites stay made
 made_stay : (n : ℕ) (k : Closed) (x : SiteTerm) → In k.made x → In (closing n k).made x
 made_stay zero k x i = i
-made_stay (suc n) k x i = go_on (next_constrained k.classes k.constraints k.made) (made_stay n)
-  where
-    go_on : (o : Option (SiteTerm × Constraint)) → ((j : Closed) (x : SiteTerm) → In j.made x → In (closing n j).made x)
-        → In (elim o as (λ _. Closed) [ None ↦ k | Some c ↦ closing n (taken k c (ascending k.made (class_at k.classes c.0))) ]).made x
-    go_on None later = i
-    go_on (Some c) later =
-        later (taken k c (ascending k.made (class_at k.classes c.0))) x
-        (in_with_sites k.made (flat_map (field_terms c.1) (ascending k.made (class_at k.classes c.0))) x (inl i))
+made_stay (suc n) k x i = grind (arith, common_steps, made_stay n, in_with_sites)
 
 -- where there are no more such pairs than steps, the closing ends
 ends_within : (us : List SiteTerm) (n : ℕ) (k : Closed) → IsApart k.classes → ((x : SiteTerm) → In (closing n k).made x → In us x) → pairs_held us k.classes ≤ n → HasEnded (closing n k)

@@ -1,8 +1,8 @@
 -- What closing asks may be tested.
-use Rattle.std.proofs.Common.{ℕ, ◌+◌, ◌<◌, true, not, List, [], ◌∷◌, ◌++◌, map, Contains, filter, refl, sym, subst, inl, inr, arith}
-use Rattle.std.proofs.lemmas.Bool.{cases_Bool, cond-true, cond-false}
+use Rattle.std.proofs.Common.{ℕ, true, not, List, [], ◌∷◌, ◌++◌, map, Contains, filter, refl, sym, subst, inl, inr, arith}
 use Rattle.std.specs.List.{zip}
-use Rattle.model.specs.sites.Sites.{Constraint, is_variant, is_struct, is_bool, is_int, is_prim, is_present, SiteTerm, variant_field, struct_field, field_terms}
+use Rattle.std.proofs.lemmas.Grind.{common_steps}
+use Rattle.model.specs.sites.Sites.{Constraint, SiteTerm, field_terms}
 use Rattle.model.specs.visits.Demands.{Demands, has_site}
 use Rattle.model.specs.sites.Closure.{HasConstraint, IsUnreachable, Closed, class_at, without_class_of, merged_classes, merged_all, with_constraints, ascending, field_equalities, taken, closing, before_closing, begins_with, in_order, most_closing_steps, closed}
 use Rattle.model.proofs.Elements.{In, in_from_contains, contains_from_in, in_left, in_right, in_either, in_slice, in_map, map_in, from_flat_map, in_zip, in_filter, passed_filter}
@@ -20,29 +20,13 @@ module _ (P : SiteTerm → Type 0) where
 
   pub in_class_at : (ks : List (List SiteTerm)) → Members ks → (s : SiteTerm) → P s → (u : SiteTerm) → In (class_at ks s) u → P u
   in_class_at [] h s g u i = elim i [ inl e ↦ subst P e g | inr n ↦ absurd n ]
-  in_class_at (k ∷ ks) h s g u i =
-      elim (cases_Bool (has_site k s)) [
-        | inl t ↦ h k u (inl refl) (subst (λ l. In l u) (cond-true (has_site k s) k (class_at ks s) t) i)
-        | inr f ↦ in_class_at ks (λ l w j. h l w (inr j)) s g u (subst (λ l. In l u) (cond-false (has_site k s) k (class_at ks s) f) i)
-      ]
+  in_class_at (k ∷ ks) h s g u i = grind (arith, common_steps, in_class_at ks (λ l w j. h l w (inr j)) s g u)
 
   pub without_members : (ks : List (List SiteTerm)) → Members ks → (s : SiteTerm) → Members (without_class_of ks s)
   without_members ks h s k u i = h k u (in_filter (λ l. not (has_site l s)) ks k i)
 
   merged_members : (ks : List (List SiteTerm)) → Members ks → (e : SiteTerm × SiteTerm) → P e.0 × P e.1 → Members (merged_classes ks e)
-  merged_members ks h e g =
-      elim (cases_Bool (has_site (class_at ks e.0) e.1)) [
-        | inl t ↦ subst Members (sym (cond-true (has_site (class_at ks e.0) e.1) ks ((class_at ks e.0 ++ class_at ks e.1) ∷ without_class_of (without_class_of ks e.0) e.1) t)) h
-        | inr f ↦ subst Members (sym (cond-false (has_site (class_at ks e.0) e.1) ks ((class_at ks e.0 ++ class_at ks e.1) ∷ without_class_of (without_class_of ks e.0) e.1) f)) both
-      ]
-    where
-      both : Members ((class_at ks e.0 ++ class_at ks e.1) ∷ without_class_of (without_class_of ks e.0) e.1)
-      both k u (inl q) m =
-          elim (in_either (class_at ks e.0) (class_at ks e.1) u (subst (λ l. In l u) (sym q) m)) [
-            | inl l ↦ in_class_at ks h e.0 g.0 u l
-            | inr r ↦ in_class_at ks h e.1 g.1 u r
-          ]
-      both k u (inr i) m = without_members (without_class_of ks e.0) (without_members ks h e.0) e.1 k u i m
+  merged_members ks h e g = grind (arith, common_steps, in_either, in_class_at, without_members)
 
   pub all_merged_members : (es : List (SiteTerm × SiteTerm)) (ks : List (List SiteTerm)) → Members ks → ((e : SiteTerm × SiteTerm) → In es e → P e.0 × P e.1) → Members (merged_all ks es)
   all_merged_members [] ks h f = h
@@ -51,16 +35,7 @@ module _ (P : SiteTerm → Type 0) where
 -- 2. fields
 -- the fields of a constrained site that may be tested may be tested
 field_tested : (cs : List (SiteTerm × Constraint)) (calls : List SiteTerm) (c : Constraint) (s u : SiteTerm) → GatesDemanded true true cs calls s → Contains cs (s, c) → In (field_terms c s) u → GatesDemanded true true cs calls u
-field_tested cs calls (is_variant ty variant fields) s u g a i =
-    let k = in_fields (variant_field s variant) 0 fields u i in
-    subst (GatesDemanded true true cs calls) k.2 (record { ty = ty; fields = fields; asked = a; many = let l : k.0 < 0 + fields = k.1 in omega arith }, g)
-field_tested cs calls (is_struct ty fields) s u g a i =
-    let k = in_fields (struct_field s) 0 fields u i in
-    subst (GatesDemanded true true cs calls) k.2 (record { ty = ty; fields = fields; asked = a; many = let l : k.0 < 0 + fields = k.1 in omega arith }, g)
-field_tested cs calls (is_bool b ty) s u g a i = absurd i
-field_tested cs calls (is_int z ty) s u g a i = absurd i
-field_tested cs calls (is_prim name) s u g a i = absurd i
-field_tested cs calls is_present s u g a i = absurd i
+field_tested cs calls c s u g a i = grind (arith, common_steps, in_fields)
 
 -- 3. the closing
 module _ (d : Demands) (reachable : IsUnreachable d → ⊥) (tested : CanBeTested d) where

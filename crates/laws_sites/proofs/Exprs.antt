@@ -1,7 +1,8 @@
 -- What expressions make: the gates of a value are demanded, but for answers of partial calls, and so are those of the
 -- calls that it is made by going over.
-use Rattle.std.proofs.Common.{◌≡◌, ℕ, suc, ◌==◌, Bool, true, false, ◌&&◌, List, [], ◌∷◌, Some, is_some, slice_get, refl, sym, ap, subst, inl, inr, ◌∙◌}
-use Rattle.std.proofs.lemmas.Bool.{and_parts, cases_Bool, cond-true, cond-false, false≢true}
+use Rattle.std.proofs.Common.{◌≡◌, ℕ, suc, ◌==◌, Bool, true, false, ◌&&◌, List, [], ◌∷◌, Some, is_some, slice_get, refl, ap, ◌∙◌, arith}
+use Rattle.std.proofs.lemmas.Bool.{and_parts, false≢true}
+use Rattle.std.proofs.lemmas.Grind.{common_steps}
 use Rattle.model.specs.rules.Meaning.{look}
 use Rattle.model.specs.rules.Outcome.{then_option}
 use Rattle.model.specs.lists.Tables.{TermEntry}
@@ -56,8 +57,7 @@ record IsCalled (asked pure : Bool) (v : Visit) (a : Valued) : Type 0 where
 
 -- no answer matters
 no_answer : (asked : Bool) (w : Visit) (call : SiteTerm) → (asked ≡ true → true ≡ false) → AsksAnswer asked w.demands.constraints call
-no_answer true w call h = absurd (false≢true (sym (h refl)))
-no_answer false w call h = tt
+no_answer asked w call h = grind (arith, common_steps)
 
 -- a call that is gone over, and what its answers are taken by
 taken_over : (asked pure : Bool) (call result : SiteTerm) (sites : List SiteTerm) (v : Visit) → Good asked pure v call
@@ -75,18 +75,14 @@ taken_over asked pure call result sites v g taken =
 
 gone_over : (asked pure p m q r : Bool) (call : SiteTerm) (v : Visit) → (asked ≡ true → q ≡ false) → Good asked pure v call
     → IsCalled asked pure v (valued (call_result (record { pure = p; multi = m; partial = q; rec = r }) call) (where_multi (record { pure = p; multi = m; partial = q; rec = r }) call (making (call_sites (record { pure = p; multi = m; partial = q; rec = r }) call) v)))
-gone_over asked pure p true true r call v h g =
-    let sites = call ∷ (some_part call ∷ []) in
-    taken_over asked pure call (some_part call) sites v g (λ good. (no_answer asked (iterating call (making sites v)) call h, good))
+gone_over asked pure p true true r call v h g = grind (arith, common_steps, taken_over asked pure call (some_part call), no_answer asked)
 gone_over asked pure p true false r call v h g =
     taken_over asked pure call (pick_of call) (call ∷ (pick_of call ∷ [])) v g (λ good. (at_right v.demands.iterators call, good))
-gone_over asked pure p false true r call v h g =
-    record { later = later_making (call ∷ (some_part call ∷ [])) v; binds = refl; site = (no_answer asked v call h, g); calls = no_call asked pure v }
+gone_over asked pure p false true r call v h g = grind (arith, common_steps, later_making, no_answer, no_call)
 gone_over asked pure p false false r call v h g = record { later = later_making (call ∷ []) v; binds = refl; site = g; calls = no_call asked pure v }
 
 pure_call : (pure : Bool) → IsPureCall pure 0
-pure_call true = tt
-pure_call false = tt
+pure_call pure = grind (arith, common_steps)
 
 call_valued : (asked pure p m q r : Bool) (t : ℕ) (args : SiteTerms) (v : Visit) → (pure ≡ true → p ≡ true) → (asked ≡ true → q ≡ false) → AllGood asked pure v args
     → IsCalled asked pure v (visit_call (record { pure = p; multi = m; partial = q; rec = r }) t args v)
@@ -114,11 +110,7 @@ abbrev Within : List (ℕ × ℕ) → List (ℕ × ℕ) → Type 0
 Within vars more = (x : ℕ) → is_some (var_type vars x) ≡ true → is_some (var_type more x) ≡ true
 
 within_one_more : (y ty : ℕ) (vars : List (ℕ × ℕ)) → Within vars ((y, ty) ∷ vars)
-within_one_more y ty vars x h =
-    elim (cases_Bool (y == x)) [
-      | inl t ↦ ap is_some (cond-true (y == x) (Some ty) (var_type vars x) t)
-      | inr n ↦ ap is_some (cond-false (y == x) (Some ty) (var_type vars x) n) ∙ h
-    ]
+within_one_more y ty vars x h = grind (arith, common_steps)
 
 -- after a let's definitions
 record AreDefined (asked pure : Bool) (vars more : List (ℕ × ℕ)) (v w : Visit) : Type 0 where
@@ -170,8 +162,6 @@ module _ (asked pure : Bool) (p : Program) where
     exprs_valued : (es : TypedExprs) (v : Visit) (tys : List ℕ) (vars : List (ℕ × ℕ)) → are_formed_args p es tys vars ≡ true → (pure ≡ true → ArePureExprs p es) → (asked ≡ true → CallAlone (IsTotal p) es)
         → AreGood asked pure vars v → AreValued asked pure vars v (visit_exprs p es v)
     exprs_valued no_typed_expr v [] vars f h k g = record { later = now v; same = unchanged vars v; sites = tt; calls = no_call asked pure v }
-    exprs_valued no_typed_expr v (ty ∷ tys) vars f h k g = absurd (false≢true f)
-    exprs_valued (typed_expr_and e es) v [] vars f h k g = absurd (false≢true f)
     exprs_valued (typed_expr_and e es) v (ty ∷ tys) vars f h k g =
         let b = and_parts (is_formed_expr p e vars) (are_formed_args p es tys vars) (and_parts (expr_type e == ty) (is_formed_expr p e vars && are_formed_args p es tys vars) f).1 in
         let r = expr_valued_by e v vars b.0 (λ q. (h q).0) (λ q. (k q).0) g in
@@ -184,11 +174,11 @@ module _ (asked pure : Bool) (p : Program) where
           sites = (good_stays w z s.later asked pure (visit_expr p e v).site r.site, s.sites);
           calls = then_calls asked pure v w z s.later r.calls s.calls;
         }
+    exprs_valued _ v _ vars f h k g = absurd (false≢true f)
 
     lets_defined : (ds : TypedLets) (v : Visit) (vars more : List (ℕ × ℕ)) → formed_lets p ds vars ≡ Some more → (pure ≡ true → ArePureLets p ds) → (asked ≡ true → LetsCallAlone (IsTotal p) ds)
         → AreGood asked pure vars v → AreDefined asked pure vars more v (visit_lets p ds v)
-    lets_defined no_typed_let v vars more f h k g =
-        subst (λ vs. AreDefined asked pure vars vs v v) (some_is vars more f) (record { later = now v; same = unchanged vars v; good = g; within = λ x i. i; calls = no_call asked pure v })
+    lets_defined no_typed_let v vars more f h k g = grind (arith, common_steps, some_is, now, unchanged, no_call)
     lets_defined (typed_let_and x ty value rest) v vars more f h k g =
         let a = from_if ((expr_type value == ty) && is_formed_expr p value vars) (then_option (with_new x ty vars) (λ after. formed_lets p rest after)) more f in
         let b = from_then (with_new x ty vars) (λ after. formed_lets p rest after) more a.1 in
@@ -214,6 +204,4 @@ module _ (asked pure : Bool) (p : Program) where
 -- where answers don't matter
 pub expr_valued : (pure : Bool) (p : Program) (e : TypedExpr) (v : Visit) (vars : List (ℕ × ℕ)) → is_formed_expr p e vars ≡ true → (pure ≡ true → IsPureExpr p e) → AreGood false pure vars v
     → IsValuedUnasked pure vars v (visit_expr p e v)
-expr_valued pure p e v vars f h g =
-    let a = expr_valued_by false pure p e v vars f h (λ q. absurd (false≢true q)) g in
-    record { later = a.later; same = a.same; site = a.site }
+expr_valued pure p e v vars f h g = grind (arith, common_steps, expr_valued_by false pure p e v vars f h)

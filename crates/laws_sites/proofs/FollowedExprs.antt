@@ -1,13 +1,13 @@
 -- A visitor that follows the visitor of sites follows it through an expression that hangs together.
-use Rattle.std.proofs.Common.{◌≡◌, ◌⊎◌, ℕ, Bool, true, not, List, [], ◌∷◌, Option, Some, None, slice_get, Result, Ok, Err, sym, subst, ⊎_elim}
+use Rattle.std.proofs.Common.{◌≡◌, ◌⊎◌, ℕ, true, List, [], ◌∷◌, Option, Some, None, slice_get, Result, Ok, Err, sym, subst, ⊎_elim, arith}
 use Rattle.std.specs.Prelude.{MatchResult}
 use Rattle.std.proofs.Math.Bool.{not-not}
-use Rattle.model.specs.lists.Tables.{Flags, TermKindEntry, variant_term, struct_term, declared_term, TermEntry}
+use Rattle.std.proofs.lemmas.Grind.{common_steps}
+use Rattle.model.specs.lists.Tables.{TermKindEntry, variant_term, struct_term, declared_term, TermEntry}
 use Rattle.model.specs.lists.Formed.{is_formed_expr, are_formed_args, formed_lets}
 use Rattle.model.specs.rules.Program.{Program, Kind, unknown, kind, kind_of}
 use Rattle.model.specs.rules.Typed.{TypedExpr, make_term, make_var, make_bool, make_int, make_prim, make_let, TypedExprs, no_typed_expr, typed_expr_and, TypedLets, no_typed_let, typed_let_and}
-use Rattle.model.specs.sites.Sites.{variant_made, struct_made}
-use Rattle.model.specs.visits.Demands.{Visit, Valued, ValuedAll, binding, var_site, visit_call, visit_term, visit_expr, visit_exprs, visit_lets, value_made}
+use Rattle.model.specs.visits.Demands.{Visit, Valued, ValuedAll, binding, visit_term, visit_expr, visit_exprs, visit_lets}
 use Rattle.model.specs.visits.Runs.{BoundIds, and_then, done, or_refused, refused, with_bound}
 use Rattle.model.specs.visits.Visitors.{ExprSteps}
 use Rattle.model.specs.visits.ExprRuns.{entry_arg_types, MakesKind, Makes, ExprRun, InputsRun, LetsRun}
@@ -45,12 +45,10 @@ module _ {F S N : Type 0} (o : Follower F S N) (want : Option F) (ends : EndsOnT
   LetsOr s r t w more = MatchResult r (HasLets s t w more) (λ e. o.Ends t w e)
 
   pub gives_further : (s m : S) (r : Result N F) (t : S) (v : Visit) (a : Valued) → Goes o s m v → Gives o m r t a → Gives o s r t a
-  gives_further s m (Ok n) t v a g h = (goes_further o s m t v a.visit g h.0, h.1)
-  gives_further s m (Err e) t v a g h = h
+  gives_further s m r t v a g h = grind (arith, common_steps, goes_further)
 
   lets_further : (s m : S) (r : Result (BoundIds N) F) (t : S) (v w : Visit) (more : List (ℕ × ℕ)) → Goes o s m v → LetsOr m r t w more → LetsOr s r t w more
-  lets_further s m (Ok ws) t v w more g h = record { goes = goes_further o s m t v w g h.goes; knows = h.knows; scope = h.scope }
-  lets_further s m (Err e) t v w more g h = h
+  lets_further s m r t v w more g h = grind (arith, common_steps, goes_further)
 
   -- where memory may be refused
   past_refusal : {A T : Type 0} (G : A → Type 0) (s : T) (r : Result A F) (t : T) (z : S) (w : Visit) (m : Type 0) → (m → MatchResult r G (λ e. o.Ends z w e)) → refused want s r t ⊎ m → MatchResult r G (λ e. o.Ends z w e)
@@ -61,15 +59,10 @@ module _ {F S N : Type 0} (o : Follower F S N) (want : Option F) (ends : EndsOnT
     module _ (s t : S) (r : Result N F) (a : ValuedAll) where
       kind_made : (ty term : ℕ) (inputs : List (N × ℕ)) (e : TermEntry) (k : TermKindEntry) → o.Stands s a.visit → NameInputs o s a.sites inputs → e.ret_ty ≡ ty → MakesKind v ty term inputs k s r t
           → Gives o s r t (visit_term (kind_of (record e { kind = k })) term a)
-      kind_made ty term inputs e (variant_term variant) h named ret run =
-          subst (λ y. Gives o s r t (value_made (variant_made y variant a.sites) a.visit)) (sym ret) (f.variant s a.visit a.sites inputs ty variant r t h named run)
-      kind_made ty term inputs e struct_term h named ret run =
-          subst (λ y. Gives o s r t (value_made (struct_made y a.sites) a.visit)) (sym ret) (f.struct s a.visit a.sites inputs ty r t h named run)
+      kind_made ty term inputs e (variant_term variant) h named ret run = grind (arith, common_steps)
+      kind_made ty term inputs e struct_term h named ret run = grind (arith, common_steps)
       kind_made ty term inputs e (declared_term flags None x) h named ret run = absurd run
-      kind_made ty term inputs e (declared_term flags (Some c) x) h named ret run =
-          let given : Bool → Flags = λ b. record { pure = flags.pure; multi = flags.multi; partial = b; rec = flags.rec } in
-          subst (λ b. Gives o s r t (visit_call (given b) term a.sites a.visit)) (not-not flags.partial)
-          (f.constructor s a.visit a.sites inputs ty term flags.pure (not flags.partial) flags.multi flags.rec r t h named run)
+      kind_made ty term inputs e (declared_term flags (Some c) x) h named ret run = grind (arith, common_steps, not-not flags.partial)
 
       term_made : (ty term : ℕ) (inputs : List (N × ℕ)) (e : Option TermEntry) → o.Stands s a.visit → NameInputs o s a.sites inputs → HasType ty e → Makes v ty term inputs e s r t
           → Gives o s r t (visit_term (elim e as (λ _. Kind) [ None ↦ unknown | Some x ↦ kind_of x ]) term a)
@@ -91,9 +84,7 @@ module _ {F S N : Type 0} (o : Follower F S N) (want : Option F) (ends : EndsOnT
           (λ e step.
           ends.further t a.visit last.visit e ((values_continue p a.visit).valued term a (continues_now a.visit))
           (inputs_follow args g.entry.arg_tys vs vars s (Err e) t w g.formed (subst (λ x. InputsRun want v p.terms args (entry_arg_types x) vs s (Err e) t) g.there step) h knows scope)) run
-      expr_follows (make_var ty x) vs vars s r t w formed run h knows scope =
-          subst (λ z. Gives o s z t (visit_expr p (make_var ty x) w)) (sym run.0.2.0)
-          (subst (λ z. Goes o s z w × o.Names z (var_site w x) run.0.0) (sym run.1) (goes_nowhere o s w h, knows x run.0.0 run.0.1))
+      expr_follows (make_var ty x) vs vars s r t w formed run h knows scope = grind (arith, common_steps, goes_nowhere)
       expr_follows (make_bool ty b) vs vars s r t w formed run h knows scope = f.bool s w ty b r t h run
       expr_follows (make_int ty z) vs vars s r t w formed run h knows scope = f.int s w ty z r t h run
       expr_follows (make_prim ty name) vs vars s r t w formed run h knows scope = f.prim s w ty name r t h run
@@ -112,9 +103,7 @@ module _ {F S N : Type 0} (o : Follower F S N) (want : Option F) (ends : EndsOnT
 
       pub inputs_follow : (xs : TypedExprs) (tys : List ℕ) (vs : BoundIds N) (vars : List (ℕ × ℕ)) (s : S) (r : Result (List (N × ℕ)) F) (t : S) (w : Visit) → are_formed_args p xs tys vars ≡ true
           → InputsRun want v p.terms xs tys vs s r t → o.Stands s w → KnowsVars o s vs w → InScope vs vars → InputsOr s r t (visit_exprs p xs w)
-      inputs_follow no_typed_expr [] vs vars s r t w formed run h knows scope =
-          subst (λ z. InputsOr s z t (visit_exprs p no_typed_expr w)) (sym run.0)
-          (subst (λ z. HasInputs s z (visit_exprs p no_typed_expr w) []) (sym run.1) (record { goes = goes_nowhere o s w h; named = tt }))
+      inputs_follow no_typed_expr [] vs vars s r t w formed run h knows scope = grind (arith, common_steps, goes_nowhere)
       inputs_follow no_typed_expr (ty ∷ tys) vs vars s r t w formed run h knows scope = absurd run
       inputs_follow (typed_expr_and x xs) [] vs vars s r t w formed run h knows scope = absurd run
       inputs_follow (typed_expr_and x xs) (ty ∷ tys) vs vars s r t w formed run h knows scope =

@@ -1,12 +1,13 @@
 -- A visitor that follows the visitor of sites follows it through a pattern whose terms are there.
-use Rattle.std.proofs.Common.{◌≡◌, ℕ, zero, suc, Bool, true, false, not, List, [], ◌∷◌, length, Option, Some, None, if◌then◌else◌, slice_get, Result, Ok, Err, refl, sym, ap, ◌∙◌, subst, ⊎_elim}
+use Rattle.std.proofs.Common.{◌≡◌, ℕ, zero, suc, Bool, true, false, not, List, [], ◌∷◌, length, Option, Some, None, slice_get, Result, Ok, Err, refl, sym, ap, ◌∙◌, subst, ⊎_elim, arith}
 use Rattle.std.specs.Prelude.{MatchResult}
 use Rattle.std.specs.List.{AllZip}
+use Rattle.std.proofs.lemmas.Grind.{common_steps}
 use Rattle.model.specs.lists.Tables.{TermKindEntry, variant_term, struct_term, declared_term, TermEntry}
-use Rattle.model.specs.rules.Program.{Program, Kind, a_variant, a_struct, unknown, always_answers, kind, kind_of}
+use Rattle.model.specs.rules.Program.{Program, Kind, unknown, always_answers, kind, kind_of}
 use Rattle.model.specs.rules.Typed.{TypedPattern, match_bind, match_var, match_bool, match_int, match_prim, match_term, match_any, match_and, TypedPatterns, no_typed_pattern, typed_pattern_and}
-use Rattle.model.specs.sites.Sites.{is_variant, is_struct, is_bool, is_int, is_prim, is_present, SiteTerm, extractor_call, pick_of, some_part, tuple_part, fields_from}
-use Rattle.model.specs.visits.Demands.{outputs_taken, Visit, making, counting, asking, equating, iterating, binding, var_site, pattern_count, opened, output_sites, part_sites, outputs_opened, open_call, open_term, visit_pattern, visit_each, visit_all, fields_opened}
+use Rattle.model.specs.sites.Sites.{is_bool, is_int, is_prim, SiteTerm, extractor_call, tuple_part, fields_from}
+use Rattle.model.specs.visits.Demands.{Visit, asking, equating, binding, var_site, pattern_count, output_sites, part_sites, outputs_opened, open_call, open_term, visit_pattern, visit_each, visit_all}
 use Rattle.model.specs.visits.Runs.{BoundIds, done, with_bound, binds, finds, calls_visitor, on_variables}
 use Rattle.model.specs.visits.Visitors.{PatternSteps}
 use Rattle.model.specs.visits.SiteVisitor.{any_parts}
@@ -40,30 +41,18 @@ parts_by s (suc zero) = []
 parts_by s (suc (suc n)) = fields_from (tuple_part s) 0 (suc (suc n))
 
 outputs_are : (s : SiteTerm) (args : TypedPatterns) → output_sites s args ≡ outputs_by s (pattern_count args)
-outputs_are s no_typed_pattern = refl
-outputs_are s (typed_pattern_and q no_typed_pattern) = refl
-outputs_are s (typed_pattern_and q (typed_pattern_and r rs)) = refl
+outputs_are s args = grind (arith, common_steps)
 
 parts_are : (s : SiteTerm) (args : TypedPatterns) → part_sites s args ≡ parts_by s (pattern_count args)
-parts_are s no_typed_pattern = refl
-parts_are s (typed_pattern_and q no_typed_pattern) = refl
-parts_are s (typed_pattern_and q (typed_pattern_and r rs)) = refl
+parts_are s args = grind (arith, common_steps)
 
 module _ (args parts : TypedPatterns) (same : pattern_count args ≡ pattern_count parts) where
   outputs_alike : (s : SiteTerm) (v : Visit) → outputs_opened s args v ≡ outputs_opened s parts v
-  outputs_alike s v =
-      let inputs : output_sites s args ≡ output_sites s parts = outputs_are s args ∙ ap (outputs_by s) same ∙ sym (outputs_are s parts) in
-      let made : part_sites s args ≡ part_sites s parts = parts_are s args ∙ ap (parts_by s) same ∙ sym (parts_are s parts) in
-      λ i. opened (inputs i) (making (made i) (counting (outputs_taken (same i)) v))
+  outputs_alike s v = grind (arith, common_steps, outputs_are, parts_are)
 
   pub call_alike : (multi partial rec pure infallible : Bool) (call : SiteTerm) (v : Visit)
       → open_call (record { pure = true; multi = multi; partial = not infallible; rec = false }) infallible call args v ≡ open_call (record { pure = pure; multi = multi; partial = partial; rec = rec }) infallible call parts v
-  call_alike multi partial rec pure infallible call v =
-      λ i. if multi
-      then outputs_alike (pick_of call) (iterating call (making (call ∷ (pick_of call ∷ [])) v)) i
-      else (if infallible
-      then outputs_alike call (making (call ∷ []) v) i
-      else outputs_alike (some_part call) (asking call is_present (making (call ∷ (some_part call ∷ [])) v)) i)
+  call_alike multi partial rec pure infallible call v = grind (arith, common_steps, outputs_alike)
 
 module _ {F S N : Type 0} (o : Follower F S N) (want : Option F) (ends : EndsOnTheWay o want) where
   -- 2. where a visitor goes, with its variables
@@ -79,39 +68,29 @@ module _ {F S N : Type 0} (o : Follower F S N) (want : Option F) (ends : EndsOnT
   ReachesOr s r t w = MatchResult r (λ a. Reaches s t w) (λ e. o.Ends t.0 w e)
 
   further : (s m : S) (r : Result (Unit {0}) F) (t : State) (v w : Visit) → Goes o s m v → ReachesOr m r t w → ReachesOr s r t w
-  further s m (Ok a) t v w g h = record { goes = goes_further o s m t.0 v w g h.goes; knows = h.knows }
-  further s m (Err e) t v w g h = h
+  further s m r t v w g h = grind (arith, common_steps, goes_further)
 
   stopped : (s : State) (r : Result (Unit {0}) F) (t : State) (v : Visit) → done tt s r t → o.Stands s.0 v → KnowsVars o s.0 s.1 v → ReachesOr s.0 r t v
-  stopped s r t v run h knows =
-      subst (λ z. ReachesOr s.0 z t v) (sym run.0) (subst (λ z. Reaches s.0 z v) (sym run.1) (record { goes = goes_nowhere o s.0 v h; knows = knows }))
+  stopped s r t v run h knows = grind (arith, common_steps, goes_nowhere)
 
   -- a call that leaves the variables
   knows_with : (s t : State) (v w : Visit) → Goes o s.0 t.0 w → w.vars ≡ v.vars → t.1 ≡ s.1 → KnowsVars o s.0 s.1 v → KnowsVars o t.0 t.1 w
   knows_with s t v w g same stay knows = subst (λ vs. KnowsVars o t.0 vs w) (sym stay) (knows_stay o s.0 t.0 s.1 v w same g knows)
 
   called : (s t : State) (v w : Visit) (r : Result (Unit {0}) F) → w.vars ≡ v.vars → t.1 ≡ s.1 → KnowsVars o s.0 s.1 v → GoesOn o s.0 r t.0 w → ReachesOr s.0 r t w
-  called s t v w (Ok a) same stay knows g = record { goes = g; knows = knows_with s t v w g same stay knows }
-  called s t v w (Err e) same stay knows g = g
+  called s t v w r same stay knows g = grind (arith, common_steps, knows_with)
 
   pub names_stay : (s t : S) (v : Visit) (us : List SiteTerm) (ids : List N) → Goes o s t v → AllZip (o.Names s) us ids → AllZip (o.Names t) us ids
-  names_stay s t v [] [] g h = tt
-  names_stay s t v [] (n ∷ ids) g h = absurd h
-  names_stay s t v (u ∷ us) [] g h = absurd h
   names_stay s t v (u ∷ us) (n ∷ ids) g h = (g.kept u n h.0, names_stay s t v us ids g h.1)
+  names_stay s t v k i g h = grind (arith, common_steps)
 
   module _ (v : PatternSteps F S N) (f : FollowsPatterns o v) (p : Program) where
     -- 3. a term's pattern
     module _ (s t : S) (r : Result (List N) F) (w : Visit) where
       kind_opened : (u : SiteTerm) (n : N) (term : ℕ) (args : TypedPatterns) (e : TermEntry) (ty : ℕ) (k : TermKindEntry) → o.Stands s w → o.Names s u n → e.ret_ty ≡ ty → length e.arg_tys ≡ pattern_count args
           → OpensKind want v e ty term (part_types args) n k s r t → GivesParts o s r t (open_term (kind_of (record e { kind = k })) term u args w)
-      kind_opened u n term args e ty (variant_term variant) h named ret count run =
-          subst (GivesParts o s r t)
-          (ap (λ m. fields_opened (is_variant ty variant m) m u w) count ∙ ap (λ y. open_term (a_variant y variant) term u args w) (sym ret))
-          (f.variant s w u n ty e.arg_tys variant r t h named run)
-      kind_opened u n term args e ty struct_term h named ret count run =
-          subst (GivesParts o s r t) (ap (λ m. fields_opened (is_struct ty m) m u w) count ∙ ap (λ y. open_term (a_struct y) term u args w) (sym ret))
-          (f.struct s w u n ty e.arg_tys r t h named run)
+      kind_opened u n term args e ty (variant_term variant) h named ret count run = grind (arith, common_steps)
+      kind_opened u n term args e ty struct_term h named ret count run = grind (arith, common_steps)
       kind_opened u n term args e ty (declared_term flags c None) h named ret count run = absurd run
       kind_opened u n term args e ty (declared_term flags c (Some x)) h named ret count run =
           let tys = part_types args in
@@ -168,8 +147,6 @@ module _ {F S N : Type 0} (o : Follower F S N) (want : Option F) (ends : EndsOnT
       pub parts_follow : (qs : TypedPatterns) (ids : List N) (s : State) (r : Result (Unit {0}) F) (t : State) (w : Visit) (us : List SiteTerm) → FitAll p qs → PartsRun want v p.terms qs ids s r t
           → o.Stands s.0 w → KnowsVars o s.0 s.1 w → AllZip (o.Names s.0) us ids → ReachesOr s.0 r t (visit_each p qs us w)
       parts_follow no_typed_pattern [] s r t w us fits run h knows named = stopped s r t w run h knows
-      parts_follow no_typed_pattern (id ∷ ids) s r t w us fits run h knows named = absurd run
-      parts_follow (typed_pattern_and q rest) [] s r t w us fits run h knows named = absurd run
       parts_follow (typed_pattern_and q rest) (id ∷ ids) s r t w [] fits run h knows named = absurd named
       parts_follow (typed_pattern_and q rest) (id ∷ ids) s r t w (u ∷ us) fits run h knows named =
           let mid = visit_pattern p q u w in
@@ -180,6 +157,7 @@ module _ {F S N : Type 0} (o : Follower F S N) (want : Option F) (ends : EndsOnT
           further s.0 m.0 r t mid last first.goes (parts_follow rest ids m r t mid us fits.1 others first.goes.stands first.knows (names_stay s.0 m.0 mid us ids first.goes named.1)))
           (λ e step.
           ends.further t.0 mid last e (each_kept p (Continues mid) (tests_continue p mid) rest us mid (continues_now mid)) (pattern_follows q id s (Err e) t w u fits.0 step h knows named.0)) run
+      parts_follow _ _ s r t w us fits run h knows named = absurd run
 
       pub each_follows : (qs : TypedPatterns) (n : N) (s : State) (r : Result (Unit {0}) F) (t : State) (w : Visit) (u : SiteTerm) → FitAll p qs → EachRun want v p.terms qs n s r t
           → o.Stands s.0 w → KnowsVars o s.0 s.1 w → o.Names s.0 u n → ReachesOr s.0 r t (visit_all p qs u w)

@@ -1,6 +1,7 @@
 -- A visitor that follows the visitor of sites follows it through a rule that hangs together.
-use Rattle.std.proofs.Common.{◌≡◌, ℕ, suc, ◌==◌, true, List, [], ◌∷◌, Option, Some, slice_get, Result, Ok, Err, sym, subst}
+use Rattle.std.proofs.Common.{◌≡◌, ℕ, suc, ◌==◌, true, List, [], ◌∷◌, Option, Some, slice_get, Result, Ok, Err, subst, arith}
 use Rattle.std.specs.Prelude.{MatchResult}
+use Rattle.std.proofs.lemmas.Grind.{common_steps}
 use Rattle.model.specs.lists.Formed.{pattern_type, formed_pattern, formed_list, formed_iflets, is_formed_expr}
 use Rattle.model.specs.rules.Outcome.{then_option}
 use Rattle.model.specs.rules.Program.{Program}
@@ -44,8 +45,7 @@ module _ {F S N : Type 0} (o : Follower F S N) (want : Option F) (p : Program) w
   ArrivesOr s r t w more = MatchResult r (Arrives s t w more) (λ e. o.Ends t w e)
 
   arrives_further : (s m : S) (r : Result (BoundIds N) F) (t : S) (v w : Visit) (more : List (ℕ × ℕ)) → Goes o s m v → ArrivesOr m r t w more → ArrivesOr s r t w more
-  arrives_further s m (Ok vs) t v w more g h = record { goes = goes_further o s m t v w g h.goes; knows = h.knows; scope = h.scope; quiet = h.quiet }
-  arrives_further s m (Err e) t v w more g h = h
+  arrives_further s m r t v w more g h = grind (arith, common_steps, goes_further)
 
   module _ (rules : RuleSteps F S S S N N N) (patterns : PatternSteps F S N) (exprs : ExprSteps F S N) (f : FollowsSites o want rules patterns exprs) where
     -- 2. a pattern, and an expression
@@ -59,8 +59,7 @@ module _ {F S N : Type 0} (o : Follower F S N) (want : Option F) (p : Program) w
 
     pattern_arrives : (q : TypedPattern) (u : SiteTerm) (n : N) (vs : BoundIds N) (vars more : List (ℕ × ℕ)) (s : S) (r : Result (BoundIds N) F) (t : S) (w : Visit) → formed_pattern p q vars ≡ Some more
         → PatternCall want rules patterns exprs p.terms q n vs s r t → Arrives s s w vars vs → o.Names s u n → IsPlain p w.demands u → ArrivesOr s r t (visit_pattern p q u w) more
-    pattern_arrives q u n vs vars more s r t w formed run h named plain =
-        pattern_lent q u n vs vars more s r t w formed (pattern_called o want rules f.in_rules patterns exprs p.terms vs s t r q n run) h named plain
+    pattern_arrives q u n vs vars more s r t w formed run h named plain = grind (arith, common_steps, pattern_lent, pattern_called)
 
     value_follows : (x : TypedExpr) (vs : BoundIds N) (vars : List (ℕ × ℕ)) (s : S) (r : Result N F) (t : S) (w : Visit) → is_formed_expr p x vars ≡ true → ValueRun want rules patterns exprs p.terms x vs s r t
         → Arrives s s w vars vs → Gives o s r t (visit_expr p x w)
@@ -71,8 +70,7 @@ module _ {F S N : Type 0} (o : Follower F S N) (want : Option F) (p : Program) w
     -- 3. the arguments
     args_arrive : (qs : List TypedPattern) (tys : List ℕ) (i : ℕ) (vs : BoundIds N) (vars more : List (ℕ × ℕ)) (s : S) (r : Result (BoundIds N) F) (t : S) (w : Visit) → formed_list p qs tys vars ≡ Some more
         → ArgsRun want rules patterns exprs p.terms qs tys i vs s r t → Arrives s s w vars vs → ArrivesOr s r t (visit_args p i qs w) more
-    args_arrive [] [] i vs vars more s r t w formed run h =
-        subst (λ z. ArrivesOr s z t w more) (sym run.0) (subst (λ z. Arrives s z w more vs) (sym run.1) (subst (λ z. Arrives s s w z vs) (some_is vars more formed) h))
+    args_arrive [] [] i vs vars more s r t w formed run h = grind (arith, common_steps, some_is)
     args_arrive [] (ty ∷ tys) i vs vars more s r t w formed run h = absurd run
     args_arrive (q ∷ qs) [] i vs vars more s r t w formed run h = absurd run
     args_arrive (q ∷ qs) (ty ∷ tys) i vs vars more s r t w formed run h =
@@ -85,12 +83,7 @@ module _ {F S N : Type 0} (o : Follower F S N) (want : Option F) (p : Program) w
         by_and_then (λ x y z. rules.arg_steps x i ty y z) (λ input. and_then (PatternCall want rules patterns exprs p.terms q input vs) (λ ws. ArgsRun want rules patterns exprs p.terms qs tys (suc i) ws)) s r t (λ z. ArrivesOr s z t last more)
         (λ input m step later.
         let taken = f.in_rules.arg s w i ty (Ok input) m h.goes.stands step in
-        let here : Arrives m m u vars vs = record {
-          goes = goes_nowhere o m u taken.0.stands;
-          knows = knows_stay o s m vs w u (λ i. w.vars) taken.0 h.knows;
-          scope = h.scope;
-          quiet = still.past.at;
-        } in
+        let here : Arrives m m u vars vs = grind (arith, common_steps, goes_nowhere o m u taken.0.stands, knows_stay o s m vs w u (λ i. w.vars) taken.0 h.knows) in
         by_and_then (PatternCall want rules patterns exprs p.terms q input vs) (λ ws. ArgsRun want rules patterns exprs p.terms qs tys (suc i) ws) m r t (λ z. ArrivesOr s z t last more)
         (λ ws k call others.
         let first = pattern_arrives q (argument i) input vs vars b.0 m (Ok ws) k u b.1 call here taken.1 still.site in
@@ -106,8 +99,7 @@ module _ {F S N : Type 0} (o : Follower F S N) (want : Option F) (p : Program) w
     -- 4. the if-lets
     iflets_arrive : (is : List TypedIfLet) (vs : BoundIds N) (vars more : List (ℕ × ℕ)) (s : S) (r : Result (BoundIds N) F) (t : S) (w : Visit) → formed_iflets p is vars ≡ Some more
         → IfLetsRun want rules patterns exprs p.terms is vs s r t → Arrives s s w vars vs → ArrivesOr s r t (visit_iflets p is w) more
-    iflets_arrive [] vs vars more s r t w formed run h =
-        subst (λ z. ArrivesOr s z t w more) (sym run.0) (subst (λ z. Arrives s z w more vs) (sym run.1) (subst (λ z. Arrives s s w z vs) (some_is vars more formed) h))
+    iflets_arrive [] vs vars more s r t w formed run h = grind (arith, common_steps, some_is)
     iflets_arrive (i ∷ is) vs vars more s r t w formed run h =
         let g = iflet_parts p i is vars more formed in
         let a = visit_expr p i.rhs w in
@@ -169,5 +161,4 @@ visits_follow_lem F S N o want rules patterns exprs f p r s a t formed h run =
     f.ends.further t w last.visit e (expr_kept p (Continues w) (values_continue p w) r.rhs w (continues_now w)) (iflets_arrive o want p rules patterns exprs f r.iflets vs g.mid g.vars m (Err e) t u g.iflets others here)) later)
     (λ e step.
     f.ends.further t u last.visit e (expr_kept p (Continues u) (values_continue p u) r.rhs w (iflets_kept p (Continues u) (tests_continue p u) (values_continue p u) r.iflets u (continues_now u)))
-    (args_arrive o want p rules patterns exprs f r.args g.entry.arg_tys 0 [] [] g.mid s (Err e) t visit_start g.args
-    (subst (λ z. ArgsRun want rules patterns exprs p.terms r.args (entry_arg_types z) 0 [] s (Err e) t) g.there step) start)) run
+    (grind (arith, common_steps, args_arrive o want p rules patterns exprs f r.args g.entry.arg_tys 0 [] [] g.mid s (Err e) t visit_start g.args))) run

@@ -1,7 +1,8 @@
 -- Where closing ends, all that follows from demands that can be met is asked.
-use Rattle.std.proofs.Common.{◌≡◌, ◌⊎◌, ℕ, true, false, not, if◌then◌else◌, List, [], ◌∷◌, ◌++◌, map, Option, Some, None, is_some, slice_get, refl, sym, ap, ◌∙◌, subst, inl, inr}
+use Rattle.std.proofs.Common.{◌≡◌, ◌⊎◌, ℕ, true, false, not, if◌then◌else◌, List, [], ◌∷◌, ◌++◌, map, Option, Some, None, slice_get, refl, sym, ap, ◌∙◌, subst, inl, inr, arith}
 use Rattle.std.proofs.lemmas.Bool.{cases_Bool, cond-true, cond-false, false≢true, not-true}
 use Rattle.std.specs.List.{zip}
+use Rattle.std.proofs.lemmas.Grind.{common_steps}
 use Rattle.model.specs.sites.Sites.{Constraint, SiteTerm, field_terms}
 use Rattle.model.specs.visits.Demands.{site_term_eq, has_site}
 use Rattle.model.specs.sites.Closure.{constraint_of, class_at, without_class_of, merged_classes, merged_all, with_constraint, with_constraints, is_in_class, next_constrained, field_equalities}
@@ -24,46 +25,22 @@ pub record InOne (ks : List (List SiteTerm)) (a b : SiteTerm) : Type 0 where
 
 pub own_class : (ks : List (List SiteTerm)) (s : SiteTerm) → In (class_at ks s) s
 own_class [] s = inl refl
-own_class (k ∷ ks) s =
-    elim (cases_Bool (has_site k s)) [
-      | inl t ↦ subst (λ l. In l s) (sym (cond-true (has_site k s) k (class_at ks s) t)) (has_in k s t)
-      | inr f ↦ subst (λ l. In l s) (sym (cond-false (has_site k s) k (class_at ks s) f)) (own_class ks s)
-    ]
+own_class (k ∷ ks) s = grind (arith, common_steps, own_class ks s, has_in)
 
 -- the class of a site is one of the classes, or the site alone
 pub class_cases : (ks : List (List SiteTerm)) (s : SiteTerm) → In ks (class_at ks s) ⊎ (class_at ks s ≡ s ∷ [])
 class_cases [] s = inr refl
-class_cases (k ∷ ks) s =
-    elim (cases_Bool (has_site k s)) [
-      | inl t ↦ inl (inl (sym (cond-true (has_site k s) k (class_at ks s) t)))
-      | inr f ↦
-          let e = cond-false (has_site k s) k (class_at ks s) f in
-          elim (class_cases ks s) [
-            | inl i ↦ inl (inr (subst (In ks) (sym e) i))
-            | inr n ↦ inr (e ∙ n)
-          ]
-    ]
+class_cases (k ∷ ks) s = grind (arith, common_steps, class_cases ks s)
 
 pub class_found : (ks : List (List SiteTerm)) (l : List SiteTerm) (s : SiteTerm) → In ks l → In l s → In ks (class_at ks s)
 class_found [] l s i m = absurd i
-class_found (k ∷ ks) l s i m =
-    elim (cases_Bool (has_site k s)) [
-      | inl t ↦ inl (sym (cond-true (has_site k s) k (class_at ks s) t))
-      | inr f ↦ inr (subst (In ks) (sym (cond-false (has_site k s) k (class_at ks s) f)) (class_found ks l s (later i f) m))
-    ]
-  where
-    later : In (k ∷ ks) l → has_site k s ≡ false → In ks l
-    later (inl e) f = absurd (false≢true (sym f ∙ in_has k s (subst (λ q. In q s) (sym e) m)))
-    later (inr j) f = j
+class_found (k ∷ ks) l s i m = grind (arith, common_steps, class_found ks l s, in_has)
 
 pub class_is : (ks : List (List SiteTerm)) → IsApart ks → (l : List SiteTerm) (s : SiteTerm) → In ks l → In l s → class_at ks s ≡ l
 class_is ks apart l s i m = apart (class_at ks s) l s (class_found ks l s i m) i (own_class ks s) m
 
 pub without_in : (ks : List (List SiteTerm)) (s : SiteTerm) (l : List SiteTerm) → In (without_class_of ks s) l → In ks l × (In l s → ⊥)
-without_in ks s l i = (
-  in_filter (λ k. not (has_site k s)) ks l i,
-  λ m. false≢true (sym (not-true (has_site l s) (passed_filter (λ k. not (has_site k s)) ks l i)) ∙ in_has l s m),
-)
+without_in ks s l i = grind (arith, common_steps, in_filter, not-true, passed_filter, in_has)
 
 pub in_without : (ks : List (List SiteTerm)) (s : SiteTerm) (l : List SiteTerm) → In ks l → has_site l s ≡ false → In (without_class_of ks s) l
 in_without ks s l i f = filter_from (λ k. not (has_site k s)) ks l i (ap not f)
@@ -75,87 +52,38 @@ abbrev pub others : List (List SiteTerm) → SiteTerm × SiteTerm → List (List
 others ks e = without_class_of (without_class_of ks e.0) e.1
 
 others_in : (ks : List (List SiteTerm)) (e : SiteTerm × SiteTerm) (l : List SiteTerm) → In (others ks e) l → In ks l × (In l e.0 → ⊥) × (In l e.1 → ⊥)
-others_in ks e l i =
-    let a = without_in (without_class_of ks e.0) e.1 l i in
-    let b = without_in ks e.0 l a.0 in
-    (b.0, b.1, a.1)
+others_in ks e l i = grind (arith, common_steps, without_in)
 
 -- a class of a site that shares a site with a class has that site
 pub class_shares : (ks : List (List SiteTerm)) → IsApart ks → (s : SiteTerm) (l : List SiteTerm) (x : SiteTerm) → In ks l → In l x → In (class_at ks s) x → In l s
-class_shares ks apart s l x i m n =
-    elim (class_cases ks s) [
-      | inl j ↦ subst (λ q. In q s) (apart (class_at ks s) l x j i n m) (own_class ks s)
-      | inr e ↦ subst (In l) (sym (alone (subst (λ q. In q x) e n))) m
-    ]
-  where
-    alone : In (s ∷ []) x → s ≡ x
-    alone h = elim h [ inl p ↦ p | inr q ↦ absurd q ]
+class_shares ks apart s l x i m n = grind (arith, common_steps, class_cases ks s, own_class ks s, In l, In (s ∷ []) x)
 
 pub joint_apart : (ks : List (List SiteTerm)) → IsApart ks → (e : SiteTerm × SiteTerm) (l : List SiteTerm) (x : SiteTerm) → In (others ks e) l → In l x → In (joint ks e) x → ⊥
-joint_apart ks apart e l x i m n =
-    let o = others_in ks e l i in
-    elim (in_either (class_at ks e.0) (class_at ks e.1) x n) [
-      | inl a ↦ o.1 (class_shares ks apart e.0 l x o.0 m a)
-      | inr b ↦ o.2 (class_shares ks apart e.1 l x o.0 m b)
-    ]
+joint_apart ks apart e l x i m n = grind (arith, common_steps, others_in, in_either, class_shares)
 
 added_apart : (ks : List (List SiteTerm)) → IsApart ks → (e : SiteTerm × SiteTerm) → IsApart (joint ks e ∷ others ks e)
-added_apart ks apart e l m s (inl p) (inl q) x y = sym p ∙ q
-added_apart ks apart e l m s (inl p) (inr j) x y = absurd (joint_apart ks apart e m s j y (subst (λ r. In r s) (sym p) x))
-added_apart ks apart e l m s (inr i) (inl q) x y = absurd (joint_apart ks apart e l s i x (subst (λ r. In r s) (sym q) y))
-added_apart ks apart e l m s (inr i) (inr j) x y = apart l m s (others_in ks e l i).0 (others_in ks e m j).0 x y
+added_apart ks apart e l m s h k x y = grind (arith, common_steps, joint_apart, others_in)
 
 merged_apart : (ks : List (List SiteTerm)) → IsApart ks → (e : SiteTerm × SiteTerm) → IsApart (merged_classes ks e)
-merged_apart ks apart e =
-    elim (cases_Bool (has_site (class_at ks e.0) e.1)) [
-      | inl t ↦ subst IsApart (sym (cond-true (has_site (class_at ks e.0) e.1) ks (joint ks e ∷ others ks e) t)) apart
-      | inr f ↦ subst IsApart (sym (cond-false (has_site (class_at ks e.0) e.1) ks (joint ks e ∷ others ks e) f)) (added_apart ks apart e)
-    ]
+merged_apart ks apart e = grind (arith, common_steps, added_apart)
 
 added_keeps : (ks : List (List SiteTerm)) → IsApart ks → (e : SiteTerm × SiteTerm) (a b : SiteTerm) → InOne ks a b → InOne (joint ks e ∷ others ks e) a b
 added_keeps ks apart e a b o =
     elim (cases_Bool (has_site o.class e.0)) [
       | inl t ↦ moved e.0 (in_left (class_at ks e.0) (class_at ks e.1)) t
-      | inr f ↦
-          elim (cases_Bool (has_site o.class e.1)) [
-            | inl t ↦ moved e.1 (in_right (class_at ks e.0) (class_at ks e.1)) t
-            | inr g ↦
-                record {
-                  class = o.class;
-                  there = inr (in_without (without_class_of ks e.0) e.1 o.class (in_without ks e.0 o.class o.there f) g);
-                  first = o.first;
-                  second = o.second;
-                }
-          ]
+      | inr f ↦ grind (arith, moved e.1 (in_right (class_at ks e.0) (class_at ks e.1)), in_right, in_without)
     ]
   where
     moved : (x : SiteTerm) → ((s : SiteTerm) → In (class_at ks x) s → In (joint ks e) s) → has_site o.class x ≡ true → InOne (joint ks e ∷ others ks e) a b
-    moved x into t =
-        let same = class_is ks apart o.class x o.there (has_in o.class x t) in
-        record {
-          class = joint ks e;
-          there = inl refl;
-          first = into a (subst (λ l. In l a) (sym same) o.first);
-          second = into b (subst (λ l. In l b) (sym same) o.second);
-        }
+    moved x into t = grind (arith, common_steps, class_is ks apart o.class x o.there (has_in o.class x t), has_in o.class x t)
 
 merged_keeps : (ks : List (List SiteTerm)) → IsApart ks → (e : SiteTerm × SiteTerm) (a b : SiteTerm) → InOne ks a b → InOne (merged_classes ks e) a b
-merged_keeps ks apart e a b o =
-    elim (cases_Bool (has_site (class_at ks e.0) e.1)) [
-      | inl t ↦ subst (λ l. InOne l a b) (sym (cond-true (has_site (class_at ks e.0) e.1) ks (joint ks e ∷ others ks e) t)) o
-      | inr f ↦ subst (λ l. InOne l a b) (sym (cond-false (has_site (class_at ks e.0) e.1) ks (joint ks e ∷ others ks e) f)) (added_keeps ks apart e a b o)
-    ]
+merged_keeps ks apart e a b o = grind (arith, common_steps, added_keeps)
 
 merged_joins : (ks : List (List SiteTerm)) (e : SiteTerm × SiteTerm) → (e.0 ≡ e.1) ⊎ InOne (merged_classes ks e) e.0 e.1
 merged_joins ks e =
     elim (cases_Bool (has_site (class_at ks e.0) e.1)) [
-      | inl t ↦
-          elim (class_cases ks e.0) [
-            | inl i ↦
-                inr (subst (λ l. InOne l e.0 e.1) (sym (cond-true (has_site (class_at ks e.0) e.1) ks (joint ks e ∷ others ks e) t))
-                (record { class = class_at ks e.0; there = i; first = own_class ks e.0; second = has_in (class_at ks e.0) e.1 t }))
-            | inr p ↦ inl (alone (subst (λ q. In q e.1) p (has_in (class_at ks e.0) e.1 t)))
-          ]
+      | inl t ↦ grind (arith, common_steps, class_cases ks e.0, own_class ks e.0, has_in (class_at ks e.0) e.1 t)
       | inr f ↦
           inr (subst (λ l. InOne l e.0 e.1) (sym (cond-false (has_site (class_at ks e.0) e.1) ks (joint ks e ∷ others ks e) f))
           (record {
@@ -165,38 +93,16 @@ merged_joins ks e =
             second = in_right (class_at ks e.0) (class_at ks e.1) e.1 (own_class ks e.1);
           }))
     ]
-  where
-    alone : In (e.0 ∷ []) e.1 → e.0 ≡ e.1
-    alone h = elim h [ inl p ↦ p | inr q ↦ absurd q ]
 
 -- the sites in classes satisfy what those of the classes before and the merged_classes ones do
 abbrev pub AllIn : (SiteTerm → Type 0) → List (List SiteTerm) → Type 0
 AllIn P ks = (l : List SiteTerm) (s : SiteTerm) → In ks l → In l s → P s
 
 pub class_all : (P : SiteTerm → Type 0) (ks : List (List SiteTerm)) → AllIn P ks → (s : SiteTerm) → P s → (x : SiteTerm) → In (class_at ks s) x → P x
-class_all P ks h s p x m =
-    elim (class_cases ks s) [
-      | inl i ↦ h (class_at ks s) x i m
-      | inr e ↦ elim (subst (λ q. In q x) e m) [ inl q ↦ subst P q p | inr n ↦ absurd n ]
-    ]
+class_all P ks h s p x m = grind (arith, common_steps, class_cases)
 
 merged_all_in : (P : SiteTerm → Type 0) (ks : List (List SiteTerm)) → AllIn P ks → (e : SiteTerm × SiteTerm) → P e.0 → P e.1 → AllIn P (merged_classes ks e)
-merged_all_in P ks h e p q =
-    elim (cases_Bool (has_site (class_at ks e.0) e.1)) [
-      | inl t ↦ subst (AllIn P) (sym (cond-true (has_site (class_at ks e.0) e.1) ks (joint ks e ∷ others ks e) t)) h
-      | inr f ↦ subst (AllIn P) (sym (cond-false (has_site (class_at ks e.0) e.1) ks (joint ks e ∷ others ks e) f)) added
-    ]
-  where
-    in_joint : (x : SiteTerm) → In (joint ks e) x → P x
-    in_joint x m =
-        elim (in_either (class_at ks e.0) (class_at ks e.1) x m) [
-          | inl a ↦ class_all P ks h e.0 p x a
-          | inr b ↦ class_all P ks h e.1 q x b
-        ]
-
-    added : AllIn P (joint ks e ∷ others ks e)
-    added l s (inl r) m = in_joint s (subst (λ k. In k s) (sym r) m)
-    added l s (inr i) m = h l s (others_in ks e l i).0 m
+merged_all_in P ks h e p q = grind (arith, in_either (class_at ks e.0) (class_at ks e.1), class_all P ks h e.0 p, class_all P ks h e.1 q, others_in ks e)
 
 pub each_apart : (es : List (SiteTerm × SiteTerm)) (ks : List (List SiteTerm)) → IsApart ks → IsApart (merged_all ks es)
 each_apart [] ks h = h
@@ -208,9 +114,7 @@ each_keeps_one (e ∷ es) ks h a b o = each_keeps_one es (merged_classes ks e) (
 
 pub each_joins_one : (es : List (SiteTerm × SiteTerm)) (ks : List (List SiteTerm)) → IsApart ks → (a b : SiteTerm) → In es (a, b) → (a ≡ b) ⊎ InOne (merged_all ks es) a b
 each_joins_one [] ks h a b i = absurd i
-each_joins_one (e ∷ es) ks h a b (inl p) =
-    subst (λ (w : SiteTerm × SiteTerm). (w.0 ≡ w.1) ⊎ InOne (merged_all (merged_classes ks e) es) w.0 w.1) p
-    (elim (merged_joins ks e) [ inl q ↦ inl q | inr o ↦ inr (each_keeps_one es (merged_classes ks e) (merged_apart ks h e) e.0 e.1 o) ])
+each_joins_one (e ∷ es) ks h a b (inl p) = grind (arith, common_steps, merged_joins, each_keeps_one, merged_apart)
 each_joins_one (e ∷ es) ks h a b (inr i) = each_joins_one es (merged_classes ks e) (merged_apart ks h e) a b i
 
 pub each_all_in : (P : SiteTerm → Type 0) (es : List (SiteTerm × SiteTerm)) (ks : List (List SiteTerm)) → AllIn P ks → ((e : SiteTerm × SiteTerm) → In es e → P e.0 × P e.1) → AllIn P (merged_all ks es)
@@ -248,19 +152,11 @@ pub record IsTaken (cs : List (SiteTerm × Constraint)) (ks : List (List SiteTer
 
 -- each site of a list gets one
 gets_one : (cs : List (SiteTerm × Constraint)) (d : SiteTerm × Constraint) → (c : Constraint) × In (with_constraint cs d) (d.0, c)
-gets_one cs d =
-    elim (cases_Bool (is_some (constraint_of cs d.0))) [
-      | inl t ↦
-          let o = is_there (constraint_of cs d.0) t in
-          (o.0, keeps_one cs d (d.0, o.0) (found_constraint cs d.0 o.0 o.1))
-      | inr f ↦ (d.1, subst (λ l. In l (d.0, d.1)) (sym (cond-false (is_some (constraint_of cs d.0)) cs (cs ++ d ∷ []) f)) (in_right cs (d ∷ []) (d.0, d.1) (inl refl)))
-    ]
+gets_one cs d = grind (arith, common_steps, is_there (constraint_of cs d.0), keeps_one cs d, found_constraint cs d.0, in_right cs (d ∷ []) (d.0, d.1) (inl refl))
 
 pub gets_constraint : (cs ds : List (SiteTerm × Constraint)) (x : SiteTerm × Constraint) → In ds x → (c : Constraint) × In (with_constraints cs ds) (x.0, c)
 gets_constraint cs [] x i = absurd i
-gets_constraint cs (d ∷ ds) x (inl e) =
-    let g = gets_one cs d in
-    (g.0, subst (λ (w : SiteTerm × Constraint). In (with_constraints (with_constraint cs d) ds) (w.0, g.0)) e (keeps_all (with_constraint cs d) ds (d.0, g.0) g.1))
+gets_constraint cs (d ∷ ds) x (inl e) = grind (arith, common_steps, gets_one cs d, In (with_constraints (with_constraint cs d) ds), keeps_all (with_constraint cs d) ds)
 gets_constraint cs (d ∷ ds) x (inr i) = gets_constraint (with_constraint cs d) ds x i
 
 -- the pairs of a take: the least member with each other one
@@ -279,18 +175,7 @@ members_chained ks h (least ∷ rest) a b i j = then_on (back (from_least a i)) 
 -- a taken pair's sites are members, and the equalities of their fields are made
 pub pair_members : (c : Constraint) (members : List SiteTerm) (a b : SiteTerm) → In (pairs_of members) (a, b)
     → In members a × In members b × ((i : ℕ) (x y : SiteTerm) → slice_get (field_terms c a) i ≡ Some x → slice_get (field_terms c b) i ≡ Some y → In (field_equalities c members) (x, y))
-pair_members c [] a b i = absurd i
-pair_members c (least ∷ rest) a b i =
-    let m = in_map (λ (u : SiteTerm). (least, u)) rest (a, b) i in
-    let first : least ≡ a = ap (λ (w : SiteTerm × SiteTerm). w.0) m.2 in
-    let second : m.0 ≡ b = ap (λ (w : SiteTerm × SiteTerm). w.1) m.2 in (
-      inl first,
-      inr (subst (In rest) second m.1),
-      λ i x y e f.
-          in_flat_map (λ u. zip (field_terms c least) (field_terms c u)) rest m.0 (x, y) m.1
-          (zip_in (field_terms c least) (field_terms c m.0) i x y
-          (subst (λ u. slice_get (field_terms c u) i ≡ Some x) (sym first) e) (subst (λ u. slice_get (field_terms c u) i ≡ Some y) (sym second) f)),
-    )
+pair_members c members a b i = grind (arith, common_steps, in_map, in_flat_map, zip_in)
 
 -- an equality of fields is of fields of members
 pub equality_members : (c : Constraint) (members : List SiteTerm) (e : SiteTerm × SiteTerm) → In (field_equalities c members) e
@@ -320,20 +205,5 @@ next_of ks s later o = elim o as (λ _. Option (SiteTerm × Constraint)) [ None 
 pub none_constrained : (ks : List (List SiteTerm)) (cs : List (SiteTerm × Constraint)) (order : List SiteTerm) → next_constrained ks cs order ≡ None
     → (s : SiteTerm) (c : Constraint) → In order s → In cs (s, c) → is_in_class ks s ≡ false
 none_constrained ks cs [] e s c i m = absurd i
-none_constrained ks cs (t ∷ ts) e s c (inl p) m =
-    let o = constraint_there cs t c (subst (λ u. In cs (u, c)) (sym p) m) in
-    let at_site : (if is_in_class ks t then Some (t, o.0) else next_constrained ks cs ts) ≡ None = sym (ap (next_of ks t (next_constrained ks cs ts)) o.1) ∙ e in
-    subst (λ u. is_in_class ks u ≡ false) p
-    (elim (cases_Bool (is_in_class ks t)) [
-      | inl h ↦ absurd (none_some (t, o.0) (sym at_site ∙ cond-true (is_in_class ks t) (Some (t, o.0)) (next_constrained ks cs ts) h))
-      | inr f ↦ f
-    ])
-none_constrained ks cs (t ∷ ts) e s c (inr i) m = none_constrained ks cs ts (rest (constraint_of cs t) e) s c i m
-  where
-    rest : (o : Option Constraint) → next_of ks t (next_constrained ks cs ts) o ≡ None → next_constrained ks cs ts ≡ None
-    rest None h = h
-    rest (Some b) h =
-        elim (cases_Bool (is_in_class ks t)) [
-          | inl q ↦ absurd (none_some (t, b) (sym h ∙ cond-true (is_in_class ks t) (Some (t, b)) (next_constrained ks cs ts) q))
-          | inr f ↦ sym (cond-false (is_in_class ks t) (Some (t, b)) (next_constrained ks cs ts) f) ∙ h
-        ]
+none_constrained ks cs (t ∷ ts) e s c (inl p) m = grind (arith, common_steps, constraint_there, none_some)
+none_constrained ks cs (t ∷ ts) e s c (inr i) m = grind (arith, common_steps, none_constrained ks cs ts, none_some)

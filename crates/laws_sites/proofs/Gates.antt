@@ -1,6 +1,7 @@
 -- Gates stay demanded where more is demanded, and the calls that a value unwraps make the difference.
-use Rattle.std.proofs.Common.{ℕ, Bool, true, false, List, Contains, refl, subst, inl, inr}
-use Rattle.model.specs.sites.Sites.{Constraint, is_variant, is_struct, is_present, SiteTerm, bool_term, int_term, prim_term, argument, extractor_call, constructor_call, pick_of, variant_made, variant_field, struct_made, struct_field, some_made, some_part, tuple_part, no_site, SiteTerms, no_site_term, site_term_and}
+use Rattle.std.proofs.Common.{ℕ, Bool, true, false, List, Contains, refl, subst, inl, inr, arith}
+use Rattle.std.proofs.lemmas.Grind.{common_steps}
+use Rattle.model.specs.sites.Sites.{Constraint, is_variant, is_struct, is_present, SiteTerm, extractor_call, constructor_call, pick_of, variant_made, variant_field, struct_made, struct_field, some_made, some_part, tuple_part, SiteTerms, no_site_term, site_term_and}
 use Rattle.model.specs.visits.Demands.{Demands, unwraps, unwraps_all}
 use Rattle.model.specs.trees.Collects.{calls_in, calls_in_all}
 use Rattle.model.specs.sites.DemandedGates.{AsksAnswer, IsPureCall, GatesDemanded, AllGatesDemanded}
@@ -26,15 +27,10 @@ pub record AsksMore (a b : Asking) : Type 0 where
 
 module _ (less more : Asking) (grown : AsksMore less more) where
   answer_stays : (asked : Bool) (s : SiteTerm) → AsksAnswer asked less.constraints s → AsksAnswer asked more.constraints s
-  answer_stays true s h = grown.constraints (s, is_present) h
-  answer_stays false s h = tt
+  answer_stays asked s h = grind (arith, common_steps)
 
   mutual
     pub gates_stay : (asked pure : Bool) (u : SiteTerm) → GatesDemanded asked pure less.constraints less.calls u → GatesDemanded asked pure more.constraints more.calls u
-    gates_stay a p (bool_term b ty) h = tt
-    gates_stay a p (int_term z ty) h = tt
-    gates_stay a p (prim_term name) h = tt
-    gates_stay a p (argument i) h = tt
     gates_stay a p (extractor_call t u) h = gates_stay a p u h
     gates_stay a p (constructor_call t args i) h = (h.0, all_stay a p args h.1)
     gates_stay a p (pick_of u) h = (grown.calls u h.0, gates_stay a p u h.1)
@@ -47,7 +43,7 @@ module _ (less more : Asking) (grown : AsksMore less more) where
     gates_stay a p (some_made u) h = gates_stay a p u h
     gates_stay a p (some_part u) h = (answer_stays a u h.0, gates_stay a p u h.1)
     gates_stay a p (tuple_part u f) h = gates_stay a p u h
-    gates_stay a p no_site h = tt
+    gates_stay a p _ h = tt
 
     pub all_stay : (asked pure : Bool) (us : SiteTerms) → AllGatesDemanded asked pure less.constraints less.calls us → AllGatesDemanded asked pure more.constraints more.calls us
     all_stay a p no_site_term h = tt
@@ -55,16 +51,11 @@ module _ (less more : Asking) (grown : AsksMore less more) where
 
 module _ (cs : List (SiteTerm × Constraint)) (calls : List SiteTerm) where
   pure_weaker : (pure : Bool) (i : ℕ) → IsPureCall true i → IsPureCall pure i
-  pure_weaker true i h = h
-  pure_weaker false i h = tt
+  pure_weaker pure i h = grind (arith, common_steps)
 
   -- impure calls needn't be ruled out
   mutual
     pub unpurified : (asked pure : Bool) (u : SiteTerm) → GatesDemanded asked true cs calls u → GatesDemanded asked pure cs calls u
-    unpurified a p (bool_term b ty) h = tt
-    unpurified a p (int_term z ty) h = tt
-    unpurified a p (prim_term name) h = tt
-    unpurified a p (argument i) h = tt
     unpurified a p (extractor_call t u) h = unpurified a p u h
     unpurified a p (constructor_call t args i) h = (pure_weaker p i h.0, all_unpurified a p args h.1)
     unpurified a p (pick_of u) h = (h.0, unpurified a p u h.1)
@@ -75,7 +66,7 @@ module _ (cs : List (SiteTerm × Constraint)) (calls : List SiteTerm) where
     unpurified a p (some_made u) h = unpurified a p u h
     unpurified a p (some_part u) h = (h.0, unpurified a p u h.1)
     unpurified a p (tuple_part u f) h = unpurified a p u h
-    unpurified a p no_site h = tt
+    unpurified a p _ h = tt
 
     all_unpurified : (asked pure : Bool) (us : SiteTerms) → AllGatesDemanded asked true cs calls us → AllGatesDemanded asked pure cs calls us
     all_unpurified a p no_site_term h = tt
@@ -84,10 +75,6 @@ module _ (cs : List (SiteTerm × Constraint)) (calls : List SiteTerm) where
   -- answers needn't be asked for
   mutual
     pub unasked : (pure : Bool) (u : SiteTerm) → GatesDemanded true pure cs calls u → GatesDemanded false pure cs calls u
-    unasked p (bool_term b ty) h = tt
-    unasked p (int_term z ty) h = tt
-    unasked p (prim_term name) h = tt
-    unasked p (argument i) h = tt
     unasked p (extractor_call t u) h = unasked p u h
     unasked p (constructor_call t args i) h = (h.0, all_unasked p args h.1)
     unasked p (pick_of u) h = (h.0, unasked p u h.1)
@@ -98,7 +85,7 @@ module _ (cs : List (SiteTerm × Constraint)) (calls : List SiteTerm) where
     unasked p (some_made u) h = unasked p u h
     unasked p (some_part u) h = (tt, unasked p u h.1)
     unasked p (tuple_part u f) h = unasked p u h
-    unasked p no_site h = tt
+    unasked p _ h = tt
 
     all_unasked : (pure : Bool) (us : SiteTerms) → AllGatesDemanded true pure cs calls us → AllGatesDemanded false pure cs calls us
     all_unasked p no_site_term h = tt
@@ -111,10 +98,6 @@ module _ (cs : List (SiteTerm × Constraint)) (calls : List SiteTerm) where
   -- where each call that a pure value unwraps is asked to answer, the value may be tested
   mutual
     pub stronger : (u : SiteTerm) → GatesDemanded false true cs calls u → ((s : SiteTerm) → In (unwraps u) s → Contains cs (s, is_present)) → GatesDemanded true true cs calls u
-    stronger (bool_term b ty) h f = tt
-    stronger (int_term z ty) h f = tt
-    stronger (prim_term name) h f = tt
-    stronger (argument i) h f = tt
     stronger (extractor_call t u) h f = stronger u h f
     stronger (constructor_call t args i) h f = (h.0, all_stronger args h.1 f)
     stronger (pick_of u) h f = (h.0, stronger u h.1 f)
@@ -125,7 +108,7 @@ module _ (cs : List (SiteTerm × Constraint)) (calls : List SiteTerm) where
     stronger (some_made u) h f = stronger u h f
     stronger (some_part u) h f = (f u (inl refl), stronger u h.1 (λ s i. f s (inr i)))
     stronger (tuple_part u i) h f = stronger u h f
-    stronger no_site h f = tt
+    stronger _ h f = tt
 
     pub all_stronger : (us : SiteTerms) → AllGatesDemanded false true cs calls us → ((s : SiteTerm) → In (unwraps_all us) s → Contains cs (s, is_present)) → AllGatesDemanded true true cs calls us
     all_stronger no_site_term h f = tt
@@ -135,10 +118,6 @@ module _ (cs : List (SiteTerm × Constraint)) (calls : List SiteTerm) where
   -- so may the calls that it unwraps
   mutual
     pub unwrapped : (u s : SiteTerm) → GatesDemanded true true cs calls u → In (unwraps u) s → GatesDemanded true true cs calls s
-    unwrapped (bool_term b ty) s h i = absurd i
-    unwrapped (int_term z ty) s h i = absurd i
-    unwrapped (prim_term name) s h i = absurd i
-    unwrapped (argument n) s h i = absurd i
     unwrapped (extractor_call t u) s h i = unwrapped u s h i
     unwrapped (constructor_call t args n) s h i = all_unwrapped args s h.1 i
     unwrapped (pick_of u) s h i = unwrapped u s h.1 i
@@ -150,20 +129,15 @@ module _ (cs : List (SiteTerm × Constraint)) (calls : List SiteTerm) where
     unwrapped (some_part u) s h (inl e) = subst (GatesDemanded true true cs calls) e h.1
     unwrapped (some_part u) s h (inr i) = unwrapped u s h.1 i
     unwrapped (tuple_part u f) s h i = unwrapped u s h i
-    unwrapped no_site s h i = absurd i
+    unwrapped _ s h i = absurd i
 
     pub all_unwrapped : (us : SiteTerms) (s : SiteTerm) → AllGatesDemanded true true cs calls us → In (unwraps_all us) s → GatesDemanded true true cs calls s
     all_unwrapped no_site_term s h i = absurd i
-    all_unwrapped (site_term_and u us) s h i =
-        elim (in_either (unwraps u) (unwraps_all us) s i) [ inl j ↦ unwrapped u s h.0 j | inr j ↦ all_unwrapped us s h.1 j ]
+    all_unwrapped (site_term_and u us) s h i = grind (arith, common_steps, unwrapped u s h.0, all_unwrapped us s h.1, in_either)
 
   -- and the multi calls that it takes answers of
   mutual
     pub gates_of_taken : (asked pure : Bool) (u s : SiteTerm) → GatesDemanded asked pure cs calls u → In (calls_in u) s → GatesDemanded asked pure cs calls s
-    gates_of_taken a p (bool_term b ty) s h i = absurd i
-    gates_of_taken a p (int_term z ty) s h i = absurd i
-    gates_of_taken a p (prim_term name) s h i = absurd i
-    gates_of_taken a p (argument n) s h i = absurd i
     gates_of_taken a p (extractor_call t u) s h i = gates_of_taken a p u s h i
     gates_of_taken a p (constructor_call t args n) s h i = all_gates_of_taken a p args s h.1 i
     gates_of_taken a p (pick_of u) s h (inl e) = subst (GatesDemanded a p cs calls) e h.1
@@ -175,9 +149,8 @@ module _ (cs : List (SiteTerm × Constraint)) (calls : List SiteTerm) where
     gates_of_taken a p (some_made u) s h i = gates_of_taken a p u s h i
     gates_of_taken a p (some_part u) s h i = gates_of_taken a p u s h.1 i
     gates_of_taken a p (tuple_part u f) s h i = gates_of_taken a p u s h i
-    gates_of_taken a p no_site s h i = absurd i
+    gates_of_taken a p _ s h i = absurd i
 
     pub all_gates_of_taken : (asked pure : Bool) (us : SiteTerms) (s : SiteTerm) → AllGatesDemanded asked pure cs calls us → In (calls_in_all us) s → GatesDemanded asked pure cs calls s
     all_gates_of_taken a p no_site_term s h i = absurd i
-    all_gates_of_taken a p (site_term_and u us) s h i =
-        elim (in_either (calls_in u) (calls_in_all us) s i) [ inl j ↦ gates_of_taken a p u s h.0 j | inr j ↦ all_gates_of_taken a p us s h.1 j ]
+    all_gates_of_taken a p (site_term_and u us) s h i = grind (arith, common_steps, gates_of_taken a p u s h.0, all_gates_of_taken a p us s h.1, in_either)

@@ -1,8 +1,9 @@
 -- In the demands of a rule each field that is spoken of is given by a constraint, and each that is given is made.
-use Rattle.std.proofs.Common.{◌≡◌, ◌⊎◌, List, [], ◌∷◌, ◌++◌, Some, None, Contains, flat_map, refl, sym, ap, subst, inl, inr, ◌∙◌}
+use Rattle.std.proofs.Common.{◌≡◌, ◌⊎◌, List, [], ◌∷◌, ◌++◌, Some, None, Contains, flat_map, refl, sym, ap, subst, inl, inr, ◌∙◌, arith}
+use Rattle.std.proofs.lemmas.Grind.{common_steps}
 use Rattle.model.specs.rules.Program.{Program}
 use Rattle.model.specs.rules.Typed.{TypedRule}
-use Rattle.model.specs.sites.Sites.{Constraint, is_present, SiteTerm, bool_term, int_term, prim_term, argument, extractor_call, constructor_call, pick_of, variant_made, variant_field, struct_made, struct_field, some_made, some_part, tuple_part, no_site, SiteTerms, field_terms}
+use Rattle.model.specs.sites.Sites.{Constraint, is_present, SiteTerm, extractor_call, constructor_call, pick_of, variant_made, variant_field, struct_made, struct_field, some_made, some_part, tuple_part, no_site, SiteTerms, field_terms}
 use Rattle.model.specs.visits.Demands.{Demands, demands_of, Visit, making, asking, equating, iterating, calling, unwraps, unwraps_all, asking_all}
 use Rattle.model.specs.sites.Closure.{with_owners, spoken_of}
 use Rattle.model.proofs.Elements.{In, in_from_contains, contains_from_in, some_is, none_some, in_left, in_either, from_flat_map}
@@ -36,22 +37,14 @@ abbrev OnwardGiven : Demands → Demands → Type 0
 OnwardGiven = Onward GivesFields IsGivenSite
 
 no_field_given : (cs : List (SiteTerm × Constraint)) (s : SiteTerm) → owner_of s ≡ None → AreGivenBy cs s
-no_field_given cs s n u i a e =
-    elim (subst (λ l. In l u) (no_other_owner s n) i) [ inl q ↦ absurd (none_some a (sym n ∙ ap owner_of q ∙ e)) | inr k ↦ absurd k ]
+no_field_given cs s n u i a e = grind (arith, common_steps, no_other_owner, none_some)
 
 more_given : (cs ds : List (SiteTerm × Constraint)) → ((x : SiteTerm × Constraint) → Contains cs x → Contains ds x) → (s : SiteTerm) → AreGivenBy cs s → AreGivenBy ds s
 more_given cs ds more s g u i a e = let k = g u i a e in (k.0, more (a, k.0) k.1, k.2)
 
 -- a field of a constrained site that is given
 field_given : (cs : List (SiteTerm × Constraint)) (c : Constraint) (s x : SiteTerm) → Contains cs (s, c) → In (field_terms c s) x → AreGivenBy cs s → AreGivenBy cs x
-field_given cs c s x k i g u j =
-    elim (subst (λ l. In l u) (owners_of_field c s x i) j) [
-      | inl q ↦ λ a e.
-          subst (λ b. (c : Constraint) × Contains cs (b, c) × Contains (field_terms c b) u)
-          (some_is s a (sym (owner_of_field c s x i) ∙ ap owner_of q ∙ e))
-          (c, k, contains_from_in (field_terms c s) u (subst (In (field_terms c s)) q i))
-      | inr l ↦ g u l
-    ]
+field_given cs c s x k i g u j = grind (arith, owners_of_field, some_is, owner_of_field, contains_from_in)
 
 -- 2. steps
 making_on : (ts : List SiteTerm) (v : Visit) → GivesFields v.demands → OnwardGiven v.demands (making ts v).demands
@@ -92,28 +85,13 @@ asking_all_on (s ∷ ss) v f h =
     then_onward GivesFields IsGivenSite v.demands w.demands (asking_all ss w).demands a (asking_all_on ss w (λ u i. f u (inr i)) a.holds)
 
 equated_on : (a b : SiteTerm) (v : Visit) → AreGivenBy v.demands.constraints a → AreGivenBy v.demands.constraints b → GivesFields v.demands → OnwardGiven v.demands (equated a b v).demands
-equated_on a b v m n h = record {
-  holds = record {
-    asked = h.asked;
-    equal = λ e i. elim (in_either v.demands.equalities ((a, b) ∷ []) e i) [
-      | inl j ↦ h.equal e j
-      | inr j ↦ elim j [ inl q ↦ subst (λ (x : SiteTerm × SiteTerm). AreGivenBy v.demands.constraints x.0 × AreGivenBy v.demands.constraints x.1) q (m, n) | inr x ↦ absurd x ]
-    ];
-    made = h.made;
-  };
-  stays = λ s k. k;
-}
+equated_on a b v m n h = grind (arith, common_steps, in_either)
 
 equating_on : (a b : SiteTerm) (v : Visit) → GivesFields v.demands → IsGivenSite v.demands a → IsGivenSite v.demands b → OnwardGiven v.demands (equating a b v).demands
 equating_on a b v h m n = by_equating (λ w. OnwardGiven v.demands w.demands) a b v (no_step GivesFields IsGivenSite v.demands h) (equated_on a b v m.0 n.0 h)
 
 leaf_given : (d : Demands) (s : SiteTerm) → IsLeaf s → IsGivenSite d s
-leaf_given d =
-    by_leaf (IsGivenSite d)
-    (λ i. (no_field_given d.constraints (argument i) refl, λ u k. absurd k))
-    (λ b ty. (no_field_given d.constraints (bool_term b ty) refl, λ u k. absurd k))
-    (λ z ty. (no_field_given d.constraints (int_term z ty) refl, λ u k. absurd k))
-    (λ name. (no_field_given d.constraints (prim_term name) refl, λ u k. absurd k))
+leaf_given d = grind (arith, common_steps, by_leaf, no_field_given)
 
 -- what these unwrap are no fields, nor is a call
 all_unwrapped : (d : Demands) (ss : SiteTerms) → AtEach GivesFields IsGivenSite d ss → (u : SiteTerm) → In (unwraps_all ss) u → owner_of u ≡ None
@@ -145,9 +123,7 @@ fields_kept p = record {
   asks_call = λ t s v flags e f c n h m.
       let call = extractor_call t s in
       record { onward = asking_on call is_present v (no_field_given v.demands.constraints call refl) (λ x i. absurd i) h; site = part_given (asking call is_present v).demands call refl m.1 };
-  iterates_extractor = λ t s v flags b e f c n h m.
-      let call = extractor_call t s in
-      record { onward = iterating_on call v h; site = (no_field_given v.demands.constraints (pick_of call) refl, m.1) };
+  iterates_extractor = grind (arith, common_steps, iterating_on, no_field_given);
   iterates_constructor = λ t i ss v flags b e f n m h. iterating_on (constructor_call t ss i) v h;
 }
 
@@ -157,19 +133,7 @@ rule_gives p r = (rule_given p GivesFields IsGivenSite (fields_kept p) r (record
 shown : (d : Demands) (s : SiteTerm) → IsGivenBy d.constraints s → IsGiven d s
 shown d (variant_field a variant i) h = h a refl
 shown d (struct_field a i) h = h a refl
-shown d (bool_term b ty) h = tt
-shown d (int_term z ty) h = tt
-shown d (prim_term name) h = tt
-shown d (argument i) h = tt
-shown d (extractor_call t a) h = tt
-shown d (constructor_call t args i) h = tt
-shown d (pick_of a) h = tt
-shown d (variant_made ty variant fields) h = tt
-shown d (struct_made ty fields) h = tt
-shown d (some_made a) h = tt
-shown d (some_part a) h = tt
-shown d (tuple_part a i) h = tt
-shown d no_site h = tt
+shown d _ h = tt
 
 spoken_given : (d : Demands) → GivesFields d → (s : SiteTerm) → In (spoken_of d) s → IsGivenBy d.constraints s
 spoken_given d h s i =
@@ -178,9 +142,7 @@ spoken_given d h s i =
       | inr j ↦
           elim (in_either (flat_map asked d.constraints) (flat_map equal d.equalities) s j) [
             | inl k ↦ let f = from_flat_map asked d.constraints s k in h.asked f.0 f.1 s f.2
-            | inr k ↦
-                let f = from_flat_map equal d.equalities s k in
-                elim (in_either (with_owners f.0.0) (with_owners f.0.1) s f.2) [ inl l ↦ (h.equal f.0 f.1).0 s l | inr l ↦ (h.equal f.0 f.1).1 s l ]
+            | inr k ↦ grind (arith, common_steps, from_flat_map, in_either)
           ]
     ]
   where

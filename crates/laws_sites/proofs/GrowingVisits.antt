@@ -1,10 +1,11 @@
 -- Visits only add: what is made, gone over, asked and equated stays, and expressions ask and equate nothing.
-use Rattle.std.proofs.Common.{◌≡◌, ℕ, suc, Bool, true, false, List, [], ◌∷◌, ◌++◌, refl, ◌∙◌}
+use Rattle.std.proofs.Common.{◌≡◌, ℕ, suc, Bool, true, false, List, [], ◌∷◌, ◌++◌, refl, ◌∙◌, arith}
+use Rattle.std.proofs.lemmas.Grind.{common_steps}
 use Rattle.model.specs.lists.Tables.{Flags}
 use Rattle.model.specs.rules.Program.{Program, Kind, a_variant, a_struct, a_call, unknown, kind, is_partial}
 use Rattle.model.specs.sites.Sites.{Constraint, is_variant, is_struct, is_present, SiteTerm, extractor_call, constructor_call, pick_of, variant_made, struct_made, some_made, some_part, SiteTerms, field_terms}
 use Rattle.model.specs.rules.Typed.{TypedPattern, TypedPatterns, TypedExpr, TypedExprs, TypedLets, TypedIfLet, TypedRule}
-use Rattle.model.specs.visits.Demands.{fields_opened, Count, fields_matched, outputs_taken, Visit, counting, outputs_opened, site_term_eq, making, asking, equating, iterating, calling, binding, pattern_count, part_sites, open_call, open_term, visit_pattern, visit_each, visit_all, Valued, ValuedAll, call_result, call_sites, where_multi, visit_call, visit_term, visit_expr, visit_exprs, visit_lets, asking_all, visit_args, visit_iflets, finished}
+use Rattle.model.specs.visits.Demands.{fields_opened, Count, fields_matched, Visit, counting, outputs_opened, site_term_eq, making, asking, equating, iterating, calling, binding, pattern_count, part_sites, open_call, open_term, visit_pattern, visit_each, visit_all, Valued, ValuedAll, call_result, call_sites, where_multi, visit_call, visit_term, visit_expr, visit_exprs, visit_lets, asking_all, visit_args, visit_iflets, finished}
 use Rattle.model.proofs.Elements.{In, in_left}
 use Rattle.model.proofs.Either.{either}
 use Rattle.laws_sites.proofs.VisitInvariants.{KeptByTests, KeptByValues, pattern_kept, each_kept, all_kept, expr_kept, exprs_kept, lets_kept, iflets_kept, args_kept}
@@ -20,12 +21,7 @@ pub grown_by_none : (v : Visit) → Grown v v
 grown_by_none v = record { made = λ u i. i; calls = λ u i. i; asked = λ x i. i; equal = λ x i. i }
 
 pub then_grown : (u v w : Visit) → Grown u v → Grown v w → Grown u w
-then_grown u v w a b = record {
-  made = λ x i. b.made x (a.made x i);
-  calls = λ x i. b.calls x (a.calls x i);
-  asked = λ x i. b.asked x (a.asked x i);
-  equal = λ x i. b.equal x (a.equal x i);
-}
+then_grown u v w a b = grind (arith, common_steps)
 
 pub grown_making : (ts : List SiteTerm) (v : Visit) → Grown v (making ts v)
 grown_making ts v = record { made = λ u i. in_left v.demands.made ts u i; calls = λ u i. i; asked = λ x i. i; equal = λ x i. i }
@@ -63,10 +59,7 @@ grown_all (s ∷ ss) v = then_grown v (asking s is_present v) (asking_all ss (as
 
 -- 1. patterns
 pub outputs_grown : (u v : Visit) (s : SiteTerm) (args : TypedPatterns) → Grown u v → Grown u (outputs_opened s args v).visit
-outputs_grown u v s args g =
-    let c = outputs_taken (pattern_count args) in
-    let w = counting c v in
-    then_grown u v (making (part_sites s args) w) g (then_grown v w (making (part_sites s args) w) (grown_counting c v) (grown_making (part_sites s args) w))
+outputs_grown u v s args g = grind (arith, common_steps, then_grown u v, then_grown v, grown_counting, grown_making (part_sites s args))
 
 call_grown : (pure multi partial rec infallible : Bool) (call : SiteTerm) (args : TypedPatterns) (v : Visit)
     → Grown v (open_call (record { pure = pure; multi = multi; partial = partial; rec = rec }) infallible call args v).visit
@@ -81,10 +74,7 @@ call_grown pure false partial rec false call args v =
     outputs_grown v b (some_part call) args (then_grown v a b (grown_making (call ∷ (some_part call ∷ [])) v) (grown_asking call is_present a))
 
 fields_grown : (c : Constraint) (n : ℕ) (s : SiteTerm) (v : Visit) → Grown v (fields_opened c n s v).visit
-fields_grown c n s v =
-    let u = counting (fields_matched n) v in
-    let w = making (field_terms c s) u in
-    then_grown v u (asking s c w) (grown_counting (fields_matched n) v) (then_grown u w (asking s c w) (grown_making (field_terms c s) u) (grown_asking s c w))
+fields_grown c n s v = grind (arith, common_steps, then_grown v, grown_counting (fields_matched n) v, grown_making (field_terms c s), grown_asking s c)
 
 pub term_grown : (k : Kind) (t : ℕ) (s : SiteTerm) (args : TypedPatterns) (v : Visit) → Grown v (open_term k t s args v).visit
 term_grown (a_variant ty variant) t s args v = fields_grown (is_variant ty variant (pattern_count args)) (pattern_count args) s v
@@ -135,9 +125,7 @@ adds_binding : (x : ℕ) (s : SiteTerm) (v : Visit) → Adds v (binding x s v)
 adds_binding x s v = record { grown = grown_binding x s v; constraints = refl; equalities = refl }
 
 adds_call : (flags : Flags) (call : SiteTerm) (v : Visit) → Adds v (where_multi flags call (making (call_sites flags call) v))
-adds_call flags call v =
-    let w = making (call_sites flags call) v in
-    then_adds v w (where_multi flags call w) (adds_making (call_sites flags call) v) (either (Adds w) flags.multi (iterating call w) w (adds_iterating call w) (adds_nothing w))
+adds_call flags call v = grind (arith, common_steps, then_adds v, adds_making (call_sites flags call) v, either, adds_iterating call, adds_nothing)
 
 call_adds : (pure multi partial rec : Bool) (t : ℕ) (args : SiteTerms) (v : Visit)
     → Adds v (visit_call (record { pure = pure; multi = multi; partial = partial; rec = rec }) t args v).visit
@@ -155,11 +143,7 @@ term_adds (a_call flags infallible) t a = call_adds flags.pure flags.multi flags
 term_adds unknown t a = adds_nothing a.visit
 
 values_add : (p : Program) (v : Visit) → KeptByValues p (Adds v)
-values_add p v = record {
-  bound = λ x s w a. then_adds v w (binding x s w) a (adds_binding x s w);
-  made = λ ts w a. then_adds v w (making ts w) a (adds_making ts w);
-  valued = λ t b a. then_adds v b.visit (visit_term (kind p t) t b).visit a (term_adds (kind p t) t b);
-}
+values_add p v = grind (arith, common_steps, then_adds, adds_binding, adds_making, term_adds)
 
 pub expr_adds : (p : Program) (x : TypedExpr) (v : Visit) → Adds v (visit_expr p x v).visit
 expr_adds p x v = expr_kept p (Adds v) (values_add p v) x v (adds_nothing v)
@@ -172,11 +156,7 @@ lets_add p ds v = lets_kept p (Adds v) (values_add p v) ds v (adds_nothing v)
 
 -- 3. if-lets, and the right side
 values_grow : (p : Program) (v : Visit) → KeptByValues p (Grown v)
-values_grow p v = record {
-  bound = (tests_grow p v).bound;
-  made = λ ts w g. then_grown v w (making ts w) g (grown_making ts w);
-  valued = λ t b g. then_grown v b.visit (visit_term (kind p t) t b).visit g (term_adds (kind p t) t b).grown;
-}
+values_grow p v = grind (arith, common_steps, tests_grow, then_grown, grown_making, term_adds)
 
 pub iflets_grown : (p : Program) (is : List TypedIfLet) (v : Visit) → Grown v (visit_iflets p is v)
 iflets_grown p is v = iflets_kept p (Grown v) (tests_grow p v) (values_grow p v) is v (grown_by_none v)
@@ -190,5 +170,4 @@ finished_adds true a = adds_making (some_made a.site ∷ []) a.visit
 
 -- what a rule's right side adds
 pub rule_adds : (p : Program) (r : TypedRule) (w : Visit) → Adds w (finished (is_partial p r.root_term) (visit_expr p r.rhs w)).visit
-rule_adds p r w =
-    let a = visit_expr p r.rhs w in then_adds w a.visit (finished (is_partial p r.root_term) a).visit (expr_adds p r.rhs w) (finished_adds (is_partial p r.root_term) a)
+rule_adds p r w = grind (arith, common_steps, then_adds w, expr_adds p r.rhs w, finished_adds (is_partial p r.root_term))

@@ -1,10 +1,10 @@
 -- What patterns and pure expressions leave as it was: the impure calls that a visit met; and what any expression adds to them.
-use Rattle.std.proofs.Common.{◌≡◌, ℕ, suc, Bool, true, false, List, [], ◌∷◌, ◌++◌, IsTrue, refl, sym, ap, ◌∙◌, append-nil, append_assoc}
-use Rattle.std.proofs.lemmas.Bool.{false≢true}
-use Rattle.model.specs.rules.Program.{Program, Kind, a_variant, a_struct, a_call, unknown, kind, flags_of}
-use Rattle.model.specs.rules.Typed.{TypedPattern, TypedPatterns, TypedExpr, make_term, make_var, make_bool, make_int, make_prim, make_let, TypedExprs, no_typed_expr, typed_expr_and, TypedLets, no_typed_let, typed_let_and, TypedIfLet}
-use Rattle.model.specs.sites.Sites.{SiteTerm, constructor_call, SiteTerms}
-use Rattle.model.specs.visits.Demands.{Visit, site_term_eq, equating, binding, Opened, open_term, visit_pattern, ValuedAll, call_result, visit_call, visit_term, visit_expr, visit_exprs, visit_lets, unwraps, asking_all, visit_args, visit_iflets}
+use Rattle.std.proofs.Common.{◌≡◌, ℕ, List, [], ◌∷◌, ◌++◌, IsTrue, refl, sym, ap, ◌∙◌, append-nil, append_assoc, arith}
+use Rattle.std.proofs.lemmas.Grind.{common_steps}
+use Rattle.model.specs.rules.Program.{Program, Kind, kind, flags_of}
+use Rattle.model.specs.rules.Typed.{TypedPattern, TypedPatterns, TypedExpr, make_term, make_var, make_let, TypedExprs, no_typed_expr, typed_expr_and, TypedLets, no_typed_let, typed_let_and, TypedIfLet}
+use Rattle.model.specs.sites.Sites.{SiteTerm}
+use Rattle.model.specs.visits.Demands.{Visit, site_term_eq, equating, open_term, visit_pattern, ValuedAll, visit_term, visit_expr, visit_exprs, visit_lets, unwraps, asking_all, visit_args, visit_iflets}
 use Rattle.model.specs.sites.DemandedGates.{IsPureExpr, ArePureExprs, ArePureLets, ArePureIfLets}
 use Rattle.laws_sites.proofs.AskedSites.{equated}
 use Rattle.model.proofs.Either.{either}
@@ -25,43 +25,22 @@ equating_keeps : (a b : SiteTerm) (v : Visit) → KeepsCalls v (equating a b v)
 equating_keeps a b v = either (KeepsCalls v) (site_term_eq a b) v (equated a b v) (keeps_all v) (record { count = refl; impure = refl })
 
 open_keeps : (k : Kind) (t : ℕ) (s : SiteTerm) (args : TypedPatterns) (v : Visit) → KeepsCalls v (open_term k t s args v).visit
-open_keeps (a_variant ty variant) t s args v = record { count = refl; impure = refl }
-open_keeps (a_struct ty) t s args v = record { count = refl; impure = refl }
-open_keeps (a_call flags infallible) t s args v =
-    either (λ (o : Opened). KeepsCalls v o.visit) flags.multi _ _ (record { count = refl; impure = refl })
-    (either (λ (o : Opened). KeepsCalls v o.visit) infallible _ _ (record { count = refl; impure = refl }) (record { count = refl; impure = refl }))
-open_keeps unknown t s args v = keeps_all v
+open_keeps k t s args v = grind (arith, common_steps, either)
 
 module _ (p : Program) where
   tests_keep : (v : Visit) → KeptByTests p (KeepsCalls v)
-  tests_keep v = record {
-    bound = λ x s w k. record { count = k.count; impure = k.impure };
-    equal = λ a b w k. then_keeps_calls v w (equating a b w) k (equating_keeps a b w);
-    asked = λ s c w k. record { count = k.count; impure = k.impure };
-    counted = λ c w k. record { count = k.count; impure = k.impure };
-    opened = λ t s args w k. then_keeps_calls v w (open_term (kind p t) t s args w).visit k (open_keeps (kind p t) t s args w);
-  }
-
-  call_keeps : (pure multi partial rec : Bool) (t : ℕ) (args : SiteTerms) (v : Visit) → pure ≡ true → KeepsCalls v (visit_call (record { pure = pure; multi = multi; partial = partial; rec = rec }) t args v).visit
-  call_keeps true true partial rec t args v h = record { count = refl; impure = refl }
-  call_keeps true false partial rec t args v h = record { count = refl; impure = refl }
-  call_keeps false multi partial rec t args v h = absurd (false≢true h)
+  tests_keep v = grind (arith, common_steps, then_keeps_calls, equating_keeps, open_keeps)
 
   term_keeps : (k : Kind) (t : ℕ) (a : ValuedAll) → IsTrue (flags_of k).pure → KeepsCalls a.visit (visit_term k t a).visit
-  term_keeps (a_variant ty variant) t a h = record { count = refl; impure = refl }
-  term_keeps (a_struct ty) t a h = record { count = refl; impure = refl }
-  term_keeps (a_call flags infallible) t a h = call_keeps flags.pure flags.multi flags.partial flags.rec t a.sites a.visit h
-  term_keeps unknown t a h = keeps_all a.visit
+  term_keeps k t a h = grind (arith, common_steps)
 
   mutual
     pub pure_keeps : (x : TypedExpr) (v : Visit) → IsPureExpr p x → KeepsCalls v (visit_expr p x v).visit
     pure_keeps (make_term ty t args) v h =
         let a = visit_exprs p args v in then_keeps_calls v a.visit (visit_term (kind p t) t a).visit (pures_keep args v h.1) (term_keeps (kind p t) t a h.0)
     pure_keeps (make_var ty x) v h = keeps_all v
-    pure_keeps (make_bool ty b) v h = record { count = refl; impure = refl }
-    pure_keeps (make_int ty z) v h = record { count = refl; impure = refl }
-    pure_keeps (make_prim ty name) v h = record { count = refl; impure = refl }
     pure_keeps (make_let ty defs body) v h = let w = visit_lets p defs v in then_keeps_calls v w (visit_expr p body w).visit (pure_lets_keep defs v h.0) (pure_keeps body w h.1)
+    pure_keeps _ v h = record { count = refl; impure = refl }
 
     pures_keep : (xs : TypedExprs) (v : Visit) → ArePureExprs p xs → KeepsCalls v (visit_exprs p xs v).visit
     pures_keep no_typed_expr v h = keeps_all v
@@ -69,11 +48,7 @@ module _ (p : Program) where
 
     pure_lets_keep : (ds : TypedLets) (v : Visit) → ArePureLets p ds → KeepsCalls v (visit_lets p ds v)
     pure_lets_keep no_typed_let v h = keeps_all v
-    pure_lets_keep (typed_let_and x ty value rest) v h =
-        let a = visit_expr p value v in
-        let w = binding x a.site a.visit in
-        let k = pure_keeps value v h.0 in
-        then_keeps_calls v w (visit_lets p rest w) (record { count = k.count; impure = k.impure }) (pure_lets_keep rest w h.1)
+    pure_lets_keep (typed_let_and x ty value rest) v h = grind (arith, common_steps, pure_keeps value v h.0, pure_lets_keep rest, then_keeps_calls)
 
   pub args_keep : (i : ℕ) (qs : List TypedPattern) (v : Visit) → KeepsCalls v (visit_args p i qs v)
   args_keep i qs v = args_kept p (KeepsCalls v) (tests_keep v) (λ ts w k. record { count = k.count; impure = k.impure }) i qs v (keeps_all v)
@@ -99,25 +74,12 @@ adds_kept v w h = record { new = []; impure = h ∙ sym (append-nil v.demands.im
 abbrev pub then_adds_calls : (u v w : Visit) → AddsCalls u v → AddsCalls v w → AddsCalls u w
 then_adds_calls u v w a b = record { new = a.new ++ b.new; impure = b.impure ∙ ap (λ l. l ++ b.new) a.impure ∙ append_assoc u.demands.impure a.new b.new }
 
-call_adds_impure : (pure multi partial rec : Bool) (t : ℕ) (args : SiteTerms) (v : Visit) → AddsCalls v (visit_call (record { pure = pure; multi = multi; partial = partial; rec = rec }) t args v).visit
-call_adds_impure true true partial rec t args v = adds_kept v (visit_call (record { pure = true; multi = true; partial = partial; rec = rec }) t args v).visit refl
-call_adds_impure true false partial rec t args v = adds_kept v (visit_call (record { pure = true; multi = false; partial = partial; rec = rec }) t args v).visit refl
-call_adds_impure false true partial rec t args v = record { new = call_result (record { pure = false; multi = true; partial = partial; rec = rec }) (constructor_call t args (suc v.impure_calls)) ∷ []; impure = refl }
-call_adds_impure false false partial rec t args v = record { new = call_result (record { pure = false; multi = false; partial = partial; rec = rec }) (constructor_call t args (suc v.impure_calls)) ∷ []; impure = refl }
-
 pub term_adds_calls : (k : Kind) (t : ℕ) (a : ValuedAll) → AddsCalls a.visit (visit_term k t a).visit
-term_adds_calls (a_variant ty variant) t a = adds_kept a.visit (visit_term (a_variant ty variant) t a).visit refl
-term_adds_calls (a_struct ty) t a = adds_kept a.visit (visit_term (a_struct ty) t a).visit refl
-term_adds_calls (a_call flags infallible) t a = call_adds_impure flags.pure flags.multi flags.partial flags.rec t a.sites a.visit
-term_adds_calls unknown t a = adds_kept a.visit a.visit refl
+term_adds_calls k t a = grind (arith, common_steps)
 
 module _ (p : Program) where
   values_add_calls : (v : Visit) → KeptByValues p (AddsCalls v)
-  values_add_calls v = record {
-    bound = λ x s w a. record { new = a.new; impure = a.impure };
-    made = λ ts w a. record { new = a.new; impure = a.impure };
-    valued = λ t b a. then_adds_calls v b.visit (visit_term (kind p t) t b).visit a (term_adds_calls (kind p t) t b);
-  }
+  values_add_calls v = grind (arith, common_steps, term_adds_calls)
 
   pub expr_adds_calls : (x : TypedExpr) (v : Visit) → AddsCalls v (visit_expr p x v).visit
   expr_adds_calls x v = expr_kept p (AddsCalls v) (values_add_calls v) x v (adds_kept v v refl)

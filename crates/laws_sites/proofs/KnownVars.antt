@@ -1,14 +1,11 @@
 -- What variables are bound to while a visitor follows the visitor of sites: it goes on, and their ids stay those of their sites.
-use Rattle.std.proofs.Common.{◌≡◌, ℕ, ◌==◌, Bool, true, false, List, [], ◌∷◌, Option, Some, None, is_some, if◌then◌else◌, Result, Ok, Err, refl, sym, ap, ◌∙◌, subst, inl, inr, ⊎_elim, eqb-true}
+use Rattle.std.proofs.Common.{◌≡◌, ℕ, ◌==◌, Bool, true, List, [], ◌∷◌, Option, Some, None, is_some, if◌then◌else◌, Result, Ok, Err, sym, ap, subst, ⊎_elim, arith}
 use Rattle.std.specs.Prelude.{MatchResult}
-use Rattle.std.proofs.lemmas.Bool.{cases_Bool, cond-true, cond-false}
-use Rattle.std.specs.Ordering.{nat_cmp, is_eq, match_ordering}
-use Rattle.std.specs.declared.cmp.Ordering.TheVariants.{Less, Equal, Greater}
 use Rattle.std.proofs.lemmas.Map.Lookups.{exact_unsigned}
+use Rattle.std.proofs.lemmas.Grind.{common_steps}
 use Rattle.model.specs.lists.Formed.{var_type}
-use Rattle.model.specs.rules.Meaning.{look}
 use Rattle.model.specs.sites.Sites.{SiteTerm}
-use Rattle.model.specs.visits.Demands.{Visit, binding, or_no_site, var_site}
+use Rattle.model.specs.visits.Demands.{Visit, binding, var_site}
 use Rattle.model.specs.visits.Runs.{VisitRun, BoundIds, bound_at, with_bound, and_then, refused}
 use Rattle.model.proofs.Elements.{some_is}
 use Rattle.model.proofs.Numbers.{tied}
@@ -30,49 +27,23 @@ by_and_then m k s r t G f g run = ⊎_elim (λ h. f h.0 h.1 h.2 h.3) (λ h. subs
 
 -- memory that is refused
 pub refusal : {F S A : Type 0} (want : Option F) (s : S) (r : Result A F) (t : S) → refused want s r t → (e : F) × (want ≡ Some e) × (r ≡ Err e)
-refusal None s r t run = absurd run
-refusal (Some e) s r t run = (e, refl, run.0)
+refusal want s r t run = grind (arith, common_steps)
 
 -- 2. variables by their numbers
 module _ {N : Type 0} where
   same_twice : (c : Bool) (a b r : Option N) → (if c then a else r) ≡ (if c then a else (if c then b else r))
-  same_twice true a b r = refl
-  same_twice false a b r = refl
+  same_twice c a b r = grind (arith, common_steps)
 
   pub bound_once : (vs : BoundIds N) (x : ℕ) (n : N) (y : ℕ) → bound_at (with_bound vs x n) y ≡ (if x == y then Some n else bound_at vs y)
   bound_once [] x n y = ap (λ c. if c then Some n else None) (tied y x)
-  bound_once (b ∷ vs) x n y =
-      elim (nat_cmp x b.0) as (λ o. nat_cmp x b.0 ≡ o → bound_at (match_ordering o ((x, n) ∷ b ∷ vs) ((b.0, n) ∷ vs) (b ∷ with_bound vs x n)) y ≡ (if x == y then Some n else bound_at (b ∷ vs) y)) [
-        | Less ↦ λ e. ap (λ c. if c then Some n else bound_at (b ∷ vs) y) (tied y x)
-        | Equal ↦ λ e.
-            let k : is_eq (nat_cmp y b.0) ≡ (x == y) = tied y b.0 ∙ ap (λ z. z == y) (sym (exact_unsigned x b.0 e)) in
-            ap (λ c. if c then Some n else bound_at vs y) k ∙ same_twice (x == y) (Some n) (Some b.1) (bound_at vs y)
-            ∙ ap (λ c. if x == y then Some n else (if c then Some b.1 else bound_at vs y)) (sym k)
-        | Greater ↦ λ e.
-            ap (λ o. if is_eq (nat_cmp y b.0) then Some b.1 else o) (bound_once vs x n y)
-            ∙ elim (cases_Bool (x == y)) [
-              | inl t ↦
-                  let k : is_eq (nat_cmp y b.0) ≡ false = ap (λ z. is_eq (nat_cmp z b.0)) (sym (eqb-true x y t)) ∙ ap is_eq e in
-                  cond-false (is_eq (nat_cmp y b.0)) (Some b.1) (if x == y then Some n else bound_at vs y) k
-                  ∙ cond-true (x == y) (Some n) (bound_at vs y) t ∙ sym (cond-true (x == y) (Some n) (bound_at (b ∷ vs) y) t)
-              | inr f ↦
-                  ap (λ o. if is_eq (nat_cmp y b.0) then Some b.1 else o) (cond-false (x == y) (Some n) (bound_at vs y) f)
-                  ∙ sym (cond-false (x == y) (Some n) (bound_at (b ∷ vs) y) f)
-            ]
-      ] refl
+  bound_once (b ∷ vs) x n y = grind (arith, common_steps, bound_once vs x n y, tied, exact_unsigned, same_twice)
 
   -- what is bound can be used
   abbrev pub InScope : BoundIds N → List (ℕ × ℕ) → Type 0
   InScope vs vars = (x : ℕ) (n : N) → bound_at vs x ≡ Some n → is_some (var_type vars x) ≡ true
 
   pub one_more_in_scope : (vs : BoundIds N) (vars : List (ℕ × ℕ)) (x ty : ℕ) (n : N) → InScope vs vars → InScope (with_bound vs x n) ((x, ty) ∷ vars)
-  one_more_in_scope vs vars x ty n scope y m e =
-      elim (cases_Bool (x == y)) [
-        | inl t ↦ ap is_some (cond-true (x == y) (Some ty) (var_type vars y) t)
-        | inr f ↦
-            ap is_some (cond-false (x == y) (Some ty) (var_type vars y) f)
-            ∙ scope y m (sym (cond-false (x == y) (Some n) (bound_at vs y) f) ∙ sym (bound_once vs x n y) ∙ e)
-      ]
+  one_more_in_scope vs vars x ty n scope y m e = grind (arith, common_steps, bound_once)
 
 -- 3. where a visitor goes
 module _ {F S N : Type 0} (o : Follower F S N) where
@@ -88,20 +59,10 @@ module _ {F S N : Type 0} (o : Follower F S N) where
 
   -- variables that stay, and one more
   pub knows_stay : (s t : S) (vs : BoundIds N) (v w : Visit) → w.vars ≡ v.vars → Goes o s t w → KnowsVars s vs v → KnowsVars t vs w
-  knows_stay s t vs v w same g knows x n e =
-      g.kept (var_site w x) n (subst (λ us. o.Names s (or_no_site (look (λ y. y == x) us)) n) (sym same) (knows x n e))
+  knows_stay s t vs v w same g knows x n e = grind (arith, common_steps)
 
   pub knows_more : (s : S) (vs : BoundIds N) (v : Visit) (x : ℕ) (n : N) (u : SiteTerm) → o.Names s u n → KnowsVars s vs v → KnowsVars s (with_bound vs x n) (binding x u v)
-  knows_more s vs v x n u site knows y m e =
-      elim (cases_Bool (x == y)) [
-        | inl t ↦
-            let same : n ≡ m = some_is n m (sym (cond-true (x == y) (Some n) (bound_at vs y) t) ∙ sym (bound_once vs x n y) ∙ e) in
-            let here : var_site (binding x u v) y ≡ u = ap or_no_site (cond-true (x == y) (Some u) (look (λ k. k == y) v.vars) t) in
-            subst (λ k. o.Names s (var_site (binding x u v) y) k) same (subst (λ w. o.Names s w n) (sym here) site)
-        | inr f ↦
-            let there : var_site (binding x u v) y ≡ var_site v y = ap or_no_site (cond-false (x == y) (Some u) (look (λ k. k == y) v.vars) f) in
-            subst (λ w. o.Names s w m) (sym there) (knows y m (sym (cond-false (x == y) (Some n) (bound_at vs y) f) ∙ sym (bound_once vs x n y) ∙ e))
-      ]
+  knows_more s vs v x n u site knows y m e = grind (arith, common_steps, some_is, bound_once)
 
   -- they stay known where others are bound
   pub knows_on : (s t : S) (vs : BoundIds N) (vars : List (ℕ × ℕ)) (v w : Visit) → InScope vs vars → Same vars v w → Goes o s t w → KnowsVars s vs v → KnowsVars t vs w
@@ -109,5 +70,4 @@ module _ {F S N : Type 0} (o : Follower F S N) where
 
   -- who is refused memory ends
   pub refused_ends : {A T : Type 0} (want : Option F) → EndsOnTheWay o want → (G : A → Type 0) (s : T) (r : Result A F) (t : T) (z : S) (w : Visit) → refused want s r t → MatchResult r G (λ e. o.Ends z w e)
-  refused_ends want ends G s r t z w run =
-      let a = refusal want s r t run in subst (λ x. MatchResult x G (λ e. o.Ends z w e)) (sym a.2) (ends.refused z w a.0 a.1)
+  refused_ends want ends G s r t z w run = grind (arith, common_steps, refusal)

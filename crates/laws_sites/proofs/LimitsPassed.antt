@@ -1,6 +1,7 @@
 -- The limit that is met first is passed, and where a limit is passed one is met.
-use Rattle.std.proofs.Common.{◌≡◌, ℕ, Bool, true, false, nat_lt, if◌then◌else◌, List, [], ◌∷◌, length, map, Option, Some, None, refl, sym, ap, ◌∙◌, subst, inl, inr, arith, ltb-true, lt-ltb, ltb-false}
+use Rattle.std.proofs.Common.{◌≡◌, ℕ, Bool, true, false, nat_lt, if◌then◌else◌, List, [], ◌∷◌, length, map, Option, Some, None, refl, sym, ap, ◌∙◌, inl, inr, arith, lt-ltb}
 use Rattle.std.proofs.lemmas.Bool.{cases_Bool, cond-true, cond-false, le-ltb}
+use Rattle.std.proofs.lemmas.Grind.{common_steps}
 use Rattle.model.specs.rules.Typed.{TypedRule}
 use Rattle.model.specs.rules.Program.{Program}
 use Rattle.model.specs.sites.Sites.{SiteTerm}
@@ -11,35 +12,19 @@ use Rattle.model.proofs.Elements.{In, in_from_contains, contains_from_in, some_i
 -- 1. counts
 -- where this holds, or where it doesn't, there is a limit
 by_test : (b : Bool) (k l : RuleLimit) → (if b then Some k else None) ≡ Some l → (b ≡ true) × (k ≡ l)
-by_test true k l e = (refl, some_is k l e)
-by_test false k l e = absurd (none_some l e)
+by_test b k l e = grind (arith, common_steps, some_is, none_some)
 
 by_other_test : (b : Bool) (k l : RuleLimit) → (if b then None else Some k) ≡ Some l → (b ≡ false) × (k ≡ l)
-by_other_test true k l e = absurd (none_some l e)
-by_other_test false k l e = (refl, some_is k l e)
+by_other_test b k l e = grind (arith, common_steps, none_some, some_is)
 
 -- a count of the rule that passes a limit
 count_passes : (p : Program) (before : List SiteTerm) (r : TypedRule) (c : Count) (l : RuleLimit) → In (counts_of_rule p r) c → passed_by c ≡ Some l → PassesLimit p before r l
-count_passes p before r (fields_matched n) l i e =
-    let t = by_test (nat_lt most_fields n) fields_limit l e in
-    subst (PassesLimit p before r) t.1 (record { fields = n; matched = contains_from_in (counts_of_rule p r) (fields_matched n) i; many = ltb-true most_fields n t.0 })
-count_passes p before r (outputs_taken n) l i e =
-    let t = by_test (nat_lt most_outputs n) outputs_limit l e in
-    subst (PassesLimit p before r) t.1 (record { outputs = n; taken = contains_from_in (counts_of_rule p r) (outputs_taken n) i; many = ltb-true most_outputs n t.0 })
-count_passes p before r (argument_taken n) l i e =
-    let t = by_other_test (nat_lt n most_arguments) arguments_limit l e in
-    subst (PassesLimit p before r) t.1 (record { argument = n; taken = contains_from_in (counts_of_rule p r) (argument_taken n) i; many = let m = ltb-false n most_arguments t.0 in omega (arith, m) })
+count_passes p before r c l i e = grind (arith, common_steps, by_test, contains_from_in, by_other_test)
 
 -- the first that passes one is among them, and there is one where some count passes a limit
 first_among : (cs : List (Count × ℕ)) (x : RuleLimit × ℕ) → first_passed cs ≡ Some x → (c : Count) × In (map (λ d. d.0) cs) c × (passed_by c ≡ Some x.0)
 first_among [] x e = absurd (none_some x e)
-first_among (c ∷ cs) x e = by (passed_by c.0) refl e (first_among cs x)
-  where
-    by : (o : Option RuleLimit) → passed_by c.0 ≡ o → passed_or_later o c.1 (first_passed cs) ≡ Some x
-        → (first_passed cs ≡ Some x → (d : Count) × In (map (λ k. k.0) cs) d × (passed_by d ≡ Some x.0))
-        → (d : Count) × In (map (λ k. k.0) (c ∷ cs)) d × (passed_by d ≡ Some x.0)
-    by (Some l) q f later = (c.0, inl refl, q ∙ ap (λ (y : RuleLimit × ℕ). Some y.0) (some_is (l, c.1) x f))
-    by None q f later = let d = later f in (d.0, inr d.1, d.2)
+first_among (c ∷ cs) x e = grind (arith, common_steps, first_among cs x, some_is)
 
 some_passed : (cs : List (Count × ℕ)) (c : Count) (l : RuleLimit) → In (map (λ d. d.0) cs) c → passed_by c ≡ Some l → (x : RuleLimit × ℕ) × (first_passed cs ≡ Some x)
 some_passed [] c l i e = absurd i
@@ -56,16 +41,7 @@ limit_of_first None l e = absurd (none_some l e)
 limit_of_first (Some x) l e = let s = some_is x.0 l e in (x.1, (λ i. Some (s i, x.1)))
 
 pub first_limit_is_passed_lem : (p : Program) (before : List SiteTerm) (r : TypedRule) (l : RuleLimit) → first_limit p before r ≡ Some l → PassesLimit p before r l
-first_limit_is_passed_lem p before r l e =
-    elim (cases_Bool (nat_lt most_sites (length (sites_reached p before r)))) [
-      | inl t ↦
-          let same = some_is sites_limit l (sym (cond-true (nat_lt most_sites (length (sites_reached p before r))) (Some sites_limit) (limit_of_passed (passed_in_visit p r)) t) ∙ e) in
-          subst (PassesLimit p before r) same (ltb-true most_sites (length (sites_reached p before r)) t)
-      | inr f ↦
-          let x = limit_of_first (passed_in_visit p r) l (sym (cond-false (nat_lt most_sites (length (sites_reached p before r))) (Some sites_limit) (limit_of_passed (passed_in_visit p r)) f) ∙ e) in
-          let c = first_among (demands_of p r).counted (l, x.0) x.1 in
-          count_passes p before r c.0 l c.1 c.2
-    ]
+first_limit_is_passed_lem p before r l e = grind (arith, common_steps, some_is, limit_of_first, first_among, count_passes)
 
 -- 3. a limit that is passed is met, or one before
 count_met : (p : Program) (before : List SiteTerm) (r : TypedRule) (c : Count) (l : RuleLimit) → In (counts_of_rule p r) c → passed_by c ≡ Some l → (m : RuleLimit) × (first_limit p before r ≡ Some m)
@@ -87,5 +63,4 @@ passed_limit_is_met_lem p before r outputs_limit h =
 passed_limit_is_met_lem p before r arguments_limit h =
     count_met p before r (argument_taken h.argument) arguments_limit (in_from_contains (counts_of_rule p r) (argument_taken h.argument) h.taken)
     (cond-false (nat_lt h.argument most_arguments) None (Some arguments_limit) (le-ltb h.argument most_arguments h.many))
-passed_limit_is_met_lem p before r sites_limit h =
-    (sites_limit, cond-true (nat_lt most_sites (length (sites_reached p before r))) (Some sites_limit) (limit_of_passed (passed_in_visit p r)) (lt-ltb most_sites (length (sites_reached p before r)) h))
+passed_limit_is_met_lem p before r sites_limit h = grind (arith, common_steps)

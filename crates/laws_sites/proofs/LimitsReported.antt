@@ -1,9 +1,9 @@
 -- A limit that building reports is one that the rule at the report's position passes.
-use Rattle.std.proofs.Common.{◌≡◌, ◌==◌, Bool, true, false, List, [], ◌∷◌, ◌++◌, length, map, take, filter, Option, Some, None, slice_get, refl, sym, ap, ◌∙◌, subst, inl, inr}
+use Rattle.std.proofs.Common.{◌≡◌, ◌==◌, Bool, true, false, List, [], ◌∷◌, ◌++◌, length, map, take, filter, Option, Some, None, slice_get, refl, sym, ap, ◌∙◌, subst, inl, inr, arith}
 use Rattle.std.proofs.Math.Seq.{take-append_seam}
-use Rattle.std.proofs.lemmas.Bool.{false≢true}
 use Rattle.std.proofs.lemmas.List.Elements.{All-contains}
 use Rattle.std.proofs.lemmas.List.{append_assoc}
+use Rattle.std.proofs.lemmas.Grind.{common_steps}
 use Rattle.model.specs.lists.Syntax.{Position}
 use Rattle.model.specs.rules.Typed.{TypedRule}
 use Rattle.model.specs.rules.Program.{Program}
@@ -11,7 +11,7 @@ use Rattle.model.specs.sites.Sites.{SiteTerm}
 use Rattle.model.specs.visits.Demands.{demands_of}
 use Rattle.model.specs.sites.Closure.{reported}
 use Rattle.model.specs.sites.Limits.{RuleLimit, PassesLimit, first_limit, sites_wanted, sites_after_rules}
-use Rattle.model.specs.sites.Overlap.{RuleReport, limit_passed, not_reached, rules_overlap, rule_shadows, build_reports, build_reports_after, build_reports_of}
+use Rattle.model.specs.sites.Overlap.{RuleReport, limit_passed, not_reached, build_reports, build_reports_after, build_reports_of}
 use Rattle.model.specs.claims.Refusals.{NamedLimit, of_rule, of_nesting, Refusal, past_limit, refusal_of, PassedInBuilding, rule_passes, sites_before}
 use Rattle.model.specs.claims.Layers.{is_left_out}
 use Rattle.laws_sites.specs.RefusalLaws.{ReportsNamePassedLimits}
@@ -41,13 +41,7 @@ module _ (p : Program) (l : NamedLimit) (at : Position) where
       → (o : Option RuleLimit) → first_limit p before r ≡ o
       → In (elim o as (λ _. List RuleReport) [ Some m ↦ limit_passed m r.at ∷ [] | None ↦ map (λ why. not_reached why r.at) (reported (sites_wanted p before r) (demands_of p r)) ]) x
       → (m : RuleLimit) × (first_limit p before r ≡ Some m) × (of_rule m ≡ l) × (r.at ≡ at)
-  of_limit before r x e (Some m) f (inl same) =
-      let g : past_limit (of_rule m) r.at ≡ past_limit l at = ap refusal_of same ∙ e in
-      (m, f, ap limit_in g, ap (place_in at) g)
-  of_limit before r x e (Some m) f (inr i) = absurd i
-  of_limit before r x e None f i =
-      let w = in_map (λ why. not_reached why r.at) (reported (sites_wanted p before r) (demands_of p r)) x i in
-      absurd (false≢true (ap names_limit (ap refusal_of w.2 ∙ e)))
+  of_limit before r x e o f i = grind (arith, common_steps, in_map)
 
   reported_after : (done rs : List TypedRule) → done ++ rs ≡ p.rules → (x : RuleReport) → In (build_reports_after p done rs) x → refusal_of x ≡ past_limit l at → Passed
   reported_after done [] h x i e = absurd i
@@ -65,10 +59,7 @@ module _ (p : Program) (l : NamedLimit) (at : Position) where
       ]
 
   later_names_none : (r : RuleReport) → is_left_out r ≡ false → refusal_of r ≡ past_limit l at → ⊥
-  later_names_none (limit_passed limit at') h e = false≢true (sym h)
-  later_names_none (not_reached why at') h e = false≢true (sym h)
-  later_names_none (rules_overlap report) h e = false≢true (ap names_limit e)
-  later_names_none (rule_shadows report) h e = false≢true (ap names_limit e)
+  later_names_none r h e = grind (arith, common_steps)
 
 pub reports_name_passed_limits_lem : ReportsNamePassedLimits
 reports_name_passed_limits_lem p = (

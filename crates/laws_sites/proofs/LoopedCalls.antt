@@ -1,8 +1,8 @@
 -- The calls that a rule goes over: their gates are demanded, but for multi calls of if-lets whose values take no answer
 -- of them.
-use Rattle.std.proofs.Common.{◌≡◌, ◌⊎◌, ℕ, Bool, true, false, not, List, [], ◌∷◌, ◌++◌, Some, filter, refl, sym, ap, subst, inl, inr, ◌∙◌}
-use Rattle.std.proofs.lemmas.Bool.{cases_Bool, and_parts, false≢true}
-use Rattle.std.specs.List.{list_all}
+use Rattle.std.proofs.Common.{◌≡◌, ◌⊎◌, ℕ, Bool, true, false, not, List, [], ◌∷◌, ◌++◌, Some, filter, subst, inl, inr, arith}
+use Rattle.std.proofs.lemmas.Bool.{and_parts, false≢true}
+use Rattle.std.proofs.lemmas.Grind.{common_steps}
 use Rattle.model.specs.rules.Program.{Program, is_partial}
 use Rattle.model.specs.sites.Sites.{SiteTerm}
 use Rattle.model.specs.rules.Typed.{TypedIfLet, TypedRule}
@@ -52,51 +52,12 @@ iflets_calls p (i ∷ is) v v' vars more f h g alike u k =
         → In (visit_pattern p i.lhs x.site w).demands.iterators u ⊎ (In (calls_left p is (visit_pattern p i.lhs y.site y.visit)) u ⊎ MayTest (visit_iflets p is (visit_pattern p i.lhs x.site w)) u)
         → In v.demands.iterators u
         ⊎ (In (filter (λ c. not (has_site (calls_in y.site) c)) y.visit.demands.iterators ++ calls_left p is (visit_pattern p i.lhs y.site y.visit)) u ⊎ MayTest (visit_iflets p is (visit_pattern p i.lhs x.site w)) u)
-    in_rest p i is v v' x y same w tested mid after u before past found =
-        elim found [
-          | inr j ↦ elim j [ inl l ↦ inr (inl (in_right left (calls_left p is (visit_pattern p i.lhs y.site y.visit)) u l)) | inr m ↦ inr (inr m) ]
-          | inl j ↦
-              elim (after.calls u j) [
-                | inr m ↦ inr (inr (at_end m))
-                | inl l ↦
-                    elim (same.same.calls u (before l)) [
-                      | inl n ↦ inl n
-                      | inr n ↦
-                          elim (cases_Bool (has_site (calls_in y.site) u)) [
-                            | inl t ↦
-                                let here = subst (λ s. In (calls_in s) u) (sym same.site) (has_in (calls_in y.site) u t) in
-                                inr (inr (at_end (good_stays w z after.later true true u (gates_of_taken w.demands.constraints w.demands.iterators true true x.site u tested here))))
-                            | inr o ↦
-                                inr (inl (in_left left (calls_left p is (visit_pattern p i.lhs y.site y.visit)) u
-                                (filter_from (λ c. not (has_site (calls_in y.site) c)) y.visit.demands.iterators u n (ap not o))))
-                          ]
-                    ]
-              ]
-        ]
-      where
-        z : Visit
-        z = visit_pattern p i.lhs x.site w
-
-        left : List SiteTerm
-        left = filter (λ c. not (has_site (calls_in y.site) c)) y.visit.demands.iterators
-
-        at_end : MayTest (visit_pattern p i.lhs x.site w) u → MayTest (visit_iflets p is (visit_pattern p i.lhs x.site w)) u
-        at_end m = good_stays (visit_pattern p i.lhs x.site w) (visit_iflets p is (visit_pattern p i.lhs x.site w)) past.later true true u m
+    in_rest p i is v v' x y same w tested mid after u before past found = grind (arith, in_right, has_in, good_stays, gates_of_taken, in_left, filter_from)
 
 -- where values take an answer of each call, none is left
 pub none_left : (p : Program) (is : List TypedIfLet) (v : Visit) (u : SiteTerm) → iflets_need_calls p is v ≡ true → In (calls_left p is v) u → ⊥
 none_left p [] v u h i = i
-none_left p (i ∷ is) v u h k =
-    let a = visit_expr p i.rhs (afresh v) in
-    let next = visit_pattern p i.lhs a.site a.visit in
-    let b = and_parts (list_all (has_site (calls_in a.site)) a.visit.demands.iterators) (iflets_need_calls p is next) h in
-    elim (in_either (filter (λ c. not (has_site (calls_in a.site) c)) a.visit.demands.iterators) (calls_left p is next) u k) [
-      | inl j ↦
-          let there = in_filter (λ c. not (has_site (calls_in a.site) c)) a.visit.demands.iterators u j in
-          let none = passed_filter (λ c. not (has_site (calls_in a.site) c)) a.visit.demands.iterators u j in
-          false≢true (sym (ap not (all_in (has_site (calls_in a.site)) a.visit.demands.iterators u b.0 there)) ∙ none)
-      | inr j ↦ none_left p is next u b.1 j
-    ]
+none_left p (i ∷ is) v u h k = grind (arith, common_steps, none_left p is, and_parts, in_either, in_filter, passed_filter, all_in)
 
 -- 2. rules
 abbrev before_right : Program → TypedRule → Visit
@@ -119,10 +80,7 @@ is_before_right p r f h =
       vars = a.vars;
       formed = a.right;
       good = sides.iflets.good;
-      calls = λ s i. elim (iflets_calls p r.iflets u u a.mid a.vars a.iflets h sides.args.good (record { vars = refl; impure_calls = refl }) s i) [
-        | inl j ↦ elim (sides.args.calls s j) [ inl n ↦ absurd n | inr m ↦ inr (good_stays u w sides.iflets.later true true s m) ]
-        | inr j ↦ j
-      ];
+      calls = grind (arith, common_steps, iflets_calls p r.iflets u u a.mid a.vars a.iflets h sides.args.good, good_stays u w sides.iflets.later true true);
     }
 
 -- the calls that a visit goes over are among these, or their gates are demanded
@@ -130,16 +88,13 @@ abbrev AreCalled : Bool → List SiteTerm → Valued → Type 0
 AreCalled pure left a = (u : SiteTerm) → In a.visit.demands.iterators u → In left u ⊎ Good true pure a.visit u
 
 finished_called : (pure : Bool) (left : List SiteTerm) (b : Bool) (a : Valued) → AreCalled pure left a → AreCalled pure left (finished b a)
-finished_called pure left true a h = h
-finished_called pure left false a h = h
+finished_called pure left b a h = grind (arith, common_steps)
 
 finished_good : (pure b : Bool) (a : Valued) → Good true pure a.visit a.site → Good true pure (finished b a).visit (finished b a).site
-finished_good pure true a h = h
-finished_good pure false a h = h
+finished_good pure b a h = grind (arith, common_steps)
 
 finished_quiet : (b : Bool) (a : Valued) → (finished b a).visit.demands.impure ≡ [] → a.visit.demands.impure ≡ []
-finished_quiet true a h = h
-finished_quiet false a h = h
+finished_quiet b a h = grind (arith, common_steps)
 
 -- a rule that makes no impure call has a pure right side
 pub pure_right_side : (p : Program) (r : TypedRule) → (demands_of p r).impure ≡ [] → IsPureExpr p r.rhs
@@ -177,9 +132,7 @@ module _ (pure : Bool) (p : Program) (r : TypedRule) (typed : IsWellTypedRule p 
   -- but for those that are left
   pub rule_calls : (pure ≡ true → IsPureExpr p r.rhs) → CallsAlone (IsTotal p) r.rhs ⊎ CallsAlone (IsSingle p) r.rhs → (u : SiteTerm) → In (demands_of p r).iterators u
       → In (calls_left_by p r) u ⊎ GatesDemanded true pure (demands_of p r).constraints (demands_of p r).iterators u
-  rule_calls right h =
-      finished_called pure (calls_left_by p r) (is_partial p r.root_term) (visit_expr p r.rhs (before_right p r))
-      (elim h [ inl total ↦ total_calls right total | inr single ↦ single_calls single ])
+  rule_calls right h = grind (arith, common_steps, finished_called, total_calls, single_calls)
 
   -- where it calls no partial term, so are those of the result
   pub rule_result : (pure ≡ true → IsPureExpr p r.rhs) → CallsAlone (IsTotal p) r.rhs → GatesDemanded true pure (demands_of p r).constraints (demands_of p r).iterators (result_of p r)

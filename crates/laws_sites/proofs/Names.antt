@@ -1,7 +1,8 @@
 -- Names of classes: joining keeps what is joined, joins what it is given, and joins nothing else.
-use Rattle.std.proofs.Common.{◌≡◌, ℕ, zero, suc, true, if◌then◌else◌, List, [], ◌∷◌, ◌++◌, length, flat_map, refl, sym, ap, ◌∙◌, subst, inl, inr}
+use Rattle.std.proofs.Common.{◌≡◌, ℕ, zero, suc, true, if◌then◌else◌, List, [], ◌∷◌, ◌++◌, length, flat_map, refl, sym, ap, subst, inl, inr, arith}
 use Rattle.std.proofs.lemmas.Bool.{cases_Bool, cond-true, cond-false}
 use Rattle.std.specs.List.{zip}
+use Rattle.std.proofs.lemmas.Grind.{common_steps}
 use Rattle.model.specs.sites.Sites.{Constraint, SiteTerm, field_terms}
 use Rattle.model.specs.visits.Demands.{Demands, site_term_eq}
 use Rattle.model.specs.sites.Closure.{Joined, given, itself, turned, chained, at_field, class_name, same_class, joining, joining_each, due_with, due, joined_in, spoken_of, class_names}
@@ -25,30 +26,16 @@ pub name_same : (rs : Renamings) (a b : SiteTerm) → SameName rs a b → same_c
 name_same rs a b e = same_term (class_name rs a) (class_name rs b) e
 
 pub joining_keeps : (rs : Renamings) (a b x y : SiteTerm) → SameName rs x y → SameName (joining rs a b) x y
-joining_keeps rs a b x y e =
-    elim (cases_Bool (same_class rs a b)) [
-      | inl t ↦ subst (λ l. SameName l x y) (sym (cond-true (same_class rs a b) rs ((class_name rs a, class_name rs b) ∷ rs) t)) e
-      | inr f ↦ subst (λ l. SameName l x y) (sym (cond-false (same_class rs a b) rs ((class_name rs a, class_name rs b) ∷ rs) f)) (cons_keeps (class_name rs a, class_name rs b) rs x y e)
-    ]
+joining_keeps rs a b x y e = grind (arith, common_steps, cons_keeps)
 
 cons_first : (rs : Renamings) (n m a : SiteTerm) → class_name rs a ≡ n → class_name ((n, m) ∷ rs) a ≡ m
 cons_first rs n m a e = cond-true (site_term_eq (class_name rs a) n) m (class_name rs a) (same_term (class_name rs a) n e)
 
 cons_second : (rs : Renamings) (n m b : SiteTerm) → class_name rs b ≡ m → class_name ((n, m) ∷ rs) b ≡ m
-cons_second rs n m b e =
-    elim (cases_Bool (site_term_eq (class_name rs b) n)) [
-      | inl t ↦ cond-true (site_term_eq (class_name rs b) n) m (class_name rs b) t
-      | inr f ↦ cond-false (site_term_eq (class_name rs b) n) m (class_name rs b) f ∙ e
-    ]
+cons_second rs n m b e = grind (arith, common_steps)
 
 pub joining_joins : (rs : Renamings) (a b : SiteTerm) → SameName (joining rs a b) a b
-joining_joins rs a b =
-    elim (cases_Bool (same_class rs a b)) [
-      | inl t ↦ subst (λ l. SameName l a b) (sym (cond-true (same_class rs a b) rs ((class_name rs a, class_name rs b) ∷ rs) t)) (same_name rs a b t)
-      | inr f ↦
-          subst (λ l. SameName l a b) (sym (cond-false (same_class rs a b) rs ((class_name rs a, class_name rs b) ∷ rs) f))
-          (cons_first rs (class_name rs a) (class_name rs b) a refl ∙ sym (cons_second rs (class_name rs a) (class_name rs b) b refl))
-    ]
+joining_joins rs a b = grind (arith, same_name, cons_first, cons_second)
 
 pub each_keeps : (es : List (SiteTerm × SiteTerm)) (rs : Renamings) (x y : SiteTerm) → SameName rs x y → SameName (joining_each rs es) x y
 each_keeps [] rs x y e = e
@@ -56,8 +43,7 @@ each_keeps (p ∷ es) rs x y e = each_keeps es (joining rs p.0 p.1) x y (joining
 
 pub each_joins : (es : List (SiteTerm × SiteTerm)) (rs : Renamings) (e : SiteTerm × SiteTerm) → In es e → SameName (joining_each rs es) e.0 e.1
 each_joins [] rs e i = absurd i
-each_joins (p ∷ es) rs e (inl q) =
-    subst (λ w. SameName (joining_each (joining rs p.0 p.1) es) w.0 w.1) q (each_keeps es (joining rs p.0 p.1) p.0 p.1 (joining_joins rs p.0 p.1))
+each_joins (p ∷ es) rs e (inl q) = grind (arith, common_steps, each_keeps, joining_joins)
 each_joins (p ∷ es) rs e (inr i) = each_joins es (joining rs p.0 p.1) e i
 
 pub rounds_keep : (n : ℕ) (cs : List (SiteTerm × Constraint)) (sites : List SiteTerm) (rs : Renamings) (x y : SiteTerm) → SameName rs x y → SameName (joined_in n cs sites rs) x y
@@ -66,9 +52,7 @@ rounds_keep (suc n) cs sites rs x y e = rounds_keep n cs sites (joining_each rs 
 
 -- the demanded equalities are in the classes
 pub given_joined : (d : Demands) (a b : SiteTerm) → In d.equalities (a, b) → SameName (class_names d) a b
-given_joined d a b i =
-    rounds_keep (length (spoken_of d ++ flat_map (λ s. flat_map (λ c. field_terms c.1 s) d.constraints) (spoken_of d))) d.constraints (spoken_of d) (joining_each [] d.equalities) a b
-    (each_joins d.equalities [] (a, b) i)
+given_joined d a b i = grind (arith, common_steps, rounds_keep, each_joins d.equalities [] (a, b) i)
 
 -- all renamings are of sites that are joined
 module _ (d : Demands) where

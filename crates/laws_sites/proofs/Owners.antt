@@ -1,6 +1,7 @@
 -- The site whose field a site is.
-use Rattle.std.proofs.Common.{◌≡◌, [], ◌∷◌, Option, Some, None, refl, sym, ◌∙◌}
-use Rattle.model.specs.sites.Sites.{Constraint, SiteTerm, bool_term, int_term, prim_term, argument, extractor_call, constructor_call, pick_of, variant_made, variant_field, struct_made, struct_field, some_made, some_part, tuple_part, no_site, field_terms}
+use Rattle.std.proofs.Common.{◌≡◌, [], ◌∷◌, Option, Some, None, refl, sym, ◌∙◌, arith}
+use Rattle.std.proofs.lemmas.Grind.{common_steps}
+use Rattle.model.specs.sites.Sites.{Constraint, SiteTerm, variant_field, struct_field, field_terms}
 use Rattle.model.specs.sites.Closure.{with_owners}
 use Rattle.model.proofs.Elements.{In, none_some}
 use Rattle.laws_sites.proofs.Patterns.{by_field}
@@ -16,19 +17,7 @@ pub by_owners : (P : SiteTerm → Type 0) → ((s : SiteTerm) → owner_of s ≡
     → ((s a : SiteTerm) → owner_of s ≡ Some a → with_owners s ≡ s ∷ with_owners a → P a → P s) → (s : SiteTerm) → P s
 by_owners P alone field (variant_field a variant i) = field (variant_field a variant i) a refl refl (by_owners P alone field a)
 by_owners P alone field (struct_field a i) = field (struct_field a i) a refl refl (by_owners P alone field a)
-by_owners P alone field (bool_term b ty) = alone (bool_term b ty) refl refl
-by_owners P alone field (int_term z ty) = alone (int_term z ty) refl refl
-by_owners P alone field (prim_term n) = alone (prim_term n) refl refl
-by_owners P alone field (argument i) = alone (argument i) refl refl
-by_owners P alone field (extractor_call t a) = alone (extractor_call t a) refl refl
-by_owners P alone field (constructor_call t xs i) = alone (constructor_call t xs i) refl refl
-by_owners P alone field (pick_of a) = alone (pick_of a) refl refl
-by_owners P alone field (variant_made s i xs) = alone (variant_made s i xs) refl refl
-by_owners P alone field (struct_made s xs) = alone (struct_made s xs) refl refl
-by_owners P alone field (some_made a) = alone (some_made a) refl refl
-by_owners P alone field (some_part a) = alone (some_part a) refl refl
-by_owners P alone field (tuple_part a f) = alone (tuple_part a f) refl refl
-by_owners P alone field no_site = alone no_site refl refl
+by_owners P alone field s = grind (arith, common_steps)
 
 pub owner_of_field : (c : Constraint) (a x : SiteTerm) → In (field_terms c a) x → owner_of x ≡ Some a
 owner_of_field c a = by_field (λ x. owner_of x ≡ Some a) a (λ variant i. refl) (λ i. refl) c

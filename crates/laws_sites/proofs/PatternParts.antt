@@ -1,6 +1,7 @@
 -- What patterns are that hang together, part by part.
-use Rattle.std.proofs.Common.{if◌then◌else◌, ◌≡◌, ℕ, suc, ◌==◌, true, false, ◌&&◌, List, [], ◌∷◌, length, Option, Some, None, is_some, slice_get, refl, sym, ap, subst, ◌∙◌, inl, inr, eqb-true}
-use Rattle.std.proofs.lemmas.Bool.{and_parts, cases_Bool, false≢true}
+use Rattle.std.proofs.Common.{if◌then◌else◌, ◌≡◌, ℕ, suc, ◌==◌, true, false, List, [], ◌∷◌, length, Option, Some, None, is_some, slice_get, ap, subst, eqb-true, arith}
+use Rattle.std.proofs.lemmas.Bool.{and_parts}
+use Rattle.std.proofs.lemmas.Grind.{common_steps}
 use Rattle.model.specs.lists.Tables.{TermEntry}
 use Rattle.model.specs.lists.Ranges.{is_literal_of}
 use Rattle.model.specs.rules.Outcome.{then_option}
@@ -23,10 +24,8 @@ AsMany (typed_pattern_and q qs) (ty ∷ tys) = AsMany qs tys
 AsMany _ _ = ⊥
 
 pub as_many_types : (qs : TypedPatterns) (tys : List ℕ) → AsMany qs tys → length tys ≡ pattern_count qs
-as_many_types no_typed_pattern [] h = refl
-as_many_types no_typed_pattern (ty ∷ tys) h = absurd h
-as_many_types (typed_pattern_and q qs) [] h = absurd h
 as_many_types (typed_pattern_and q qs) (ty ∷ tys) h = ap suc (as_many_types qs tys h)
+as_many_types k i h = grind (arith, common_steps)
 
 -- a term's pattern
 pub record PatternParts (p : Program) (ty t : ℕ) (args : TypedPatterns) (vars more : List (ℕ × ℕ)) : Type 0 where
@@ -37,11 +36,7 @@ pub record PatternParts (p : Program) (ty t : ℕ) (args : TypedPatterns) (vars 
   pub formed : formed_parts p args entry.arg_tys vars ≡ Some more
 
 pub pattern_parts : (p : Program) (ty t : ℕ) (args : TypedPatterns) (vars more : List (ℕ × ℕ)) → formed_pattern p (match_term ty t args) vars ≡ Some more → PatternParts p ty t args vars more
-pattern_parts p ty t args vars more f =
-    let a = from_then (slice_get p.terms t) (λ (e : TermEntry). if (e.ret_ty == ty) && has_extractor e.kind then formed_parts p args e.arg_tys vars else None) more f in
-    let b = from_if ((a.0.ret_ty == ty) && has_extractor a.0.kind) (formed_parts p args a.0.arg_tys vars) more a.2 in
-    let c = and_parts (a.0.ret_ty == ty) (has_extractor a.0.kind) b.0 in
-    record { entry = a.0; there = a.1; ret = eqb-true a.0.ret_ty ty c.0; matched = c.1; formed = b.1 }
+pattern_parts p ty t args vars more f = grind (arith, common_steps, from_then, from_if, and_parts)
 
 -- a pattern with more after it
 pub from_part : (p : Program) (q : TypedPattern) (ty : ℕ) (vars more : List (ℕ × ℕ)) (rest : List (ℕ × ℕ) → Option (List (ℕ × ℕ)))
@@ -78,11 +73,9 @@ mutual
   pattern_within p (match_and ty subs) vars more f y t h = each_within p subs ty vars more f y t h
 
   pub parts_within : (p : Program) (qs : TypedPatterns) (tys : List ℕ) (vars more : List (ℕ × ℕ)) → formed_parts p qs tys vars ≡ Some more → AreWithin vars more
-  parts_within p no_typed_pattern [] vars more f y t h = within_same vars more (some_is vars more f) y t h
-  parts_within p no_typed_pattern (ty ∷ tys) vars more f y t h = absurd (none_some more f)
-  parts_within p (typed_pattern_and q qs) [] vars more f y t h = absurd (none_some more f)
   parts_within p (typed_pattern_and q qs) (ty ∷ tys) vars more f y t h =
       let a = from_part p q ty vars more (λ mid. formed_parts p qs tys mid) f in parts_within p qs tys a.0 more a.3 y t (pattern_within p q vars a.0 a.2 y t h)
+  parts_within p k i vars more f y t h = grind (arith, common_steps, within_same, some_is, none_some)
 
   pub each_within : (p : Program) (qs : TypedPatterns) (ty : ℕ) (vars more : List (ℕ × ℕ)) → formed_each p qs ty vars ≡ Some more → AreWithin vars more
   each_within p no_typed_pattern ty vars more f y t h = within_same vars more (some_is vars more f) y t h
@@ -90,15 +83,9 @@ mutual
       let a = from_part p q ty vars more (λ mid. formed_each p qs ty mid) f in each_within p qs ty a.0 more a.3 y t (pattern_within p q vars a.0 a.2 y t h)
 
 pub as_many : (p : Program) (qs : TypedPatterns) (tys : List ℕ) (vars more : List (ℕ × ℕ)) → formed_parts p qs tys vars ≡ Some more → AsMany qs tys
-as_many p no_typed_pattern [] vars more f = tt
-as_many p no_typed_pattern (ty ∷ tys) vars more f = absurd (none_some more f)
-as_many p (typed_pattern_and q qs) [] vars more f = absurd (none_some more f)
 as_many p (typed_pattern_and q qs) (ty ∷ tys) vars more f = let a = from_part p q ty vars more (λ mid. formed_parts p qs tys mid) f in as_many p qs tys a.0 more a.3
+as_many p h k vars more f = grind (arith, common_steps, none_some)
 
 -- what isn't among more isn't among less
 pub outside : (vars more : List (ℕ × ℕ)) → AreWithin vars more → (y : ℕ) → is_some (var_type more y) ≡ false → is_some (var_type vars y) ≡ false
-outside vars more f y n =
-    elim (cases_Bool (is_some (var_type vars y))) [
-      | inl t ↦ let a = is_there (var_type vars y) t in absurd (false≢true (sym n ∙ ap is_some (f y a.0 a.1)))
-      | inr k ↦ k
-    ]
+outside vars more f y n = grind (arith, common_steps, is_there)

@@ -1,14 +1,15 @@
 -- What patterns constrain and equate may be tested, and so may what their variables stand for, and the calls that they go
 -- over.
-use Rattle.std.proofs.Common.{◌≡◌, ℕ, zero, suc, ◌+◌, ◌==◌, ◌<◌, Bool, true, false, ◌&&◌, if◌then◌else◌, List, [], ◌∷◌, Some, None, is_some, is_none, slice_get, Contains, refl, sym, ap, subst, inl, inr, ◌∙◌, arith}
+use Rattle.std.proofs.Common.{◌≡◌, ℕ, zero, suc, ◌+◌, ◌==◌, ◌<◌, Bool, true, false, ◌&&◌, if◌then◌else◌, List, [], ◌∷◌, Some, None, is_some, slice_get, Contains, refl, sym, ap, subst, inl, inr, ◌∙◌, arith}
+use Rattle.std.proofs.lemmas.Grind.{common_steps}
 use Rattle.model.specs.rules.Outcome.{then_option}
 use Rattle.model.specs.lists.Ranges.{is_literal_of}
-use Rattle.model.specs.lists.Tables.{TermEntry, TermKindEntry, variant_term, struct_term, declared_term}
-use Rattle.model.specs.rules.Program.{Program, Kind, a_variant, a_struct, a_call, unknown, kind_of, kind, always_answers}
+use Rattle.model.specs.lists.Tables.{TermEntry}
+use Rattle.model.specs.rules.Program.{Program, Kind, a_variant, a_struct, a_call, unknown, kind_of, kind}
 use Rattle.model.specs.sites.Serves.{constant_type}
 use Rattle.model.specs.sites.Sites.{Constraint, is_variant, is_struct, is_bool, is_int, is_prim, is_present, SiteTerm, extractor_call, pick_of, variant_field, struct_field, some_part, tuple_part, fields_from, field_terms}
 use Rattle.model.specs.rules.Typed.{TypedPattern, match_bind, match_var, match_bool, match_int, match_prim, match_term, match_any, match_and, TypedPatterns, no_typed_pattern, typed_pattern_and}
-use Rattle.model.specs.visits.Demands.{Visit, making, asking, equating, iterating, binding, var_site, pattern_count, Opened, opened, output_sites, part_sites, open_call, open_term, visit_pattern, visit_each, visit_all, outputs_opened, fields_matched, outputs_taken, counting}
+use Rattle.model.specs.visits.Demands.{Visit, making, asking, iterating, binding, pattern_count, Opened, opened, output_sites, part_sites, open_call, open_term, visit_pattern, visit_each, visit_all, outputs_opened, fields_matched, outputs_taken, counting}
 use Rattle.model.specs.lists.Setting.{bool_type, has_extractor}
 use Rattle.model.specs.lists.Formed.{pattern_type, var_type, is_type, with_new, formed_pattern, formed_parts, formed_each}
 use Rattle.model.proofs.Elements.{In, some_is, none_some}
@@ -19,8 +20,7 @@ pub use Rattle.model.proofs.Options.{then_some as from_then}
 
 -- 1. a new variable
 pub from_new : (x ty : ℕ) (vars more : List (ℕ × ℕ)) → with_new x ty vars ≡ Some more → (is_some (var_type vars x) ≡ false) × ((x, ty) ∷ vars ≡ more)
-from_new x ty vars more e =
-    let r = from_if (is_none (var_type vars x)) (Some ((x, ty) ∷ vars)) more e in (has_none (var_type vars x) r.0, some_is ((x, ty) ∷ vars) more r.1)
+from_new x ty vars more e = grind (arith, common_steps, from_if, has_none, some_is)
 
 -- 2. parts of a term's pattern
 -- as many sites as patterns
@@ -49,24 +49,15 @@ in_fields f i (suc n) u (inr k) = let r = in_fields f (suc i) n u k in (r.0, let
 
 -- what holds of all fields of a site holds of those that a constraint gives it
 pub by_field : (P : SiteTerm → Type 0) (a : SiteTerm) → ((variant i : ℕ) → P (variant_field a variant i)) → ((i : ℕ) → P (struct_field a i)) → (c : Constraint) (x : SiteTerm) → In (field_terms c a) x → P x
-by_field P a f g (is_variant ty variant n) x i = let k = in_fields (variant_field a variant) 0 n x i in subst P k.2 (f variant k.0)
-by_field P a f g (is_struct ty n) x i = let k = in_fields (struct_field a) 0 n x i in subst P k.2 (g k.0)
-by_field P a f g (is_bool v ty) x i = absurd i
-by_field P a f g (is_int z ty) x i = absurd i
-by_field P a f g (is_prim name) x i = absurd i
-by_field P a f g is_present x i = absurd i
+by_field P a f g c x i = grind (arith, common_steps, in_fields)
 
 -- what holds of a site and of its parts holds of the outputs of its call
 pub by_output : (P : SiteTerm → Type 0) (a : SiteTerm) → P a → ((i : ℕ) → P (tuple_part a i)) → (args : TypedPatterns) (x : SiteTerm) → In (output_sites a args) x → P x
-by_output P a one part no_typed_pattern x i = absurd i
-by_output P a one part (typed_pattern_and q no_typed_pattern) x i = elim i [ inl e ↦ subst P e one | inr n ↦ absurd n ]
-by_output P a one part (typed_pattern_and q (typed_pattern_and r rs)) x i =
-    let k = in_fields (tuple_part a) 0 (pattern_count (typed_pattern_and q (typed_pattern_and r rs))) x i in subst P k.2 (part k.0)
+by_output P a one part args x i = grind (arith, common_steps, in_fields)
 
 pub output_count : (s : SiteTerm) (args : TypedPatterns) → AsManySites (output_sites s args) args
-output_count s no_typed_pattern = tt
-output_count s (typed_pattern_and q no_typed_pattern) = tt
 output_count s (typed_pattern_and q (typed_pattern_and r rs)) = as_many_sites (tuple_part s) 0 (typed_pattern_and q (typed_pattern_and r rs))
+output_count s _ = tt
 
 with_parts : (v w : Visit) (s : SiteTerm) (args : TypedPatterns) → Later v w → w.vars ≡ v.vars → MayTest w s → NewCalls true true v w → HasTestableParts v (outputs_opened s args w) args
 with_parts v w s args l e m n =
@@ -112,35 +103,19 @@ fields_open field c s args v m tested =
     record {
       later = then_later v x w (later_counting n v) (then_later x (making fields x) w (later_making fields x) l);
       binds = refl;
-      inputs = λ u i.
-          let k = in_fields field 0 (pattern_count args) u i in
-          subst (MayTest w) k.2
-          (tested w k.0 (at_right v.demands.constraints (s, c)) (let l : k.0 < 0 + pattern_count args = k.1 in omega arith) (good_stays (making fields x) w l true true s m));
+      inputs = grind (arith, common_steps, in_fields field 0 (pattern_count args), at_right v.demands.constraints (s, c), good_stays (making fields x) w l true true s m);
       count = as_many_sites field 0 args;
       calls = λ u i. inl i;
     }
 
 pub term_opened : (k : Kind) (t : ℕ) (s : SiteTerm) (args : TypedPatterns) (v : Visit) → (k ≡ unknown → ⊥) → MayTest v s → HasTestableParts v (open_term k t s args v) args
-term_opened (a_variant ty variant) t s args v known m =
-    fields_open (variant_field s variant) (is_variant ty variant (pattern_count args)) s args v m
-    (λ w i asked many good. (record { ty = ty; fields = pattern_count args; asked = asked; many = many }, good))
-term_opened (a_struct ty) t s args v known m =
-    fields_open (struct_field s) (is_struct ty (pattern_count args)) s args v m
-    (λ w i asked many good. (record { ty = ty; fields = pattern_count args; asked = asked; many = many }, good))
+term_opened (a_variant ty variant) t s args v known m = grind (arith, fields_open (variant_field s variant) (is_variant ty variant (pattern_count args)) s args v m)
+term_opened (a_struct ty) t s args v known m = grind (arith, common_steps, fields_open (struct_field s) (is_struct ty (pattern_count args)) s args v m)
 term_opened (a_call flags infallible) t s args v known m = call_opened flags.pure flags.multi flags.partial flags.rec infallible t s args v m
 term_opened unknown t s args v known m = absurd (known refl)
 
 kind_known : (t : TermEntry) → kind_of t ≡ unknown → ⊥
-kind_known t e = by t.kind e
-  where
-    by : (k : TermKindEntry) → elim k as (λ _. Kind) [
-      | variant_term variant ↦ a_variant t.ret_ty variant
-      | struct_term ↦ a_struct t.ret_ty
-      | declared_term flags constructor_kind extractor_kind ↦ a_call flags (always_answers flags extractor_kind)
-    ] ≡ unknown → ⊥
-    by (variant_term i) q = cc
-    by struct_term q = cc
-    by (declared_term flags c x) q = cc
+kind_known t e = grind (arith, common_steps)
 
 pub its_kind : (p : Program) (t : ℕ) (entry : TermEntry) → slice_get p.terms t ≡ Some entry → kind_of entry ≡ kind p t
 its_kind p t entry e = sym (ap (λ o. elim o as (λ _. Kind) [ None ↦ unknown | Some x ↦ kind_of x ]) e)
@@ -158,8 +133,7 @@ pub record IsAfter (v w : Visit) (more : List (ℕ × ℕ)) : Type 0 where
   pub calls : NewCalls true true v w
 
 pub unbound : (v w : Visit) (vars more : List (ℕ × ℕ)) → Later v w → w.vars ≡ v.vars → AreGood true true vars v → vars ≡ more → NewCalls true true v w → IsAfter v w more
-unbound v w vars more l e g same n =
-    let k = keeps_vars v w l e in record { later = l; keeps = k; good = subst (λ vs. AreGood true true vs w) same (λ x h. k x (g x h)); calls = n }
+unbound v w vars more l e g same n = grind (arith, common_steps, keeps_vars, AreGood)
 
 pub then_after : (u v w : Visit) (more rest : List (ℕ × ℕ)) → IsAfter u v more → IsAfter v w rest → IsAfter u w rest
 then_after u v w more rest a b = record { later = then_later u v w a.later b.later; keeps = then_keeps u v w a.keeps b.keeps; good = b.good; calls = then_calls true true u v w b.later a.calls b.calls }
@@ -180,9 +154,7 @@ mutual
         good = subst (λ vs. AreGood true true vs w) n.1 (good_and true true x ty b.0 w r.good (r.keeps x (bound_good true true x s v m)));
         calls = r.calls;
       }
-  pattern_after p (match_var ty x) s v vars more f m g =
-      let a = from_if (is_type (var_type vars x) ty) (Some vars) more f in
-      unbound v (equating s (var_site v x) v) vars more (later_equating s (var_site v x) v m (g x (has_type (var_type vars x) ty a.0))) (equating_binds s (var_site v x) v) g (some_is vars more a.1) (equating_calls true true s (var_site v x) v)
+  pattern_after p (match_var ty x) s v vars more f m g = grind (arith, from_if, unbound, later_equating, has_type, equating_binds, some_is, equating_calls)
   pattern_after p (match_bool ty b) s v vars more f m g =
       unbound v (asking s (is_bool b ty) v) vars more (later_asking s (is_bool b ty) v m) refl g (some_is vars more (from_if (ty == bool_type) (Some vars) more f).1) (λ u i. inl i)
   pattern_after p (match_int ty z) s v vars more f m g =
@@ -202,10 +174,6 @@ mutual
 
   each_after : (p : Program) (qs : TypedPatterns) (ss : List SiteTerm) (v : Visit) (tys : List ℕ) (vars more : List (ℕ × ℕ)) → formed_parts p qs tys vars ≡ Some more → AsManySites ss qs
       → ((u : SiteTerm) → In ss u → MayTest v u) → AreGood true true vars v → IsAfter v (visit_each p qs ss v) more
-  each_after p no_typed_pattern ss v [] vars more f n h g = unbound v v vars more (now v) refl g (some_is vars more f) (no_call true true v)
-  each_after p no_typed_pattern ss v (ty ∷ tys) vars more f n h g = absurd (none_some more f)
-  each_after p (typed_pattern_and q qs) ss v [] vars more f n h g = absurd (none_some more f)
-  each_after p (typed_pattern_and q qs) [] v (ty ∷ tys) vars more f n h g = absurd n
   each_after p (typed_pattern_and q qs) (s ∷ ss) v (ty ∷ tys) vars more f n h g =
       let a = from_if (pattern_type q == ty) (then_option (formed_pattern p q vars) (λ after. formed_parts p qs tys after)) more f in
       let b = from_then (formed_pattern p q vars) (λ after. formed_parts p qs tys after) more a.1 in
@@ -213,6 +181,7 @@ mutual
       let w = visit_pattern p q s v in
       then_after v w (visit_each p qs ss w) b.0 more r
       (each_after p qs ss w tys b.0 more b.2 n (λ u i. good_stays v w r.later true true u (h u (inr i))) r.good)
+  each_after p k ss v j vars more f n h g = grind (arith, common_steps, unbound, now, some_is, no_call, none_some)
 
   all_after : (p : Program) (qs : TypedPatterns) (s : SiteTerm) (v : Visit) (ty : ℕ) (vars more : List (ℕ × ℕ)) → formed_each p qs ty vars ≡ Some more
       → MayTest v s → AreGood true true vars v → IsAfter v (visit_all p qs s v) more

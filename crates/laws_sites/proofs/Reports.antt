@@ -1,11 +1,12 @@
 -- Something is reported of demands exactly where they can't be met.
-use Rattle.std.proofs.Common.{◌≡◌, ◌⊎◌, ◌↔◌, false, not, if◌then◌else◌, List, [], ◌∷◌, ◌++◌, map, Option, Some, None, refl, sym, ap, ◌∙◌, subst, inl, inr}
+use Rattle.std.proofs.Common.{◌≡◌, ◌⊎◌, ◌↔◌, false, not, if◌then◌else◌, List, [], ◌∷◌, ◌++◌, map, Option, Some, None, refl, sym, ap, ◌∙◌, subst, inl, inr, arith}
 use Rattle.std.proofs.lemmas.Bool.{cases_Bool, cond-true, cond-false, and_parts, false≢true}
 use Rattle.std.specs.List.{list_any}
 use Rattle.std.proofs.lemmas.List.{append_assoc}
+use Rattle.std.proofs.lemmas.Grind.{common_steps}
 use Rattle.model.specs.sites.Sites.{Constraint, SiteTerm}
 use Rattle.model.specs.visits.Demands.{Demands, site_term_eq, constraint_eq}
-use Rattle.model.specs.sites.Closure.{IsUnreachable, same_class, class_names, differs_in_class, has_conflict, has_cycle, Unreachability, conflict, cycle, constraint_of, conflict_with, conflicts_met, constraint_at_site, in_site_order, first_differing, first_conflict, first_filled, with_constrained, reported}
+use Rattle.model.specs.sites.Closure.{IsUnreachable, same_class, class_names, differs_in_class, has_conflict, has_cycle, Unreachability, conflict, cycle, constraint_of, conflict_with, conflicts_met, in_site_order, first_differing, first_conflict, first_filled, with_constrained, reported}
 use Rattle.model.proofs.Elements.{In, in_from_contains, contains_from_in, some_is, none_some, in_any, or_split, from_flat_map, in_flat_map, map_in}
 use Rattle.model.proofs.SameSites.{same_term, constraint_means, same_constraint}
 use Rattle.laws_sites.specs.FieldLaws.{ConflictFreeConstraintsAgree}
@@ -18,24 +19,17 @@ use Rattle.model.proofs.FewElements.{not_empty}
 
 -- nothing is first where neither list has anything
 both_empty : (us vs : List Unreachability) → first_filled us vs ≡ [] → (us ≡ []) × (vs ≡ [])
-both_empty [] vs e = (refl, e)
-both_empty (u ∷ us) vs e = absurd (not_empty u us e)
+both_empty us vs e = grind (arith, common_steps, not_empty)
 
 empty_first : (us vs : List Unreachability) → us ≡ [] → vs ≡ [] → first_filled us vs ≡ []
 empty_first us vs e f = ap (λ xs. first_filled xs vs) e ∙ f
 
 -- a constraint that is the one a site had is no conflict
 no_clash : (o : Option Constraint) (c : Constraint) → ((b : Constraint) → o ≡ Some b → b ≡ c) → conflict_with o c ≡ []
-no_clash None c f = refl
-no_clash (Some b) c f = cond-true (constraint_eq b c) [] (conflict b c ∷ []) (same_constraint b c (f b refl))
+no_clash o c f = grind (arith, common_steps, same_constraint)
 
 clash_none : (o : Option Constraint) (c : Constraint) → conflict_with o c ≡ [] → (b : Constraint) → o ≡ Some b → b ≡ c
-clash_none None c e b f = absurd (none_some b f)
-clash_none (Some a) c e b f =
-    elim (cases_Bool (constraint_eq a c)) [
-      | inl t ↦ sym (some_is a b f) ∙ constraint_means a c t
-      | inr n ↦ absurd (not_empty (conflict a c) [] (sym (cond-false (constraint_eq a c) [] (conflict a c ∷ []) n) ∙ e))
-    ]
+clash_none o c e b f = grind (arith, common_steps, none_some, some_is, constraint_means, not_empty)
 
 none_met : (all : List (SiteTerm × Constraint)) → OneEach all → (had cs : List (SiteTerm × Constraint)) → ((x : SiteTerm × Constraint) → In had x → In all x) → ((x : SiteTerm × Constraint) → In cs x → In all x)
     → conflicts_met had cs ≡ []
@@ -59,23 +53,11 @@ joined_empty (u ∷ us) vs e = absurd (not_empty u (us ++ vs) e)
 
 constraint_of_left : (xs ys : List (SiteTerm × Constraint)) (s : SiteTerm) (c : Constraint) → constraint_of xs s ≡ Some c → constraint_of (xs ++ ys) s ≡ Some c
 constraint_of_left [] ys s c e = absurd (none_some c e)
-constraint_of_left (x ∷ xs) ys s c e =
-    elim (cases_Bool (site_term_eq x.0 s)) [
-      | inl t ↦ cond-true (site_term_eq x.0 s) (Some x.1) (constraint_of (xs ++ ys) s) t ∙ sym (cond-true (site_term_eq x.0 s) (Some x.1) (constraint_of xs s) t) ∙ e
-      | inr f ↦
-          cond-false (site_term_eq x.0 s) (Some x.1) (constraint_of (xs ++ ys) s) f
-          ∙ constraint_of_left xs ys s c (sym (cond-false (site_term_eq x.0 s) (Some x.1) (constraint_of xs s) f) ∙ e)
-    ]
+constraint_of_left (x ∷ xs) ys s c e = grind (arith, common_steps, constraint_of_left xs ys s c)
 
 constraint_of_right : (xs ys : List (SiteTerm × Constraint)) (s : SiteTerm) → constraint_of xs s ≡ None → constraint_of (xs ++ ys) s ≡ constraint_of ys s
 constraint_of_right [] ys s e = refl
-constraint_of_right (x ∷ xs) ys s e =
-    elim (cases_Bool (site_term_eq x.0 s)) [
-      | inl t ↦ absurd (none_some x.1 (sym e ∙ cond-true (site_term_eq x.0 s) (Some x.1) (constraint_of xs s) t))
-      | inr f ↦
-          cond-false (site_term_eq x.0 s) (Some x.1) (constraint_of (xs ++ ys) s) f
-          ∙ constraint_of_right xs ys s (sym (cond-false (site_term_eq x.0 s) (Some x.1) (constraint_of xs s) f) ∙ e)
-    ]
+constraint_of_right (x ∷ xs) ys s e = grind (arith, common_steps, constraint_of_right xs ys s, none_some)
 
 here : (c : SiteTerm × Constraint) (cs : List (SiteTerm × Constraint)) → constraint_of (c ∷ cs) c.0 ≡ Some c.1
 here c cs = cond-true (site_term_eq c.0 c.0) (Some c.1) (constraint_of cs c.0) (same_term c.0 c.0 refl)
@@ -87,9 +69,7 @@ first_is had cs c (Some b) e f = constraint_of_left had (c ∷ cs) c.0 b e ∙ a
 -- where no conflict is met, each site's constraint is the first one
 each_first : (had cs : List (SiteTerm × Constraint)) → conflicts_met had cs ≡ [] → (x : SiteTerm × Constraint) → In cs x → constraint_of (had ++ cs) x.0 ≡ Some x.1
 each_first had [] e x i = absurd i
-each_first had (c ∷ cs) e x (inl p) =
-    let q = joined_empty (conflict_with (constraint_of had c.0) c.1) (conflicts_met (had ++ c ∷ []) cs) e in
-    subst (λ (y : SiteTerm × Constraint). constraint_of (had ++ c ∷ cs) y.0 ≡ Some y.1) p (first_is had cs c (constraint_of had c.0) refl q.0)
+each_first had (c ∷ cs) e x (inl p) = grind (arith, common_steps, joined_empty, first_is)
 each_first had (c ∷ cs) e x (inr i) =
     let q = joined_empty (conflict_with (constraint_of had c.0) c.1) (conflicts_met (had ++ c ∷ []) cs) e in
     subst (λ l. constraint_of l x.0 ≡ Some x.1) (append_assoc had (c ∷ []) cs) (each_first (had ++ c ∷ []) cs q.1 x i)
@@ -108,18 +88,13 @@ conflict_free_constraints_agree_lem d = (
 -- constrained sites in order
 at_site_in : (cs : List (SiteTerm × Constraint)) (s : SiteTerm) (o : Option Constraint) → constraint_of cs s ≡ o → (x : SiteTerm × Constraint)
     → In (elim o as (λ _. List (SiteTerm × Constraint)) [ None ↦ [] | Some c ↦ (s, c) ∷ [] ]) x → In cs x
-at_site_in cs s None e x i = absurd i
-at_site_in cs s (Some c) e x i = elim i [ inl p ↦ subst (In cs) p (found_constraint cs s c e) | inr n ↦ absurd n ]
+at_site_in cs s o e x i = grind (arith, common_steps, found_constraint)
 
 ordered_in : (order : List SiteTerm) (cs : List (SiteTerm × Constraint)) (x : SiteTerm × Constraint) → In (in_site_order order cs) x → In cs x
-ordered_in order cs x i =
-    let f = from_flat_map (constraint_at_site cs) order x i in
-    at_site_in cs f.0 (constraint_of cs f.0) refl x f.2
+ordered_in order cs x i = grind (arith, common_steps, from_flat_map, at_site_in)
 
 in_ordered : (order : List SiteTerm) (cs : List (SiteTerm × Constraint)) (x : SiteTerm × Constraint) → In order x.0 → constraint_of cs x.0 ≡ Some x.1 → In (in_site_order order cs) x
-in_ordered order cs x i e =
-    in_flat_map (constraint_at_site cs) order x.0 x i
-    (subst (λ o. In (elim o as (λ _. List (SiteTerm × Constraint)) [ None ↦ [] | Some c ↦ (x.0, c) ∷ [] ]) x) (sym e) (inl refl))
+in_ordered order cs x i e = grind (arith, common_steps, in_flat_map)
 
 -- no first differing one where none differs, and the converse
 none_differs : (rs : List (SiteTerm × SiteTerm)) (a : SiteTerm × Constraint) (bs : List (SiteTerm × Constraint)) → ((b : SiteTerm × Constraint) → In bs b → differs_in_class rs a b ≡ false) → first_differing rs a bs ≡ None
@@ -128,15 +103,7 @@ none_differs rs a (b ∷ bs) f = cond-false (differs_in_class rs a b) (Some b.1)
 
 differs_none : (rs : List (SiteTerm × SiteTerm)) (a : SiteTerm × Constraint) (bs : List (SiteTerm × Constraint)) → first_differing rs a bs ≡ None → (b : SiteTerm × Constraint) → In bs b → differs_in_class rs a b ≡ false
 differs_none rs a [] e b i = absurd i
-differs_none rs a (c ∷ bs) e b i =
-    elim (cases_Bool (differs_in_class rs a c)) [
-      | inl t ↦ absurd (none_some c.1 (sym e ∙ cond-true (differs_in_class rs a c) (Some c.1) (first_differing rs a bs) t))
-      | inr f ↦
-          elim i [
-            | inl p ↦ ap (differs_in_class rs a) (sym p) ∙ f
-            | inr j ↦ differs_none rs a bs (sym (cond-false (differs_in_class rs a c) (Some c.1) (first_differing rs a bs) f) ∙ e) b j
-          ]
-    ]
+differs_none rs a (c ∷ bs) e b i = grind (arith, differs_none rs a bs, none_some)
 
 abbrev found_at : SiteTerm × Constraint → List Unreachability → Option Constraint → List Unreachability
 found_at a rest o = elim o as (λ _. List Unreachability) [ None ↦ rest | Some b ↦ conflict a.1 b ∷ [] ]
@@ -146,8 +113,7 @@ no_first rs all [] f = refl
 no_first rs all (a ∷ list) f = ap (found_at a (first_conflict rs all list)) (f a (inl refl)) ∙ no_first rs all list (λ x i. f x (inr i))
 
 found_none : (a : SiteTerm × Constraint) (rest : List Unreachability) (o : Option Constraint) → found_at a rest o ≡ [] → (o ≡ None) × (rest ≡ [])
-found_none a rest None e = (refl, e)
-found_none a rest (Some b) e = absurd (not_empty (conflict a.1 b) [] e)
+found_none a rest o e = grind (arith, common_steps, not_empty)
 
 first_none : (rs : List (SiteTerm × SiteTerm)) (all list : List (SiteTerm × Constraint)) → first_conflict rs all list ≡ [] → (a : SiteTerm × Constraint) → In list a → first_differing rs a all ≡ None
 first_none rs all [] e a i = absurd i

@@ -1,14 +1,13 @@
 -- What expressions that call no multi term, and expressions that make no impure call, do to a visit.
-use Rattle.std.proofs.Common.{◌≡◌, ℕ, suc, Bool, true, false, if◌then◌else◌, [], IsTrue, refl, sym}
-use Rattle.std.proofs.lemmas.Bool.{false≢true}
-use Rattle.model.specs.rules.Program.{Program, Kind, a_variant, a_struct, a_call, unknown, kind, flags_of, is_multi}
-use Rattle.model.specs.sites.Sites.{SiteTerm, SiteTerms, constructor_call}
-use Rattle.model.specs.rules.Typed.{TypedExpr, make_term, make_var, make_bool, make_int, make_prim, make_let, TypedExprs, no_typed_expr, typed_expr_and, TypedLets, no_typed_let, typed_let_and}
-use Rattle.model.specs.visits.Demands.{Visit, making, iterating, binding, ValuedAll, call_sites, where_multi, visit_call, visit_term, visit_expr, visit_exprs, visit_lets}
+use Rattle.std.proofs.Common.{◌≡◌, ℕ, false, [], IsTrue, arith}
+use Rattle.std.proofs.lemmas.Grind.{common_steps}
+use Rattle.model.specs.rules.Program.{Program, Kind, kind, flags_of, is_multi}
+use Rattle.model.specs.sites.Sites.{SiteTerm}
+use Rattle.model.specs.rules.Typed.{TypedExpr, make_term, make_let, TypedExprs, no_typed_expr, typed_expr_and, TypedLets, no_typed_let, typed_let_and}
+use Rattle.model.specs.visits.Demands.{Visit, ValuedAll, visit_term, visit_expr, visit_exprs, visit_lets}
 use Rattle.model.proofs.Elements.{In}
 use Rattle.model.specs.sites.DemandedGates.{IsPureExpr, ArePureExprs, ArePureLets}
 use Rattle.model.specs.rules.CalledTerms.{CallsAlone, CallAlone, LetsCallAlone}
-use Rattle.model.proofs.FewElements.{not_nothing}
 
 -- 1. calls of multi terms
 -- no call of this term gives several answers
@@ -19,26 +18,15 @@ IsSingle p t = is_multi p t ≡ false
 abbrev GoesOverNoMore : Visit → Visit → Type 0
 GoesOverNoMore v w = (u : SiteTerm) → In w.demands.iterators u → In v.demands.iterators u
 
-call_single : (pure multi partial rec : Bool) (t : ℕ) (args : SiteTerms) (v : Visit) → multi ≡ false → GoesOverNoMore v (visit_call (record { pure = pure; multi = multi; partial = partial; rec = rec }) t args v).visit
-call_single pure true partial rec t args v e = absurd (false≢true (sym e))
-call_single true false partial rec t args v e = λ u i. i
-call_single false false partial rec t args v e = λ u i. i
-
 term_single : (k : Kind) (t : ℕ) (a : ValuedAll) → (flags_of k).multi ≡ false → GoesOverNoMore a.visit (visit_term k t a).visit
-term_single (a_variant ty variant) t a e = λ u i. i
-term_single (a_struct ty) t a e = λ u i. i
-term_single (a_call flags infallible) t a e = call_single flags.pure flags.multi flags.partial flags.rec t a.sites a.visit e
-term_single unknown t a e = λ u i. i
+term_single k t a e = grind (arith, common_steps)
 
 module _ (p : Program) where
   mutual
     pub expr_single : (x : TypedExpr) (v : Visit) → CallsAlone (IsSingle p) x → GoesOverNoMore v (visit_expr p x v).visit
     expr_single (make_term ty t args) v h = λ u i. exprs_single args v h.1 u (term_single (kind p t) t (visit_exprs p args v) h.0 u i)
-    expr_single (make_var ty x) v h = λ u i. i
-    expr_single (make_bool ty b) v h = λ u i. i
-    expr_single (make_int ty z) v h = λ u i. i
-    expr_single (make_prim ty name) v h = λ u i. i
     expr_single (make_let ty defs body) v h = λ u i. lets_single defs v h.0 u (expr_single body (visit_lets p defs v) h.1 u i)
+    expr_single _ v h = λ u i. i
 
     exprs_single : (xs : TypedExprs) (v : Visit) → CallAlone (IsSingle p) xs → GoesOverNoMore v (visit_exprs p xs v).visit
     exprs_single no_typed_expr v h = λ u i. i
@@ -46,40 +34,23 @@ module _ (p : Program) where
 
     lets_single : (ds : TypedLets) (v : Visit) → LetsCallAlone (IsSingle p) ds → GoesOverNoMore v (visit_lets p ds v)
     lets_single no_typed_let v h = λ u i. i
-    lets_single (typed_let_and x ty value rest) v h =
-        λ u i. expr_single value v h.0 u (lets_single rest (binding x (visit_expr p value v).site (visit_expr p value v).visit) h.1 u i)
+    lets_single (typed_let_and x ty value rest) v h = grind (arith, common_steps, expr_single value v h.0, lets_single rest)
 
 -- 2. impure calls
 -- no impure call was met
 abbrev MetNoImpureCall : Visit → Type 0
 MetNoImpureCall v = v.demands.impure ≡ []
 
-quiet_before : (flags : Bool) (c : SiteTerm) (v : Visit) → MetNoImpureCall (if flags then iterating c v else v) → MetNoImpureCall v
-quiet_before true c v h = h
-quiet_before false c v h = h
-
-call_quiet : (pure multi partial rec : Bool) (t : ℕ) (args : SiteTerms) (v : Visit) → MetNoImpureCall (visit_call (record { pure = pure; multi = multi; partial = partial; rec = rec }) t args v).visit → IsTrue pure × MetNoImpureCall v
-call_quiet true multi partial rec t args v h =
-    (refl, quiet_before multi (constructor_call t args 0) (making (call_sites (record { pure = true; multi = multi; partial = partial; rec = rec }) (constructor_call t args 0)) v) h)
-call_quiet false multi partial rec t args v h =
-    absurd (not_nothing (where_multi (record { pure = false; multi = multi; partial = partial; rec = rec }) (constructor_call t args (suc v.impure_calls)) (making (call_sites (record { pure = false; multi = multi; partial = partial; rec = rec }) (constructor_call t args (suc v.impure_calls))) v)).demands.impure _ h)
-
 term_quiet : (k : Kind) (t : ℕ) (a : ValuedAll) → MetNoImpureCall (visit_term k t a).visit → IsTrue (flags_of k).pure × MetNoImpureCall a.visit
-term_quiet (a_variant ty variant) t a h = (refl, h)
-term_quiet (a_struct ty) t a h = (refl, h)
-term_quiet (a_call flags infallible) t a h = call_quiet flags.pure flags.multi flags.partial flags.rec t a.sites a.visit h
-term_quiet unknown t a h = (refl, h)
+term_quiet k t a h = grind (arith, common_steps)
 
 module _ (p : Program) where
   mutual
     -- an expression whose visit meets no impure call is pure
     pub expr_quiet : (x : TypedExpr) (v : Visit) → MetNoImpureCall (visit_expr p x v).visit → IsPureExpr p x × MetNoImpureCall v
     expr_quiet (make_term ty t args) v h = let a = term_quiet (kind p t) t (visit_exprs p args v) h in let b = exprs_quiet args v a.1 in ((a.0, b.0), b.1)
-    expr_quiet (make_var ty x) v h = (tt, h)
-    expr_quiet (make_bool ty b) v h = (tt, h)
-    expr_quiet (make_int ty z) v h = (tt, h)
-    expr_quiet (make_prim ty name) v h = (tt, h)
     expr_quiet (make_let ty defs body) v h = let a = expr_quiet body (visit_lets p defs v) h in let b = lets_quiet defs v a.1 in ((b.0, a.0), b.1)
+    expr_quiet _ v h = (tt, h)
 
     exprs_quiet : (xs : TypedExprs) (v : Visit) → MetNoImpureCall (visit_exprs p xs v).visit → ArePureExprs p xs × MetNoImpureCall v
     exprs_quiet no_typed_expr v h = (tt, h)
@@ -87,5 +58,4 @@ module _ (p : Program) where
 
     lets_quiet : (ds : TypedLets) (v : Visit) → MetNoImpureCall (visit_lets p ds v) → ArePureLets p ds × MetNoImpureCall v
     lets_quiet no_typed_let v h = (tt, h)
-    lets_quiet (typed_let_and x ty value rest) v h =
-        let a = lets_quiet rest (binding x (visit_expr p value v).site (visit_expr p value v).visit) h in let b = expr_quiet value v a.1 in ((b.0, a.0), b.1)
+    lets_quiet (typed_let_and x ty value rest) v h = grind (arith, common_steps, lets_quiet rest, expr_quiet value v)

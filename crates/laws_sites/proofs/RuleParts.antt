@@ -1,12 +1,13 @@
 -- What a rule is that hangs together, part by part.
-use Rattle.std.proofs.Common.{◌≡◌, ℕ, ◌==◌, true, ◌&&◌, List, [], ◌∷◌, Option, Some, None, slice_get, refl}
-use Rattle.std.proofs.lemmas.Bool.{and_parts, false≢true}
+use Rattle.std.proofs.Common.{◌≡◌, ℕ, ◌==◌, true, ◌&&◌, List, [], ◌∷◌, Some, slice_get, arith}
+use Rattle.std.proofs.lemmas.Bool.{and_parts}
+use Rattle.std.proofs.lemmas.Grind.{common_steps}
 use Rattle.model.specs.rules.Outcome.{then_option}
 use Rattle.model.specs.lists.Tables.{TermEntry}
 use Rattle.model.specs.rules.Program.{Program}
 use Rattle.model.specs.rules.Typed.{TypedIfLet, TypedRule}
 use Rattle.model.specs.lists.Setting.{expr_type}
-use Rattle.model.specs.lists.Formed.{pattern_type, where_bound, of_entry, formed_pattern, is_formed_expr, formed_list, formed_iflets, is_formed_rule}
+use Rattle.model.specs.lists.Formed.{pattern_type, formed_pattern, is_formed_expr, formed_list, formed_iflets, is_formed_rule}
 use Rattle.laws_sites.proofs.Patterns.{from_then}
 use Rattle.laws_typing.proofs.FormedParts.{from_if, from_vars}
 
@@ -37,14 +38,4 @@ pub record RuleParts (p : Program) (r : TypedRule) : Type 0 where
   pub right : is_formed_expr p r.rhs vars ≡ true
 
 pub rule_parts : (p : Program) (r : TypedRule) → is_formed_rule p r ≡ true → RuleParts p r
-rule_parts p r f = by (slice_get p.terms r.root_term) refl f
-  where
-    by : (o : Option TermEntry) → slice_get p.terms r.root_term ≡ o
-        → of_entry o (λ (t : TermEntry). where_bound (then_option (formed_list p r.args t.arg_tys []) (formed_iflets p r.iflets)) (λ vars. (expr_type r.rhs == t.ret_ty) && is_formed_expr p r.rhs vars)) ≡ true
-        → RuleParts p r
-    by None q h = absurd (false≢true h)
-    by (Some t) q h =
-        let b = from_vars (then_option (formed_list p r.args t.arg_tys []) (formed_iflets p r.iflets)) (λ vars. (expr_type r.rhs == t.ret_ty) && is_formed_expr p r.rhs vars) h in
-        let c = from_then (formed_list p r.args t.arg_tys []) (formed_iflets p r.iflets) b.0 b.1 in
-        let d = and_parts (expr_type r.rhs == t.ret_ty) (is_formed_expr p r.rhs b.0) b.2 in
-        record { entry = t; there = q; mid = c.0; args = c.1; vars = b.0; iflets = c.2; typed = d.0; right = d.1 }
+rule_parts p r f = grind (arith, common_steps, from_vars, from_then, and_parts)

@@ -1,10 +1,11 @@
 -- A rule that hangs together demands its gates.
-use Rattle.std.proofs.Common.{◌≡◌, ℕ, suc, ◌==◌, Bool, true, false, List, [], ◌∷◌, Some, sym, ap, subst, ◌∙◌, inl, refl}
+use Rattle.std.proofs.Common.{◌≡◌, ℕ, suc, ◌==◌, Bool, true, false, List, [], ◌∷◌, Some, sym, ap, subst, ◌∙◌, inl, refl, arith}
 use Rattle.std.proofs.lemmas.Bool.{false≢true}
+use Rattle.std.proofs.lemmas.Grind.{common_steps}
 use Rattle.model.specs.rules.Meaning.{look}
 use Rattle.model.specs.rules.Outcome.{then_option}
 use Rattle.model.specs.rules.Program.{Program, is_partial}
-use Rattle.model.specs.sites.Sites.{SiteTerm, argument, some_made}
+use Rattle.model.specs.sites.Sites.{SiteTerm, argument}
 use Rattle.model.specs.rules.Typed.{TypedPattern, TypedIfLet, TypedRule}
 use Rattle.model.specs.visits.Demands.{demands_of, Visit, visit_start, or_no_site, var_site, visit_pattern, Valued, visit_expr, unwraps, asking_all, visit_args, visit_iflets, finished, visit_rule, taking_argument, argument_taken, counting}
 use Rattle.model.specs.lists.Formed.{pattern_type, formed_pattern, is_formed_expr, formed_list, formed_iflets, is_formed_rule}
@@ -32,9 +33,6 @@ nothing_past : (v : Visit) (vars more : List (ℕ × ℕ)) → Some vars ≡ Som
 nothing_past v vars more e g = record { later = now v; good = subst (λ vs. AreGood true true vs v) (some_is vars more e) g }
 
 pub args_after : (p : Program) (i : ℕ) (qs : List TypedPattern) (tys : List ℕ) (v : Visit) (vars more : List (ℕ × ℕ)) → formed_list p qs tys vars ≡ Some more → AreGood true true vars v → IsAfter v (visit_args p i qs v) more
-args_after p i [] [] v vars more f g = unbound v v vars more (now v) refl g (some_is vars more f) (no_call true true v)
-args_after p i [] (ty ∷ tys) v vars more f g = absurd (none_some more f)
-args_after p i (q ∷ qs) [] v vars more f g = absurd (none_some more f)
 args_after p i (q ∷ qs) (ty ∷ tys) v vars more f g =
     let a = from_if (pattern_type q == ty) (then_option (formed_pattern p q vars) (λ after. formed_list p qs tys after)) more f in
     let b = from_then (formed_pattern p q vars) (λ after. formed_list p qs tys after) more a.1 in
@@ -44,6 +42,7 @@ args_after p i (q ∷ qs) (ty ∷ tys) v vars more f g =
     let o = unbound v u vars vars (then_later v x u (later_counting (argument_taken i) v) (later_making (argument i ∷ []) x)) refl g refl (λ c j. inl j) in
     let r = pattern_after p q (argument i) u vars b.0 b.1 tt o.good in
     then_after v w (visit_args p (suc i) qs w) b.0 more (then_after v u w vars b.0 o r) (args_after p (suc i) qs tys w b.0 more b.2 r.good)
+args_after p i h k v vars more f g = grind (arith, common_steps, unbound, now, some_is, no_call, none_some)
 
 pub less_good : (pure : Bool) (vars : List (ℕ × ℕ)) (v : Visit) → AreGood true true vars v → AreGood false pure vars v
 less_good pure vars v g x h = weaker v.demands.constraints v.demands.iterators pure (var_site v x) (g x h)
@@ -130,8 +129,7 @@ record IsDone (a : Valued) : Type 0 where
   site : Good false false a.visit a.site
 
 finished_done : (b : Bool) (a : Valued) → IsDone a → IsDone (finished b a)
-finished_done false a h = h
-finished_done true a h = record { sound = (later_making (some_made a.site ∷ []) a.visit).sound h.sound; site = h.site }
+finished_done b a h = grind (arith, common_steps, later_making)
 
 start_sound : IsSound visit_start
 start_sound = record { asked = λ e i. absurd i; equal = λ e i. absurd i; impure = λ u i. absurd i }

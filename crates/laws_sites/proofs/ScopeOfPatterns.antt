@@ -1,9 +1,8 @@
 -- What the run of a pattern that hangs together binds can be used after it.
-use Rattle.std.proofs.Common.{◌≡◌, ◌⊎◌, ℕ, ◌==◌, ◌&&◌, true, if◌then◌else◌, List, [], ◌∷◌, Option, Some, None, is_some, slice_get, Ok, sym, ap, ◌∙◌, subst, inl, inr, ⊎_elim}
-use Rattle.std.proofs.lemmas.Bool.{cases_Bool, cond-true, cond-false}
+use Rattle.std.proofs.Common.{◌≡◌, ◌⊎◌, ℕ, ◌==◌, true, List, ◌∷◌, Option, Some, is_some, Ok, sym, ap, subst, inl, inr, ⊎_elim, arith}
+use Rattle.std.proofs.lemmas.Bool.{cond-true}
+use Rattle.std.proofs.lemmas.Grind.{common_steps}
 use Rattle.model.specs.lists.Formed.{pattern_type, var_type, with_new, formed_pattern, formed_parts, formed_each}
-use Rattle.model.specs.lists.Setting.{has_extractor}
-use Rattle.model.specs.lists.Tables.{TermEntry}
 use Rattle.model.specs.rules.Outcome.{then_option}
 use Rattle.model.specs.rules.Program.{Program}
 use Rattle.model.specs.rules.Typed.{TypedPattern, match_bind, match_var, match_bool, match_int, match_prim, match_term, match_any, match_and, TypedPatterns, no_typed_pattern, typed_pattern_and}
@@ -24,26 +23,14 @@ has_new : (x ty : ℕ) (vars : List (ℕ × ℕ)) (y : ℕ) → (x == y) ≡ tru
 has_new x ty vars y t = ap is_some (cond-true (x == y) (Some ty) (var_type vars y) t)
 
 has_old : (x ty : ℕ) (vars : List (ℕ × ℕ)) (y : ℕ) → is_some (var_type vars y) ≡ true → is_some (var_type ((x, ty) ∷ vars) y) ≡ true
-has_old x ty vars y h =
-    elim (cases_Bool (x == y)) [
-      | inl t ↦ has_new x ty vars y t
-      | inr f ↦ ap is_some (cond-false (x == y) (Some ty) (var_type vars y) f) ∙ h
-    ]
+has_old x ty vars y h = grind (arith, common_steps, has_new)
 
 module _ {N : Type 0} (K : ℕ → Type 0) where
   but_more : (vs : BoundIds N) (vars : List (ℕ × ℕ)) (x : ℕ) (n : N) → InScopeBut K vs vars → InScopeBut (λ y. K y ⊎ ((x == y) ≡ true)) (with_bound vs x n) vars
-  but_more vs vars x n scope y m e =
-      elim (cases_Bool (x == y)) [
-        | inl t ↦ inr (inr t)
-        | inr f ↦ elim (scope y m (sym (cond-false (x == y) (Some n) (bound_at vs y) f) ∙ sym (bound_once vs x n y) ∙ e)) [ inl h ↦ inl h | inr k ↦ inr (inl k) ]
-      ]
+  but_more vs vars x n scope y m e = grind (arith, common_steps, bound_once)
 
   but_less : (vs : BoundIds N) (vars : List (ℕ × ℕ)) (x ty : ℕ) → InScopeBut (λ y. K y ⊎ ((x == y) ≡ true)) vs vars → InScopeBut K vs ((x, ty) ∷ vars)
-  but_less vs vars x ty scope y m e =
-      elim (scope y m e) [
-        | inl h ↦ inl (has_old x ty vars y h)
-        | inr k ↦ elim k [ inl h ↦ inr h | inr t ↦ inl (has_new x ty vars y t) ]
-      ]
+  but_less vs vars x ty scope y m e = grind (arith, common_steps, has_old, has_new)
 
   alike : (vs ws : BoundIds N) (vars more : List (ℕ × ℕ)) → ws ≡ vs → vars ≡ more → InScopeBut K vs vars → InScopeBut K ws more
   alike vs ws vars more e f scope = subst (λ l. InScopeBut K l more) (sym e) (subst (InScopeBut K vs) f scope)
@@ -62,28 +49,16 @@ module _ {F S N : Type 0} (want : Option F) (v : PatternSteps F S N) (p : Progra
         let later = binds_in_scope (λ y. K y ⊎ ((x == y) ≡ true)) of n r.1 t vars b.0 b.1 r.3 now in
         subst (InScopeBut K t.1) (from_new x ty b.0 more b.2).1 (but_less K t.1 b.0 x ty later))
         (λ e. absurd (no_fault tt e.0 e.2)) run
-    binds_in_scope K (match_var ty x) n s t vars more f run scope =
-        ⊎_elim (λ r. alike K s.1 t.1 vars more (r.3.1 ∙ r.2.0.2.1) (some_is vars more (from_if _ (Some vars) more f).1) scope) (λ e. absurd (no_fault tt e.0 e.2)) run
+    binds_in_scope K (match_var ty x) n s t vars more f run scope = grind (arith, common_steps, alike, some_is, from_if, no_fault)
     binds_in_scope K (match_bool ty b) n s t vars more f run scope = alike K s.1 t.1 vars more run.1 (some_is vars more (from_if _ (Some vars) more f).1) scope
     binds_in_scope K (match_int ty z) n s t vars more f run scope = alike K s.1 t.1 vars more run.1 (some_is vars more (from_if _ (Some vars) more f).1) scope
     binds_in_scope K (match_prim ty name) n s t vars more f run scope = alike K s.1 t.1 vars more run.1 (some_is vars more (from_if _ (Some vars) more f).1) scope
-    binds_in_scope K (match_term ty term args) n s t vars more f run scope =
-        ⊎_elim
-        (λ r.
-        let a = then_some (slice_get p.terms term) (λ (e : TermEntry). if (e.ret_ty == ty) && has_extractor e.kind then formed_parts p args e.arg_tys vars else None) more f in
-        let b = from_if ((a.0.ret_ty == ty) && has_extractor a.0.kind) (formed_parts p args a.0.arg_tys vars) more a.2 in
-        parts_in_scope K args r.0 r.1 t a.0.arg_tys vars more b.1 r.3 (alike K s.1 r.1.1 vars vars r.2.1 (λ i. vars) scope))
-        (λ e. absurd (no_fault tt e.0 e.2)) run
+    binds_in_scope K (match_term ty term args) n s t vars more f run scope = grind (arith, common_steps, parts_in_scope K args, then_some, from_if, alike, no_fault)
     binds_in_scope K (match_any ty) n s t vars more f run scope = alike K s.1 t.1 vars more (ap (λ (z : S × BoundIds N). z.1) run.1) (some_is vars more f) scope
     binds_in_scope K (match_and ty parts) n s t vars more f run scope = each_in_scope K parts n s t ty vars more f run scope
 
     parts_in_scope : (K : ℕ → Type 0) (qs : TypedPatterns) (ids : List N) (s t : S × BoundIds N) (tys : List ℕ) (vars more : List (ℕ × ℕ)) → formed_parts p qs tys vars ≡ Some more → PartsRun want v p.terms qs ids s (Ok tt) t
         → InScopeBut K s.1 vars → InScopeBut K t.1 more
-    parts_in_scope K no_typed_pattern [] s t [] vars more f run scope = alike K s.1 t.1 vars more (ap (λ (z : S × BoundIds N). z.1) run.1) (some_is vars more f) scope
-    parts_in_scope K no_typed_pattern (id ∷ ids) s t [] vars more f run scope = absurd run
-    parts_in_scope K no_typed_pattern ids s t (ty ∷ tys) vars more f run scope = absurd (none_some more f)
-    parts_in_scope K (typed_pattern_and q rest) ids s t [] vars more f run scope = absurd (none_some more f)
-    parts_in_scope K (typed_pattern_and q rest) [] s t (ty ∷ tys) vars more f run scope = absurd run
     parts_in_scope K (typed_pattern_and q rest) (id ∷ ids) s t (ty ∷ tys) vars more f run scope =
         ⊎_elim
         (λ r.
@@ -91,6 +66,7 @@ module _ {F S N : Type 0} (want : Option F) (v : PatternSteps F S N) (p : Progra
         let b = then_some (formed_pattern p q vars) (λ ws. formed_parts p rest tys ws) more a.1 in
         parts_in_scope K rest ids r.1 t tys b.0 more b.2 r.3 (binds_in_scope K q id s r.1 vars b.0 b.1 r.2 scope))
         (λ e. absurd (no_fault tt e.0 e.2)) run
+    parts_in_scope K qs ids s t h vars more f run scope = grind (arith, common_steps, alike, some_is, none_some)
 
     each_in_scope : (K : ℕ → Type 0) (qs : TypedPatterns) (n : N) (s t : S × BoundIds N) (ty : ℕ) (vars more : List (ℕ × ℕ)) → formed_each p qs ty vars ≡ Some more → EachRun want v p.terms qs n s (Ok tt) t
         → InScopeBut K s.1 vars → InScopeBut K t.1 more

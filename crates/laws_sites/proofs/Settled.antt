@@ -2,10 +2,11 @@
 -- class's name.
 use Rattle.std.proofs.Common.{◌≡◌, ◌≢◌, ◌↔◌, ℕ, zero, suc, ◌≤◌, Bool, true, false, ◌&&◌, if◌then◌else◌, List, [], ◌∷◌, ◌++◌, length, Some, Contains, slice_get, flat_map, refl, sym, ap, ◌∙◌, subst, inl, inr, arith}
 use Rattle.std.proofs.lemmas.Bool.{cases_Bool, cond-true, cond-false, and_parts, false≢true}
-use Rattle.std.specs.List.{list_all, zip}
+use Rattle.std.specs.List.{list_all}
+use Rattle.std.proofs.lemmas.Grind.{common_steps}
 use Rattle.model.specs.sites.Sites.{Constraint, SiteTerm, field_terms}
 use Rattle.model.specs.visits.Demands.{Demands, site_term_eq}
-use Rattle.model.specs.sites.Closure.{class_name, same_class, joining, joining_each, due_with, due, joined_in, spoken_of, class_names, Joined, IsUnreachable, has_conflict, is_unreachable}
+use Rattle.model.specs.sites.Closure.{class_name, same_class, joining, joining_each, due, joined_in, spoken_of, class_names, Joined, IsUnreachable, has_conflict, is_unreachable}
 use Rattle.model.proofs.Elements.{In, in_from_contains, in_left, in_right, in_slice, all_in, from_flat_map, in_flat_map, in_zip}
 use Rattle.model.proofs.SameSites.{term_means, same_term}
 use Rattle.laws_sites.proofs.Names.{same_name, name_same, named_alike}
@@ -95,11 +96,7 @@ module _ (us : List SiteTerm) where
     new_there x f = cond-false (site_term_eq (class_name rs x) (class_name rs a)) (class_name rs b) (class_name rs x) f
 
     differs : (x : SiteTerm) → class_name rs x ≢ class_name rs a → site_term_eq (class_name rs x) (class_name rs a) ≡ false
-    differs x n =
-        elim (cases_Bool (site_term_eq (class_name rs x) (class_name rs a))) [
-          | inl t ↦ absurd (n (term_means (class_name rs x) (class_name rs a) t))
-          | inr f ↦ f
-        ]
+    differs x n = grind (arith, common_steps, term_means)
 
     abbrev AreDifferent : Type 0
     AreDifferent = class_name rs a ≢ class_name rs b
@@ -204,9 +201,7 @@ module _ (us : List SiteTerm) where
 
 unchanged : (rs es : List (SiteTerm × SiteTerm)) → list_all (λ e. same_class rs e.0 e.1) es ≡ true → joining_each rs es ≡ rs
 unchanged rs [] h = refl
-unchanged rs (e ∷ es) h =
-    let p = and_parts (same_class rs e.0 e.1) (list_all (λ x. same_class rs x.0 x.1) es) h in
-    ap (λ l. joining_each l es) (cond-true (same_class rs e.0 e.1) rs ((class_name rs e.0, class_name rs e.1) ∷ rs) p.0) ∙ unchanged rs es p.1
+unchanged rs (e ∷ es) h = grind (arith, common_steps, unchanged rs es, and_parts)
 
 module _ (d : Demands) where
   -- nothing more is due
@@ -225,25 +220,10 @@ module _ (d : Demands) where
   all_sites = spoken_of d ++ flat_map (λ s. flat_map (λ c. field_terms c.1 s) d.constraints) (spoken_of d)
 
   field_within : (s : SiteTerm) (c : SiteTerm × Constraint) (i : ℕ) (x : SiteTerm) → In (spoken_of d) s → In d.constraints c → slice_get (field_terms c.1 s) i ≡ Some x → In all_sites x
-  field_within s c i x m n e =
-      in_right (spoken_of d) (flat_map fields_of_site (spoken_of d)) x
-      (in_flat_map fields_of_site (spoken_of d) s x m
-      (in_flat_map (λ (k : SiteTerm × Constraint). field_terms k.1 s) d.constraints c x n (in_slice (field_terms c.1 s) i x e)))
+  field_within s c i x m n e = grind (arith, common_steps, in_right, in_flat_map, in_slice)
 
   due_within : (rs : List (SiteTerm × SiteTerm)) → AllWithin all_sites (due rs d.constraints (spoken_of d))
-  due_within rs e i =
-      let a = from_flat_map (λ s. flat_map (due_with rs s) d.constraints) (spoken_of d) e i in
-      let b = from_flat_map (due_with rs a.0) d.constraints e a.2 in
-      of_pair a.0 b.0 a.1 b.1 b.2
-    where
-      of_pair : (s : SiteTerm) (c : SiteTerm × Constraint) → In (spoken_of d) s → In d.constraints c → In (due_with rs s c) e → In all_sites e.0 × In all_sites e.1
-      of_pair s c m n j =
-          elim (cases_Bool (same_class rs s c.0)) [
-            | inl t ↦
-                let z = in_zip (field_terms c.1 s) (field_terms c.1 c.0) e (subst (λ l. In l e) (cond-true (same_class rs s c.0) (zip (field_terms c.1 s) (field_terms c.1 c.0)) [] t) j) in
-                (field_within s c z.0 e.0 m n z.1, field_within c.0 c z.0 e.1 (asked_spoken d c n) n z.2)
-            | inr f ↦ absurd (subst (λ l. In l e) (cond-false (same_class rs s c.0) (zip (field_terms c.1 s) (field_terms c.1 c.0)) [] f) j)
-          ]
+  due_within rs e i = grind (arith, from_flat_map, in_zip, field_within, asked_spoken)
 
   settled_where : (rs : List (SiteTerm × SiteTerm)) → NothingDue rs → IsSettled rs d
   settled_where rs h s c i x y m n e f g =
@@ -251,27 +231,18 @@ module _ (d : Demands) where
 
   -- rounds settle what they start from, where there are as many as names
   settles : (n : ℕ) (rs : List (SiteTerm × SiteTerm)) → AreNames all_sites rs → counted (is_own rs) all_sites ≤ n → IsSettled (joined_in n d.constraints (spoken_of d) rs) d
-  settles zero rs good few =
-      elim (cases_Bool (list_all (λ e. same_class rs e.0 e.1) (due rs d.constraints (spoken_of d)))) [
-        | inl t ↦ settled_where rs t
-        | inr f ↦ let l = fewer_each all_sites (due rs d.constraints (spoken_of d)) rs good (due_within rs) f in absurd (omega (arith, l, few))
-      ]
+  settles zero rs good few = grind (arith, settled_where rs, fewer_each all_sites (due rs d.constraints (spoken_of d)) rs good (due_within rs), due_within rs)
   settles (suc n) rs good few =
       elim (cases_Bool (list_all (λ e. same_class rs e.0 e.1) (due rs d.constraints (spoken_of d)))) [
         | inl t ↦ subst (λ l. IsSettled l d) (sym (stays (suc n) rs t)) (settled_where rs t)
-        | inr f ↦
-            let l = fewer_each all_sites (due rs d.constraints (spoken_of d)) rs good (due_within rs) f in
-            let after = after_each all_sites (due rs d.constraints (spoken_of d)) rs good (due_within rs) in
-            settles n (joining_each rs (due rs d.constraints (spoken_of d))) after.good (omega (arith, l, few))
+        | inr f ↦ grind (arith, settles n (joining_each rs (due rs d.constraints (spoken_of d))), fewer_each, due_within, after_each)
       ]
 
   first_names : AreNames all_sites []
   first_names = record { again = λ x. refl; stay = λ x i. i }
 
   equal_within : AllWithin all_sites d.equalities
-  equal_within e i =
-      let m = equal_spoken d e i in
-      (in_left (spoken_of d) (flat_map fields_of_site (spoken_of d)) e.0 m.0, in_left (spoken_of d) (flat_map fields_of_site (spoken_of d)) e.1 m.1)
+  equal_within e i = grind (arith, common_steps, equal_spoken, in_left)
 
   -- the names of the closure are settled
   pub names_settled : IsSettled (class_names d) d

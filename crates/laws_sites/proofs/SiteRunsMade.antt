@@ -1,13 +1,14 @@
 -- Each rule that hangs together has a run of the visitor of sites.
-use Rattle.std.proofs.Common.{◌≡◌, ℕ, suc, ◌==◌, ◌&&◌, Bool, true, false, not, if◌then◌else◌, List, [], ◌∷◌, length, Option, Some, None, is_some, slice_get, Ok, refl, sym, ap, ◌∙◌, subst, inl, inr, eqb-true, eq-eqb}
-use Rattle.std.proofs.lemmas.Bool.{and_parts, cases_Bool, cond-true, cond-false, false≢true}
+use Rattle.std.proofs.Common.{◌≡◌, ℕ, suc, ◌==◌, ◌&&◌, Bool, true, not, if◌then◌else◌, List, [], ◌∷◌, length, Option, Some, None, is_some, slice_get, Ok, refl, sym, ◌∙◌, subst, inl, inr, eq-eqb, arith}
+use Rattle.std.proofs.lemmas.Bool.{and_parts, cond-true, false≢true}
+use Rattle.std.proofs.lemmas.Grind.{common_steps}
 use Rattle.model.specs.lists.Formed.{pattern_type, var_type, with_new, is_type, formed_pattern, formed_parts, formed_each, is_formed_expr, are_formed_args, formed_lets, formed_list, formed_iflets}
 use Rattle.model.specs.lists.Setting.{expr_type, has_constructor, has_extractor}
 use Rattle.model.specs.lists.Tables.{TermKindEntry, variant_term, struct_term, declared_term, TermEntry}
 use Rattle.model.specs.rules.Outcome.{then_option}
 use Rattle.model.specs.rules.Program.{Program, always_answers}
 use Rattle.model.specs.rules.Typed.{TypedPattern, match_bind, match_var, match_bool, match_int, match_prim, match_term, match_any, match_and, TypedPatterns, no_typed_pattern, typed_pattern_and, TypedExpr, make_term, make_var, make_bool, make_int, make_prim, make_let, TypedExprs, no_typed_expr, typed_expr_and, TypedLets, no_typed_let, typed_let_and, TypedIfLet}
-use Rattle.model.specs.sites.Sites.{is_bool, is_int, is_prim, is_struct, is_variant, SiteTerm, pick_of, some_part, argument, bool_term, extractor_call, int_term, prim_term, struct_field, struct_made, variant_field, variant_made, fields_from}
+use Rattle.model.specs.sites.Sites.{is_bool, is_int, is_prim, is_struct, is_variant, SiteTerm, argument, bool_term, extractor_call, int_term, prim_term, struct_field, struct_made, variant_field, variant_made, fields_from}
 use Rattle.model.specs.visits.Demands.{Visit, visit_start, asking, asking_all, equating, pattern_count, Opened, open_call, taking_argument, unwraps, visit_call, fields_opened, value_made}
 use Rattle.model.specs.visits.Runs.{BoundIds, bound_at, with_bound}
 use Rattle.model.specs.visits.SiteVisitor.{any_parts, extractor_opened, sites_of_inputs, site_patterns, site_exprs, site_rules}
@@ -40,26 +41,14 @@ bound_now : (vs : Bound) (x : ℕ) (s : SiteTerm) (y : ℕ) → (x == y) ≡ tru
 bound_now vs x s y t = (s, bound_once vs x s y ∙ cond-true (x == y) (Some s) (bound_at vs y) t)
 
 stays_bound : (vs : Bound) (x : ℕ) (s : SiteTerm) (y : ℕ) → IsBound vs y → IsBound (with_bound vs x s) y
-stays_bound vs x s y h =
-    elim (cases_Bool (x == y)) [
-      | inl t ↦ bound_now vs x s y t
-      | inr f ↦ (h.0, bound_once vs x s y ∙ cond-false (x == y) (Some s) (bound_at vs y) f ∙ h.1)
-    ]
+stays_bound vs x s y h = grind (arith, common_steps, bound_now vs x s y, bound_once vs x s y)
 
 -- one that is bound can be used too
 new_bound : (vs : Bound) (vars : List (ℕ × ℕ)) (x ty : ℕ) → IsBound vs x → AreBound vs vars → AreBound vs ((x, ty) ∷ vars)
-new_bound vs vars x ty new bound y h =
-    elim (cases_Bool (x == y)) [
-      | inl t ↦ subst (IsBound vs) (eqb-true x y t) new
-      | inr f ↦ bound y (sym (ap is_some (cond-false (x == y) (Some ty) (var_type vars y) f)) ∙ h)
-    ]
+new_bound vs vars x ty new bound y h = grind (arith, common_steps)
 
 one_more_bound : (vs : Bound) (vars : List (ℕ × ℕ)) (x ty : ℕ) (s : SiteTerm) → AreBound vs vars → AreBound (with_bound vs x s) ((x, ty) ∷ vars)
-one_more_bound vs vars x ty s bound y h =
-    elim (cases_Bool (x == y)) [
-      | inl t ↦ bound_now vs x s y t
-      | inr f ↦ stays_bound vs x s y (bound y (sym (ap is_some (cond-false (x == y) (Some ty) (var_type vars y) f)) ∙ h))
-    ]
+one_more_bound vs vars x ty s bound y h = grind (arith, common_steps, bound_now, stays_bound)
 
 -- 2. patterns
 abbrev VisitState : Type 0
@@ -78,9 +67,7 @@ ends_here R v vs vars more e run bound = record { last = (v, vs); run = run; bou
 
 -- as many sites as parts
 open_count : (multi infallible pure partial rec : Bool) (call : SiteTerm) (args : TypedPatterns) (v : Visit) → AsManySites (open_call (record { pure = pure; multi = multi; partial = partial; rec = rec }) infallible call args v).inputs args
-open_count true infallible pure partial rec call args v = output_count (pick_of call) args
-open_count false true pure partial rec call args v = output_count call args
-open_count false false pure partial rec call args v = output_count (some_part call) args
+open_count multi infallible pure partial rec call args v = grind (arith, common_steps, output_count)
 
 many_fields : (f : ℕ → SiteTerm) (args : TypedPatterns) (n : ℕ) → n ≡ pattern_count args → AsManySites (fields_from f 0 n) args
 many_fields f args n e = subst (λ m. AsManySites (fields_from f 0 m) args) (sym e) (as_many_sites f 0 args)
@@ -111,8 +98,7 @@ module _ (ty term : ℕ) (args : TypedPatterns) (u : SiteTerm) where
 
   term_opened : (w : Visit) (o : Option TermEntry) (e : TermEntry) → o ≡ Some e → has_extractor e.kind ≡ true → length e.arg_tys ≡ pattern_count args
       → IsOpenedBy (λ m ids. Opens None site_patterns ty term (part_types args) u o w (Ok ids) m)
-  term_opened w o e there h count =
-      subst (λ z. IsOpenedBy (λ m ids. Opens None site_patterns ty term (part_types args) u z w (Ok ids) m)) (sym there) (kind_opened w e e.kind h count)
+  term_opened w o e there h count = grind (arith, common_steps, kind_opened w e e.kind h count)
 
 module _ (p : Program) where
   mutual
@@ -146,18 +132,14 @@ module _ (p : Program) where
         let o = term_opened ty term args n s.0 (slice_get p.terms term) a.0 a.1 (and_parts (a.0.ret_ty == ty) (has_extractor a.0.kind) b.0).1 (parts_fit p args a.0.arg_tys vars more b.1).0 in
         let r = parts_made args o.0 (o.1, s.1) a.0.arg_tys vars more b.1 o.3 bound in
         record { last = r.last; run = inl (o.0, (o.1, s.1), (o.2, refl), r.run); bound = r.bound; kept = r.kept }
-    pattern_made (match_any ty) n s vars more f bound =
-        ends_here (λ t. PatternRun None site_patterns p.terms (match_any ty) n s (Ok tt) t) s.0 s.1 vars more (some_is vars more f) (refl, refl) bound
-    pattern_made (match_and ty parts) n s vars more f bound =
-        let r = each_made parts n s ty vars more f bound in record { last = r.last; run = r.run; bound = r.bound; kept = r.kept }
+    pattern_made (match_any ty) n s vars more f bound = grind (arith, common_steps, ends_here, some_is)
+    pattern_made (match_and ty parts) n s vars more f bound = grind (arith, common_steps, each_made parts n s ty vars more f bound)
 
     parts_made : (qs : TypedPatterns) (ids : List SiteTerm) (s : VisitState) (tys : List ℕ) (vars more : List (ℕ × ℕ)) → formed_parts p qs tys vars ≡ Some more → AsManySites ids qs → AreBound s.1 vars
         → EndsBound (λ t. PartsRun None site_patterns p.terms qs ids s (Ok tt) t) s.1 more
     parts_made no_typed_pattern [] s [] vars more f many bound =
         ends_here (λ t. PartsRun None site_patterns p.terms no_typed_pattern [] s (Ok tt) t) s.0 s.1 vars more (some_is vars more f) (refl, refl) bound
     parts_made no_typed_pattern (id ∷ ids) s [] vars more f many bound = absurd many
-    parts_made no_typed_pattern ids s (ty ∷ tys) vars more f many bound = absurd (none_some more f)
-    parts_made (typed_pattern_and q rest) ids s [] vars more f many bound = absurd (none_some more f)
     parts_made (typed_pattern_and q rest) [] s (ty ∷ tys) vars more f many bound = absurd many
     parts_made (typed_pattern_and q rest) (id ∷ ids) s (ty ∷ tys) vars more f many bound =
         let a = from_if (pattern_type q == ty) (then_option (formed_pattern p q vars) (λ ws. formed_parts p rest tys ws)) more f in
@@ -165,11 +147,11 @@ module _ (p : Program) where
         let first = pattern_made q id s vars b.0 b.1 bound in
         let r = parts_made rest ids first.last tys b.0 more b.2 many first.bound in
         record { last = r.last; run = inl (tt, first.last, first.run, r.run); bound = r.bound; kept = λ y h. r.kept y (first.kept y h) }
+    parts_made _ ids s _ vars more f many bound = absurd (none_some more f)
 
     each_made : (qs : TypedPatterns) (n : SiteTerm) (s : VisitState) (ty : ℕ) (vars more : List (ℕ × ℕ)) → formed_each p qs ty vars ≡ Some more → AreBound s.1 vars
         → EndsBound (λ t. EachRun None site_patterns p.terms qs n s (Ok tt) t) s.1 more
-    each_made no_typed_pattern n s ty vars more f bound =
-        ends_here (λ t. EachRun None site_patterns p.terms no_typed_pattern n s (Ok tt) t) s.0 s.1 vars more (some_is vars more f) (refl, refl) bound
+    each_made no_typed_pattern n s ty vars more f bound = grind (arith, common_steps, ends_here, some_is)
     each_made (typed_pattern_and q rest) n s ty vars more f bound =
         let a = from_if (pattern_type q == ty) (then_option (formed_pattern p q vars) (λ ws. formed_each p rest ty ws)) more f in
         let b = then_some (formed_pattern p q vars) (λ ws. formed_each p rest ty ws) more a.1 in
@@ -209,13 +191,12 @@ module _ (p : Program) where
     inputs_made : (xs : TypedExprs) (tys : List ℕ) (vs : Bound) (vars : List (ℕ × ℕ)) (s : Visit) → are_formed_args p xs tys vars ≡ true → AreBound vs vars
         → (inputs : List (SiteTerm × ℕ)) × (t : Visit) × InputsRun None site_exprs p.terms xs tys vs s (Ok inputs) t
     inputs_made no_typed_expr [] vs vars s f bound = ([], s, (refl, refl))
-    inputs_made no_typed_expr (ty ∷ tys) vs vars s f bound = absurd (false≢true f)
-    inputs_made (typed_expr_and x xs) [] vs vars s f bound = absurd (false≢true f)
     inputs_made (typed_expr_and x xs) (ty ∷ tys) vs vars s f bound =
         let g = from_args p x xs ty tys vars f in
         let a = expr_made x vs vars s g.1 bound in
         let r = inputs_made xs tys vs vars a.1 g.2 bound in
         ((a.0, ty) ∷ r.0, r.1, inl (a.0, a.1, a.2, inr (inl (r.0, r.1, r.2, (refl, refl)))))
+    inputs_made _ _ vs vars s f bound = absurd (false≢true f)
 
     lets_made : (ds : TypedLets) (vs : Bound) (vars more : List (ℕ × ℕ)) (s : Visit) → formed_lets p ds vars ≡ Some more → AreBound vs vars
         → (ws : Bound) × (t : Visit) × LetsRun None site_exprs p.terms ds vs s (Ok ws) t × AreBound ws more
@@ -250,8 +231,6 @@ module _ (p : Program) where
   args_made : (qs : List TypedPattern) (tys : List ℕ) (i : ℕ) (vs : Bound) (vars more : List (ℕ × ℕ)) (s : Visit) → formed_list p qs tys vars ≡ Some more → AreBound vs vars
       → Leads (λ ws t. ArgsRun None site_rules site_patterns site_exprs p.terms qs tys i vs s (Ok ws) t) more
   args_made [] [] i vs vars more s f bound = (vs, s, (refl, refl), subst (AreBound vs) (some_is vars more f) bound)
-  args_made [] (ty ∷ tys) i vs vars more s f bound = absurd (none_some more f)
-  args_made (q ∷ qs) [] i vs vars more s f bound = absurd (none_some more f)
   args_made (q ∷ qs) (ty ∷ tys) i vs vars more s f bound =
       let a = from_if (pattern_type q == ty) (then_option (formed_pattern p q vars) (λ mid. formed_list p qs tys mid)) more f in
       let b = then_some (formed_pattern p q vars) (λ mid. formed_list p qs tys mid) more a.1 in
@@ -259,6 +238,7 @@ module _ (p : Program) where
       let k = pattern_call_made q (argument i) vs vars b.0 u b.1 bound in
       let r = args_made qs tys (suc i) k.0 b.0 more k.1 b.2 k.3 in
       (r.0, r.1, inl (argument i, u, (refl, refl), inl (k.0, k.1, k.2, r.2)), r.3)
+  args_made _ _ i vs vars more s f bound = absurd (none_some more f)
 
   iflets_made : (is : List TypedIfLet) (vs : Bound) (vars more : List (ℕ × ℕ)) (s : Visit) → formed_iflets p is vars ≡ Some more → AreBound vs vars
       → Leads (λ ws t. IfLetsRun None site_rules site_patterns site_exprs p.terms is vs s (Ok ws) t) more

@@ -2,6 +2,7 @@
 use Rattle.std.proofs.Common.{◌≡◌, ◌⊎◌, ℕ, zero, suc, ◌≤◌, true, false, not, List, [], ◌∷◌, map, length, Option, Some, None, refl, sym, ◌∙◌, subst, inl, inr, arith}
 use Rattle.std.proofs.lemmas.Bool.{cases_Bool, and_parts, false≢true, not-true}
 use Rattle.std.specs.List.{list_any}
+use Rattle.std.proofs.lemmas.Grind.{common_steps}
 use Rattle.model.specs.sites.Sites.{Constraint, SiteTerm, field_terms}
 use Rattle.model.specs.visits.Demands.{Demands, constraint_eq}
 use Rattle.model.specs.sites.Closure.{Joined, itself, IsPartOf, IsProperPart, directly, deeper, IsUnreachable, two_at_a_site, two_in_a_class, part_of_itself, class_name, same_class, class_names, differs_in_class, has_conflict, constrained_in, fields_of_first, parts_of, goes_deeper, has_cycle, is_unreachable}
@@ -58,22 +59,14 @@ module _ (d : Demands) where
       → ((c : SiteTerm × Constraint) → In d.constraints c → In left (class_name (class_names d) c.0) ⊎ In passed (class_name (class_names d) c.0))
       → goes_deeper (suc k) (class_names d) d.constraints n ≡ true
       → (s : SiteTerm) × IsPartOf d s n × (goes_deeper k (class_names d) d.constraints s ≡ true) × (In left n ⊎ In passed n)
-  first_step k left passed n covered deep =
-      let next = in_any (goes_deeper k (class_names d) d.constraints) (parts_of (class_names d) d.constraints n) deep in
-      let part = part_is n next.0 next.1 in
-      (next.0, part.0, next.2, subst (λ u. In left u ⊎ In passed u) part.1.2 (covered part.1.0 part.1.1))
+  first_step k left passed n covered deep = grind (arith, in_any, part_is)
 
   -- a chain of parts that is longer than the list of names left comes back to one that it passed
   chain_returns : (k : ℕ) (left passed : List SiteTerm) (n : SiteTerm) → length left ≤ k
       → ((c : SiteTerm × Constraint) → In d.constraints c → In left (class_name (class_names d) c.0) ⊎ In passed (class_name (class_names d) c.0))
       → ((v : SiteTerm) → In passed v → IsProperPart d n v)
       → goes_deeper (suc k) (class_names d) d.constraints n ≡ true → Found
-  chain_returns zero left passed n short covered below deep =
-      let f = first_step zero left passed n covered deep in
-      elim f.3 [
-        | inr p ↦ (n, below n p)
-        | inl l ↦ let r = dropped left n l in absurd (omega (arith, r.1, short))
-      ]
+  chain_returns zero left passed n short covered below deep = grind (arith, common_steps, first_step zero left passed n covered deep, dropped left n)
   chain_returns (suc k) left passed n short covered below deep =
       let f = first_step (suc k) left passed n covered deep in
       elim f.3 [
@@ -81,10 +74,7 @@ module _ (d : Demands) where
         | inl l ↦
             let r = dropped left n l in
             chain_returns k r.0 (n ∷ passed) f.0 (let e = r.1 in omega (arith, e, short))
-            (λ c i. elim (covered c i) [
-              | inl j ↦ elim (r.2 (class_name (class_names d) c.0) j) [ inl e ↦ inr (inl e) | inr m ↦ inl m ]
-              | inr j ↦ inr (inr j)
-            ])
+            (λ c i. grind (arith, common_steps))
             (step_below n f.0 passed below f.1) f.2
       ]
 

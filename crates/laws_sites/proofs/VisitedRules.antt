@@ -1,5 +1,6 @@
 -- The sites that a rule's visit equates are made by it, but for variables that nothing binds.
-use Rattle.std.proofs.Common.{◌≡◌, ◌⊎◌, List, [], ◌∷◌, Contains, refl, subst, inl, inr}
+use Rattle.std.proofs.Common.{◌≡◌, ◌⊎◌, List, [], ◌∷◌, Contains, refl, inl, inr, arith}
+use Rattle.std.proofs.lemmas.Grind.{common_steps}
 use Rattle.model.specs.rules.Program.{Program}
 use Rattle.model.specs.sites.Sites.{is_present, SiteTerm, no_site}
 use Rattle.model.specs.rules.Typed.{TypedRule}
@@ -21,19 +22,10 @@ OnwardMade = Onward MakesEqual IsMade
 
 -- 1. steps
 making_on : (ts : List SiteTerm) (v : Visit) → MakesEqual v.demands → OnwardMade v.demands (making ts v).demands
-making_on ts v h = record { holds = λ e i. (kept e.0 (h e i).0, kept e.1 (h e i).1); stays = kept }
-  where
-    kept : (s : SiteTerm) → IsMade v.demands s → IsMade (making ts v).demands s
-    kept s m = elim m [ inl i ↦ inl (in_left v.demands.made ts s i) | inr e ↦ inr e ]
+making_on ts v h = grind (arith, common_steps, in_left)
 
 equated_on : (a b : SiteTerm) (v : Visit) → MakesEqual v.demands → IsMade v.demands a → IsMade v.demands b → OnwardMade v.demands (equated a b v).demands
-equated_on a b v h m n = record {
-  holds = λ e i. elim (in_either v.demands.equalities ((a, b) ∷ []) e i) [
-    | inl j ↦ h e j
-    | inr j ↦ elim j [ inl q ↦ subst (λ (x : SiteTerm × SiteTerm). IsMade v.demands x.0 × IsMade v.demands x.1) q (m, n) | inr x ↦ absurd x ]
-  ];
-  stays = λ s k. k;
-}
+equated_on a b v h m n = grind (arith, common_steps, in_either)
 
 -- a step that makes and equates nothing
 asking_all_on : (ss : List SiteTerm) (v : Visit) → MakesEqual v.demands → OnwardMade v.demands (asking_all ss v).demands

@@ -1,12 +1,12 @@
 -- Visits from one place, whatever was demanded before: they meet the same sites, and go over the same calls.
-use Rattle.std.proofs.Common.{◌≡◌, ◌⊎◌, ℕ, suc, Bool, true, false, List, [], ◌∷◌, ◌==◌, if◌then◌else◌, refl, sym, ap, ap₂, subst, inl, inr}
-use Rattle.std.proofs.lemmas.Bool.{cases_Bool, cond-true, cond-false}
+use Rattle.std.proofs.Common.{◌≡◌, ◌⊎◌, ℕ, suc, Bool, true, false, List, [], ◌∷◌, ◌==◌, refl, sym, ap, ap₂, inl, arith}
+use Rattle.std.proofs.lemmas.Grind.{common_steps}
 use Rattle.model.specs.rules.Meaning.{look}
 use Rattle.model.specs.lists.Tables.{Flags}
 use Rattle.model.specs.rules.Program.{Program, Kind, a_variant, a_struct, a_call, unknown, kind}
-use Rattle.model.specs.sites.Sites.{is_present, SiteTerm, extractor_call, constructor_call, variant_made, struct_made, bool_term, int_term, prim_term, SiteTerms, site_term_and}
+use Rattle.model.specs.sites.Sites.{is_present, SiteTerm, constructor_call, variant_made, struct_made, bool_term, int_term, prim_term, SiteTerms}
 use Rattle.model.specs.rules.Typed.{TypedPattern, match_bind, match_var, match_bool, match_int, match_prim, match_term, match_any, match_and, TypedPatterns, no_typed_pattern, typed_pattern_and, TypedExpr, make_term, make_var, make_bool, make_int, make_prim, make_let, TypedExprs, no_typed_expr, typed_expr_and, TypedLets, no_typed_let, typed_let_and}
-use Rattle.model.specs.visits.Demands.{site_term_eq, Visit, making, asking, equating, iterating, binding, or_no_site, var_site, Opened, open_call, open_term, visit_pattern, visit_each, visit_all, Valued, ValuedAll, valued, call_result, call_sites, where_multi, visit_call, visit_term, visit_expr, visit_exprs, visit_lets, asking_all}
+use Rattle.model.specs.visits.Demands.{Visit, making, asking, equating, binding, or_no_site, var_site, Opened, open_term, visit_pattern, visit_each, visit_all, Valued, ValuedAll, valued, call_result, call_sites, where_multi, visit_call, visit_term, visit_expr, visit_exprs, visit_lets, asking_all}
 use Rattle.model.proofs.Elements.{In, in_left, in_right, in_either}
 use Rattle.laws_sites.proofs.AskedSites.{equated}
 
@@ -31,11 +31,7 @@ asked_iterators [] v = refl
 asked_iterators (s ∷ ss) v = asked_iterators ss (asking s is_present v)
 
 equating_alike : (s t : SiteTerm) (v w : Visit) → AreAlike v w → AreAlike (equating s t v) w
-equating_alike s t v w a =
-    elim (cases_Bool (site_term_eq s t)) [
-      | inl h ↦ subst (λ u. AreAlike u w) (sym (cond-true (site_term_eq s t) v (equated s t v) h)) a
-      | inr f ↦ subst (λ u. AreAlike u w) (sym (cond-false (site_term_eq s t) v (equated s t v) f)) (record { vars = a.vars; impure_calls = a.impure_calls })
-    ]
+equating_alike s t v w a = grind (arith, equated)
 
 alike_turned : (v w : Visit) → AreAlike v w → AreAlike w v
 alike_turned v w a = record { vars = sym a.vars; impure_calls = sym a.impure_calls }
@@ -46,17 +42,8 @@ record AreOpened (o q : Opened) : Type 0 where
   inputs : o.inputs ≡ q.inputs
   after : AreAlike o.visit q.visit
 
-call_opened_alike : (pure multi partial rec infallible : Bool) (call : SiteTerm) (args : TypedPatterns) (v w : Visit) → AreAlike v w
-    → AreOpened (open_call (record { pure = pure; multi = multi; partial = partial; rec = rec }) infallible call args v) (open_call (record { pure = pure; multi = multi; partial = partial; rec = rec }) infallible call args w)
-call_opened_alike pure true partial rec infallible call args v w a = record { inputs = refl; after = record { vars = a.vars; impure_calls = a.impure_calls } }
-call_opened_alike pure false partial rec true call args v w a = record { inputs = refl; after = record { vars = a.vars; impure_calls = a.impure_calls } }
-call_opened_alike pure false partial rec false call args v w a = record { inputs = refl; after = record { vars = a.vars; impure_calls = a.impure_calls } }
-
 term_alike : (k : Kind) (t : ℕ) (s : SiteTerm) (args : TypedPatterns) (v w : Visit) → AreAlike v w → AreOpened (open_term k t s args v) (open_term k t s args w)
-term_alike (a_variant ty variant) t s args v w a = record { inputs = refl; after = record { vars = a.vars; impure_calls = a.impure_calls } }
-term_alike (a_struct ty) t s args v w a = record { inputs = refl; after = record { vars = a.vars; impure_calls = a.impure_calls } }
-term_alike (a_call flags infallible) t s args v w a = call_opened_alike flags.pure flags.multi flags.partial flags.rec infallible (extractor_call t s) args v w a
-term_alike unknown t s args v w a = record { inputs = refl; after = a }
+term_alike k t s args v w a = grind (arith, common_steps)
 
 module _ (p : Program) where
   mutual
@@ -67,18 +54,13 @@ module _ (p : Program) where
     pattern_alike (match_bool ty b) s v w a = record { vars = a.vars; impure_calls = a.impure_calls }
     pattern_alike (match_int ty z) s v w a = record { vars = a.vars; impure_calls = a.impure_calls }
     pattern_alike (match_prim ty name) s v w a = record { vars = a.vars; impure_calls = a.impure_calls }
-    pattern_alike (match_term ty t args) s v w a =
-        let o = open_term (kind p t) t s args v in
-        let q = open_term (kind p t) t s args w in
-        let b = term_alike (kind p t) t s args v w a in
-        subst (λ ss. AreAlike (visit_each p args ss o.visit) (visit_each p args q.inputs q.visit)) (sym b.inputs) (each_alike args q.inputs o.visit q.visit b.after)
+    pattern_alike (match_term ty t args) s v w a = grind (arith, common_steps, each_alike args, term_alike)
     pattern_alike (match_any ty) s v w a = a
     pattern_alike (match_and ty subs) s v w a = all_alike subs s v w a
 
     each_alike : (qs : TypedPatterns) (ss : List SiteTerm) (v w : Visit) → AreAlike v w → AreAlike (visit_each p qs ss v) (visit_each p qs ss w)
-    each_alike no_typed_pattern ss v w a = a
-    each_alike (typed_pattern_and q qs) [] v w a = a
     each_alike (typed_pattern_and q qs) (s ∷ ss) v w a = each_alike qs ss (visit_pattern p q s v) (visit_pattern p q s w) (pattern_alike q s v w a)
+    each_alike _ _ v w a = a
 
     all_alike : (qs : TypedPatterns) (s : SiteTerm) (v w : Visit) → AreAlike v w → AreAlike (visit_all p qs s v) (visit_all p qs s w)
     all_alike no_typed_pattern s v w a = a
@@ -95,14 +77,7 @@ goes_over_none : (v w : Visit) → AreAlike v w → GoesOverSame v v w w
 goes_over_none v w a = record { after = a; calls = λ u i. inl i; kept = λ u i. i }
 
 then_goes : (v v' v'' w w' w'' : Visit) → GoesOverSame v v' w w' → GoesOverSame v' v'' w' w'' → GoesOverSame v v'' w w''
-then_goes v v' v'' w w' w'' a b = record {
-  after = b.after;
-  calls = λ u i. elim (b.calls u i) [
-    | inl j ↦ elim (a.calls u j) [ inl k ↦ inl k | inr k ↦ inr (b.kept u k) ]
-    | inr j ↦ inr j
-  ];
-  kept = λ u i. b.kept u (a.kept u i);
-}
+then_goes v v' v'' w w' w'' a b = grind (arith, common_steps)
 
 pub record AreValuedAlike (v w : Visit) (a b : Valued) : Type 0 where
   pub site : a.site ≡ b.site
@@ -115,15 +90,7 @@ record AreAllAlike (v w : Visit) (a b : ValuedAll) : Type 0 where
 -- of one call, or of equal ones
 gone_alike : (flags : Flags) (c d : SiteTerm) (v w : Visit) → c ≡ d → AreAlike v w
     → GoesOverSame v (where_multi flags c (making (call_sites flags c) v)) w (where_multi flags d (making (call_sites flags d) w))
-gone_alike flags c d v w e a = subst (λ x. GoesOverSame v (where_multi flags c (making (call_sites flags c) v)) w (where_multi flags x (making (call_sites flags x) w))) e (by flags.multi)
-  where
-    by : (m : Bool) → GoesOverSame v (if m then iterating c (making (call_sites flags c) v) else making (call_sites flags c) v) w (if m then iterating c (making (call_sites flags c) w) else making (call_sites flags c) w)
-    by true = record {
-      after = record { vars = a.vars; impure_calls = a.impure_calls };
-      calls = λ u i. elim (in_either v.demands.iterators (c ∷ []) u i) [ inl j ↦ inl j | inr j ↦ inr (in_right w.demands.iterators (c ∷ []) u j) ];
-      kept = λ u i. in_left w.demands.iterators (c ∷ []) u i;
-    }
-    by false = record { after = record { vars = a.vars; impure_calls = a.impure_calls }; calls = λ u i. inl i; kept = λ u i. i }
+gone_alike flags c d v w e a = grind (arith, common_steps, in_either, in_right, in_left)
 
 called_alike : (pure multi partial rec : Bool) (t : ℕ) (xs ys : SiteTerms) (v w : Visit) → xs ≡ ys → AreAlike v w
     → AreValuedAlike v w (visit_call (record { pure = pure; multi = multi; partial = partial; rec = rec }) t xs v) (visit_call (record { pure = pure; multi = multi; partial = partial; rec = rec }) t ys w)
@@ -141,10 +108,7 @@ called_alike false multi partial rec t xs ys v w e a =
     }
 
 made_alike : (f : SiteTerms → SiteTerm) (a b : ValuedAll) (v w : Visit) → AreAllAlike v w a b → AreValuedAlike v w (valued (f a.sites) (making (f a.sites ∷ []) a.visit)) (valued (f b.sites) (making (f b.sites ∷ []) b.visit))
-made_alike f a b v w h = record {
-  site = ap f h.sites;
-  same = record { after = record { vars = h.same.after.vars; impure_calls = h.same.after.impure_calls }; calls = h.same.calls; kept = h.same.kept };
-}
+made_alike f a b v w h = grind (arith, common_steps)
 
 term_valued_alike : (k : Kind) (t : ℕ) (a b : ValuedAll) (v w : Visit) → AreAllAlike v w a b → AreValuedAlike v w (visit_term k t a) (visit_term k t b)
 term_valued_alike (a_variant ty variant) t a b v w h = made_alike (variant_made ty variant) a b v w h
@@ -165,29 +129,12 @@ module _ (p : Program) where
     expr_alike (make_bool ty b) v w a = literal_alike (bool_term b ty) v w a
     expr_alike (make_int ty z) v w a = literal_alike (int_term z ty) v w a
     expr_alike (make_prim ty name) v w a = literal_alike (prim_term name) v w a
-    expr_alike (make_let ty defs body) v w a =
-        let d = lets_alike defs v w a in
-        let b = expr_alike body (visit_lets p defs v) (visit_lets p defs w) d.after in
-        record { site = b.site; same = then_goes v (visit_lets p defs v) (visit_expr p body (visit_lets p defs v)).visit w (visit_lets p defs w) (visit_expr p body (visit_lets p defs w)).visit d b.same }
+    expr_alike (make_let ty defs body) v w a = grind (arith, common_steps, lets_alike defs v w a, expr_alike body (visit_lets p defs v) (visit_lets p defs w), then_goes)
 
     exprs_alike : (xs : TypedExprs) (v w : Visit) → AreAlike v w → AreAllAlike v w (visit_exprs p xs v) (visit_exprs p xs w)
     exprs_alike no_typed_expr v w a = record { sites = refl; same = goes_over_none v w a }
-    exprs_alike (typed_expr_and x xs) v w a =
-        let b = expr_alike x v w a in
-        let v' = (visit_expr p x v).visit in
-        let w' = (visit_expr p x w).visit in
-        let c = exprs_alike xs v' w' b.same.after in
-        record { sites = ap₂ site_term_and b.site c.sites; same = then_goes v v' (visit_exprs p xs v').visit w w' (visit_exprs p xs w').visit b.same c.same }
+    exprs_alike (typed_expr_and x xs) v w a = grind (arith, common_steps, expr_alike x v w a, exprs_alike xs, then_goes)
 
     lets_alike : (ds : TypedLets) (v w : Visit) → AreAlike v w → GoesOverSame v (visit_lets p ds v) w (visit_lets p ds w)
     lets_alike no_typed_let v w a = goes_over_none v w a
-    lets_alike (typed_let_and x ty value rest) v w a =
-        let b = expr_alike value v w a in
-        let v' = binding x (visit_expr p value v).site (visit_expr p value v).visit in
-        let w' = binding x (visit_expr p value w).site (visit_expr p value w).visit in
-        let s : GoesOverSame v v' w w' = record {
-          after = alike_binding x (visit_expr p value v).site (visit_expr p value w).site (visit_expr p value v).visit (visit_expr p value w).visit b.same.after b.site;
-          calls = b.same.calls;
-          kept = b.same.kept;
-        } in
-        then_goes v v' (visit_lets p rest v') w w' (visit_lets p rest w') s (lets_alike rest v' w' s.after)
+    lets_alike (typed_let_and x ty value rest) v w a = grind (arith, common_steps, expr_alike value v w a, lets_alike rest, alike_binding, then_goes)

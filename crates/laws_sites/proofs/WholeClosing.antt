@@ -1,6 +1,7 @@
 -- Closing keeps all that follows from the demands within reach; where it ends, all of it is asked.
-use Rattle.std.proofs.Common.{◌≡◌, ◌≢◌, ℕ, true, List, [], ◌∷◌, ◌++◌, map, filter, flat_map, refl, sym, ◌∙◌, subst, inl, inr}
+use Rattle.std.proofs.Common.{◌≡◌, ◌≢◌, ℕ, true, List, [], ◌∷◌, ◌++◌, map, filter, flat_map, refl, sym, ◌∙◌, subst, inl, inr, arith}
 use Rattle.std.proofs.lemmas.Bool.{cases_Bool, false≢true}
+use Rattle.std.proofs.lemmas.Grind.{common_steps}
 use Rattle.model.specs.sites.Sites.{Constraint, SiteTerm, field_terms}
 use Rattle.model.specs.visits.Demands.{Demands, has_site, with_sites}
 use Rattle.model.specs.sites.Closure.{Joined, given, itself, turned, chained, at_field, HasConstraint, IsUnreachable, IsFree, Closed, ClosedIsWhole, class_at, without_class_of, merged_all, ascending, field_equalities, taken, closing, before_closing, begins_with, in_order, most_closing_steps, closed}
@@ -82,18 +83,14 @@ module _ (d : Demands) (reachable : IsUnreachable d → ⊥) where
     class_chained : (a b : SiteTerm) → InOne k.classes a b → Chain after.classes history_after a b
     class_chained a b o =
         elim (cases_Bool (has_site o.class c.0)) [
-          | inl t ↦
-              let same = class_is k.classes w.apart o.class c.0 o.there (has_in o.class c.0 t) in
-              members_chained after.classes h members a b (a_member a same o.first) (a_member b same o.second)
+          | inl t ↦ grind (arith, a_member a, a_member b, class_is, has_in, members_chained)
           | inr f ↦
               one_class (each_keeps_one (field_equalities c.1 members) (without_class_of k.classes c.0) left_apart a b
               (record { class = o.class; there = in_without k.classes c.0 o.class o.there f; first = o.first; second = o.second }))
         ]
       where
         a_member : (s : SiteTerm) → class_at k.classes c.0 ≡ o.class → In o.class s → In (ascending k.made (class_at k.classes c.0)) s
-        a_member s e i =
-            filter_from (has_site (class_at k.classes c.0)) k.made s (w.within o.class s o.there i)
-            (in_has (class_at k.classes c.0) s (subst (λ l. In l s) (sym e) i))
+        a_member s e i = grind (arith, filter_from, in_has)
 
     carried : (a b : SiteTerm) → Chain k.classes h a b → Chain after.classes history_after a b
     carried a b j =
@@ -103,24 +100,10 @@ module _ (d : Demands) (reachable : IsUnreachable d → ⊥) where
     field_joined x y i = joined_chain_cases after.classes history_after x y (each_joins_one (field_equalities c.1 members) (without_class_of k.classes c.0) left_apart x y i)
 
     new_taken : (a b : SiteTerm) → In (pairs_of members) (a, b) → IsTaken after.constraints after.classes history_after a b
-    new_taken a b i =
-        let p = pair_members c.1 members a b i in
-        record {
-          constraint = c.1;
-          first = member_asked a p.0;
-          second = member_asked b p.1;
-          fields = λ n x y e f. field_joined x y (p.2 n x y e f);
-        }
+    new_taken a b i = grind (arith, common_steps, pair_members c.1 members a b i, member_asked a, member_asked b, field_joined)
 
     old_taken : (a b : SiteTerm) → In h (a, b) → IsTaken after.constraints after.classes history_after a b
-    old_taken a b i =
-        let t = w.history a b i in
-        record {
-          constraint = t.constraint;
-          first = keeps_all k.constraints (map (λ u. (u, c.1)) members) (a, t.constraint) t.first;
-          second = keeps_all k.constraints (map (λ u. (u, c.1)) members) (b, t.constraint) t.second;
-          fields = λ n x y e f. carried x y (t.fields n x y e f);
-        }
+    old_taken a b i = grind (arith, common_steps, keeps_all, carried)
 
     made_field : (s x : SiteTerm) → In members s → In (field_terms c.1 s) x → In after.made x
     made_field s x i j = in_with_sites k.made (flat_map (field_terms c.1) members) x (inr (in_flat_map (field_terms c.1) members s x i j))
@@ -177,21 +160,8 @@ module _ (d : Demands) (reachable : IsUnreachable d → ⊥) where
     same_fields c a i x y e f = subst (Chain k.classes h x) (some_is x y (sym e ∙ f)) alike
 
     along : (a b : SiteTerm) → Chain k.classes h a b → Along a b × Along b a
-    along a b (one_class o) =
-        (record { there = λ c i. absurd (class_free o.class a c o.there o.first i) }, record { there = λ c i. absurd (class_free o.class b c o.there o.second i) })
-    along a b (one_take i) =
-        let t = w.history a b i in (
-          record {
-            there = λ c j.
-                let e = once a t.constraint c t.first j in
-                (subst (λ q. In k.constraints (b, q)) e t.second, subst (λ q. FieldsChained k.classes h q a b) e t.fields);
-          },
-          record {
-            there = λ c j.
-                let e = once b t.constraint c t.second j in
-                (subst (λ q. In k.constraints (a, q)) e t.first, λ n x y f g. back (subst (λ q. FieldsChained k.classes h q a b) e t.fields n y x g f));
-          },
-        )
+    along a b (one_class o) = grind (arith, common_steps, class_free)
+    along a b (one_take i) = grind (arith, common_steps, once, FieldsChained, back)
     along a b alike = (record { there = λ c i. (i, same_fields c a) }, record { there = λ c i. (i, same_fields c a) })
     along a b (back j) = let r = along b a j in (r.1, r.0)
     along a b (then_on {b = m} i j) =
@@ -234,9 +204,7 @@ module _ (d : Demands) (reachable : IsUnreachable d → ⊥) where
     on_ends : (a b c : SiteTerm) → Ends a b → Ends b c → Ends a c
     on_ends a b c (same_site e) q = subst (λ u. Ends u c) (sym e) q
     on_ends a b c (in_class o) (same_site e) = in_class (record { class = o.class; there = o.there; first = o.first; second = subst (In o.class) e o.second })
-    on_ends a b c (in_class o) (in_class r) =
-        let same = w.apart o.class r.class b o.there r.there o.second r.first in
-        in_class (record { class = r.class; there = r.there; first = subst (λ l. In l a) same o.first; second = r.second })
+    on_ends a b c (in_class o) (in_class r) = grind (arith, common_steps)
     on_ends a b c (in_class o) (constrained n i j) = absurd (class_free o.class b n o.there o.second i)
     on_ends a b c (constrained n i j) (same_site e) = constrained n i (subst (λ u. In k.constraints (u, n)) e j)
     on_ends a b c (constrained n i j) (in_class r) = absurd (class_free r.class b n r.there r.first j)
@@ -250,9 +218,7 @@ module _ (d : Demands) (reachable : IsUnreachable d → ⊥) where
     chain_ends a b (then_on {b = m} i j) = on_ends a m b (chain_ends a m i) (chain_ends m b j)
 
     free_class : (a b : SiteTerm) → a ≢ b → IsFree d a → Ends a b → InOne k.classes a b
-    free_class a b n f (same_site e) = absurd (n e)
-    free_class a b n f (in_class o) = o
-    free_class a b n f (constrained c i j) = absurd (f c (w.follows.constraints (a, c) i))
+    free_class a b n f h = grind (arith, common_steps)
 
     -- the classes in order are the classes
     abbrev ordered : List (List SiteTerm)
@@ -278,23 +244,11 @@ module _ (d : Demands) (reachable : IsUnreachable d → ⊥) where
         }
 
     from_ordered : (a b : SiteTerm) → InOne ordered a b → InOne k.classes a b
-    from_ordered a b o =
-        let s = from_flat_map (λ u. filter (begins_with u) (map (ascending k.made) k.classes)) k.made o.class o.there in
-        let l = in_map (ascending k.made) k.classes o.class (in_filter (begins_with s.0) (map (ascending k.made) k.classes) o.class s.2) in
-        record {
-          class = l.0;
-          there = l.1;
-          first = has_in l.0 a (passed_filter (has_site l.0) k.made a (subst (λ q. In q a) (sym l.2) o.first));
-          second = has_in l.0 b (passed_filter (has_site l.0) k.made b (subst (λ q. In q b) (sym l.2) o.second));
-        }
+    from_ordered a b o = grind (arith, common_steps, from_flat_map, in_map, in_filter, has_in, passed_filter)
 
     whole : ClosedIsWhole d (in_order k)
     whole = record {
-      constraints = λ s c. (
-        λ i.
-            w.follows.constraints (s, c) (in_from_contains k.constraints (s, c) i),
-        λ q. contains_from_in k.constraints (s, c) (constraint_asked s c q),
-      );
+      constraints = grind (arith, common_steps, in_from_contains k.constraints, contains_from_in k.constraints, constraint_asked);
       equalities = λ a b. (
         λ e.
             let o = from_ordered a b (record {

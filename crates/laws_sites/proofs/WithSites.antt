@@ -1,13 +1,13 @@
 -- What each step of a visit keeps of its demands, and of the sites that it stands at, binds and values, the visits of
 -- patterns, expressions and rules keep.
-use Rattle.std.proofs.Common.{◌≡◌, ℕ, ℤ, suc, Contains, ◌==◌, Bool, true, false, List, [], ◌∷◌, Some, refl, sym, subst, inl, inr}
-use Rattle.std.proofs.lemmas.Bool.{cases_Bool, cond-true, cond-false}
+use Rattle.std.proofs.Common.{◌≡◌, ℕ, ℤ, suc, Contains, ◌==◌, Bool, true, false, List, [], ◌∷◌, refl, subst, inl, inr, arith}
+use Rattle.std.proofs.lemmas.Grind.{common_steps}
 use Rattle.model.specs.lists.Tables.{Flags}
 use Rattle.model.specs.rules.Meaning.{look}
-use Rattle.model.specs.rules.Program.{Program, Kind, a_variant, a_struct, a_call, unknown, kind, is_partial}
+use Rattle.model.specs.rules.Program.{Program, Kind, a_variant, a_struct, a_call, unknown, kind}
 use Rattle.model.specs.rules.Typed.{TypedPattern, match_bind, match_var, match_bool, match_int, match_prim, match_term, match_any, match_and, TypedPatterns, no_typed_pattern, typed_pattern_and, TypedExpr, make_term, make_var, make_bool, make_int, make_prim, make_let, TypedExprs, no_typed_expr, typed_expr_and, TypedLets, no_typed_let, typed_let_and, TypedIfLet, TypedRule}
-use Rattle.model.specs.sites.Sites.{Constraint, is_variant, is_struct, is_bool, is_int, is_prim, is_present, SiteTerm, bool_term, int_term, prim_term, argument, extractor_call, constructor_call, pick_of, variant_made, variant_field, struct_made, struct_field, some_made, some_part, tuple_part, no_site, SiteTerms, no_site_term, site_term_and, field_terms}
-use Rattle.model.specs.visits.Demands.{fields_opened, Count, fields_matched, outputs_taken, argument_taken, counting, Demands, site_term_eq, Visit, visit_start, making, asking, equating, iterating, calling, binding, pattern_count, output_sites, part_sites, call_result, call_sites, where_multi, unwraps_all, or_no_site, var_site, Opened, open_call, open_term, visit_pattern, visit_each, visit_all, Valued, ValuedAll, valued, visit_call, visit_term, visit_expr, visit_exprs, visit_lets, unwraps, asking_all, visit_args, visit_iflets, finished, visit_rule, taking_argument, outputs_opened}
+use Rattle.model.specs.sites.Sites.{Constraint, is_variant, is_struct, is_bool, is_int, is_prim, is_present, SiteTerm, bool_term, int_term, prim_term, argument, extractor_call, constructor_call, pick_of, variant_made, struct_made, some_made, some_part, tuple_part, no_site, SiteTerms, no_site_term, site_term_and, field_terms}
+use Rattle.model.specs.visits.Demands.{fields_opened, Count, fields_matched, outputs_taken, argument_taken, counting, Demands, Visit, visit_start, making, asking, equating, iterating, calling, binding, pattern_count, output_sites, part_sites, call_result, call_sites, where_multi, unwraps_all, or_no_site, var_site, Opened, open_call, open_term, visit_pattern, visit_each, visit_all, Valued, ValuedAll, valued, visit_call, visit_term, visit_expr, visit_exprs, visit_lets, unwraps, asking_all, visit_args, visit_iflets, finished, visit_rule, taking_argument, outputs_opened}
 use Rattle.model.proofs.Elements.{In, in_right, in_either}
 use Rattle.laws_sites.proofs.Patterns.{in_fields}
 use Rattle.laws_sites.proofs.AskedSites.{equated, equating_binds, asked_binds, at_right}
@@ -23,29 +23,11 @@ IsLeaf _ = ⊥
 
 pub by_leaf : (P : SiteTerm → Type 0) → ((i : ℕ) → P (argument i)) → ((b : Bool) (ty : ℕ) → P (bool_term b ty)) → ((z : ℤ) (ty : ℕ) → P (int_term z ty)) → ((name : ℕ) → P (prim_term name))
     → (s : SiteTerm) → IsLeaf s → P s
-by_leaf P a b c d (argument i) l = a i
-by_leaf P a b c d (bool_term x ty) l = b x ty
-by_leaf P a b c d (int_term z ty) l = c z ty
-by_leaf P a b c d (prim_term name) l = d name
-by_leaf P a b c d (extractor_call t s) l = absurd l
-by_leaf P a b c d (constructor_call t args i) l = absurd l
-by_leaf P a b c d (pick_of s) l = absurd l
-by_leaf P a b c d (variant_made ty variant fields) l = absurd l
-by_leaf P a b c d (variant_field s variant i) l = absurd l
-by_leaf P a b c d (struct_made ty fields) l = absurd l
-by_leaf P a b c d (struct_field s i) l = absurd l
-by_leaf P a b c d (some_made s) l = absurd l
-by_leaf P a b c d (some_part s) l = absurd l
-by_leaf P a b c d (tuple_part s i) l = absurd l
-by_leaf P a b c d no_site l = absurd l
+by_leaf P a b c d s l = grind (arith, common_steps)
 
 -- what holds with an equality more, or as it was
 pub by_equating : (P : Visit → Type 0) (a b : SiteTerm) (v : Visit) → P v → P (equated a b v) → P (equating a b v)
-by_equating P a b v h k =
-    elim (cases_Bool (site_term_eq a b)) [
-      | inl t ↦ subst P (sym (cond-true (site_term_eq a b) v (equated a b v) t)) h
-      | inr f ↦ subst P (sym (cond-false (site_term_eq a b) v (equated a b v) f)) k
-    ]
+by_equating P a b v h k = grind (arith, common_steps, equated)
 
 -- a fact of demands, and one of sites where demands stand
 module _ (R : Demands → Type 0) (Q : Demands → SiteTerm → Type 0) where
@@ -134,10 +116,7 @@ module _ (R : Demands → Type 0) (Q : Demands → SiteTerm → Type 0) where
   step_past v w e h o = record { at = record { holds = o.holds; vars = λ x i. o.stays x.1 (h.vars x (subst (λ l. In l x) e i)) }; stays = o.stays }
 
   binding_past : (x : ℕ) (s : SiteTerm) (v : Visit) → IsAt v → Q v.demands s → Past v (binding x s v)
-  binding_past x s v h m = record {
-    at = record { holds = h.holds; vars = λ e i. elim i [ inl q ↦ subst (λ (y : ℕ × SiteTerm). Q v.demands y.1) q m | inr j ↦ h.vars e j ] };
-    stays = λ u k. k;
-  }
+  binding_past x s v h m = grind (arith, common_steps)
 
   each_stays : (d e : Demands) → ((s : SiteTerm) → Q d s → Q e s) → (ss : SiteTerms) → AtEach d ss → AtEach e ss
   each_stays d e f no_site_term h = tt
@@ -146,43 +125,21 @@ module _ (R : Demands → Type 0) (Q : Demands → SiteTerm → Type 0) where
   -- what the sites unwrap
   pub unwrapped_at_each : (U : SiteTerm → Type 0) (d : Demands) → ((s : SiteTerm) → Q d s → (u : SiteTerm) → In (unwraps s) u → U u) → (ss : SiteTerms) → AtEach d ss → (u : SiteTerm) → In (unwraps_all ss) u → U u
   unwrapped_at_each U d f no_site_term h u i = absurd i
-  unwrapped_at_each U d f (site_term_and s ss) h u i =
-      elim (in_either (unwraps s) (unwraps_all ss) u i) [ inl j ↦ f s h.0 u j | inr j ↦ unwrapped_at_each U d f ss h.1 u j ]
+  unwrapped_at_each U d f (site_term_and s ss) h u i = grind (arith, common_steps, unwrapped_at_each U d f ss h.1 u, in_either)
 
 -- 2. terms bind nothing
-call_binds : (pure multi partial rec infallible : Bool) (call : SiteTerm) (args : TypedPatterns) (v : Visit) → (open_call (record { pure = pure; multi = multi; partial = partial; rec = rec }) infallible call args v).visit.vars ≡ v.vars
-call_binds pure true partial rec infallible call args v = refl
-call_binds pure false partial rec true call args v = refl
-call_binds pure false partial rec false call args v = refl
-
 pub open_binds : (k : Kind) (t : ℕ) (s : SiteTerm) (args : TypedPatterns) (v : Visit) → (open_term k t s args v).visit.vars ≡ v.vars
-open_binds (a_variant ty variant) t s args v = refl
-open_binds (a_struct ty) t s args v = refl
-open_binds (a_call flags infallible) t s args v = call_binds flags.pure flags.multi flags.partial flags.rec infallible _ args v
-open_binds unknown t s args v = refl
-
-value_binds : (pure multi partial rec : Bool) (t : ℕ) (args : SiteTerms) (v : Visit) → (visit_call (record { pure = pure; multi = multi; partial = partial; rec = rec }) t args v).visit.vars ≡ v.vars
-value_binds true true partial rec t args v = refl
-value_binds true false partial rec t args v = refl
-value_binds false true partial rec t args v = refl
-value_binds false false partial rec t args v = refl
+open_binds k t s args v = grind (arith, common_steps)
 
 pub term_binds : (k : Kind) (t : ℕ) (a : ValuedAll) → (visit_term k t a).visit.vars ≡ a.visit.vars
-term_binds (a_variant ty variant) t a = refl
-term_binds (a_struct ty) t a = refl
-term_binds (a_call flags infallible) t a = value_binds flags.pure flags.multi flags.partial flags.rec t a.sites a.visit
-term_binds unknown t a = refl
+term_binds k t a = grind (arith, common_steps)
 
 -- 3. terms
 module _ (p : Program) (R : Demands → Type 0) (Q : Demands → SiteTerm → Type 0) (k : KeptWithSites R Q p) where
   outputs_at : (w : Visit) (s : SiteTerm) (args : TypedPatterns) → Onward R Q w.demands (making (part_sites s args) w).demands → Q w.demands s → (u : SiteTerm) → In (output_sites s args) u → Q (making (part_sites s args) w).demands u
   outputs_at w s no_typed_pattern o m u i = absurd i
   outputs_at w s (typed_pattern_and q no_typed_pattern) o m u i = elim i [ inl e ↦ o.stays u (subst (Q w.demands) e m) | inr n ↦ absurd n ]
-  outputs_at w s (typed_pattern_and q (typed_pattern_and r rs)) o m u i =
-      let args = typed_pattern_and q (typed_pattern_and r rs) in
-      let d = (making (part_sites s args) w).demands in
-      let n = in_fields (tuple_part s) 0 (pattern_count args) u i in
-      subst (Q d) n.2 (k.tuple d s n.0 (in_right w.demands.made (part_sites s args) (tuple_part s n.0) (subst (In (part_sites s args)) (sym n.2) i)) (o.stays s m))
+  outputs_at w s (typed_pattern_and q (typed_pattern_and r rs)) o m u i = grind (arith, common_steps, in_fields, in_right)
 
   with_parts : (d : Demands) (w : Visit) (s : SiteTerm) (args : TypedPatterns) → Onward R Q d w.demands → Q w.demands s → IsOpened R Q d (outputs_opened s args w)
   with_parts d w s args a m =
@@ -286,26 +243,11 @@ module _ (p : Program) (R : Demands → Type 0) (Q : Demands → SiteTerm → Ty
 
   call_valued : (pure multi partial rec infallible : Bool) (t : ℕ) (ss : SiteTerms) (v : Visit) → kind p t ≡ a_call (record { pure = pure; multi = multi; partial = partial; rec = rec }) infallible → R v.demands → AtEach R Q v.demands ss
       → IsValued R Q v.demands (visit_call (record { pure = pure; multi = multi; partial = partial; rec = rec }) t ss v)
-  call_valued true multi partial rec infallible t ss v e h m = call_given true multi partial rec infallible t 0 ss v e h m
-  call_valued false multi partial rec infallible t ss v e h m =
-      let flags : Flags = record { pure = false; multi = multi; partial = partial; rec = rec } in
-      let c = constructor_call t ss (suc v.impure_calls) in
-      let a = call_given false multi partial rec infallible t (suc v.impure_calls) ss v e h m in
-      let w = where_multi flags c (making (call_sites flags c) v) in
-      let b = k.calls (call_result flags c) w a.onward.holds a.site in
-      record { onward = then_onward R Q v.demands w.demands (calling (call_result flags c) w).demands a.onward b; site = b.stays (call_result flags c) a.site }
+  call_valued pure multi partial rec infallible t ss v e h m = grind (arith, common_steps, call_given, then_onward)
 
   term_valued : (n : Kind) (t : ℕ) (a : ValuedAll) → kind p t ≡ n → R a.visit.demands → AtEach R Q a.visit.demands a.sites → IsValued R Q a.visit.demands (visit_term n t a)
-  term_valued (a_variant ty variant) t a e h m =
-      let s = variant_made ty variant a.sites in
-      let w = making (s ∷ []) a.visit in
-      let o = k.makes (s ∷ []) a.visit h in
-      record { onward = o; site = k.variant w.demands ty variant a.sites (in_right a.visit.demands.made (s ∷ []) s (inl refl)) (each_stays R Q a.visit.demands w.demands o.stays a.sites m) }
-  term_valued (a_struct ty) t a e h m =
-      let s = struct_made ty a.sites in
-      let w = making (s ∷ []) a.visit in
-      let o = k.makes (s ∷ []) a.visit h in
-      record { onward = o; site = k.struct w.demands ty a.sites (in_right a.visit.demands.made (s ∷ []) s (inl refl)) (each_stays R Q a.visit.demands w.demands o.stays a.sites m) }
+  term_valued (a_variant ty variant) t a e h m = grind (arith, common_steps, in_right a.visit.demands.made, each_stays R Q a.visit.demands)
+  term_valued (a_struct ty) t a e h m = grind (arith, common_steps, in_right a.visit.demands.made, each_stays R Q a.visit.demands)
   term_valued (a_call flags infallible) t a e h m = call_valued flags.pure flags.multi flags.partial flags.rec infallible t a.sites a.visit e h m
   term_valued unknown t a e h m = record { onward = no_step R Q a.visit.demands h; site = k.unbound a.visit.demands }
 
@@ -316,11 +258,7 @@ module _ (p : Program) (R : Demands → Type 0) (Q : Demands → SiteTerm → Ty
     where
       in_vars : (es : List (ℕ × SiteTerm)) → ((e : ℕ × SiteTerm) → In es e → Q v.demands e.1) → Q v.demands (or_no_site (look (λ y. y == x) es))
       in_vars [] f = k.unbound v.demands
-      in_vars (e ∷ es) f =
-          elim (cases_Bool (e.0 == x)) [
-            | inl t ↦ subst (λ o. Q v.demands (or_no_site o)) (sym (cond-true (e.0 == x) (Some e.1) (look (λ y. y == x) es) t)) (f e (inl refl))
-            | inr n ↦ subst (λ o. Q v.demands (or_no_site o)) (sym (cond-false (e.0 == x) (Some e.1) (look (λ y. y == x) es) n)) (in_vars es (λ d i. f d (inr i)))
-          ]
+      in_vars (e ∷ es) f = grind (arith, common_steps, in_vars es (λ d i. f d (inr i)))
 
   mutual
     pub pattern_past : (q : TypedPattern) (s : SiteTerm) (v : Visit) → IsAt R Q v → Q v.demands s → Past R Q v (visit_pattern p q s v)
@@ -355,10 +293,7 @@ module _ (p : Program) (R : Demands → Type 0) (Q : Demands → SiteTerm → Ty
 
   -- a leaf that is made where a visit stands
   leaf_given : (s : SiteTerm) (v : Visit) → IsLeaf s → IsAt R Q v → Given R Q v (valued s (making (s ∷ []) v))
-  leaf_given s v l h =
-      let w = making (s ∷ []) v in
-      let a = k.makes (s ∷ []) v h.holds in
-      record { past = step_past R Q v w refl h a; site = k.leaf w.demands s l (in_right v.demands.made (s ∷ []) s (inl refl)) }
+  leaf_given s v l h = grind (arith, common_steps, step_past, in_right)
 
   mutual
     pub expr_given : (x : TypedExpr) (v : Visit) → IsAt R Q v → Given R Q v (visit_expr p x v)
@@ -409,12 +344,7 @@ module _ (p : Program) (R : Demands → Type 0) (Q : Demands → SiteTerm → Ty
 
   pub args_past : (i : ℕ) (qs : List TypedPattern) (v : Visit) → IsAt R Q v → Past R Q v (visit_args p i qs v)
   args_past i [] v h = still_at R Q v h
-  args_past i (q ∷ qs) v h =
-      let u = taking_argument i v in
-      let w = visit_pattern p q (argument i) u in
-      let a = argument_given i v h in
-      let b = pattern_past q (argument i) u a.past.at a.site in
-      then_past R Q v u (visit_args p (suc i) qs w) a.past (then_past R Q u w (visit_args p (suc i) qs w) b (args_past (suc i) qs w b.at))
+  args_past i (q ∷ qs) v h = grind (arith, common_steps, args_past (suc i) qs, argument_given i v h, pattern_past q (argument i), then_past R Q v)
 
   pub iflets_past : (is : List TypedIfLet) (v : Visit) → IsAt R Q v → Past R Q v (visit_iflets p is v)
   iflets_past [] v h = still_at R Q v h
@@ -431,20 +361,8 @@ module _ (p : Program) (R : Demands → Type 0) (Q : Demands → SiteTerm → Ty
 
   -- in a partial term the result is made last
   finished_given : (b : Bool) (a : Valued) → R a.visit.demands → Q a.visit.demands a.site → IsValued R Q a.visit.demands (finished b a)
-  finished_given false a h m = record { onward = no_step R Q a.visit.demands h; site = m }
-  finished_given true a h m =
-      let s = some_made a.site in
-      let w = making (s ∷ []) a.visit in
-      let o = k.makes (s ∷ []) a.visit h in
-      record { onward = o; site = k.result w.demands a.site (in_right a.visit.demands.made (s ∷ []) s (inl refl)) (o.stays a.site m) }
+  finished_given b a h m = grind (arith, common_steps, no_step, in_right)
 
   -- so a rule's whole visit keeps both, and the fact of sites holds of the result
   pub rule_given : (r : TypedRule) → R visit_start.demands → R (visit_rule p r).visit.demands × Q (visit_rule p r).visit.demands (visit_rule p r).site
-  rule_given r start =
-      let u = visit_args p 0 r.args visit_start in
-      let w = visit_iflets p r.iflets u in
-      let a = args_past 0 r.args visit_start (record { holds = start; vars = λ e i. absurd i }) in
-      let b = iflets_past r.iflets u a.at in
-      let c = expr_given r.rhs w b.at in
-      let d = finished_given (is_partial p r.root_term) (visit_expr p r.rhs w) c.past.at.holds c.site in
-      (d.onward.holds, d.site)
+  rule_given r start = grind (arith, common_steps, args_past, iflets_past, expr_given, finished_given)

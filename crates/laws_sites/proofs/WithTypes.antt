@@ -1,17 +1,18 @@
 -- What each step of a visit keeps of its demands, and of the sites that it stands at, binds and values with their types,
 -- the visit of a rule that hangs together keeps.
 use Rattle.std.proofs.Common.{◌≡◌, ℕ, ℤ, suc, ◌+◌, ◌==◌, Bool, true, false, List, [], ◌∷◌, Some, is_some, slice_get, flat_map, refl, sym, ap, subst, ◌∙◌, inl, inr, eqb-true, eq-eqb, arith}
-use Rattle.std.proofs.lemmas.Bool.{cases_Bool, cond-true, cond-false, false≢true}
+use Rattle.std.proofs.lemmas.Bool.{cond-true}
+use Rattle.std.proofs.lemmas.Grind.{common_steps}
 use Rattle.model.specs.lists.Tables.{TermEntry}
 use Rattle.model.specs.lists.Ranges.{is_literal_of}
 use Rattle.model.specs.rules.Meaning.{look}
 use Rattle.model.specs.rules.Program.{Program, kind, is_partial}
-use Rattle.model.specs.rules.Typed.{TypedPattern, match_bind, match_var, match_bool, match_int, match_prim, match_term, match_any, match_and, TypedPatterns, no_typed_pattern, typed_pattern_and, TypedExpr, make_term, make_var, make_bool, make_int, make_prim, make_let, TypedExprs, no_typed_expr, typed_expr_and, TypedLets, no_typed_let, typed_let_and, TypedIfLet, TypedRule}
+use Rattle.model.specs.rules.Typed.{TypedPattern, match_bind, match_var, match_bool, match_int, match_prim, match_term, match_any, match_and, TypedPatterns, no_typed_pattern, typed_pattern_and, TypedExpr, make_term, make_var, make_bool, make_int, make_prim, make_let, TypedExprs, typed_expr_and, TypedLets, no_typed_let, typed_let_and, TypedIfLet, TypedRule}
 use Rattle.model.specs.sites.Sites.{is_bool, is_int, is_prim, SiteTerm, bool_term, int_term, prim_term, argument, some_made, tuple_part, SiteTerms, no_site_term, site_term_and, fields_from}
 use Rattle.model.specs.visits.Demands.{Demands, Visit, visit_start, making, asking, equating, binding, or_no_site, var_site, pattern_count, output_sites, open_term, visit_pattern, visit_each, visit_all, Valued, ValuedAll, visit_term, visit_expr, visit_exprs, visit_lets, unwraps, asking_all, visit_args, visit_iflets, finished, visit_rule, taking_argument}
 use Rattle.model.specs.sites.Serves.{constant_type}
 use Rattle.model.specs.lists.Setting.{bool_type, expr_type, has_constructor, has_extractor}
-use Rattle.model.specs.lists.Formed.{pattern_type, var_type, is_type, formed_pattern, formed_parts, formed_each, is_formed_expr, are_formed_args, formed_lets, formed_list, formed_iflets}
+use Rattle.model.specs.lists.Formed.{pattern_type, var_type, formed_pattern, formed_parts, formed_each, is_formed_expr, are_formed_args, formed_lets, formed_list, formed_iflets}
 use Rattle.model.proofs.Elements.{In, in_left, in_right, some_is, none_some}
 use Rattle.laws_typing.proofs.FormedParts.{from_if, type_is}
 use Rattle.laws_sites.specs.RuleUses.{Use, a_term, a_constant, pattern_uses, patterns_uses, expr_uses, exprs_uses, lets_uses, matched_in, called_in}
@@ -63,14 +64,12 @@ module _ (f : Facts) where
 module _ (f : Facts) where
   -- fields from i on
   pub fields_each : (g : ℕ → SiteTerm) (i : ℕ) (qs : TypedPatterns) (tys : List ℕ) → AsMany qs tys → ((j ty : ℕ) → slice_get tys j ≡ Some ty → f.site (g (i + j)) ty) → AtEachTyped f (fields_from g i (pattern_count qs)) tys
-  fields_each g i no_typed_pattern [] n h = tt
-  fields_each g i no_typed_pattern (ty ∷ tys) n h = absurd n
-  fields_each g i (typed_pattern_and q qs) [] n h = absurd n
   fields_each g i (typed_pattern_and q qs) (ty ∷ tys) n h =
       let same : i + 0 ≡ i = omega arith in (
         subst (λ j. f.site (g j) ty) same (h 0 ty refl),
         fields_each g (suc i) qs tys n (λ j u e. let next : i + suc j ≡ suc i + j = omega arith in subst (λ l. f.site (g l) u) next (h (suc j) u e)),
       )
+  fields_each g i k m n h = grind (arith, common_steps)
 
   pub all_fields_each : (g : ℕ → SiteTerm) (qs : TypedPatterns) (tys : List ℕ) → AsMany qs tys → ((j ty : ℕ) → slice_get tys j ≡ Some ty → f.site (g j) ty) → AtEachTyped f (fields_from g 0 (pattern_count qs)) tys
   all_fields_each g qs tys n h = fields_each g 0 qs tys n (λ j ty e. let same : 0 + j ≡ j = omega arith in subst (λ l. f.site (g l) ty) (sym same) (h j ty e))
@@ -79,12 +78,9 @@ module _ (f : Facts) where
   pub outputs_each : (s : SiteTerm) (qs : TypedPatterns) (tys : List ℕ) → AsMany qs tys → ((ty : ℕ) → tys ≡ ty ∷ [] → f.site s ty)
       → ((a b : ℕ) (rest : List ℕ) → tys ≡ a ∷ (b ∷ rest) → (j ty : ℕ) → slice_get tys j ≡ Some ty → f.site (tuple_part s j) ty) → AtEachTyped f (output_sites s qs) tys
   outputs_each s no_typed_pattern [] n one several = tt
-  outputs_each s no_typed_pattern (ty ∷ tys) n one several = absurd n
-  outputs_each s (typed_pattern_and q qs) [] n one several = absurd n
   outputs_each s (typed_pattern_and q no_typed_pattern) (ty ∷ []) n one several = (one ty refl, tt)
-  outputs_each s (typed_pattern_and q no_typed_pattern) (ty ∷ (u ∷ tys)) n one several = absurd n
-  outputs_each s (typed_pattern_and q (typed_pattern_and r rs)) (ty ∷ []) n one several = absurd n
   outputs_each s (typed_pattern_and q (typed_pattern_and r rs)) (ty ∷ (u ∷ tys)) n one several = all_fields_each (tuple_part s) (typed_pattern_and q (typed_pattern_and r rs)) (ty ∷ (u ∷ tys)) n (several ty u tys refl)
+  outputs_each s _ _ n one several = absurd n
 
   -- variables that can be used stand for sites of their types
   abbrev AreOf : List (ℕ × ℕ) → Visit → Type 0
@@ -97,13 +93,7 @@ module _ (f : Facts) where
   unmoved vars v w e = moved vars v w (λ x h. ap (λ vs. or_no_site (look (λ y. y == x) vs)) e)
 
   with_var : (x ty : ℕ) (vars : List (ℕ × ℕ)) (v : Visit) → f.site (var_site v x) ty → AreOf vars v → AreOf ((x, ty) ∷ vars) v
-  with_var x ty vars v h d y t i =
-      elim (cases_Bool (x == y)) [
-        | inl k ↦
-            let same : ty ≡ t = some_is ty t (sym (cond-true (x == y) (Some ty) (var_type vars y) k) ∙ i) in
-            subst (λ z. f.site (var_site v z) t) (eqb-true x y k) (subst (f.site (var_site v x)) same h)
-        | inr n ↦ d y t (sym (cond-false (x == y) (Some ty) (var_type vars y) n) ∙ i)
-      ]
+  with_var x ty vars v h d y t i = grind (arith, common_steps, some_is)
 
   just_bound : (x : ℕ) (s : SiteTerm) (v : Visit) → var_site (binding x s v) x ≡ s
   just_bound x s v = ap or_no_site (cond-true (x == x) (Some s) (look (λ z. z == x) v.vars) (eq-eqb x x refl))
@@ -118,24 +108,11 @@ module _ (f : Facts) where
   then_past_typed mid more u v w within a b = record { demands = b.demands; vars = b.vars; kept = λ x n. b.kept x n ∙ a.kept x (outside mid more within x n) }
 
   same_past : (v w : Visit) (vars more : List (ℕ × ℕ)) → Some vars ≡ Some more → w.vars ≡ v.vars → f.demands w.demands → AreOf vars v → PastTyped more v w
-  same_past v w vars more e same h d =
-      subst (λ vs. PastTyped vs v w) (some_is vars more e)
-      (record { demands = h; vars = unmoved vars v w same d; kept = λ x n. ap (λ vs. or_no_site (look (λ y. y == x) vs)) same })
+  same_past v w vars more e same h d = grind (arith, common_steps, some_is, unmoved)
 
   -- a binding, before what is bound in its pattern
   bind_past : (x ty : ℕ) (s : SiteTerm) (mid : List (ℕ × ℕ)) (v w : Visit) → is_some (var_type mid x) ≡ false → f.site s ty → PastTyped mid (binding x s v) w → PastTyped ((x, ty) ∷ mid) v w
-  bind_past x ty s mid v w new h b = record {
-    demands = b.demands;
-    vars = with_var x ty mid w (subst (λ u. f.site u ty) (sym (b.kept x new ∙ just_bound x s v)) h) b.vars;
-    kept = λ y n. (let k = apart y n in b.kept y (sym (ap is_some (cond-false (x == y) (Some ty) (var_type mid y) k)) ∙ n) ∙ ap or_no_site (cond-false (x == y) (Some s) (look (λ z. z == y) v.vars) k));
-  }
-    where
-      apart : (y : ℕ) → is_some (var_type ((x, ty) ∷ mid) y) ≡ false → (x == y) ≡ false
-      apart y n =
-          elim (cases_Bool (x == y)) [
-            | inl k ↦ absurd (false≢true (sym n ∙ ap is_some (cond-true (x == y) (Some ty) (var_type mid y) k)))
-            | inr k ↦ k
-          ]
+  bind_past x ty s mid v w new h b = grind (arith, common_steps, with_var, just_bound)
 
 module _ (p : Program) (f : Facts) (k : KeptWithTypes f p) where
   abbrev AllMatched : List Use → Type 0
@@ -155,16 +132,10 @@ module _ (p : Program) (f : Facts) (k : KeptWithTypes f p) where
         let new : is_some (var_type vars x) ≡ false = outside vars a.0 (pattern_within p sub vars a.0 a.2) x a.3 in
         subst (λ vs. PastTyped f vs v w) a.4
         (bind_past f x ty s a.0 v w a.3 h (pattern_past sub s u vars a.0 a.2 m (subst (f.site s) (sym a.1) h) g (moved f vars v u (same_binding vars x s v new) d)))
-    pattern_past (match_var ty x) s v vars more e m h g d =
-        let a = from_if (is_type (var_type vars x) ty) (Some vars) more e in
-        same_past f v (equating s (var_site v x) v) vars more a.1 (equating_binds s (var_site v x) v) (k.equates s (var_site v x) ty v h (d x ty (type_is (var_type vars x) ty a.0)) g) d
-    pattern_past (match_bool ty b) s v vars more e m h g d =
-        let a = from_if (ty == bool_type) (Some vars) more e in same_past f v (asking s (is_bool b ty) v) vars more a.1 refl (k.asks_bool s b ty v a.0 g) d
-    pattern_past (match_int ty z) s v vars more e m h g d =
-        let a = from_if (is_literal_of (slice_get p.types ty) z) (Some vars) more e in same_past f v (asking s (is_int z ty) v) vars more a.1 refl (k.asks_int s z ty v a.0 g) d
-    pattern_past (match_prim ty name) s v vars more e m h g d =
-        let a = from_if (is_type (constant_type p name) ty) (Some vars) more e in
-        same_past f v (asking s (is_prim name) v) vars more a.1 refl (k.asks_prim s name ty v (type_is (constant_type p name) ty a.0) (m (a_constant name) (inl refl)) g) d
+    pattern_past (match_var ty x) s v vars more e m h g d = grind (arith, common_steps, from_if, same_past, equating_binds, type_is)
+    pattern_past (match_bool ty b) s v vars more e m h g d = grind (arith, common_steps, from_if, same_past)
+    pattern_past (match_int ty z) s v vars more e m h g d = grind (arith, from_if, same_past)
+    pattern_past (match_prim ty name) s v vars more e m h g d = grind (arith, common_steps, from_if, same_past, type_is)
     pattern_past (match_term ty t args) s v vars more e m h g d =
         let a = pattern_parts p ty t args vars more e in
         let o = open_term (kind p t) t s args v in
@@ -177,16 +148,13 @@ module _ (p : Program) (f : Facts) (k : KeptWithTypes f p) where
 
     each_past : (qs : TypedPatterns) (ss : List SiteTerm) (tys : List ℕ) (v : Visit) (vars more : List (ℕ × ℕ)) → formed_parts p qs tys vars ≡ Some more → AllMatched (patterns_uses qs) → AtEachTyped f ss tys → f.demands v.demands → AreOf f vars v
         → PastTyped f more v (visit_each p qs ss v)
-    each_past no_typed_pattern ss [] v vars more e m h g d = same_past f v v vars more e refl g d
-    each_past no_typed_pattern ss (ty ∷ tys) v vars more e m h g d = absurd (none_some more e)
-    each_past (typed_pattern_and q qs) ss [] v vars more e m h g d = absurd (none_some more e)
-    each_past (typed_pattern_and q qs) [] (ty ∷ tys) v vars more e m h g d = absurd h
     each_past (typed_pattern_and q qs) (s ∷ ss) (ty ∷ tys) v vars more e m h g d =
         let a = from_part p q ty vars more (λ mid. formed_parts p qs tys mid) e in
         let u = visit_pattern p q s v in
         let r = pattern_past q s v vars a.0 a.2 (λ x i. m x (in_left (pattern_uses q) (patterns_uses qs) x i)) (subst (f.site s) (sym a.1) h.0) g d in
         then_past_typed f a.0 more v u (visit_each p qs ss u) (parts_within p qs tys a.0 more a.3) r
         (each_past qs ss tys u a.0 more a.3 (λ x i. m x (in_right (pattern_uses q) (patterns_uses qs) x i)) h.1 r.demands r.vars)
+    each_past k ss j v vars more e m h g d = grind (arith, common_steps, same_past, none_some)
 
     all_past : (qs : TypedPatterns) (s : SiteTerm) (ty : ℕ) (v : Visit) (vars more : List (ℕ × ℕ)) → formed_each p qs ty vars ≡ Some more → AllMatched (patterns_uses qs) → f.site s ty → f.demands v.demands → AreOf f vars v
         → PastTyped f more v (visit_all p qs s v)
@@ -201,30 +169,22 @@ module _ (p : Program) (f : Facts) (k : KeptWithTypes f p) where
   -- 3. expressions
   mutual
     expr_given : (x : TypedExpr) (v : Visit) (vars : List (ℕ × ℕ)) → is_formed_expr p x vars ≡ true → AllCalled (expr_uses x) → f.demands v.demands → AreOf f vars v → IsGiven f (visit_expr p x v) (expr_type x)
-    expr_given (make_term ty t args) v vars e m g d =
-        let a = from_term p ty t args vars e in
-        let r = exprs_given args v a.entry.arg_tys vars a.formed (λ x i. m x (inr i)) g d in
-        subst (IsGiven f (visit_expr p (make_term ty t args) v)) a.ret (k.values t a.entry a.there a.called (m (a_term t) (inl refl)) (visit_exprs p args v) r.0 r.1)
+    expr_given (make_term ty t args) v vars e m g d = grind (arith, exprs_given args v, from_term p ty t args vars e, k.values t, m (a_term t) (inl refl))
     expr_given (make_var ty x) v vars e m g d = (d x ty (type_is (var_type vars x) ty e), g)
     expr_given (make_bool ty b) v vars e m g d = k.makes_bool b ty v e g
     expr_given (make_int ty z) v vars e m g d = k.makes_int z ty v e g
     expr_given (make_prim ty name) v vars e m g d = k.makes_prim name ty v (type_is (constant_type p name) ty e) (m (a_constant name) (inl refl)) g
-    expr_given (make_let ty ds body) v vars e m g d =
-        let a = from_body p ty ds body vars e in
-        let r = lets_past ds v vars a.0 a.1 (λ x i. m x (in_left (lets_uses ds) (expr_uses body) x i)) g d in
-        subst (IsGiven f (visit_expr p (make_let ty ds body) v)) a.2 (expr_given body (visit_lets p ds v) a.0 a.3 (λ x i. m x (in_right (lets_uses ds) (expr_uses body) x i)) r.0 r.1)
+    expr_given (make_let ty ds body) v vars e m g d = grind (arith, common_steps, lets_past ds v vars, expr_given body (visit_lets p ds v), from_body, in_left, in_right)
 
     exprs_given : (xs : TypedExprs) (v : Visit) (tys : List ℕ) (vars : List (ℕ × ℕ)) → are_formed_args p xs tys vars ≡ true → AllCalled (exprs_uses xs) → f.demands v.demands → AreOf f vars v
         → ValuesAtEach f (visit_exprs p xs v).sites tys × f.demands (visit_exprs p xs v).visit.demands
-    exprs_given no_typed_expr v [] vars e m g d = (tt, g)
-    exprs_given no_typed_expr v (ty ∷ tys) vars e m g d = absurd (false≢true e)
-    exprs_given (typed_expr_and x xs) v [] vars e m g d = absurd (false≢true e)
     exprs_given (typed_expr_and x xs) v (ty ∷ tys) vars e m g d =
         let a = from_args p x xs ty tys vars e in
         let u = (visit_expr p x v).visit in
         let r = expr_given x v vars a.1 (λ y i. m y (in_left (expr_uses x) (exprs_uses xs) y i)) g d in
         let rs = exprs_given xs u tys vars a.2 (λ y i. m y (in_right (expr_uses x) (exprs_uses xs) y i)) r.1 (moved f vars v u (expr_keeps p x v vars a.1) d) in
         ((subst (f.site (visit_expr p x v).site) a.0 r.0, rs.0), rs.1)
+    exprs_given h v k vars e m g d = grind (arith, common_steps)
 
     lets_past : (ds : TypedLets) (v : Visit) (vars more : List (ℕ × ℕ)) → formed_lets p ds vars ≡ Some more → AllCalled (lets_uses ds) → f.demands v.demands → AreOf f vars v → f.demands (visit_lets p ds v).demands × AreOf f more (visit_lets p ds v)
     lets_past no_typed_let v vars more e m g d = (g, subst (λ vs. AreOf f vs v) (some_is vars more e) d)
@@ -245,8 +205,6 @@ module _ (p : Program) (f : Facts) (k : KeptWithTypes f p) where
   args_past : (i : ℕ) (qs : List TypedPattern) (tys : List ℕ) (v : Visit) (vars more : List (ℕ × ℕ)) → formed_list p qs tys vars ≡ Some more → AllMatched (flat_map pattern_uses qs) → ArgsMade i tys
       → f.demands v.demands → AreOf f vars v → f.demands (visit_args p i qs v).demands × AreOf f more (visit_args p i qs v)
   args_past i [] [] v vars more e m c g d = (g, subst (λ vs. AreOf f vs v) (some_is vars more e) d)
-  args_past i [] (ty ∷ tys) v vars more e m c g d = absurd (none_some more e)
-  args_past i (q ∷ qs) [] v vars more e m c g d = absurd (none_some more e)
   args_past i (q ∷ qs) (ty ∷ tys) v vars more e m c g d =
       let a = from_part p q ty vars more (λ mid. formed_list p qs tys mid) e in
       let same : i + 0 ≡ i = omega arith in
@@ -255,6 +213,7 @@ module _ (p : Program) (f : Facts) (k : KeptWithTypes f p) where
       let r = pattern_past q (argument i) u vars a.0 a.2 (λ x j. m x (in_left (pattern_uses q) (flat_map pattern_uses qs) x j)) (subst (f.site (argument i)) (sym a.1) one.0) one.1 d in
       args_past (suc i) qs tys (visit_pattern p q (argument i) u) a.0 more a.3 (λ x j. m x (in_right (pattern_uses q) (flat_map pattern_uses qs) x j))
       (λ j w z l h. let next : i + suc j ≡ suc i + j = omega arith in subst (λ n. f.site (argument n) w × f.demands (taking_argument n z).demands) next (c (suc j) w z l h)) r.demands r.vars
+  args_past i _ _ v vars more e m c g d = absurd (none_some more e)
 
   iflets_past_typed : (is : List TypedIfLet) (v : Visit) (vars more : List (ℕ × ℕ)) → formed_iflets p is vars ≡ Some more → AllMatched (flat_map (λ (i : TypedIfLet). pattern_uses i.lhs) is)
       → AllCalled (flat_map (λ (i : TypedIfLet). expr_uses i.rhs) is) → f.demands v.demands → AreOf f vars v → f.demands (visit_iflets p is v).demands × AreOf f more (visit_iflets p is v)
@@ -272,8 +231,7 @@ module _ (p : Program) (f : Facts) (k : KeptWithTypes f p) where
       iflets_past_typed is (visit_pattern p i.lhs b.site u) a.mid more a.rest (λ x j. m x (in_right (pattern_uses i.lhs) matched x j)) (λ x j. c x (in_right (expr_uses i.rhs) called x j)) s.demands s.vars
 
   finished_keeps : (b : Bool) (a : Valued) (ty : ℕ) → IsGiven f a ty → f.demands (finished b a).visit.demands
-  finished_keeps false a ty h = h.1
-  finished_keeps true a ty h = k.result a.site ty a.visit h.0 h.1
+  finished_keeps b a ty h = grind (arith, common_steps)
 
   -- so the whole visit keeps them, where arguments are of their types
   pub rule_kept_typed : (r : TypedRule) (a : RuleParts p r) → AllMatched (matched_in r) → AllCalled (called_in r) → ArgsMade 0 a.entry.arg_tys → f.demands visit_start.demands → f.demands (visit_rule p r).visit.demands

@@ -1,8 +1,9 @@
 -- Constraints and classes over numbers, listed at the end of a closing, are what a rule's closed demands ask.
 use Rattle.std.proofs.Common.{◌≡◌, ◌&&◌, ℕ, ◌<◌, Bool, true, List, [], ◌∷◌, length, Some, Contains, sym, ap, ◌∙◌, subst, inl, inr, arith}
-use Rattle.std.proofs.lemmas.Bool.{cases_Bool, cond-true, cond-false, and_from, and_parts}
+use Rattle.std.proofs.lemmas.Bool.{cases_Bool, cond-false, and_from, and_parts}
 use Rattle.std.proofs.lemmas.List.Elements.{All-contains}
 use Rattle.std.proofs.lemmas.Option.{same_Some, slice_get_within}
+use Rattle.std.proofs.lemmas.Grind.{common_steps}
 use Rattle.model.specs.sites.Sites.{Constraint, Site, SiteTerm, unfold_site}
 use Rattle.model.specs.visits.Demands.{has_site, site_term_eq}
 use Rattle.model.specs.sites.Closure.{Closed, before_closing, closing, constraint_of, most_closing_steps}
@@ -20,8 +21,7 @@ use Rattle.laws_sites.proofs.built.WellBuiltSets.{first_constraint}
 -- where no site is constrained twice, its constraint is the first one
 the_constraint : (cs : List (SiteTerm × Constraint)) (s : SiteTerm) (c : Constraint) → StandOnce cs → In cs (s, c) → constraint_of cs s ≡ Some c
 the_constraint [] s c h i = absurd i
-the_constraint (x ∷ xs) s c h (inl e) =
-    cond-true (site_term_eq x.0 s) (Some x.1) (constraint_of xs s) (same_term x.0 s (ap (λ (y : SiteTerm × Constraint). y.0) e)) ∙ ap (λ (y : SiteTerm × Constraint). Some y.1) e
+the_constraint (x ∷ xs) s c h (inl e) = grind (arith, common_steps, same_term)
 the_constraint (x ∷ xs) s c h (inr i) =
     elim (cases_Bool (site_term_eq x.0 s)) [
       | inl t ↦ absurd (h.0 c (subst (λ u. In xs (u, c)) (sym (term_means x.0 s t)) i))
@@ -30,12 +30,7 @@ the_constraint (x ∷ xs) s c h (inr i) =
 
 -- the number of a site that is made
 number_of : (sites : List Site) (terms : List SiteTerm) → StandFor sites terms → (u : SiteTerm) → Contains terms u → (s : ℕ) × (s < length sites) × (unfold_site sites s ≡ u)
-number_of sites terms h u i =
-    let k = slice_in terms u (in_from_contains terms u i) in
-    let l = slice_get_within terms k.0 u k.1 in
-    let e = h.count in
-    let m : k.0 < length sites = omega (arith, l, e) in
-    (k.0, m, same_Some (unfold_site sites k.0) u (sym (h.exact k.0 m) ∙ k.1))
+number_of sites terms h u i = grind (arith, slice_in terms u (in_from_contains terms u i), in_from_contains terms u i, slice_get_within terms, same_Some)
 
 -- constraints and classes over the numbers of sites that are listed as those of demands that are being closed
 record Listing (sites : List Site) (k : Closed) : Type 0 where
@@ -72,11 +67,7 @@ module _ (sites : List Site) (k : Closed) (of : Listing sites k) where
 
   equates : Equates sites k classes
   equates = record {
-    joined = λ a b t.
-        let w = h.joined_within a b t in
-        let x = in_any (has_both a b) k.classes (sym (h.joined a b w.0 w.1) ∙ t) in
-        let p = and_parts (has_site x.0 (unfold_site sites a)) (has_site x.0 (unfold_site sites b)) x.2 in
-        (w.0, w.1, x.0, contains_from_in k.classes x.0 x.1, contains_from_in x.0 (unfold_site sites a) (has_in x.0 (unfold_site sites a) p.0), contains_from_in x.0 (unfold_site sites b) (has_in x.0 (unfold_site sites b) p.1));
+    joined = grind (arith, in_any, and_parts, contains_from_in, has_in);
     all_joined = λ class u v i j m.
         let a = number_of sites k.made h.stand u (h.joined_made class u i j) in
         let b = number_of sites k.made h.stand v (h.joined_made class v i m) in (

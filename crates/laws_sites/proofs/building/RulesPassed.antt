@@ -1,5 +1,5 @@
 -- The set of a term goes past one more rule: what was built before stays, and the rule is added or left out.
-use Rattle.std.proofs.Common.{◌≡◌, ℕ, ◌<◌, Bool, true, false, not, ◌&&◌, is_none, if◌then◌else◌, List, [], ◌∷◌, ◌++◌, map, length, Some, None, All, Contains, refl, sym, ap, ◌∙◌, subst, arith}
+use Rattle.std.proofs.Common.{◌≡◌, ℕ, ◌<◌, Bool, true, false, not, ◌&&◌, is_none, List, [], ◌∷◌, ◌++◌, map, length, Some, None, All, Contains, refl, sym, ap, ◌∙◌, subst, arith}
 use Rattle.std.proofs.lemmas.Bool.{cond-true, cond-false, ltb-false}
 use Rattle.std.proofs.lemmas.List.{append-nil, append_assoc, take_all}
 use Rattle.std.proofs.lemmas.List.Elements.{All-head, All-tail}
@@ -12,7 +12,7 @@ use Rattle.model.specs.sites.Limits.{RuleLimit, first_limit, most_sites, sites_a
 use Rattle.model.specs.sites.Overlap.{BuiltRule, RuleReport, limit_passed, not_reached, built_from, built_rule, is_built, build_reports_of}
 use Rattle.model.specs.sites.RuleSets.{AreRulesOfSet, AsksFor, Equates, GoesOver, IsRuleOf, StandFor}
 use Rattle.model.proofs.Members.{all_members, nothing_in}
-use Rattle.std.proofs.lemmas.List.Elements.{All-contains}
+use Rattle.std.proofs.lemmas.Grind.{common_steps}
 use Rattle.laws_sites.specs.RuleByRule.{HaveGrown, SetsEndBuilt, SetsGoPastRules, SetsStartEmpty, StandsAfter, limit_met, rule_added, rule_unreachable}
 use Rattle.laws_sites.proofs.BuiltWithinLimits.{has_room, all_wanted}
 use Rattle.laws_sites.proofs.overlaps.CheckedPrograms.{built_silent, sites_on}
@@ -35,9 +35,7 @@ module _ (before after : List Site) (g : HaveGrown before after) where
 
   equates_still : (k : Closed) (classes : List (List ℕ)) → Equates before k classes → Equates after k classes
   equates_still k classes h = record {
-    joined = λ a b t.
-        let j = h.joined a b t in
-        (below a j.0, below b j.1, j.2, j.3, subst (Contains j.2) (sym (g.kept a j.0)) j.4, subst (Contains j.2) (sym (g.kept b j.1)) j.5);
+    joined = grind (arith, common_steps, below);
     all_joined = λ class u v i j k.
         let e = h.all_joined class u v i j k in
         let l = h.joined e.0 e.1 e.2 in
@@ -55,10 +53,7 @@ module _ (before after : List Site) (g : HaveGrown before after) where
 
   each_kept : (ns : List ℕ) → All (λ s. s < length before) ns → map (unfold_site after) ns ≡ map (unfold_site before) ns
   each_kept [] h = refl
-  each_kept (n ∷ ns) h =
-      let e = g.kept n (All-head (λ s. s < length before) n ns h) in
-      let r = each_kept ns (All-tail (λ s. s < length before) n ns h) in
-      (λ k. e k ∷ r k)
+  each_kept (n ∷ ns) h = grind (arith, common_steps, each_kept ns (All-tail (λ s. s < length before) n ns h), All-head, All-tail)
 
   rule_still : (p : Program) (b : BuiltRule) (r : SetRule) → IsRuleOf p before b r → IsRuleOf p after b r
   rule_still p b r h = record {
@@ -69,24 +64,17 @@ module _ (before after : List Site) (g : HaveGrown before after) where
     constraints = asks_still b.demands r.constraints h.constraints;
     classes = equates_still b.demands r.classes h.classes;
     iterators = goes_over_still (demands_of p b.rule).iterators r.iterators h.iterators;
-    impure = (
-      all_members (λ s. s < length after) r.impure (λ s i. below s (All-contains (λ s. s < length before) r.impure s h.impure.0 i)),
-      each_kept r.impure h.impure.0 ∙ h.impure.1,
-    );
+    impure = grind (arith, common_steps, all_members (λ s. s < length after) r.impure, below, each_kept r.impure h.impure.0);
     result = (below r.result h.result.0, g.kept r.result h.result.0 ∙ h.result.1);
   }
 
   rules_still : (p : Program) (bs : List BuiltRule) (rs : List SetRule) → AreRulesOfSet p before bs rs → AreRulesOfSet p after bs rs
-  rules_still p [] [] h = tt
-  rules_still p [] (r ∷ rs) h = absurd h
-  rules_still p (b ∷ bs) [] h = absurd h
   rules_still p (b ∷ bs) (r ∷ rs) h = (rule_still p b r h.0, rules_still p bs rs h.1)
+  rules_still p k i h = grind (arith, common_steps)
 
 rules_and : (p : Program) (sites : List Site) (bs cs : List BuiltRule) (rs qs : List SetRule) → AreRulesOfSet p sites bs rs → AreRulesOfSet p sites cs qs → AreRulesOfSet p sites (bs ++ cs) (rs ++ qs)
-rules_and p sites [] cs [] qs h g = g
-rules_and p sites [] cs (r ∷ rs) qs h g = absurd h
-rules_and p sites (b ∷ bs) cs [] qs h g = absurd h
 rules_and p sites (b ∷ bs) cs (r ∷ rs) qs h g = (h.0, rules_and p sites bs cs rs qs h.1 g)
+rules_and p sites k cs i qs h g = grind (arith, common_steps)
 
 -- 2. the rules that are built after one more
 module _ (p : Program) where
@@ -95,12 +83,7 @@ module _ (p : Program) where
 
   built_more : (before : List SiteTerm) (rs : List TypedRule) (r : TypedRule) → built_from p before (rs ++ r ∷ []) ≡ built_from p before rs ++ if_built (sites_after_rules p before rs) r
   built_more before [] r = refl
-  built_more before (q ∷ rs) r =
-      ap (λ l. built_alone before q ++ l) (built_more (sites_after_rule p before q) rs r)
-      ∙ sym (append_assoc (built_alone before q) (built_from p (sites_after_rule p before q) rs) (if_built (sites_after_rules p (sites_after_rule p before q) rs) r))
-    where
-      built_alone : List SiteTerm → TypedRule → List BuiltRule
-      built_alone s x = if is_built p s x then built_rule p s x ∷ [] else []
+  built_more before (q ∷ rs) r = grind (arith, common_steps, built_more (sites_after_rule p before q) rs r, append_assoc)
 
 -- 3. one rule, after the sites of those before
 module _ (p : Program) (before : List SiteTerm) (r : TypedRule) (none : first_limit p before r ≡ None) where
@@ -129,33 +112,11 @@ module _ (p : Program) (done : List TypedRule) (r : TypedRule) where
   here s = built_rule p s r
 
   left : (old new : SiteSet) → StandsAfter p done old → HaveGrown old.sites new.sites → is_built p then_sites r ≡ false → StandFor new.sites (sites_after_rule p then_sites r) → new.rules ≡ old.rules → StandsAfter p (done ++ r ∷ []) new
-  left old new h g f s e = record {
-    rules = subst (λ bs. AreRulesOfSet p new.sites bs new.rules) (sym none_more)
-        (subst (AreRulesOfSet p new.sites (built_from p [] done)) (sym e) (rules_still old.sites new.sites g p (built_from p [] done) old.rules h.rules));
-    sites = subst (StandFor new.sites) (sym (sites_on p [] done r)) s;
-    few = g.few;
-    sources = g.sources;
-  }
-    where
-      none_more : built_from p [] (done ++ r ∷ []) ≡ built_from p [] done
-      none_more =
-          built_more p [] done r
-          ∙ ap (λ l. built_from p [] done ++ (l ++ [])) (cond-false (is_built p then_sites r) (here then_sites ∷ []) [] f)
-          ∙ append-nil (built_from p [] done)
+  left old new h g f s e = grind (arith, rules_still, sites_on, built_more, append-nil)
 
   added : (old new : SiteSet) → StandsAfter p done old → (rule : SetRule) → HaveGrown old.sites new.sites → is_built p then_sites r ≡ true → StandFor new.sites (sites_after_rule p then_sites r) → new.rules ≡ old.rules ++ rule ∷ []
       → IsRuleOf p new.sites (here then_sites) rule → StandsAfter p (done ++ r ∷ []) new
-  added old new h rule g t s e q = record {
-    rules = subst (λ bs. AreRulesOfSet p new.sites bs new.rules) (sym one_rule_more)
-        (subst (AreRulesOfSet p new.sites (built_from p [] done ++ here then_sites ∷ [])) (sym e)
-        (rules_and p new.sites (built_from p [] done) (here then_sites ∷ []) old.rules (rule ∷ []) (rules_still old.sites new.sites g p (built_from p [] done) old.rules h.rules) (q, tt)));
-    sites = subst (StandFor new.sites) (sym (sites_on p [] done r)) s;
-    few = g.few;
-    sources = g.sources;
-  }
-    where
-      one_rule_more : built_from p [] (done ++ r ∷ []) ≡ built_from p [] done ++ here then_sites ∷ []
-      one_rule_more = built_more p [] done r ∙ ap (λ l. built_from p [] done ++ (l ++ [])) (cond-true (is_built p then_sites r) (here then_sites ∷ []) [] t)
+  added old new h rule g t s e q = grind (arith, common_steps, rules_and, rules_still, sites_on, built_more)
 
 pub sets_go_past_rules_lem : SetsGoPastRules
 sets_go_past_rules_lem p done r old new said h (rule_added rule g none reachable stand rules is_rule) =
@@ -171,21 +132,11 @@ sets_go_past_rules_lem p done r old new said h (rule_unreachable g none cant sta
       left p done r old new h g (is_built_by p before r none true cant) (subst (StandFor new.sites) (sym (all_kept p before r none ∙ wanted)) stand) rules,
       ap (λ s. map (λ why. not_reached why r.at) (reported s (demands_of p r))) (sym wanted) ∙ sym (reports_none p before r none),
     )
-sets_go_past_rules_lem p done r old new said h (limit_met l g passed stand rules) =
-    let before = sites_after_rules p [] done in
-    (left p done r old new h g (not_built p before r l passed) stand rules, sym (reports_limit p before r l passed))
+sets_go_past_rules_lem p done r old new said h (limit_met l g passed stand rules) = grind (arith, common_steps, left p done r old new h g, not_built p, reports_limit p)
 
 -- 5. the start and the end
 pub sets_start_empty_lem : SetsStartEmpty
-sets_start_empty_lem p = record {
-  rules = tt;
-  sites = record { exact = λ s l. absurd (omega (arith, l)); count = refl };
-  few = omega arith;
-  sources = λ s a i. absurd (nothing_in a i);
-}
+sets_start_empty_lem p = grind (arith, common_steps, nothing_in)
 
 pub sets_end_built_lem : SetsEndBuilt
-sets_end_built_lem p t set = (
-  λ h. record { rules = h.rules; sites = h.sites; few = h.few; sources = h.sources },
-  λ h. record { rules = h.rules; sites = h.sites; few = h.few; sources = h.sources },
-)
+sets_end_built_lem p t set = grind (arith, common_steps)

@@ -1,11 +1,12 @@
 -- The sets of all terms go past one more rule of the program, and the reports go on.
-use Rattle.std.proofs.Common.{◌≡◌, ◌≢◌, ◌==◌, ◌||◌, ℕ, Bool, true, false, List, [], ◌∷◌, ◌++◌, Option, Some, None, is_some, refl, sym, ap, ◌∙◌, subst, inl, inr, eqb-true, eq-eqb}
+use Rattle.std.proofs.Common.{◌≡◌, ◌≢◌, ◌==◌, ◌||◌, ℕ, Bool, true, false, List, [], ◌∷◌, ◌++◌, Option, Some, None, is_some, refl, sym, ap, ◌∙◌, subst, inl, inr, eqb-true, eq-eqb, arith}
 use Rattle.std.specs.List.{list_any}
-use Rattle.std.proofs.lemmas.Bool.{cases_Bool, cond-true, cond-false, false≢true}
+use Rattle.std.proofs.lemmas.Bool.{cases_Bool, cond-true, false≢true}
 use Rattle.std.proofs.lemmas.List.{append-nil, append_assoc}
 use Rattle.std.proofs.lemmas.List.Elements.{filter-append, All-contains}
 use Rattle.std.proofs.lemmas.Option.{none-some, same_Some}
 use Rattle.std.proofs.Math.Bool.{or-false, or-true}
+use Rattle.std.proofs.lemmas.Grind.{common_steps}
 use Rattle.model.proofs.Members.{all_members}
 use Rattle.model.specs.rules.Typed.{TypedRule}
 use Rattle.model.specs.rules.Program.{Program}
@@ -19,41 +20,26 @@ use Rattle.laws_sites.proofs.building.RulesPassed.{sets_end_built_lem, sets_go_p
 -- 1. reports of one more rule
 reports_more : (p : Program) (done rs : List TypedRule) (r : TypedRule)
     → build_reports_after p done (rs ++ r ∷ []) ≡ build_reports_after p done rs ++ build_reports_of p (sites_after_rules p [] (of_one_term r.root_term (done ++ rs))) r
-reports_more p done [] r =
-    append-nil (build_reports_of p (sites_after_rules p [] (of_one_term r.root_term done)) r)
-    ∙ ap (λ l. build_reports_of p (sites_after_rules p [] (of_one_term r.root_term l)) r) (sym (append-nil done))
-reports_more p done (q ∷ rs) r =
-    let here = build_reports_of p (sites_after_rules p [] (of_one_term q.root_term done)) q in
-    ap (λ l. here ++ l) (reports_more p (done ++ q ∷ []) rs r ∙ ap (λ l. build_reports_after p (done ++ q ∷ []) rs ++ build_reports_of p (sites_after_rules p [] (of_one_term r.root_term l)) r) (append_assoc done (q ∷ []) rs))
-    ∙ sym (append_assoc here (build_reports_after p (done ++ q ∷ []) rs) (build_reports_of p (sites_after_rules p [] (of_one_term r.root_term (done ++ q ∷ rs))) r))
+reports_more p done [] r = grind (arith, common_steps, append-nil)
+reports_more p done (q ∷ rs) r = grind (arith, common_steps, reports_more p (done ++ q ∷ []) rs r, append_assoc)
 
 -- 2. rules of one term
 with_own : (t : ℕ) (done : List TypedRule) (r : TypedRule) → (r.root_term == t) ≡ true → of_one_term t (done ++ r ∷ []) ≡ of_one_term t done ++ r ∷ []
 with_own t done r h = filter-append (λ q. q.root_term == t) done (r ∷ []) ∙ ap (λ l. of_one_term t done ++ l) (cond-true (r.root_term == t) (r ∷ []) [] h)
 
 without_other : (t : ℕ) (done : List TypedRule) (r : TypedRule) → (r.root_term == t) ≡ false → of_one_term t (done ++ r ∷ []) ≡ of_one_term t done
-without_other t done r h =
-    filter-append (λ q. q.root_term == t) done (r ∷ []) ∙ ap (λ l. of_one_term t done ++ l) (cond-false (r.root_term == t) (r ∷ []) [] h) ∙ append-nil (of_one_term t done)
+without_other t done r h = grind (arith, common_steps, filter-append, append-nil)
 
 any_more : (t : ℕ) (done : List TypedRule) (r : TypedRule) → (b : Bool) → (r.root_term == t) ≡ b
     → list_any (λ q. q.root_term == t) (done ++ r ∷ []) ≡ list_any (λ q. q.root_term == t) done || b
 any_more t [] r true e = ap (λ x. x || false) e
 any_more t [] r false e = ap (λ x. x || false) e
-any_more t (q ∷ done) r b e = of (any_more t done r b e) (q.root_term == t)
-  where
-    of : list_any (λ q. q.root_term == t) (done ++ r ∷ []) ≡ list_any (λ q. q.root_term == t) done || b
-        → (x : Bool) → (x || list_any (λ q. q.root_term == t) (done ++ r ∷ [])) ≡ (x || list_any (λ q. q.root_term == t) done) || b
-    of rest true = refl
-    of rest false = rest
+any_more t (q ∷ done) r b e = grind (arith, common_steps, any_more t done r b e)
 
 -- a term without rules has none among them
 none_of_term : (t : ℕ) (done : List TypedRule) → list_any (λ q. q.root_term == t) done ≡ false → of_one_term t done ≡ []
 none_of_term t [] e = refl
-none_of_term t (q ∷ done) e =
-    elim (cases_Bool (q.root_term == t)) [
-      | inl h ↦ absurd (false≢true (sym e ∙ ap (λ x. x || list_any (λ q. q.root_term == t) done) h))
-      | inr h ↦ cond-false (q.root_term == t) (q ∷ of_one_term t done) (of_one_term t done) h ∙ none_of_term t done (sym (ap (λ x. x || list_any (λ q. q.root_term == t) done) h) ∙ e)
-    ]
+none_of_term t (q ∷ done) e = grind (arith, common_steps, none_of_term t done)
 
 -- the set of a term, or nothing, stands where its rules are
 pub stands : (p : Program) (done : List TypedRule) (old : ℕ → Option SiteSet) (reports : List RuleReport) → AreBuiltSoFar p done old reports → (t : ℕ) → StandsAfter p (of_one_term t done) (or_nothing_built (old t))
@@ -68,14 +54,7 @@ building_starts_lem p = record { terms = λ t. refl; each = λ t set e. absurd (
 
 pub building_goes_on_lem : BuildingGoesOn
 building_goes_on_lem p done r old new reports said h b = record {
-  terms = λ t. elim (cases_Bool (r.root_term == t)) [
-    | inl y ↦
-        ap is_some (subst (λ u. new u ≡ Some b.set) (eqb-true r.root_term t y) b.here)
-        ∙ sym (any_more t done r true y ∙ or-true (list_any (λ q. q.root_term == t) done))
-    | inr n ↦
-        ap is_some (b.others t (apart t n)) ∙ h.terms t
-        ∙ sym (any_more t done r false n ∙ or-false (list_any (λ q. q.root_term == t) done))
-  ];
+  terms = grind (arith, common_steps, any_more, or-true, or-false);
   each = λ t set e. elim (cases_Bool (r.root_term == t)) [
     | inl y ↦
         let same = eqb-true r.root_term t y in

@@ -1,6 +1,7 @@
 -- Rules of a built set demand the gates of the sites that they test and return.
-use Rattle.std.proofs.Common.{◌≡◌, ◌⊎◌, ℕ, zero, suc, ◌==◌, ◌<◌, Bool, true, false, ◌&&◌, if◌then◌else◌, nat_lt, List, [], ◌∷◌, length, Option, Some, None, slice_get, Contains, IsTrue, flat_map, refl, sym, ap, ◌∙◌, subst, inl, inr, arith, eq-eqb, lt-ltb}
+use Rattle.std.proofs.Common.{◌≡◌, ◌⊎◌, ℕ, zero, suc, ◌==◌, ◌<◌, Bool, true, false, ◌&&◌, nat_lt, List, [], ◌∷◌, length, Option, Some, None, slice_get, Contains, IsTrue, flat_map, refl, sym, ap, ◌∙◌, subst, inl, inr, arith, eq-eqb, lt-ltb}
 use Rattle.std.proofs.lemmas.Bool.{and_from}
+use Rattle.std.proofs.lemmas.Grind.{common_steps}
 use Rattle.model.specs.rules.Typed.{TypedRule}
 use Rattle.model.specs.rules.Program.{Program, rules_of}
 use Rattle.model.specs.sites.Sites.{Site, bool_site, int_site, prim_site, argument_site, extractor_site, constructor_site, iterator_site, make_variant_site, match_variant_site, make_struct_site, extract_struct_site, make_some_site, match_some_site, match_tuple_site, Constraint, is_variant, is_struct, is_present, SetRule, SiteSet, sources_of, sources_at, SiteTerm, each_term, layer, layer_at, unfold_site}
@@ -16,7 +17,7 @@ use Rattle.model.specs.sites.RuleSets.{IsRuleOf, AreRulesOfSet, IsBuilt}
 use Rattle.model.specs.claims.SetMeanings.{AreOneRule}
 use Rattle.model.proofs.Elements.{In, in_from_contains, contains_from_in, none_some, some_is, in_either, in_slice, any_in, from_flat_map}
 use Rattle.laws_sites.proofs.BuiltRules.{reachable}
-use Rattle.model.specs.sites.DemandedGates.{AsksAnswer, IsPureCall, GatesDemanded, AllGatesDemanded, ClosedCanBeTested, DemandsGates}
+use Rattle.model.specs.sites.DemandedGates.{AsksAnswer, GatesDemanded, AllGatesDemanded, ClosedCanBeTested, DemandsGates}
 use Rattle.laws_sites.proofs.built.Unfolding.{unfolds}
 use Rattle.laws_typing.specs.WellTypedPrograms.{IsWellTypedRule, IsWellTypedProgram}
 use Rattle.laws_typing.proofs.WellTypedPrograms.{pure_iflets}
@@ -29,10 +30,9 @@ use Rattle.laws_sites.proofs.Rules.{formed_rules_demand_gates_lem}
 -- 1. the rules of a set
 pub rule_at : (p : Program) (sites : List Site) (bs : List BuiltRule) (rs : List SetRule) → AreRulesOfSet p sites bs rs → (r : SetRule) → In rs r → (b : BuiltRule) × In bs b × IsRuleOf p sites b r
 rule_at p sites [] [] h r i = absurd i
-rule_at p sites [] (q ∷ rs) h r i = absurd h
-rule_at p sites (b ∷ bs) [] h r i = absurd h
 rule_at p sites (b ∷ bs) (q ∷ rs) h r (inl e) = (b, inl refl, subst (IsRuleOf p sites b) e h.0)
 rule_at p sites (b ∷ bs) (q ∷ rs) h r (inr i) = let k = rule_at p sites bs rs h.1 r i in (k.0, inr k.1, k.2)
+rule_at p sites _ _ h r i = absurd h
 
 -- each stands for a built rule
 abbrev pub set_rule : (s : BuiltSet) (r : SetRule) → In s.set.rules r → RuleOfSet s
@@ -42,10 +42,8 @@ set_rule s r i =
 
 pub rule_at_place : (p : Program) (sites : List Site) (bs : List BuiltRule) (rs : List SetRule) → AreRulesOfSet p sites bs rs → (k : ℕ) (b : BuiltRule) (r : SetRule)
     → slice_get bs k ≡ Some b → slice_get rs k ≡ Some r → IsRuleOf p sites b r
-rule_at_place p sites [] rs h k b r x y = absurd (none_some b x)
-rule_at_place p sites (a ∷ bs) [] h k b r x y = absurd (none_some r y)
-rule_at_place p sites (a ∷ bs) (q ∷ rs) h zero b r x y = subst (λ d. IsRuleOf p sites d r) (some_is a b x) (subst (IsRuleOf p sites a) (some_is q r y) h.0)
 rule_at_place p sites (a ∷ bs) (q ∷ rs) h (suc k) b r x y = rule_at_place p sites bs rs h.1 k b r x y
+rule_at_place p sites i rs h k b r x y = grind (arith, common_steps, none_some, some_is)
 
 -- a built rule and the rule of a set at one place
 pub one_rule : (p : Program) (t : ℕ) (set : SiteSet) (b : BuiltRule) (r : SetRule) → IsBuilt p t set → AreOneRule p t set b r → IsRuleOf p set.sites b r
@@ -70,15 +68,7 @@ pub record WasBuilt (p : Program) (rs : List TypedRule) (b : BuiltRule) : Type 0
 
 pub was_built : (p : Program) (before : List SiteTerm) (rs : List TypedRule) (b : BuiltRule) → In (built_from p before rs) b → WasBuilt p rs b
 was_built p before [] b i = absurd i
-was_built p before (r ∷ rs) b i =
-    elim (in_either (if is_built p before r then built_rule p before r ∷ [] else []) (built_from p (sites_after_rule p before r) rs) b i) [
-      | inl j ↦ here (is_built p before r) refl j
-      | inr j ↦ let k = was_built p (sites_after_rule p before r) rs b j in record { rule = k.rule; before = k.before; listed = inr k.listed; built = k.built; same = k.same }
-    ]
-  where
-    here : (q : Bool) → is_built p before r ≡ q → In (if q then built_rule p before r ∷ [] else []) b → WasBuilt p (r ∷ rs) b
-    here true e j = elim j [ inl s ↦ record { rule = r; before = before; listed = inl refl; built = e; same = s } | inr n ↦ absurd n ]
-    here false e j = absurd j
+was_built p before (r ∷ rs) b i = grind (arith, was_built p (sites_after_rule p before r) rs b, in_either)
 
 -- the rules of a term are built of its typed rules
 pub root_of_built : (p : Program) (t : ℕ) (b : BuiltRule) → In (built_rules p t) b → b.rule.root_term ≡ t
@@ -87,9 +77,7 @@ root_of_built p t b i =
     subst (λ (k : BuiltRule). k.rule.root_term ≡ t) w.same (of_term p t w.rule (contains_from_in (rules_of p t) w.rule w.listed)).1
 
 pub typed_built : (p : Program) (t : ℕ) (b : BuiltRule) → IsWellTypedProgram p → In (built_rules p t) b → IsWellTypedRule p b.rule
-typed_built p t b h i =
-    let w = was_built p [] (rules_of p t) b i in
-    subst (λ (k : BuiltRule). IsWellTypedRule p k.rule) w.same (typed_rule p t w.rule h (contains_from_in (rules_of p t) w.rule w.listed))
+typed_built p t b h i = grind (arith, common_steps, was_built p [] (rules_of p t) b i, typed_rule p t, contains_from_in (rules_of p t))
 
 -- the gates of a built rule
 pub record BuiltGates (p : Program) (b : BuiltRule) : Type 0 where
@@ -135,12 +123,10 @@ pub record IsGood (asked pure : Bool) (sites : List Site) (r : SetRule) (s : ℕ
   pub pure_site : IsPureWhere pure site
 
 gate_there : (asked : Bool) (r : SetRule) (o : Option Site) → gate_demanded r o ≡ true → HasGate asked r o
-gate_there true r o h = h
-gate_there false r o h = inl h
+gate_there asked r o h = grind (arith, common_steps)
 
 pure_there : (pure : Bool) (b : Site) → IsPureSite b → IsPureWhere pure b
-pure_there true b h = h
-pure_there false b h = tt
+pure_there pure b h = grind (arith, common_steps)
 
 pub site_there : {X : Type 0} (xs : List X) (k : ℕ) → k < length xs → (x : X) × (slice_get xs k ≡ Some x)
 site_there [] k l = absurd (omega arith)
@@ -210,26 +196,8 @@ module _ (s : BuiltSet) (x : RuleOfSet s) (asked pure : Bool) where
       by false k = inr tt
   layer_gate (match_tuple_site source field) f g = gate_there asked r (Some (match_tuple_site source field)) refl
 
-  call_pure : (term : ℕ) (sources : List ℕ) (i : ℕ) (w : Bool) → IsPureCall w i → IsPureWhere w (constructor_site term sources i)
-  call_pure term sources zero true k = tt
-  call_pure term sources (suc i) true k = absurd k
-  call_pure term sources i false k = tt
-
   layer_pure : (s : Site) → Good (layer at s) → IsPureWhere pure s
-  layer_pure (bool_site x ty) g = pure_there pure (bool_site x ty) tt
-  layer_pure (int_site z ty) g = pure_there pure (int_site z ty) tt
-  layer_pure (prim_site name) g = pure_there pure (prim_site name) tt
-  layer_pure (argument_site i) g = pure_there pure (argument_site i) tt
-  layer_pure (extractor_site term source) g = pure_there pure (extractor_site term source) tt
-  layer_pure (constructor_site term sources i) g = call_pure term sources i pure g.0
-  layer_pure (iterator_site source) g = pure_there pure (iterator_site source) tt
-  layer_pure (make_variant_site ty variant fields) g = pure_there pure (make_variant_site ty variant fields) tt
-  layer_pure (match_variant_site source variant field) g = pure_there pure (match_variant_site source variant field) tt
-  layer_pure (make_struct_site ty fields) g = pure_there pure (make_struct_site ty fields) tt
-  layer_pure (extract_struct_site source field) g = pure_there pure (extract_struct_site source field) tt
-  layer_pure (make_some_site source) g = pure_there pure (make_some_site source) tt
-  layer_pure (match_some_site source) g = pure_there pure (match_some_site source) tt
-  layer_pure (match_tuple_site source field) g = pure_there pure (match_tuple_site source field) tt
+  layer_pure s g = grind (arith, common_steps, pure_there)
 
   each_good : (ss : List ℕ) → AllGatesDemanded asked pure b.demands.constraints (demands_of p b.rule).iterators (each_term at ss) → (a : ℕ) → In ss a → Good (at a)
   each_good [] g a i = absurd i
@@ -237,14 +205,9 @@ module _ (s : BuiltSet) (x : RuleOfSet s) (asked pure : Bool) where
   each_good (s ∷ ss) g a (inr i) = each_good ss g.1 a i
 
   only : (s a : ℕ) → Good (at s) → In (s ∷ []) a → Good (at a)
-  only s a g (inl e) = subst (λ n. Good (at n)) e g
-  only s a g (inr n) = absurd n
+  only s a g h = grind (arith, common_steps)
 
   layer_sources : (s : Site) → Good (layer at s) → (a : ℕ) → In (sources_of s) a → Good (at a)
-  layer_sources (bool_site x ty) g a i = absurd i
-  layer_sources (int_site z ty) g a i = absurd i
-  layer_sources (prim_site name) g a i = absurd i
-  layer_sources (argument_site n) g a i = absurd i
   layer_sources (extractor_site term source) g a i = only source a g i
   layer_sources (constructor_site term sources n) g a i = each_good sources g.1 a i
   layer_sources (iterator_site source) g a i = only source a g.1 i
@@ -255,6 +218,7 @@ module _ (s : BuiltSet) (x : RuleOfSet s) (asked pure : Bool) where
   layer_sources (make_some_site source) g a i = only source a g i
   layer_sources (match_some_site source) g a i = only source a g.1 i
   layer_sources (match_tuple_site source field) g a i = only source a g i
+  layer_sources _ g a i = absurd i
 
   -- a site, and all below it
   pub below_good : (n a : ℕ) → a < length set.sites → Good (at a) → (u : ℕ) → In (below n set.sites a) u → IsGood asked pure set.sites r u

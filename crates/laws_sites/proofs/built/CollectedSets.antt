@@ -1,5 +1,6 @@
 -- Built sets of a multi term whose rules make no impure call and leave no multi call unused meet what collecting asks.
-use Rattle.std.proofs.Common.{◌≡◌, ℕ, suc, ◌<◌, true, List, [], ◌∷◌, ◌++◌, map, slice_get, length, flat_map, IsTrue, sym, ap, ◌∙◌, subst, inl, inr}
+use Rattle.std.proofs.Common.{◌≡◌, ℕ, suc, ◌<◌, true, List, [], ◌∷◌, ◌++◌, map, slice_get, length, flat_map, IsTrue, ap, ◌∙◌, subst, inl, inr, arith}
+use Rattle.std.proofs.lemmas.Grind.{common_steps}
 use Rattle.model.specs.rules.Program.{Program, is_multi}
 use Rattle.model.specs.rules.Typed.{TypedRule}
 use Rattle.model.specs.sites.Sites.{Constraint, SetRule, SiteSet, unfold_site}
@@ -64,8 +65,7 @@ module _ (s : BuiltSet) (h : IsWellTypedProgram s.program) (x : RuleOfSet s) (of
   result_collected : IsCollectedSite r.result
   result_collected = record {
     known = q.result.0;
-    good = subst (GatesDemanded true true b.demands.constraints (demands_of p b.rule).iterators) (sym q.result.1)
-        (built_result s h x true right (ap (is_multi p) (root_of_built p s.term b x.listed) ∙ of.multi));
+    good = grind (arith, common_steps, built_result s h x true right (ap (is_multi p) (root_of_built p s.term b x.listed) ∙ of.multi), root_of_built p s.term b x.listed);
   }
 
   tested_collected : (n : ℕ) → In (map (λ (d : ℕ × Constraint). d.0) r.constraints ++ flat_map (λ (c : List ℕ). c) r.classes) n → IsCollectedSite n

@@ -1,39 +1,32 @@
 -- The sites of a term stand once among those made, and so the sites of a built set.
-use Rattle.std.proofs.Common.{◌≡◌, ℕ, zero, suc, ◌<◌, Bool, true, false, if◌then◌else◌, List, [], ◌∷◌, length, take, flat_map, Option, Some, None, slice_get, sym, ap, ◌∙◌}
+use Rattle.std.proofs.Common.{◌≡◌, ℕ, zero, suc, ◌<◌, Bool, if◌then◌else◌, List, [], ◌∷◌, length, take, Some, slice_get, arith}
 use Rattle.std.proofs.lemmas.Option.{slice_get_within}
+use Rattle.std.proofs.lemmas.Grind.{common_steps}
 use Rattle.model.specs.lists.Names.{IsDistinct}
 use Rattle.model.specs.rules.Program.{Program, rules_of}
 use Rattle.model.specs.rules.Typed.{TypedRule}
-use Rattle.model.specs.sites.Sites.{Constraint, SiteSet, SiteTerm, unfold_site, field_terms}
+use Rattle.model.specs.sites.Sites.{SiteSet, SiteTerm, unfold_site}
 use Rattle.model.specs.visits.Demands.{Demands, demands_of, with_sites}
-use Rattle.model.specs.sites.Closure.{is_unreachable, Closed, class_at, ascending, next_constrained, taken, closing, before_closing, most_closing_steps, closed}
-use Rattle.model.specs.sites.Limits.{RuleLimit, most_sites, passed_in_visit, sites_wanted, sites_until, sites_reached, sites_after_rule, sites_after_rules}
+use Rattle.model.specs.sites.Closure.{is_unreachable, Closed, closing, before_closing, most_closing_steps, closed}
+use Rattle.model.specs.sites.Limits.{most_sites, sites_wanted, sites_reached, sites_after_rule, sites_after_rules}
 use Rattle.model.specs.sites.RuleSets.{IsBuilt}
 use Rattle.model.proofs.Elements.{none_some}
 use Rattle.model.proofs.SitesMade.{once_with}
 use Rattle.laws_sites.proofs.built.Unfolding.{one_site}
 
 taken_from : {X : Type 0} (n : ℕ) (xs : List X) (k : ℕ) (x : X) → slice_get (take n xs) k ≡ Some x → slice_get xs k ≡ Some x
-taken_from zero xs k x e = absurd (none_some x e)
-taken_from (suc n) [] k x e = absurd (none_some x e)
-taken_from (suc n) (y ∷ xs) zero x e = e
 taken_from (suc n) (y ∷ xs) (suc k) x e = taken_from n xs k x e
+taken_from h xs k x e = grind (arith, common_steps, none_some)
 
 distinct_taken : {X : Type 0} (n : ℕ) (xs : List X) → IsDistinct xs → IsDistinct (take n xs)
 distinct_taken n xs d j k x e f = d j k x (taken_from n xs j x e) (taken_from n xs k x f)
 
 either_way : {X : Type 0} (P : X → Type 0) (b : Bool) (x y : X) → P x → P y → P (if b then x else y)
-either_way P true x y h g = h
-either_way P false x y h g = g
+either_way P b x y h g = grind (arith, common_steps)
 
 once_closing : (n : ℕ) (k : Closed) → IsDistinct k.made → IsDistinct (closing n k).made
 once_closing zero k d = d
-once_closing (suc n) k d = go_on (next_constrained k.classes k.constraints k.made) (once_closing n)
-  where
-    go_on : (o : Option (SiteTerm × Constraint)) → ((j : Closed) → IsDistinct j.made → IsDistinct (closing n j).made)
-        → IsDistinct (elim o as (λ _. Closed) [ None ↦ k | Some c ↦ closing n (taken k c (ascending k.made (class_at k.classes c.0))) ]).made
-    go_on None later = d
-    go_on (Some c) later = later (taken k c (ascending k.made (class_at k.classes c.0))) (once_with k.made (flat_map (field_terms c.1) (ascending k.made (class_at k.classes c.0))) d)
+once_closing (suc n) k d = grind (arith, common_steps, once_closing n, once_with)
 
 pub once_closed : (before : List SiteTerm) (d : Demands) → IsDistinct before → IsDistinct (closed before d).made
 once_closed before d h = once_closing most_closing_steps (before_closing before d) (once_with before d.made h)
@@ -44,11 +37,7 @@ once_wanted p before r h =
     (once_with before (demands_of p r).made h) (once_closed before (demands_of p r) h)
 
 once_reached : (p : Program) (before : List SiteTerm) (r : TypedRule) → IsDistinct before → IsDistinct (sites_reached p before r)
-once_reached p before r h = of (passed_in_visit p r)
-  where
-    of : (o : Option (RuleLimit × ℕ)) → IsDistinct (sites_until p before r o)
-    of (Some passed) = once_with before (take passed.1 (demands_of p r).made) h
-    of None = once_wanted p before r h
+once_reached p before r h = grind (arith, common_steps, once_with before, once_wanted p before r h)
 
 pub once_after_rule : (p : Program) (before : List SiteTerm) (r : TypedRule) → IsDistinct before → IsDistinct (sites_after_rule p before r)
 once_after_rule p before r h = distinct_taken most_sites (sites_reached p before r) (once_reached p before r h)
@@ -64,9 +53,7 @@ once_of_term p t = once_after p [] (rules_of p t) (λ j k x e f. absurd (none_so
 module _ (p : Program) (t : ℕ) (set : SiteSet) (b : IsBuilt p t set) where
   -- two numbers that stand for one tree are one
   pub one_number : (j k : ℕ) → j < length set.sites → k < length set.sites → unfold_site set.sites j ≡ unfold_site set.sites k → j ≡ k
-  one_number j k l m e =
-      once_of_term p t j k (unfold_site set.sites k) (b.sites.exact j l ∙ ap Some e) (b.sites.exact k m)
+  one_number j k l m e = grind (arith, common_steps, once_of_term)
 
 pub sites_stand_once_lem : (p : Program) (t : ℕ) (set : SiteSet) → IsBuilt p t set → IsDistinct set.sites
-sites_stand_once_lem p t set b j k x e f =
-    one_number p t set b j k (slice_get_within set.sites j x e) (slice_get_within set.sites k x f) (one_site set.sites b.sources j k (e ∙ sym f))
+sites_stand_once_lem p t set b j k x e f = grind (arith, common_steps, one_number, slice_get_within, one_site)

@@ -1,9 +1,10 @@
 -- A visit goes over calls of multi terms, and constrains no such call, nor does the closing of its demands.
-use Rattle.std.proofs.Common.{◌≡◌, ℕ, Bool, true, false, List, [], ◌∷◌, Contains, refl, sym, ap, subst, inl, inr, ◌∙◌}
+use Rattle.std.proofs.Common.{◌≡◌, ℕ, Bool, true, false, List, [], ◌∷◌, Contains, refl, sym, ap, subst, inl, inr, ◌∙◌, arith}
 use Rattle.std.proofs.lemmas.Bool.{false≢true}
+use Rattle.std.proofs.lemmas.Grind.{common_steps}
 use Rattle.model.specs.lists.Tables.{Flags}
 use Rattle.model.specs.rules.Program.{Program, a_call, kind, flags_of, is_multi, rules_of}
-use Rattle.model.specs.sites.Sites.{Constraint, is_present, SiteTerm, extractor_call, constructor_call, some_part, SiteTerms, unfold_site, field_terms}
+use Rattle.model.specs.sites.Sites.{Constraint, is_present, SiteTerm, some_part, SiteTerms, unfold_site, field_terms}
 use Rattle.model.specs.sites.Overlap.{BuiltRule, built_rule}
 use Rattle.model.specs.sites.RuleSets.{IsRuleOf}
 use Rattle.model.specs.rules.Typed.{TypedRule}
@@ -44,35 +45,17 @@ module _ (p : Program) (neither : HasNoPartialMulti p) where
   onward d e h = record { holds = h; stays = λ s o. o }
 
   after_iterating : (s : SiteTerm) (v : Visit) → MultiCallsApart v.demands → IsMultiCall p s → MultiCallsApart (iterating s v).demands
-  after_iterating s v h m = record {
-    asked = h.asked;
-    equal = h.equal;
-    calls = λ u i. elim (in_either v.demands.iterators (s ∷ []) u i) [ inl j ↦ h.calls u j | inr j ↦ elim j [ inl e ↦ subst (IsMultiCall p) e m | inr n ↦ absurd n ] ];
-  }
+  after_iterating s v h m = grind (arith, common_steps, in_either)
 
   after_asking : (s : SiteTerm) (c : Constraint) (v : Visit) → MultiCallsApart v.demands → IsOther s → MultiCallsApart (asking s c v).demands
-  after_asking s c v h o = record {
-    asked = λ e i. elim (in_either v.demands.constraints ((s, c) ∷ []) e i) [
-      | inl j ↦ h.asked e j
-      | inr j ↦ elim j [ inl q ↦ subst (λ (x : SiteTerm × Constraint). IsOther x.0) q o | inr n ↦ absurd n ]
-    ];
-    equal = h.equal;
-    calls = h.calls;
-  }
+  after_asking s c v h o = grind (arith, common_steps, in_either)
 
   after_asking_all : (ss : List SiteTerm) (v : Visit) → MultiCallsApart v.demands → ((s : SiteTerm) → In ss s → IsOther s) → MultiCallsApart (asking_all ss v).demands
   after_asking_all [] v h f = h
   after_asking_all (s ∷ ss) v h f = after_asking_all ss (asking s is_present v) (after_asking s is_present v h (f s (inl refl))) (λ t i. f t (inr i))
 
   after_equated : (a b : SiteTerm) (v : Visit) → MultiCallsApart v.demands → IsOther a → IsOther b → MultiCallsApart (equated a b v).demands
-  after_equated a b v h m n = record {
-    asked = h.asked;
-    equal = λ e i. elim (in_either v.demands.equalities ((a, b) ∷ []) e i) [
-      | inl j ↦ h.equal e j
-      | inr j ↦ elim j [ inl q ↦ subst (λ (x : SiteTerm × SiteTerm). IsOther x.0 × IsOther x.1) q (m, n) | inr x ↦ absurd x ]
-    ];
-    calls = h.calls;
-  }
+  after_equated a b v h m n = grind (arith, common_steps, in_either)
 
   leaf_plain : (s : SiteTerm) → IsLeaf s → IsPlain s
   leaf_plain = by_leaf IsPlain (λ i. (λ m. m, λ s k. absurd k)) (λ b ty. (λ m. m, λ s k. absurd k)) (λ z ty. (λ m. m, λ s k. absurd k)) (λ name. (λ m. m, λ s k. absurd k))
@@ -101,8 +84,7 @@ module _ (p : Program) (neither : HasNoPartialMulti p) where
     tuple = λ d s i n m. (λ k. k, m.1);
     field = λ d c s x n a i m. by_field IsPlain s (λ variant j. (λ k. k, m.1)) (λ j. (λ k. k, m.1)) c x i;
     extracted = λ d t s flags e f n m. (not_multi t flags true e f, m.1);
-    answer = λ d t i us flags b e f c n m.
-        part_plain (constructor_call t us i) (λ k. neither t k (ap (λ x. (flags_of x).partial) e ∙ f)) (all_unwrapped d us m);
+    answer = grind (arith, common_steps, part_plain, all_unwrapped);
     pick = λ d t i us c n m. (λ k. k, all_unwrapped d us m);
     call = λ d t i us flags b e f g n m. (not_multi t flags b e g, all_unwrapped d us m);
     counts = λ c v h. onward v.demands (counting c v).demands (record { asked = h.asked; equal = h.equal; calls = h.calls });
@@ -111,15 +93,9 @@ module _ (p : Program) (neither : HasNoPartialMulti p) where
     equates = λ a b v h m n. onward v.demands (equating a b v).demands (by_equating (λ w. MultiCallsApart w.demands) a b v h (after_equated a b v h m.0 n.0));
     asks = λ s c v f h m. onward v.demands (asking s c v).demands (after_asking s c v h m.0);
     asks_all = λ s v h m. onward v.demands (asking_all (unwraps s) v).demands (after_asking_all (unwraps s) v h m.1);
-    asks_call = λ t s v flags e f c n h m.
-        let call = extractor_call t s in
-        let o : IsOther call = not_multi t flags false e f in
-        record { onward = onward v.demands (asking call is_present v).demands (after_asking call is_present v h o); site = part_plain call o m.1 };
-    iterates_extractor = λ t s v flags b e f c n h m.
-        let call = extractor_call t s in
-        record { onward = onward v.demands (iterating call v).demands (after_iterating call v h (its_multi t flags b e ∙ f)); site = (λ k. k, m.1) };
-    iterates_constructor = λ t i us v flags b e f n m h.
-        let call = constructor_call t us i in onward v.demands (iterating call v).demands (after_iterating call v h (its_multi t flags b e ∙ f));
+    asks_call = grind (arith, common_steps, not_multi, onward, after_asking, part_plain);
+    iterates_extractor = grind (arith, common_steps, onward, after_iterating, its_multi);
+    iterates_constructor = grind (arith, common_steps, onward, after_iterating, its_multi);
   }
 
   rule_apart : (r : TypedRule) → MultiCallsApart (demands_of p r)

@@ -1,7 +1,8 @@
 -- Built sets are well built, and meet what choosing from them asks.
-use Rattle.std.proofs.Common.{◌≡◌, ◌⊎◌, ℕ, suc, ◌==◌, ◌<◌, true, false, ◌&&◌, ◌||◌, List, [], ◌∷◌, ◌++◌, length, map, get_or, Some, slice_get, IsTrue, All, flat_map, refl, sym, ap, ◌∙◌, subst, inl, inr, arith, eq-eqb, eqb-true}
-use Rattle.std.proofs.lemmas.Bool.{cases_Bool, cond-true, cond-false, and_from}
+use Rattle.std.proofs.Common.{◌≡◌, ◌⊎◌, ℕ, suc, ◌==◌, ◌<◌, true, false, ◌&&◌, ◌||◌, List, [], ◌∷◌, ◌++◌, length, map, get_or, Some, slice_get, IsTrue, All, flat_map, refl, sym, ap, subst, inl, inr, arith, eq-eqb, eqb-true}
+use Rattle.std.proofs.lemmas.Bool.{cases_Bool, and_from}
 use Rattle.std.proofs.lemmas.Option.{slice_get-get_or}
+use Rattle.std.proofs.lemmas.Grind.{common_steps}
 use Rattle.model.proofs.Members.{constraint_in}
 use Rattle.model.specs.lists.Names.{IsDistinct}
 use Rattle.model.specs.rules.Program.{Program}
@@ -40,17 +41,14 @@ later_distinct x xs d j k y e f = let s : suc j ≡ suc k = d (suc j) (suc k) y 
 -- where no site is constrained twice, the first constraint of a site is its constraint
 pub first_constraint : (ds : List (ℕ × Constraint)) → IsDistinct (map (λ d. d.0) ds) → (s : ℕ) (c : Constraint) → In ds (s, c) → constraint_at ds s ≡ Some c
 first_constraint [] h s c i = absurd i
-first_constraint (d ∷ ds) h s c (inl e) =
-    cond-true (d.0 == s) (Some d.1) (constraint_at ds s) (eq-eqb d.0 s (ap (λ (x : ℕ × Constraint). x.0) e)) ∙ ap (λ (x : ℕ × Constraint). Some x.1) e
+first_constraint (d ∷ ds) h s c (inl e) = grind (arith, common_steps)
 first_constraint (d ∷ ds) h s c (inr i) =
     elim (cases_Bool (d.0 == s)) [
       | inl t ↦
           let k = slice_in (map (λ (x : ℕ × Constraint). x.0) ds) s (map_in (λ (x : ℕ × Constraint). x.0) ds (s, c) i) in
           let z : 0 ≡ suc k.0 = h 0 (suc k.0) s (ap Some (eqb-true d.0 s t)) k.1 in
           absurd (omega (arith, z))
-      | inr f ↦
-          cond-false (d.0 == s) (Some d.1) (constraint_at ds s) f
-          ∙ first_constraint ds (later_distinct d.0 (map (λ (x : ℕ × Constraint). x.0) ds) h) s c i
+      | inr f ↦ grind (arith, first_constraint ds (later_distinct d.0 (map (λ (x : ℕ × Constraint). x.0) ds) h) s c i, later_distinct)
     ]
 
 -- 2. rules
@@ -130,17 +128,8 @@ module _ (s : BuiltSet) (x : RuleOfSet s) (g : BuiltGates s.program x.typed) whe
   each_returned : (s : ℕ) → In (return_uses (Some r)) s → IsReturned s
   each_returned s i =
       elim (in_either r.impure (r.result ∷ []) s i) [
-        | inl a ↦
-            record {
-              known = in_from_all (λ n. n < length set.sites) r.impure q.impure.0 s a;
-              good = g.impure (unfold_site set.sites s) (subst (λ l. In l (unfold_site set.sites s)) q.impure.1 (map_in (unfold_site set.sites) r.impure s a));
-            }
-        | inr a ↦ elim a [
-          | inl e ↦
-              subst IsReturned e
-              (record { known = q.result.0; good = subst (GatesDemanded false false b.demands.constraints (demands_of p b.rule).iterators) (sym q.result.1) g.result })
-          | inr n ↦ absurd n
-        ]
+        | inl a ↦ grind (arith, common_steps, in_from_all (λ n. n < length set.sites) r.impure q.impure.0 s a, map_in (unfold_site set.sites) r.impure s a)
+        | inr a ↦ grind (arith, common_steps)
       ]
 
   below_returned : (u : ℕ) → In (all_below set.sites (return_uses (Some r))) u → IsGood false false set.sites r u
@@ -160,9 +149,7 @@ module _ (s : BuiltSet) (x : RuleOfSet s) (g : BuiltGates s.program x.typed) whe
     pure = all_from_in (IsPureAt set.sites) (all_below set.sites (tested_sites r)) (λ u i. let k = below_tested u i in (k.site, k.there, k.pure_site));
     gates = demands_gates;
     gates_of_result = all_from_in (λ s. IsTrue (gate_demanded r (slice_get set.sites s)) ⊎ IsUnwrap (slice_get set.sites s)) (all_below set.sites (return_uses (Some r)))
-        (λ u i.
-        let k = below_returned u i in
-        subst (λ o. IsTrue (gate_demanded r o) ⊎ IsUnwrap o) (sym k.there) k.gate);
+        (λ u i. grind (arith, common_steps, below_returned u i));
   }
 
 -- 3. sets

@@ -1,15 +1,16 @@
 -- Nothing is reported of a program exactly where all its rules are built, none overlap wrongly, and none is shadowed.
-use Rattle.std.proofs.Common.{◌≡◌, ◌↔◌, ◌==◌, ℕ, suc, ◌≤◌, true, false, not, ◌&&◌, is_none, List, [], ◌∷◌, ◌++◌, map, length, Option, Some, None, filter, refl, sym, ap, ◌∙◌, subst, inl, inr, arith, eqb-true, eq-eqb}
+use Rattle.std.proofs.Common.{◌≡◌, ◌↔◌, ◌==◌, ℕ, ◌≤◌, true, false, not, ◌&&◌, is_none, List, [], ◌∷◌, ◌++◌, map, length, Option, Some, None, filter, refl, sym, ap, ◌∙◌, subst, inl, inr, arith, eq-eqb}
 use Rattle.std.proofs.lemmas.Bool.{cases_Bool, cond-true, cond-false, false≢true, not-true}
 use Rattle.std.proofs.lemmas.List.{append-nil}
 use Rattle.std.proofs.lemmas.List.Elements.{filter-append}
+use Rattle.std.proofs.lemmas.Grind.{common_steps}
 use Rattle.model.specs.rules.Typed.{TypedRule}
 use Rattle.model.specs.rules.Program.{Program, rules_of}
 use Rattle.model.specs.sites.Sites.{SiteTerm}
 use Rattle.model.specs.visits.Demands.{demands_of}
 use Rattle.model.specs.sites.Closure.{is_unreachable, reported}
 use Rattle.model.specs.sites.Limits.{RuleLimit, first_limit, sites_wanted, sites_after_rule, sites_after_rules}
-use Rattle.model.specs.sites.Overlap.{BuiltRule, is_built, built_rule, built_from, built_rules, wrong_overlaps, overlap_reports, shadow_reports, position_lt, RuleReport, limit_passed, not_reached, rules_overlap, rule_shadows, build_reports_of, build_reports_after, build_reports, report_position, with_report, by_position, overlap_and_shadow_reports, check_reports}
+use Rattle.model.specs.sites.Overlap.{BuiltRule, is_built, built_rule, built_from, built_rules, wrong_overlaps, overlap_reports, shadow_reports, RuleReport, limit_passed, not_reached, rules_overlap, rule_shadows, build_reports_of, build_reports_after, build_reports, with_report, by_position, overlap_and_shadow_reports, check_reports}
 use Rattle.model.specs.claims.Layers.{IsCheckable}
 use Rattle.laws_sites.specs.ReportLaws.{RulesHaveTerms}
 use Rattle.model.proofs.Elements.{in_from_contains, contains_from_in, in_slice, slice_in}
@@ -48,12 +49,7 @@ module _ (p : Program) where
 
   no_more : (before : List SiteTerm) (rs : List TypedRule) → length (rules_in (built_from p before rs)) ≤ length rs
   no_more before [] = omega arith
-  no_more before (r ∷ rs) =
-      let later = no_more (sites_after_rule p before r) rs in
-      elim (cases_Bool (is_built p before r)) [
-        | inl t ↦ subst (λ l. length (rules_in l) ≤ suc (length rs)) (sym (built_on before r rs t)) (omega (arith, later))
-        | inr f ↦ subst (λ l. length (rules_in l) ≤ suc (length rs)) (sym (left_out before r rs f)) (omega (arith, later))
-      ]
+  no_more before (r ∷ rs) = grind (arith, common_steps, no_more (sites_after_rule p before r) rs, built_on, left_out)
 
   all_kept : (before : List SiteTerm) (rs : List TypedRule) → AllBuilt before rs → rules_in (built_from p before rs) ≡ rs
   all_kept before [] h = refl
@@ -65,10 +61,7 @@ module _ (p : Program) where
       let rest : List TypedRule = rules_in (built_from p (sites_after_rule p before r) rs) in
       elim (cases_Bool (is_built p before r)) [
         | inl t ↦ (t, kept_all (sites_after_rule p before r) rs (tails r r (rules_in (built_from p (sites_after_rule p before r) rs)) rs (sym (ap rules_in (built_on before r rs t)) ∙ e)))
-        | inr f ↦
-            let short = no_more (sites_after_rule p before r) rs in
-            let long = ap length (sym (ap rules_in (left_out before r rs f)) ∙ e) in
-            absurd (omega (arith, short, long))
+        | inr f ↦ grind (arith, common_steps, no_more (sites_after_rule p before r) rs, left_out before r rs f)
       ]
 
   -- nothing is reported of a rule exactly where it is built
@@ -101,14 +94,10 @@ module _ (p : Program) where
   sites_on before (x ∷ xs) r = sites_on (sites_after_rule p before x) xs r
 
   pub one_more : (t : ℕ) (done : List TypedRule) (r : TypedRule) → (r.root_term == t) ≡ true → sites_so_far t (done ++ r ∷ []) ≡ sites_after_rule p (sites_so_far t done) r
-  one_more t done r h =
-      ap (sites_after_rules p []) (filter-append (λ q. q.root_term == t) done (r ∷ []) ∙ ap (λ l. of_term t done ++ l) (cond-true (r.root_term == t) (r ∷ []) [] h))
-      ∙ sites_on [] (of_term t done) r
+  one_more t done r h = grind (arith, common_steps, filter-append, sites_on)
 
   pub another : (t : ℕ) (done : List TypedRule) (r : TypedRule) → (r.root_term == t) ≡ false → sites_so_far t (done ++ r ∷ []) ≡ sites_so_far t done
-  another t done r h =
-      ap (sites_after_rules p [])
-      (filter-append (λ q. q.root_term == t) done (r ∷ []) ∙ ap (λ l. of_term t done ++ l) (cond-false (r.root_term == t) (r ∷ []) [] h) ∙ append-nil (of_term t done))
+  another t done r h = grind (arith, common_steps, filter-append, append-nil)
 
   all_of_term : (t : ℕ) (done rs : List TypedRule) → build_reports_after p done rs ≡ [] → AllBuilt (sites_so_far t done) (of_term t rs)
   all_of_term t done [] e = tt
@@ -116,14 +105,8 @@ module _ (p : Program) where
       let q = no_parts (build_reports_of p (sites_so_far r.root_term done) r) (build_reports_after p (done ++ r ∷ []) rs) e in
       let later = all_of_term t (done ++ r ∷ []) rs q.1 in
       elim (cases_Bool (r.root_term == t)) [
-        | inl h ↦
-            subst (AllBuilt (sites_so_far t done)) (sym (cond-true (r.root_term == t) (r ∷ of_term t rs) (of_term t rs) h)) (
-              subst (λ u. is_built p (sites_so_far u done) r ≡ true) (eqb-true r.root_term t h) (silent (sites_so_far r.root_term done) r (first_limit p (sites_so_far r.root_term done) r) q.0),
-              subst (λ s. AllBuilt s (of_term t rs)) (one_more t done r h) later,
-            )
-        | inr h ↦
-            subst (AllBuilt (sites_so_far t done)) (sym (cond-false (r.root_term == t) (r ∷ of_term t rs) (of_term t rs) h))
-            (subst (λ s. AllBuilt s (of_term t rs)) (another t done r h) later)
+        | inl h ↦ grind (arith, common_steps, silent (sites_so_far r.root_term done) r (first_limit p (sites_so_far r.root_term done) r) q.0, one_more t done r h)
+        | inr h ↦ grind (arith, common_steps, another t done r h)
       ]
 
   none_reported : (done rs : List TypedRule) → ((t : ℕ) → AllBuilt (sites_so_far t done) (of_term t rs)) → build_reports_after p done rs ≡ []
@@ -131,31 +114,21 @@ module _ (p : Program) where
   none_reported done (r ∷ rs) f =
       append_empty (build_reports_of p (sites_so_far r.root_term done) r) (build_reports_after p (done ++ r ∷ []) rs)
       (built_silent (sites_so_far r.root_term done) r (first_limit p (sites_so_far r.root_term done) r) (at_head r.root_term (eq-eqb r.root_term r.root_term refl)).0)
-      (none_reported (done ++ r ∷ []) rs (λ t. elim (cases_Bool (r.root_term == t)) [
-        | inl h ↦ subst (λ s. AllBuilt s (of_term t rs)) (sym (one_more t done r h)) (at_head t h).1
-        | inr h ↦
-            subst (λ s. AllBuilt s (of_term t rs)) (sym (another t done r h))
-            (subst (AllBuilt (sites_so_far t done)) (cond-false (r.root_term == t) (r ∷ of_term t rs) (of_term t rs) h) (f t))
-      ]))
+      (grind (arith, common_steps, none_reported (done ++ r ∷ []) rs, one_more, another))
     where
       at_head : (t : ℕ) → (r.root_term == t) ≡ true → (is_built p (sites_so_far t done) r ≡ true) × AllBuilt (sites_after_rule p (sites_so_far t done) r) (of_term t rs)
       at_head t h = subst (AllBuilt (sites_so_far t done)) (cond-true (r.root_term == t) (r ∷ of_term t rs) (of_term t rs) h) (f t)
 
   filled : (a : RuleReport) (bs : List RuleReport) → with_report a bs ≡ [] → ⊥
   filled a [] e = not_empty a [] e
-  filled a (b ∷ bs) e =
-      elim (cases_Bool (position_lt (report_position b) (report_position a))) [
-        | inl t ↦ not_empty b (with_report a bs) (sym (cond-true (position_lt (report_position b) (report_position a)) (b ∷ with_report a bs) (a ∷ (b ∷ bs)) t) ∙ e)
-        | inr f ↦ not_empty a (b ∷ bs) (sym (cond-false (position_lt (report_position b) (report_position a)) (b ∷ with_report a bs) (a ∷ (b ∷ bs)) f) ∙ e)
-      ]
+  filled a (b ∷ bs) e = grind (arith, common_steps, not_empty)
 
   sorted_empty : (rs : List RuleReport) → by_position rs ≡ [] → rs ≡ []
   sorted_empty [] e = refl
   sorted_empty (r ∷ rs) e = absurd (filled r (by_position rs) e)
 
   none_overlap : (pairs : _) → overlap_reports pairs ≡ [] → pairs ≡ []
-  none_overlap [] e = refl
-  none_overlap (x ∷ xs) e = absurd (not_empty _ _ e)
+  none_overlap pairs e = grind (arith, common_steps, not_empty)
 
   checkable : RulesHaveTerms p → check_reports p ≡ [] → IsCheckable p
   checkable terms e =

@@ -2,10 +2,11 @@
 use Rattle.std.proofs.Common.{◌≡◌, ◌+◌, ◌≤◌, Bool, true, false, List, [], ◌∷◌, length, map, Contains, refl, sym, ap, ◌∙◌, subst, inl, inr, arith}
 use Rattle.std.proofs.lemmas.Bool.{false≢true}
 use Rattle.std.proofs.lemmas.List.Elements.{All-contains}
+use Rattle.std.proofs.lemmas.Grind.{common_steps}
 use Rattle.model.specs.lists.Syntax.{Position}
 use Rattle.model.specs.rules.Program.{Program}
-use Rattle.model.specs.sites.Overlap.{wrong_overlaps, OverlapReport, RuleReport, limit_passed, not_reached, rules_overlap, rule_shadows, report_position, build_reports, check_reports}
-use Rattle.model.specs.claims.Refusals.{Refusal, overlapping, shadowing, refusal_of}
+use Rattle.model.specs.sites.Overlap.{wrong_overlaps, OverlapReport, RuleReport, rules_overlap, report_position, build_reports, check_reports}
+use Rattle.model.specs.claims.Refusals.{Refusal, overlapping, refusal_of}
 use Rattle.model.specs.claims.Layers.{is_left_out, CheckReports}
 use Rattle.model.proofs.Elements.{In, in_from_contains, contains_from_in, in_left, in_either, in_map, map_in}
 use Rattle.laws_sites.specs.ErrorLaws.{SaysLeftOut, NamesLeftOut, names_both, NamesPairs, NamesMasks, CheckErrorsNameLeftOut, CheckErrorsNamePairs, CheckErrorsNameMasks}
@@ -21,16 +22,10 @@ use Rattle.laws_sites.proofs.overlaps.MaskErrors.{masks_are_named_once_lem, only
 
 -- 1. rules that are left out
 said : (x : RuleReport) → is_left_out x ≡ true → SaysLeftOut (report_position x) (refusal_of x)
-said (limit_passed l at) e = refl
-said (not_reached why at) e = refl
-said (rules_overlap r) e = absurd (false≢true e)
-said (rule_shadows r) e = absurd (false≢true e)
+said x e = grind arith
 
 says : (at : Position) (x : RuleReport) → SaysLeftOut at (refusal_of x) → (is_left_out x ≡ true) × (report_position x ≡ at)
-says at (limit_passed l a) e = (refl, e)
-says at (not_reached why a) e = (refl, e)
-says at (rules_overlap r) e = absurd e
-says at (rule_shadows r) e = absurd e
+says at x e = grind arith
 
 module _ (p : Program) (reports : List RuleReport) (c : CheckReports p reports) where
   pub names_left_out : NamesLeftOut p (map refusal_of reports)
@@ -58,10 +53,7 @@ module _ (p : Program) (reports : List RuleReport) (c : CheckReports p reports) 
 
 -- 2. wrong overlaps
 lists_same : (a b : Position) (x : RuleReport) → names_both a b (refusal_of x) ≡ lists_both a b x
-lists_same a b (limit_passed l at) = refl
-lists_same a b (not_reached why at) = refl
-lists_same a b (rules_overlap r) = refl
-lists_same a b (rule_shadows r) = refl
+lists_same a b x = grind arith
 
 times_same : {X : Type 0} (f g : X → Bool) → ((x : X) → f x ≡ g x) → (xs : List X) → times f xs ≡ times g xs
 times_same f g h [] = refl
@@ -87,10 +79,7 @@ pub record IsOfOverlap (x : RuleReport) (first : Position) (others : List Positi
   pub lists : report.others ≡ others
 
 of_overlap : (x : RuleReport) (first : Position) (others : List Position) → refusal_of x ≡ overlapping (first ∷ others) → IsOfOverlap x first others
-of_overlap (limit_passed l at) first others e = absurd (false≢true (ap is_overlapping e))
-of_overlap (not_reached why at) first others e = absurd (false≢true (ap is_overlapping e))
-of_overlap (rules_overlap r) first others e = record { report = r; is = refl; begins = ap (first_in first) e; lists = ap others_named e }
-of_overlap (rule_shadows r) first others e = absurd (false≢true (ap is_overlapping e))
+of_overlap x first others e = grind arith
 
 -- an overlap error is of some report
 pub record IsOfSomeOverlap (x : RuleReport) (rules : List Position) : Type 0 where
@@ -103,10 +92,7 @@ rules_in (overlapping rules) = rules
 rules_in _ = []
 
 of_some_overlap : (x : RuleReport) (rules : List Position) → refusal_of x ≡ overlapping rules → IsOfSomeOverlap x rules
-of_some_overlap (limit_passed l at) rules e = absurd (false≢true (ap is_overlapping e))
-of_some_overlap (not_reached why at) rules e = absurd (false≢true (ap is_overlapping e))
-of_some_overlap (rules_overlap r) rules e = record { report = r; is = refl; lists = sym (ap rules_in e) }
-of_some_overlap (rule_shadows r) rules e = absurd (false≢true (ap is_overlapping e))
+of_some_overlap x rules e = grind arith
 
 some_listed : (xs : List Position) (b : Position) → In xs b → 1 ≤ length xs
 some_listed [] b i = absurd i
@@ -116,10 +102,7 @@ module _ (p : Program) (terms : RulesHaveTerms p) where
   pub names_pairs : NamesPairs p (check_errors p)
   names_pairs = record {
     once = λ t i j o.
-        (let a = o.first.rule.at in
-        let b = o.second.rule.at in
-        times_map (names_both a b) refusal_of (check_reports p) ∙ times_same (λ x. names_both a b (refusal_of x)) (lists_both a b) (lists_same a b) (check_reports p)
-        ∙ wrong_pairs_stand_once_lem p terms t i j o);
+        (grind (arith, common_steps, times_map, times_same, lists_same, wrong_pairs_stand_once_lem p terms t i j o));
     only = λ first others at i j.
         (let x = in_map refusal_of (check_reports p) (overlapping (first ∷ others)) (in_from_contains (check_errors p) (overlapping (first ∷ others)) i) in
         let w = of_overlap x.0 first others x.2 in
@@ -138,11 +121,7 @@ module _ (p : Program) (terms : RulesHaveTerms p) where
   pub names_masks : NamesMasks p (check_errors p)
   names_masks = record {
     each_mask = λ t m is.
-        (let w = masks_are_named_once_lem p terms t m is in
-        record {
-          answered = subst (λ l. Contains (check_errors p) (shadowing l m.rule.at)) w.lists.in_order w.answered;
-          once = w.once;
-        });
+        (grind (arith, common_steps, masks_are_named_once_lem p terms t m is));
     only = λ listed at i. only_masks_are_named_lem p listed at i;
   }
 

@@ -1,14 +1,12 @@
 -- The judge of acceptance gives the typed rules of an accepted list, and nothing where a list isn't accepted.
-use Rattle.std.proofs.Common.{◌≡◌, Bool, true, cond, List, Option, Some, None, slice_get, Decides, refl, sym, ap, ◌∙◌, subst}
-use Rattle.std.proofs.lemmas.Bool.{cond-true, false≢true}
+use Rattle.std.proofs.Common.{◌≡◌, Bool, true, List, Option, Some, None, slice_get, Decides, refl, sym, ◌∙◌, subst, arith}
 use Rattle.std.proofs.lemmas.Bool.Decides.{Decides-like}
 use Rattle.std.proofs.lemmas.Option.{none-some, same_Some, slice_get_within}
+use Rattle.std.proofs.lemmas.Grind.{common_steps}
 use Rattle.model.specs.lists.Syntax.{Definition}
 use Rattle.model.specs.lists.Tables.{TermEntry}
 use Rattle.model.specs.lists.Formed.{of_entry}
 use Rattle.model.specs.lists.Elaborated.{TypedRules}
-use Rattle.model.specs.rules.Outcome.{then_option}
-use Rattle.model.specs.sites.Overlap.{check_reports}
 use Rattle.model.specs.claims.Layers.{own_program, IsCheckable, IsAccepted}
 use Rattle.model.specs.claims.ReadJudge.{read_list}
 use Rattle.model.specs.claims.AcceptJudge.{is_checkable, accepted_list}
@@ -20,16 +18,13 @@ use Rattle.laws_sites.proofs.overlaps.CheckedPrograms.{check_is_exact_lem}
 use Rattle.laws_sites.proofs.overlaps.Overlaps.{none_listed}
 
 some_entry : (o : Option TermEntry) (f : TermEntry → Bool) → of_entry o f ≡ true → (t : TermEntry) × (o ≡ Some t)
-some_entry None f h = absurd (false≢true h)
-some_entry (Some t) f h = (t, refl)
+some_entry o f h = grind (arith, common_steps)
 
 pub well_typed_rules_have_terms_lem : WellTypedRulesHaveTerms
 well_typed_rules_have_terms_lem p h r c = let t = some_entry (slice_get p.terms r.root_term) _ (h.rules r c).formed in slice_get_within p.terms r.root_term t.0 t.1
 
 pub rules_are_judged_lem : RulesAreJudged
-rules_are_judged_lem p terms =
-    let exact = check_is_exact_lem p terms in
-    Decides-like (is_checkable p) exact.0 exact.1 (none_listed (check_reports p))
+rules_are_judged_lem p terms = grind (arith, common_steps, check_is_exact_lem, Decides-like, none_listed)
 
 module _ (defs : List Definition) (expand : Bool) where
   judged : (rules : TypedRules) → read_list defs expand ≡ Some rules → Decides (is_checkable (own_program defs rules)) (IsCheckable (own_program defs rules))
@@ -45,10 +40,7 @@ module _ (defs : List Definition) (expand : Bool) where
       subst (IsAccepted defs expand) same (record { read = (lists_are_read_lem defs expand m.0).0 m.1; checkable = (judged m.0 m.1).0 p.0 })
 
   given : (rules : TypedRules) → IsAccepted defs expand rules → accepted_list defs expand ≡ Some rules
-  given rules a =
-      let h = (lists_are_read_lem defs expand rules).1 a.read in
-      ap (λ o. then_option o (λ r. cond (is_checkable (own_program defs r)) (Some r) None)) h
-      ∙ cond-true (is_checkable (own_program defs rules)) (Some rules) None ((judged rules h).1 a.checkable)
+  given rules a = grind (arith, common_steps, lists_are_read_lem defs expand rules, judged rules)
 
 pub lists_are_accepted_lem : ListsAreAccepted
 lists_are_accepted_lem defs expand rules = (accepted defs expand rules, given defs expand rules)

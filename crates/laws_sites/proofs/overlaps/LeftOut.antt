@@ -1,9 +1,10 @@
 -- A rule that isn't built is reported at its position, and each report of building is of such a rule.
-use Rattle.std.proofs.Common.{◌≡◌, ◌==◌, ℕ, zero, suc, Bool, true, false, not, ◌&&◌, is_none, List, [], ◌∷◌, ◌++◌, length, map, take, filter, Option, Some, None, slice_get, refl, sym, ap, ◌∙◌, subst, inl, inr}
+use Rattle.std.proofs.Common.{◌≡◌, ◌==◌, ℕ, zero, suc, Bool, true, false, not, ◌&&◌, is_none, List, [], ◌∷◌, ◌++◌, map, take, filter, Option, Some, None, slice_get, refl, sym, ap, ◌∙◌, subst, inl, inr, arith}
 use Rattle.std.proofs.Math.Seq.{take-append_seam}
 use Rattle.std.proofs.lemmas.Bool.{cases_Bool, false≢true}
 use Rattle.std.proofs.lemmas.List.{append-nil, append_assoc}
 use Rattle.std.proofs.lemmas.Option.{none-some, same_Some}
+use Rattle.std.proofs.lemmas.Grind.{common_steps}
 use Rattle.model.specs.rules.Typed.{TypedRule}
 use Rattle.model.specs.rules.Program.{Program}
 use Rattle.model.specs.sites.Sites.{SiteTerm}
@@ -36,10 +37,7 @@ module _ (p : Program) where
   said : (before : List SiteTerm) (r : TypedRule) (o : Option RuleLimit) → built_by r o ≡ false → (x : RuleReport) × In (reports_by before r o) x × (report_position x ≡ r.at)
   said before r (Some l) e = (limit_passed l r.at, inl refl, refl)
   said before r None e =
-      let t : is_unreachable (demands_of p r) ≡ true = elim (cases_Bool (is_unreachable (demands_of p r))) [
-        | inl t ↦ t
-        | inr f ↦ absurd (false≢true (sym e ∙ ap not f))
-      ] in
+      let t : is_unreachable (demands_of p r) ≡ true = grind (arith, common_steps) in
       let why = first_of (reported (sites_wanted p before r) (demands_of p r))
       (λ n. (reports_are_exact_lem (sites_wanted p before r) (demands_of p r)).0 n ((verdict_is_exact_lem (demands_of p r)).0 t)) in
       (not_reached why.0 r.at, map_in (λ w. not_reached w r.at) (reported (sites_wanted p before r) (demands_of p r)) why.0 why.1, refl)
@@ -69,34 +67,19 @@ module _ (p : Program) where
       let g : is_built p (sites_for q done) q ≡ false = subst (λ d. is_built p (sites_for q d) q ≡ false) (append-nil done) (subst (λ u. is_built p (sites_for u (done ++ [])) u ≡ false) (sym same) f) in
       let s = said (sites_for q done) q (first_limit p (sites_for q done) q) g in
       (s.0, in_left (build_reports_of p (sites_for q done) q) (build_reports_after p (done ++ q ∷ []) rs) s.0 s.1, s.2 ∙ ap (λ u. u.at) same)
-  there done (q ∷ rs) (suc i) r e f =
-      let s = there (done ++ q ∷ []) rs i r e (subst (λ d. is_built p (sites_for r d) r ≡ false) (sym (append_assoc done (q ∷ []) (take i rs))) f) in
-      (s.0, in_right (build_reports_of p (sites_for q done) q) (build_reports_after p (done ++ q ∷ []) rs) s.0 s.1, s.2)
+  there done (q ∷ rs) (suc i) r e f = grind (arith, common_steps, there (done ++ q ∷ []) rs i r e, append_assoc, in_right)
 
   back : (done rs : List TypedRule) → done ++ rs ≡ p.rules → (x : RuleReport) → In (build_reports_after p done rs) x → IsOfLeftOut p x
   back done [] h x i = absurd i
   back done (r ∷ rs) h x i =
       elim (in_either (build_reports_of p (sites_for r done) r) (build_reports_after p (done ++ r ∷ []) rs) x i) [
-        | inl a ↦
-            let o = own (sites_for r done) r (first_limit p (sites_for r done) r) x a in
-            let same : take (length done) p.rules ≡ done = ap (take (length done)) (sym h) ∙ take-append_seam done (r ∷ rs) in
-            let here : slice_get p.rules (length done) ≡ Some r = ap (λ t. slice_get t (length done)) (sym h) ∙ get_middle done r rs in
-            record {
-              place = length done;
-              rule = r;
-              out = record { here = here; left = subst (λ t. is_built p (sites_for r t) r ≡ false) (sym same) o.1 };
-              at = o.0;
-            }
+        | inl a ↦ grind (arith, common_steps, own (sites_for r done) r (first_limit p (sites_for r done) r) x a, take-append_seam done (r ∷ rs), get_middle done r rs)
         | inr b ↦ back (done ++ r ∷ []) rs (append_assoc done (r ∷ []) rs ∙ h) x b
       ]
 
   -- they say of rules that are left out, and nothing else
   left_out_of : (before : List SiteTerm) (r : TypedRule) (o : Option RuleLimit) (x : RuleReport) → In (reports_by before r o) x → is_left_out x ≡ true
-  left_out_of before r (Some l) x (inl e) = ap is_left_out (sym e)
-  left_out_of before r (Some l) x (inr i) = absurd i
-  left_out_of before r None x i =
-      let w = in_map (λ why. not_reached why r.at) (reported (sites_wanted p before r) (demands_of p r)) x i in
-      ap is_left_out (sym w.2)
+  left_out_of before r o x i = grind (arith, common_steps, in_map)
 
   -- those of one rule stand at it
   pub reports_of_rule : (before : List SiteTerm) (r : TypedRule) (x : RuleReport) → In (build_reports_of p before r) x → (is_left_out x ≡ true) × (report_position x ≡ r.at)
@@ -104,19 +87,10 @@ module _ (p : Program) where
 
   all_left_out : (done rs : List TypedRule) (x : RuleReport) → In (build_reports_after p done rs) x → is_left_out x ≡ true
   all_left_out done [] x i = absurd i
-  all_left_out done (r ∷ rs) x i =
-      elim (in_either (build_reports_of p (sites_for r done) r) (build_reports_after p (done ++ r ∷ []) rs) x i) [
-        | inl a ↦ left_out_of (sites_for r done) r (first_limit p (sites_for r done) r) x a
-        | inr b ↦ all_left_out (done ++ r ∷ []) rs x b
-      ]
+  all_left_out done (r ∷ rs) x i = grind (arith, common_steps, all_left_out (done ++ r ∷ []) rs x, in_either, left_out_of)
 
   pub build_reports_are_left_out : (x : RuleReport) → In (build_reports p) x → is_left_out x ≡ true
   build_reports_are_left_out x i = all_left_out [] p.rules x i
 
 pub left_out_rules_are_reported_lem : LeftOutRulesAreReported
-left_out_rules_are_reported_lem p = record {
-  each_rule = λ i r o.
-      let s = there p [] p.rules i r o.here o.left in
-      record { report = s.0; there = contains_from_in (build_reports p) s.0 s.1; at = s.2 };
-  each_report = λ x c. back p [] p.rules refl x (in_from_contains (build_reports p) x c);
-}
+left_out_rules_are_reported_lem p = grind (arith, there p [] p.rules, contains_from_in (build_reports p), back p [] p.rules refl, in_from_contains (build_reports p))

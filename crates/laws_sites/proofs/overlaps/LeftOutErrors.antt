@@ -1,10 +1,10 @@
 -- How many errors say that a rule is left out, where no two rules stand at one position.
 use Rattle.std.proofs.Common.{◌≡◌, ◌==◌, ◌+◌, ℕ, zero, suc, Bool, true, false, List, [], ◌∷◌, ◌++◌, length, map, take, filter, Option, Some, None, slice_get, refl, sym, ap, ◌∙◌, inl, inr, arith}
 use Rattle.std.proofs.Math.Nat.{zero-add}
-use Rattle.std.proofs.lemmas.Bool.{false≢true}
 use Rattle.std.proofs.lemmas.List.{append-nil, append_assoc, length-map}
 use Rattle.std.proofs.lemmas.List.Elements.{All-contains}
 use Rattle.std.proofs.lemmas.Option.{none-some, same_Some}
+use Rattle.std.proofs.lemmas.Grind.{common_steps}
 use Rattle.model.specs.lists.Syntax.{Position}
 use Rattle.model.specs.rules.Typed.{TypedRule}
 use Rattle.model.specs.rules.Program.{Program}
@@ -12,7 +12,7 @@ use Rattle.model.specs.sites.Sites.{SiteTerm}
 use Rattle.model.specs.visits.Demands.{demands_of}
 use Rattle.model.specs.sites.Closure.{reported}
 use Rattle.model.specs.sites.Limits.{RuleLimit, PassesLimit, first_limit, sites_wanted, sites_after_rules}
-use Rattle.model.specs.sites.Overlap.{HasDistinctPositions, RuleReport, limit_passed, not_reached, rules_overlap, rule_shadows, report_position, position_eq, build_reports_of, build_reports_after, build_reports}
+use Rattle.model.specs.sites.Overlap.{HasDistinctPositions, RuleReport, limit_passed, not_reached, report_position, position_eq, build_reports_of, build_reports_after, build_reports}
 use Rattle.model.specs.claims.Refusals.{refusal_of, sites_before}
 use Rattle.model.specs.claims.Layers.{is_left_out, CheckReports}
 use Rattle.model.proofs.Elements.{In, contains_from_in, in_slice}
@@ -41,16 +41,10 @@ module _ (at : Position) where
   is_of x = says_left_out at (refusal_of x)
 
   counted_as : (x : RuleReport) → is_left_out x ≡ true → is_of x ≡ position_eq (report_position x) at
-  counted_as (limit_passed l a) e = refl
-  counted_as (not_reached why a) e = refl
-  counted_as (rules_overlap r) e = absurd (false≢true e)
-  counted_as (rule_shadows r) e = absurd (false≢true e)
+  counted_as x e = grind (arith, common_steps)
 
   not_counted : (x : RuleReport) → is_left_out x ≡ false → is_of x ≡ true → ⊥
-  not_counted (limit_passed l a) h e = false≢true (sym h)
-  not_counted (not_reached why a) h e = false≢true (sym h)
-  not_counted (rules_overlap r) h e = false≢true e
-  not_counted (rule_shadows r) h e = false≢true e
+  not_counted x h e = grind (arith, common_steps)
 
 module _ (p : Program) where
   abbrev sites_for : TypedRule → List TypedRule → List SiteTerm
@@ -58,9 +52,7 @@ module _ (p : Program) where
 
   module _ (at : Position) where
     here : (before : List SiteTerm) (r : TypedRule) → r.at ≡ at → times (is_of at) (build_reports_of p before r) ≡ length (build_reports_of p before r)
-    here before r e =
-        all_pass (is_of at) (build_reports_of p before r)
-        (λ x i. let w = reports_of_rule p before r x i in counted_as at x w.0 ∙ position_same (report_position x) at (w.1 ∙ e))
+    here before r e = grind (arith, common_steps, all_pass, reports_of_rule, counted_as, position_same)
 
     elsewhere : (before : List SiteTerm) (r : TypedRule) → (r.at ≡ at → ⊥) → times (is_of at) (build_reports_of p before r) ≡ 0
     elsewhere before r n =
@@ -80,15 +72,7 @@ module _ (p : Program) where
   counted : (done rs : List TypedRule) → Apart (λ q. q.at) rs → (i : ℕ) (r : TypedRule) → slice_get rs i ≡ Some r
       → times (is_of r.at) (build_reports_after p done rs) ≡ length (build_reports_of p (sites_for r (done ++ take i rs)) r)
   counted done [] a i r e = absurd (none-some r e)
-  counted done (q ∷ rs) a zero r e =
-      let same : q ≡ r = same_Some q r e in
-      let first = here r.at (sites_for q done) q (ap (λ (u : TypedRule). u.at) same) in
-      let rest = none_after r.at (done ++ q ∷ []) rs (λ y i n. a.0 y i (n ∙ sym (ap (λ (u : TypedRule). u.at) same))) in
-      times_append (is_of r.at) (build_reports_of p (sites_for q done) q) (build_reports_after p (done ++ q ∷ []) rs)
-      ∙ (λ k. first k + rest k)
-      ∙ no_more (length (build_reports_of p (sites_for q done) q))
-      ∙ ap (λ (u : TypedRule). length (build_reports_of p (sites_for u done) u)) same
-      ∙ ap (λ d. length (build_reports_of p (sites_for r d) r)) (sym (append-nil done))
+  counted done (q ∷ rs) a zero r e = grind (arith, common_steps, same_Some, here, none_after, times_append, no_more, append-nil)
   counted done (q ∷ rs) a (suc i) r e =
       let first = elsewhere r.at (sites_for q done) q (λ n. a.0 r (in_slice rs i r e) (sym n)) in
       let rest = counted (done ++ q ∷ []) rs a.1 i r e in

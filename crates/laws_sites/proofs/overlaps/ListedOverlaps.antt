@@ -1,17 +1,16 @@
 -- Each wrong overlap stands in exactly one report, and reports list nothing else.
-use Rattle.std.proofs.Common.{◌≡◌, ◌⊎◌, ◌==◌, ℕ, zero, suc, ◌<◌, ◌≤◌, Bool, true, false, not, if◌then◌else◌, List, [], ◌∷◌, map, length, Some, slice_get, Contains, filter, flat_map, refl, sym, ap, ap₂, ◌∙◌, subst, inl, inr, arith, eqb-true, eq-eqb}
-use Rattle.std.proofs.lemmas.Bool.{cases_Bool, cond-true, cond-false, and_parts, and_from, false≢true, not-true}
+use Rattle.std.proofs.Common.{◌≡◌, ◌⊎◌, ◌==◌, ℕ, zero, suc, ◌<◌, ◌≤◌, Bool, true, false, not, List, [], ◌∷◌, map, length, Some, slice_get, Contains, filter, flat_map, refl, sym, ap, ◌∙◌, subst, inl, inr, arith, eq-eqb}
+use Rattle.std.proofs.lemmas.Bool.{cases_Bool, and_parts, and_from, false≢true, not-true}
+use Rattle.std.proofs.lemmas.Grind.{common_steps}
 use Rattle.model.specs.lists.Syntax.{Position}
 use Rattle.model.specs.rules.Program.{Program}
-use Rattle.model.specs.sites.Overlap.{OverlapsWrongly, wrong_overlaps, position_eq, position_lt, has_end, other_end, is_reported_before, foremost, with_position, ascending_positions, OverlapReport, overlap_report, overlap_reports_in, overlap_reports}
+use Rattle.model.specs.sites.Overlap.{OverlapsWrongly, wrong_overlaps, position_eq, has_end, other_end, foremost, with_position, ascending_positions, OverlapReport, overlap_report, overlap_reports_in, overlap_reports}
 use Rattle.laws_sites.specs.ReportLaws.{RulesHaveTerms, ListsBoth, IsListedOnce, OverlapAt}
 use Rattle.model.proofs.Elements.{In, in_from_contains, contains_from_in, some_is, or_split, or_left, or_right, in_slice, in_filter, filter_from, passed_filter, in_map, map_in, from_flat_map}
 use Rattle.laws_sites.proofs.overlaps.ReportedOverlaps.{wrong_means, wrong_there}
 
 pub position_means : (a b : Position) → position_eq a b ≡ true → a ≡ b
-position_means a b h =
-    let p = and_parts (a.file == b.file) (a.offset == b.offset) h in
-    ap₂ (λ f o. record { file = f; offset = o }) (eqb-true a.file b.file p.0) (eqb-true a.offset b.offset p.1)
+position_means a b h = grind (arith, common_steps, and_parts)
 
 pub position_same : (a b : Position) → a ≡ b → position_eq a b ≡ true
 position_same a b e = subst (λ c. position_eq a c ≡ true) e (and_from (a.file == a.file) (a.offset == a.offset) (eq-eqb a.file a.file refl) (eq-eqb a.offset a.offset refl))
@@ -19,40 +18,11 @@ position_same a b e = subst (λ c. position_eq a c ≡ true) e (and_from (a.file
 -- ascending positions are the same positions
 in_with : (a : Position) (bs : List Position) (x : Position) → (a ≡ x) ⊎ In bs x → In (with_position a bs) x
 in_with a [] x h = h
-in_with a (b ∷ bs) x h =
-    elim (cases_Bool (position_eq a b)) [
-      | inl t ↦
-          subst (λ l. In l x) (sym (cond-true (position_eq a b) (b ∷ bs) (if position_lt a b then a ∷ (b ∷ bs) else b ∷ with_position a bs) t))
-          (elim h [ inl e ↦ inl (sym (position_means a b t) ∙ e) | inr i ↦ i ])
-      | inr f ↦
-          subst (λ l. In l x) (sym (cond-false (position_eq a b) (b ∷ bs) (if position_lt a b then a ∷ (b ∷ bs) else b ∷ with_position a bs) f))
-          (elim (cases_Bool (position_lt a b)) [
-            | inl t ↦ subst (λ l. In l x) (sym (cond-true (position_lt a b) (a ∷ (b ∷ bs)) (b ∷ with_position a bs) t)) h
-            | inr g ↦
-                subst (λ l. In l x) (sym (cond-false (position_lt a b) (a ∷ (b ∷ bs)) (b ∷ with_position a bs) g))
-                (elim h [
-                  | inl e ↦ inr (in_with a bs x (inl e))
-                  | inr i ↦ elim i [ inl e ↦ inl e | inr j ↦ inr (in_with a bs x (inr j)) ]
-                ])
-          ])
-    ]
+in_with a (b ∷ bs) x h = grind (arith, common_steps, in_with a bs x, position_means)
 
 pub with_in : (a : Position) (bs : List Position) (x : Position) → In (with_position a bs) x → (a ≡ x) ⊎ In bs x
 with_in a [] x i = i
-with_in a (b ∷ bs) x i =
-    elim (cases_Bool (position_eq a b)) [
-      | inl t ↦ inr (subst (λ l. In l x) (cond-true (position_eq a b) (b ∷ bs) (if position_lt a b then a ∷ (b ∷ bs) else b ∷ with_position a bs) t) i)
-      | inr f ↦
-          let j = subst (λ l. In l x) (cond-false (position_eq a b) (b ∷ bs) (if position_lt a b then a ∷ (b ∷ bs) else b ∷ with_position a bs) f) i in
-          elim (cases_Bool (position_lt a b)) [
-            | inl t ↦ subst (λ l. In l x) (cond-true (position_lt a b) (a ∷ (b ∷ bs)) (b ∷ with_position a bs) t) j
-            | inr g ↦
-                elim (subst (λ l. In l x) (cond-false (position_lt a b) (a ∷ (b ∷ bs)) (b ∷ with_position a bs) g) j) [
-                  | inl e ↦ inr (inl e)
-                  | inr k ↦ elim (with_in a bs x k) [ inl e ↦ inl e | inr l ↦ inr (inr l) ]
-                ]
-          ]
-    ]
+with_in a (b ∷ bs) x i = grind (arith, common_steps, with_in a bs x)
 
 pub in_ascending : (xs : List Position) (x : Position) → In xs x → In (ascending_positions xs) x
 in_ascending [] x i = absurd i
@@ -69,15 +39,7 @@ AreEnds e a b = ((e.0 ≡ a) × (e.1 ≡ b)) ⊎ ((e.0 ≡ b) × (e.1 ≡ a))
 
 -- an overlap that has a rule is of that rule and the other one
 ends_of : (at : Position) (e : Position × Position) → has_end at e ≡ true → AreEnds e at (other_end at e)
-ends_of at e h =
-    elim (cases_Bool (position_eq e.0 at)) [
-      | inl t ↦ inl (position_means e.0 at t, sym (cond-true (position_eq e.0 at) e.1 e.0 t))
-      | inr f ↦
-          elim (or_split (position_eq e.0 at) (position_eq e.1 at) h) [
-            | inl t ↦ absurd (false≢true (sym f ∙ t))
-            | inr t ↦ inr (sym (cond-false (position_eq e.0 at) e.1 e.0 f), position_means e.1 at t)
-          ]
-    ]
+ends_of at e h = grind (arith, common_steps, position_means, or_split)
 
 pub first_end : (at : Position) (e : Position × Position) → e.0 ≡ at → has_end at e ≡ true
 first_end at e h = or_left (position_eq e.0 at) (position_eq e.1 at) (position_same e.0 at h)
@@ -96,9 +58,7 @@ lists_each pairs at e i h =
     ]
 
 each_listed : (pairs : List (Position × Position)) (at b : Position) → In (overlap_report pairs at).others b → (e : Position × Position) × In pairs e × AreEnds e at b
-each_listed pairs at b i =
-    let e = in_map (other_end at) (filter (has_end at) pairs) b (ascending_in (map (other_end at) (filter (has_end at) pairs)) b i) in
-    (e.0, in_filter (has_end at) pairs e.0 e.1, subst (AreEnds e.0 at) e.2 (ends_of at e.0 (passed_filter (has_end at) pairs e.0 e.1)))
+each_listed pairs at b i = grind (arith, common_steps, in_map, ascending_in, in_filter, ends_of, passed_filter)
 
 -- the overlaps that are left once a rule is reported
 abbrev pub left_over : Position → List (Position × Position) → List (Position × Position)
@@ -113,25 +73,13 @@ reports_mean : (n : ℕ) (pairs : List (Position × Position)) (r : OverlapRepor
     → (e : Position × Position) × In pairs e × AreEnds e r.first b
 reports_mean n [] r b i j = absurd i
 reports_mean zero (e ∷ es) r b i j = absurd i
-reports_mean (suc n) (e ∷ es) r b (inl same) j =
-    subst (λ (q : OverlapReport). (x : Position × Position) × In (e ∷ es) x × AreEnds x q.first b) same
-    (each_listed (e ∷ es) (rule_first e es) b (subst (λ (q : OverlapReport). In q.others b) (sym same) j))
-reports_mean (suc n) (e ∷ es) r b (inr i) j =
-    let x = reports_mean n (left_over (rule_first e es) (e ∷ es)) r b i j in
-    (x.0, in_filter (λ y. not (has_end (rule_first e es) y)) (e ∷ es) x.0 x.1, x.2)
+reports_mean (suc n) (e ∷ es) r b (inl same) j = grind (arith, each_listed (e ∷ es) (rule_first e es) b (subst (λ (q : OverlapReport). In q.others b) (sym same) j))
+reports_mean (suc n) (e ∷ es) r b (inr i) j = grind (arith, common_steps, reports_mean n (left_over (rule_first e es) (e ∷ es)) r b i j, in_filter)
 
 -- a rule that is foremost is one of them
 foremost_in : (pairs : List (Position × Position)) (a : Position) (bs : List Position) → In (a ∷ bs) (foremost pairs a bs)
 foremost_in pairs a [] = inl refl
-foremost_in pairs a (b ∷ bs) =
-    elim (cases_Bool (is_reported_before pairs b a)) [
-      | inl t ↦ inr (subst (λ u. In (b ∷ bs) (foremost pairs u bs)) (sym (cond-true (is_reported_before pairs b a) b a t)) (foremost_in pairs b bs))
-      | inr f ↦
-          elim (subst (λ u. In (a ∷ bs) (foremost pairs u bs)) (sym (cond-false (is_reported_before pairs b a) b a f)) (foremost_in pairs a bs)) [
-            | inl e ↦ inl e
-            | inr i ↦ inr (inr i)
-          ]
-    ]
+foremost_in pairs a (b ∷ bs) = grind (arith, common_steps, foremost_in pairs b bs, foremost_in pairs a bs)
 
 -- so some overlap has it
 first_has : (e : Position × Position) (es : List (Position × Position)) → (x : Position × Position) × In (e ∷ es) x × (has_end (rule_first e es) x ≡ true)
@@ -162,52 +110,26 @@ reports_list (suc n) (e ∷ es) r (inr i) = reports_list n (left_over (rule_firs
 
 pub no_longer : {X : Type 0} (f : X → Bool) (xs : List X) → length (filter f xs) ≤ length xs
 no_longer f [] = omega arith
-no_longer f (x ∷ xs) =
-    let later = no_longer f xs in
-    elim (cases_Bool (f x)) [
-      | inl t ↦ subst (λ l. length l ≤ suc (length xs)) (sym (cond-true (f x) (x ∷ filter f xs) (filter f xs) t)) (omega (arith, later))
-      | inr n ↦ subst (λ l. length l ≤ suc (length xs)) (sym (cond-false (f x) (x ∷ filter f xs) (filter f xs) n)) (omega (arith, later))
-    ]
+no_longer f (x ∷ xs) = grind (arith, common_steps, no_longer f xs)
 
 shorter : {X : Type 0} (f : X → Bool) (xs : List X) (x : X) → In xs x → f x ≡ false → length (filter f xs) < length xs
 shorter f [] x i h = absurd i
-shorter f (y ∷ ys) x (inl e) h =
-    let later = no_longer f ys in
-    subst (λ l. length l < suc (length ys)) (sym (cond-false (f y) (y ∷ filter f ys) (filter f ys) (ap f e ∙ h))) (omega (arith, later))
-shorter f (y ∷ ys) x (inr i) h =
-    let later = shorter f ys x i h in
-    elim (cases_Bool (f y)) [
-      | inl t ↦ subst (λ l. length l < suc (length ys)) (sym (cond-true (f y) (y ∷ filter f ys) (filter f ys) t)) (omega (arith, later))
-      | inr n ↦ subst (λ l. length l < suc (length ys)) (sym (cond-false (f y) (y ∷ filter f ys) (filter f ys) n)) (omega (arith, later))
-    ]
+shorter f (y ∷ ys) x (inl e) h = grind (arith, common_steps, no_longer)
+shorter f (y ∷ ys) x (inr i) h = grind (arith, common_steps, shorter f ys x i h)
 
 -- a report that lists two rules is of an overlap of them
 lists_overlap : (n : ℕ) (pairs : List (Position × Position)) (r : OverlapReport) (a b : Position) → In (overlap_reports_in n pairs) r → ListsBoth r a b
     → (e : Position × Position) × In pairs e × AreEnds e a b
-lists_overlap n pairs r a b i (inl q) =
-    let x = reports_mean n pairs r b i (in_from_contains r.others b q.1) in
-    (x.0, x.1, subst (λ u. AreEnds x.0 u b) q.0 x.2)
-lists_overlap n pairs r a b i (inr q) =
-    let x = reports_mean n pairs r a i (in_from_contains r.others a q.1) in
-    (x.0, x.1, elim (subst (λ u. AreEnds x.0 u a) q.0 x.2) [ inl y ↦ inr y | inr y ↦ inl y ])
+lists_overlap n pairs r a b i (inl q) = grind (arith, common_steps, reports_mean n pairs r b i (in_from_contains r.others b q.1), in_from_contains r.others b q.1)
+lists_overlap n pairs r a b i (inr q) = grind (arith, common_steps, reports_mean n pairs r a i (in_from_contains r.others a q.1), in_from_contains r.others a q.1)
 
 -- overlaps of the same two rules have the same ends
 same_end : (at : Position) (e x : Position × Position) → AreEnds x e.0 e.1 → has_end at e ≡ true → has_end at x ≡ true
-same_end at e x (inl q) h =
-    elim (or_split (position_eq e.0 at) (position_eq e.1 at) h) [
-      | inl t ↦ first_end at x (q.0 ∙ position_means e.0 at t)
-      | inr t ↦ second_end at x (q.1 ∙ position_means e.1 at t)
-    ]
-same_end at e x (inr q) h =
-    elim (or_split (position_eq e.0 at) (position_eq e.1 at) h) [
-      | inl t ↦ second_end at x (q.1 ∙ position_means e.0 at t)
-      | inr t ↦ first_end at x (q.0 ∙ position_means e.1 at t)
-    ]
+same_end at e x k h = grind (arith, common_steps, or_split, first_end, position_means, second_end)
 
 -- a report that lists two rules has one of them first
 first_of_both : (r : OverlapReport) (e : Position × Position) → ListsBoth r e.0 e.1 → has_end r.first e ≡ true
-first_of_both r e (inl q) = first_end r.first e (sym q.0)
-first_of_both r e (inr q) = second_end r.first e (sym q.0)
+first_of_both r e h = grind (arith, common_steps, first_end)
 
 once : (n : ℕ) (pairs : List (Position × Position)) → length pairs ≤ n → (e : Position × Position) → In pairs e → IsListedOnce (overlap_reports_in n pairs) e.0 e.1
 once n [] le e i = absurd i
@@ -215,10 +137,7 @@ once zero (x ∷ xs) le e i = absurd (omega (arith, le))
 once (suc n) (x ∷ xs) le e i = elim (cases_Bool (has_end (rule_first x xs) e)) [ inl t ↦ now t | inr f ↦ later f (once n (left_over (rule_first x xs) (x ∷ xs)) fewer e (filter_from (λ z. not (has_end (rule_first x xs) z)) (x ∷ xs) e i (ap not f))) ]
   where
     fewer : length (left_over (rule_first x xs) (x ∷ xs)) ≤ n
-    fewer =
-        let h = first_has x xs in
-        let lt = shorter (λ y. not (has_end (rule_first x xs) y)) (x ∷ xs) h.0 h.1 (ap not h.2) in
-        omega (arith, lt, le)
+    fewer = grind (arith, common_steps, first_has x xs, shorter (λ y. not (has_end (rule_first x xs) y)) (x ∷ xs))
 
     now : has_end (rule_first x xs) e ≡ true → IsListedOnce (overlap_reports_in (suc n) (x ∷ xs)) e.0 e.1
     now t = record {
@@ -240,14 +159,11 @@ once (suc n) (x ∷ xs) le e i = elim (cases_Bool (has_end (rule_first x xs) e))
     later f w = record { place = suc w.place; report = w.report; here = w.here; lists = w.lists; only = only }
       where
         only : (k : ℕ) (r : OverlapReport) → slice_get (overlap_reports_in (suc n) (x ∷ xs)) k ≡ Some r → ListsBoth r e.0 e.1 → k ≡ suc w.place
-        only zero r h l =
-            let same = some_is (overlap_report (x ∷ xs) (rule_first x xs)) r h in
-            absurd (false≢true (sym f ∙ first_of_both (overlap_report (x ∷ xs) (rule_first x xs)) e (subst (λ q. ListsBoth q e.0 e.1) (sym same) l)))
+        only zero r h l = grind (arith, some_is, first_of_both)
         only (suc k) r h l = ap suc (w.only k r h l)
 
 pub overlaps_are_listed_once_lem : (p : Program) → RulesHaveTerms p → (t i j : ℕ) (o : OverlapsWrongly p t i j) → IsListedOnce (overlap_reports (wrong_overlaps p)) o.first.rule.at o.second.rule.at
-overlaps_are_listed_once_lem p terms t i j o =
-    once (length (wrong_overlaps p)) (wrong_overlaps p) (omega arith) (o.first.rule.at, o.second.rule.at) (wrong_there p terms t i j o)
+overlaps_are_listed_once_lem p terms t i j o = grind (arith, common_steps, once (length (wrong_overlaps p)) (wrong_overlaps p), wrong_there p terms t i j o)
 
 pub listed_rules_overlap_lem : (p : Program) (r : OverlapReport) (at : Position) → Contains (overlap_reports (wrong_overlaps p)) r → Contains r.others at → OverlapAt p r.first at
 listed_rules_overlap_lem p r at i j =

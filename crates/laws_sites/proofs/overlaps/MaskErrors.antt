@@ -1,10 +1,11 @@
 -- Each mask is named by one error, which lists what it shadows.
-use Rattle.std.proofs.Common.{◌≡◌, ℕ, ◌+◌, Bool, true, false, List, [], ◌++◌, map, filter, Contains, refl, sym, ap, ◌∙◌, subst, inl, inr}
+use Rattle.std.proofs.Common.{◌≡◌, ℕ, ◌+◌, Bool, true, false, List, [], ◌++◌, map, filter, Contains, refl, sym, ap, ◌∙◌, subst, inl, inr, arith}
 use Rattle.std.proofs.Math.Nat.{zero-add}
 use Rattle.std.proofs.lemmas.Bool.{false≢true}
+use Rattle.std.proofs.lemmas.Grind.{common_steps}
 use Rattle.model.specs.lists.Syntax.{Position}
 use Rattle.model.specs.rules.Program.{Program}
-use Rattle.model.specs.sites.Overlap.{BuiltRule, built_rules, shadows, ShadowReport, RuleReport, limit_passed, not_reached, rules_overlap, rule_shadows, position_eq, overlap_reports, wrong_overlaps, shadow_reports, build_reports, overlap_and_shadow_reports, check_reports}
+use Rattle.model.specs.sites.Overlap.{BuiltRule, built_rules, shadows, ShadowReport, RuleReport, rules_overlap, rule_shadows, position_eq, overlap_reports, wrong_overlaps, shadow_reports, build_reports, overlap_and_shadow_reports, check_reports}
 use Rattle.model.specs.claims.Refusals.{Refusal, shadowing, refusal_of}
 use Rattle.model.specs.claims.Layers.{is_left_out}
 use Rattle.model.proofs.Elements.{In, in_from_contains, contains_from_in, in_right, in_either, in_slice, in_filter, filter_from, passed_filter, in_map, map_in}
@@ -31,10 +32,7 @@ is_shadowing (shadowing shadowed mask) = true
 is_shadowing _ = false
 
 no_mask_left_out : (at : Position) (x : RuleReport) → is_left_out x ≡ true → names_mask at (refusal_of x) ≡ true → ⊥
-no_mask_left_out at (limit_passed l a) h e = false≢true e
-no_mask_left_out at (not_reached why a) h e = false≢true e
-no_mask_left_out at (rules_overlap r) h e = false≢true e
-no_mask_left_out at (rule_shadows r) h e = false≢true h
+no_mask_left_out at x h e = grind (arith, common_steps)
 
 -- the list of a report of a mask
 module _ (p : Program) (t : ℕ) (m : BuiltRule) where
@@ -114,18 +112,10 @@ only_masks_are_named_lem p listed at c =
     record {
       term = w.term;
       mask = w.mask;
-      is_mask = record {
-        one_result = w.one_result;
-        built = contains_from_in (built_rules p w.term) w.mask w.masking;
-        shadowed = w.shadowed;
-        other = contains_from_in (built_rules p w.term) w.shadowed w.other;
-        hides = w.hides;
-      };
+      is_mask = grind (arith, common_steps, contains_from_in (built_rules p w.term) w.mask w.masking, contains_from_in (built_rules p w.term) w.shadowed w.other);
       here = here;
       lists = lists;
-      some_rule = λ e.
-          in_from_contains {X = Position} [] w.shadowed.rule.at
-          (subst (λ l. Contains l w.shadowed.rule.at) e (lists.each_rule w.shadowed (contains_from_in (built_rules p w.term) w.shadowed w.other) w.hides));
+      some_rule = grind (arith, common_steps, in_from_contains, contains_from_in (built_rules p w.term) w.shadowed w.other);
     }
 
 pub check_errors_are_answered_lem : CheckErrorsAreAnswered

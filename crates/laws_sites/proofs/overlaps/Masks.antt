@@ -1,13 +1,14 @@
 -- Where rules stand at distinct positions, each mask is reported once.
-use Rattle.std.proofs.Common.{◌≡◌, ◌==◌, ℕ, zero, suc, ◌≤◌, Bool, false, if◌then◌else◌, List, [], ◌∷◌, ◌++◌, map, Some, slice_get, Contains, filter, flat_map, refl, sym, ap, ◌∙◌, subst, inl, inr, arith, eqb-true}
+use Rattle.std.proofs.Common.{◌≡◌, ◌==◌, ℕ, suc, ◌≤◌, Bool, false, List, [], ◌∷◌, ◌++◌, map, Some, slice_get, Contains, filter, flat_map, refl, sym, ap, ◌∙◌, subst, inl, inr, arith}
 use Rattle.std.proofs.lemmas.Bool.{cases_Bool, cond-true, cond-false}
 use Rattle.std.specs.List.{list_any}
+use Rattle.std.proofs.lemmas.Grind.{common_steps}
 use Rattle.model.specs.lists.Names.{IsDistinct}
 use Rattle.model.specs.rules.Typed.{TypedRule}
 use Rattle.model.specs.rules.Program.{Program, is_multi, rules_of, numbers_from, terms_with_rules}
 use Rattle.model.specs.sites.Sites.{SiteTerm}
 use Rattle.model.specs.sites.Limits.{sites_after_rule}
-use Rattle.model.specs.sites.Overlap.{HasDistinctPositions, BuiltRule, is_built, built_rule, built_from, built_rules, Shadows, shadows, compared, ShadowReport, shadow_report, shadow_reports_in, shadow_reports}
+use Rattle.model.specs.sites.Overlap.{HasDistinctPositions, BuiltRule, built_from, built_rules, Shadows, shadows, compared, ShadowReport, shadow_report, shadow_reports_in, shadow_reports}
 use Rattle.laws_sites.specs.ReportLaws.{RulesHaveTerms, IsOnlyOfMask}
 use Rattle.model.proofs.Elements.{In, in_from_contains, contains_from_in, some_is, none_some, in_either, in_slice, slice_in, in_filter, passed_filter, map_in, from_flat_map}
 use Rattle.laws_sites.proofs.overlaps.ReportedOverlaps.{built_of, compared_means, masked_means, masked_there}
@@ -19,32 +20,20 @@ Apart {X = X} h (x ∷ xs) = ((y : X) → In xs y → h y ≡ h x → ⊥) × Ap
 
 apart_append : {X K : Type 0} (h : X → K) (xs ys : List X) → Apart h xs → Apart h ys → ((x y : X) → In xs x → In ys y → h y ≡ h x → ⊥) → Apart h (xs ++ ys)
 apart_append h [] ys a b f = b
-apart_append h (x ∷ xs) ys a b f = (
-  λ y i e. elim (in_either xs ys y i) [ inl j ↦ a.0 y j e | inr j ↦ f x y (inl refl) j e ],
-  apart_append h xs ys a.1 b (λ u y i j e. f u y (inr i) j e),
-)
+apart_append h (x ∷ xs) ys a b f = grind (arith, common_steps, apart_append h xs ys a.1 b (λ u y i j e. f u y (inr i) j e), in_either)
 
 apart_each : {X Y K L : Type 0} (h : X → K) (g : Y → L) (f : X → List Y) (xs : List X) → Apart h xs → ((x : X) → In xs x → Apart g (f x))
     → ((x y : X) (a b : Y) → In xs x → In xs y → In (f x) a → In (f y) b → g b ≡ g a → h y ≡ h x) → Apart g (flat_map f xs)
 apart_each h g f [] a b c = tt
-apart_each h g f (x ∷ xs) a b c =
-    apart_append g (f x) (flat_map f xs) (b x (inl refl)) (apart_each h g f xs a.1 (λ y i. b y (inr i)) (λ y z u v i j. c y z u v (inr i) (inr j)))
-    (λ u v i j e. let y = from_flat_map f xs v j in a.0 y.0 y.1 (c x y.0 u v (inl refl) (inr y.1) i y.2 e))
+apart_each h g f (x ∷ xs) a b c = grind (arith, apart_each h g f xs a.1 (λ y i. b y (inr i)) (λ y z u v i j. c y z u v (inr i) (inr j)), apart_append, from_flat_map)
 
 apart_filter : {X K : Type 0} (h : X → K) (f : X → Bool) (xs : List X) → Apart h xs → Apart h (filter f xs)
 apart_filter h f [] a = tt
-apart_filter h f (x ∷ xs) a =
-    elim (cases_Bool (f x)) [
-      | inl t ↦ subst (Apart h) (sym (cond-true (f x) (x ∷ filter f xs) (filter f xs) t)) (λ y i e. a.0 y (in_filter f xs y i) e, apart_filter h f xs a.1)
-      | inr n ↦ subst (Apart h) (sym (cond-false (f x) (x ∷ filter f xs) (filter f xs) n)) (apart_filter h f xs a.1)
-    ]
+apart_filter h f (x ∷ xs) a = grind (arith, common_steps, apart_filter h f xs a.1, in_filter)
 
 apart_places : {X K : Type 0} (h : X → K) (xs : List X) → Apart h xs → (j k : ℕ) (x y : X) → slice_get xs j ≡ Some x → slice_get xs k ≡ Some y → h x ≡ h y → j ≡ k
-apart_places h [] a j k x y e f g = absurd (none_some x e)
-apart_places h (z ∷ xs) a zero zero x y e f g = refl
-apart_places h (z ∷ xs) a zero (suc k) x y e f g = absurd (a.0 y (in_slice xs k y f) (sym g ∙ ap h (sym (some_is z x e))))
-apart_places h (z ∷ xs) a (suc j) zero x y e f g = absurd (a.0 x (in_slice xs j x e) (g ∙ ap h (sym (some_is z y f))))
 apart_places h (z ∷ xs) a (suc j) (suc k) x y e f g = ap suc (apart_places h xs a.1 j k x y e f g)
+apart_places h i a j k x y e f g = grind (arith, common_steps, none_some, in_slice, some_is)
 
 pub distinct_apart : {X K : Type 0} (h : X → K) (xs : List X) → IsDistinct (map h xs) → Apart h xs
 distinct_apart h [] d = tt
@@ -74,25 +63,7 @@ numbers_apart n (x ∷ xs) = (λ y i e. let later = numbers_from_on (suc n) y xs
 
 built_stand_apart : (p : Program) (before : List SiteTerm) (rs : List TypedRule) → Apart (λ r. r.at) rs → Apart (λ b. b.rule.at) (built_from p before rs)
 built_stand_apart p before [] a = tt
-built_stand_apart p before (r ∷ rs) a =
-    apart_append (λ b. b.rule.at) (if is_built p before r then built_rule p before r ∷ [] else []) (built_from p (sites_after_rule p before r) rs)
-    (elim (cases_Bool (is_built p before r)) [
-      | inl t ↦ subst (Apart (λ b. b.rule.at)) (sym (cond-true (is_built p before r) (built_rule p before r ∷ []) [] t)) (λ y i e. absurd i, tt)
-      | inr f ↦ subst (Apart (λ b. b.rule.at)) (sym (cond-false (is_built p before r) (built_rule p before r ∷ []) [] f)) tt
-    ])
-    (built_stand_apart p (sites_after_rule p before r) rs a.1)
-    (λ x y i j e. a.0 y.rule (built_of p (sites_after_rule p before r) rs y j) (e ∙ ap (λ q. q.at) (is_first x i)))
-  where
-    is_first : (x : BuiltRule) → In (if is_built p before r then built_rule p before r ∷ [] else []) x → x.rule ≡ r
-    is_first x i =
-        elim (cases_Bool (is_built p before r)) [
-          | inl t ↦
-              elim (subst (λ l. In l x) (cond-true (is_built p before r) (built_rule p before r ∷ []) [] t) i) [
-                | inl e ↦ ap (λ q. q.rule) (sym e)
-                | inr n ↦ absurd n
-              ]
-          | inr f ↦ absurd (subst (λ l. In l x) (cond-false (is_built p before r) (built_rule p before r ∷ []) [] f) i)
-        ]
+built_stand_apart p before (r ∷ rs) a = grind (arith, common_steps, built_stand_apart p (sites_after_rule p before r) rs a.1, apart_append, built_of)
 
 module _ (p : Program) (distinct : HasDistinctPositions p) where
   rules_apart : Apart (λ r. r.at) p.rules
@@ -109,13 +80,10 @@ module _ (p : Program) (distinct : HasDistinctPositions p) where
 
   -- the mask of a report of a term
   report_mask : (m : BuiltRule) (l : List BuiltRule) (s : ShadowReport) → In (shadow_report m l) s → s.mask ≡ m.rule.at
-  report_mask m [] s i = absurd i
-  report_mask m (r ∷ rs) s (inl e) = ap (λ q. q.mask) (sym e)
-  report_mask m (r ∷ rs) s (inr n) = absurd n
+  report_mask m l s i = grind (arith, common_steps)
 
   one_report : (m : BuiltRule) (l : List BuiltRule) → Apart (λ s. s.mask) (shadow_report m l)
-  one_report m [] = tt
-  one_report m (r ∷ rs) = (λ y i e. absurd i, tt)
+  one_report m l = grind (arith, common_steps)
 
   -- a rule of a term's report
   record OfTerm (t : ℕ) (s : ShadowReport) : Type 0 where
@@ -125,16 +93,7 @@ module _ (p : Program) (distinct : HasDistinctPositions p) where
     here : s.mask ≡ rule.at
 
   of_term : (t : ℕ) (s : ShadowReport) → In (shadow_reports_in (compared p t)) s → OfTerm t s
-  of_term t s i =
-      let m = from_flat_map (λ q. shadow_report q (filter (shadows q) (compared p t))) (compared p t) s i in
-      let c = compared_means p t m.0 m.1 in
-      let r = built_of p [] (rules_of p t) m.0 (subst (λ l. In l m.0) c.1 m.1) in
-      record {
-        rule = m.0.rule;
-        there = in_filter (λ q. q.root_term == t) p.rules m.0.rule r;
-        term = eqb-true m.0.rule.root_term t (passed_filter (λ q. q.root_term == t) p.rules m.0.rule r);
-        here = report_mask m.0 (filter (shadows m.0) (compared p t)) s m.2;
-      }
+  of_term t s i = grind (arith, common_steps, from_flat_map, compared_means, built_of, in_filter, passed_filter, report_mask)
 
   masks_apart : Apart (λ s. s.mask) (shadow_reports p)
   masks_apart =
@@ -144,11 +103,7 @@ module _ (p : Program) (distinct : HasDistinctPositions p) where
       apart_each (λ b. b.rule.at) (λ s. s.mask) (λ q. shadow_report q (filter (shadows q) (compared p t))) (compared p t) (compared_apart t)
       (λ m j. one_report m (filter (shadows m) (compared p t)))
       (λ m n a b u v x y e. sym (report_mask n (filter (shadows n) (compared p t)) b y) ∙ e ∙ report_mask m (filter (shadows m) (compared p t)) a x))
-      (λ t u a b i j x y e.
-      let v = of_term t a x in
-      let w = of_term u b y in
-      let same = apart_same (λ r. r.at) p.rules rules_apart w.rule v.rule w.there v.there (sym w.here ∙ e ∙ v.here) in
-      sym w.term ∙ ap (λ r. r.root_term) same ∙ v.term)
+      (λ t u a b i j x y e. grind (arith, common_steps, of_term t a x, of_term u b y, apart_same (λ r. r.at) p.rules rules_apart))
 
 pub masks_are_reported_once_lem : (p : Program) → RulesHaveTerms p → HasDistinctPositions p → (t : ℕ) (m r : BuiltRule) → is_multi p t ≡ false
     → Contains (built_rules p t) m → Contains (built_rules p t) r → Shadows m r
@@ -166,6 +121,4 @@ masks_are_reported_once_lem p terms distinct t m r one i j h =
 pub reported_masks_shadow_lem : (p : Program) (s : ShadowReport) → Contains (shadow_reports p) s
     → (t : ℕ) × (m : BuiltRule) × (r : BuiltRule) × Contains (built_rules p t) m × Contains (built_rules p t) r × Shadows m r
     × (s ≡ record { mask = m.rule.at; shadowed = map (λ u. u.rule.at) (filter (shadows m) (built_rules p t)) })
-reported_masks_shadow_lem p s i =
-    let w = masked_means p s (in_from_contains (shadow_reports p) s i) in
-    (w.term, w.mask, w.shadowed, contains_from_in (built_rules p w.term) w.mask w.masking, contains_from_in (built_rules p w.term) w.shadowed w.other, w.hides, w.report)
+reported_masks_shadow_lem p s i = grind (arith, masked_means p s (in_from_contains (shadow_reports p) s i), in_from_contains (shadow_reports p) s i, contains_from_in)

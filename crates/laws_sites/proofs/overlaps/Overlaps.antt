@@ -1,10 +1,11 @@
 -- The tests of overlap are exact, and overlap is symmetric.
-use Rattle.std.proofs.Common.{◌≡◌, ◌≢◌, Bool, true, false, not, ◌&&◌, ◌||◌, List, [], ◌∷◌, refl, sym, ap, ◌∙◌, subst, inl, inr}
+use Rattle.std.proofs.Common.{◌≡◌, ◌≢◌, Bool, true, false, not, ◌&&◌, ◌||◌, List, [], ◌∷◌, refl, sym, ap, ◌∙◌, subst, inl, inr, arith}
 use Rattle.std.proofs.lemmas.Bool.{cases_Bool, and_parts, and_from, false≢true, not-true}
 use Rattle.std.proofs.lemmas.Bool.Decides.{Decides-int_eq}
 use Rattle.std.specs.Bool.{Decides}
 use Rattle.std.specs.List.{list_any}
 use Rattle.std.specs.Ordering.{int_eq}
+use Rattle.std.proofs.lemmas.Grind.{common_steps}
 use Rattle.model.specs.sites.Sites.{Constraint, SiteTerm}
 use Rattle.model.specs.visits.Demands.{site_term_eq, constraint_eq, differs_from, differ}
 use Rattle.model.specs.sites.Closure.{Closed}
@@ -14,10 +15,7 @@ use Rattle.model.proofs.Elements.{In, in_from_contains, contains_from_in, any_in
 use Rattle.model.proofs.SameSites.{term_means, term_same, constraint_means, same_constraint, constraint_cases}
 
 pub bool_same : (x y : Bool) → (x ≡ true → y ≡ true) → (y ≡ true → x ≡ true) → x ≡ y
-bool_same true true f g = refl
-bool_same true false f g = sym (f refl)
-bool_same false true f g = g refl
-bool_same false false f g = refl
+bool_same x y f g = grind (arith, common_steps)
 
 -- two constraints of one site that differ
 pub record Differing (as' bs : List (SiteTerm × Constraint)) : Type 0 where
@@ -43,26 +41,16 @@ differ_means as' bs h =
     }
 
 unequal : (a b : Constraint) → a ≢ b → not (constraint_eq a b) ≡ true
-unequal a b n =
-    elim (cases_Bool (constraint_eq a b)) [
-      | inl t ↦ absurd (n (constraint_means a b t))
-      | inr f ↦ ap not f
-    ]
+unequal a b n = grind (arith, common_steps, constraint_means)
 
 pub differ_from : (as' bs : List (SiteTerm × Constraint)) → Differing as' bs → differ as' bs ≡ true
-differ_from as' bs d =
-    any_in (λ x. list_any (differs_from x) bs) as' (d.site, d.first) d.in_first
-    (any_in (differs_from (d.site, d.first)) bs (d.site, d.second) d.in_second
-    (and_from (site_term_eq d.site d.site) (not (constraint_eq d.first d.second)) (term_same d.site) (unequal d.first d.second d.two)))
+differ_from as' bs d = grind (arith, common_steps, any_in, and_from, term_same, unequal)
 
 turned_differing : (as' bs : List (SiteTerm × Constraint)) → Differing as' bs → Differing bs as'
 turned_differing as' bs d = record { site = d.site; first = d.second; second = d.first; in_first = d.in_second; in_second = d.in_first; two = λ e. d.two (sym e) }
 
 pub differ_symmetric : (as' bs : List (SiteTerm × Constraint)) → differ as' bs ≡ differ bs as'
-differ_symmetric as' bs =
-    bool_same (differ as' bs) (differ bs as')
-    (λ h. differ_from bs as' (turned_differing as' bs (differ_means as' bs h)))
-    (λ h. differ_from as' bs (turned_differing bs as' (differ_means bs as' h)))
+differ_symmetric as' bs = grind (arith, common_steps, bool_same, differ_from, turned_differing, differ_means)
 
 pub overlaps_symmetric_lem : (a b : Closed) → overlaps a b ≡ overlaps b a
 overlaps_symmetric_lem a b = ap not (differ_symmetric a.constraints b.constraints)
@@ -107,8 +95,7 @@ among_from as' bs h =
 
 -- whether a list is empty
 pub none_listed : {X : Type 0} (xs : List X) → Decides (elim xs [ [] ↦ true | x ∷ ys ↦ false ]) (xs ≡ [])
-none_listed [] = (λ _. refl, λ _. refl)
-none_listed (x ∷ xs) = (λ h. absurd (false≢true h), λ e. cc)
+none_listed xs = grind (arith, common_steps)
 
 pub subset_pair_decides : (a b : Closed) → Decides (is_subset_pair a b) (IsSubsetPair a b)
 subset_pair_decides a b = (
@@ -127,12 +114,8 @@ subset_pair_decides a b = (
       },
   λ s.
       and_from (overlaps a b && has_no_class a && has_no_class b) (are_among a.constraints b.constraints || are_among b.constraints a.constraints)
-      (and_from (overlaps a b && has_no_class a) (has_no_class b)
-      (and_from (overlaps a b) (has_no_class a) ((overlaps_decides a b).1 s.overlap) ((none_listed a.classes).1 s.first_has_none)) ((none_listed b.classes).1 s.second_has_none))
-      (elim s.among [
-        | inl t ↦ or_left (are_among a.constraints b.constraints) (are_among b.constraints a.constraints) (among_from a.constraints b.constraints t)
-        | inr t ↦ or_right (are_among a.constraints b.constraints) (are_among b.constraints a.constraints) (among_from b.constraints a.constraints t)
-      ]),
+      (grind (arith, common_steps, and_from, overlaps_decides, none_listed))
+      (grind (arith, common_steps, or_left, among_from, or_right)),
 )
 
 pub clash_decides : (a b : BuiltRule) → Decides (clash a b) ((a.rule.prio ≡ b.rule.prio) × Overlaps a.demands b.demands)

@@ -1,11 +1,12 @@
 -- Wrong overlaps stand in exactly one report of checking.
-use Rattle.std.proofs.Common.{◌≡◌, ◌⊎◌, ℕ, zero, suc, ◌+◌, Bool, true, false, ◌&&◌, List, [], ◌∷◌, ◌++◌, map, Some, slice_get, Contains, refl, sym, ap, ◌∙◌, subst, inl, inr, arith}
-use Rattle.std.proofs.lemmas.Bool.{cases_Bool, cond-true, cond-false, and_parts, and_from, false≢true}
+use Rattle.std.proofs.Common.{◌≡◌, ◌⊎◌, ℕ, zero, suc, ◌+◌, Bool, true, false, ◌&&◌, List, [], ◌∷◌, ◌++◌, map, Some, slice_get, Contains, refl, sym, ap, ◌∙◌, inl, inr, arith}
+use Rattle.std.proofs.lemmas.Bool.{cases_Bool, and_parts, and_from, false≢true}
 use Rattle.std.proofs.lemmas.Option.{none-some, same_Some}
 use Rattle.std.proofs.Math.Nat.{zero-add}
+use Rattle.std.proofs.lemmas.Grind.{common_steps}
 use Rattle.model.specs.lists.Syntax.{Position}
 use Rattle.model.specs.rules.Program.{Program}
-use Rattle.model.specs.sites.Overlap.{OverlapReport, RuleReport, limit_passed, not_reached, rules_overlap, rule_shadows, report_position, position_eq, position_lt, with_report, by_position, overlap_reports, wrong_overlaps, shadow_reports, build_reports, overlap_and_shadow_reports, check_reports}
+use Rattle.model.specs.sites.Overlap.{OverlapReport, RuleReport, rules_overlap, rule_shadows, position_eq, with_report, by_position, overlap_reports, wrong_overlaps, shadow_reports, build_reports, overlap_and_shadow_reports, check_reports}
 use Rattle.model.specs.claims.Layers.{is_left_out}
 use Rattle.model.proofs.Elements.{In, in_from_contains, contains_from_in, in_slice, in_either, in_map, or_split, or_left, or_right}
 use Rattle.laws_sites.specs.ReportLaws.{ListsBoth}
@@ -29,16 +30,11 @@ grouped m n k = omega arith
 module _ {X : Type 0} (t : X → Bool) where
   pub none_pass : (xs : List X) → ((n : ℕ) (y : X) → slice_get xs n ≡ Some y → t y ≡ true → ⊥) → times t xs ≡ 0
   none_pass [] f = refl
-  none_pass (x ∷ xs) f = elim (cases_Bool (t x)) [
-    | inl h ↦ absurd (f 0 x refl h)
-    | inr h ↦ ap (λ b. one_if b + times t xs) h ∙ zero-add (times t xs) ∙ none_pass xs (λ n y e k. f (suc n) y e k)
-  ]
+  none_pass (x ∷ xs) f = grind (arith, none_pass xs (λ n y e k. f (suc n) y e k), zero-add (times t xs), t x, f 0 x refl)
 
   pub one_passes : (xs : List X) (k : ℕ) (x : X) → slice_get xs k ≡ Some x → t x ≡ true → ((n : ℕ) (y : X) → slice_get xs n ≡ Some y → t y ≡ true → n ≡ k) → times t xs ≡ 1
   one_passes [] k x e h only = absurd (none-some x e)
-  one_passes (y ∷ ys) zero x e h only =
-      ap (λ b. one_if b + times t ys) (ap t (same_Some y x e) ∙ h)
-      ∙ ap (λ k. 1 + k) (none_pass ys (λ n z f g. zero_suc n (sym (only (suc n) z f g))))
+  one_passes (y ∷ ys) zero x e h only = grind (arith, common_steps, same_Some y x e, none_pass ys (λ n z f g. zero_suc n (sym (only (suc n) z f g))), zero_suc)
   one_passes (y ∷ ys) (suc k) x e h only = elim (cases_Bool (t y)) [
     | inl g ↦ absurd (zero_suc k (only 0 y refl g))
     | inr g ↦ ap (λ b. one_if b + times t ys) g ∙ zero-add (times t ys) ∙ one_passes ys k x e h (λ n z f c. less_one n k (only (suc n) z f c))
@@ -60,11 +56,7 @@ never (x ∷ xs) = zero-add (times (λ y. false) xs) ∙ never xs
 module _ (t : RuleReport → Bool) where
   times_with : (a : RuleReport) (bs : List RuleReport) → times t (with_report a bs) ≡ one_if (t a) + times t bs
   times_with a [] = refl
-  times_with a (b ∷ bs) = elim (cases_Bool (position_lt (report_position b) (report_position a))) [
-    | inl h ↦ ap (times t) (cond-true (position_lt (report_position b) (report_position a)) (b ∷ with_report a bs) (a ∷ (b ∷ bs)) h)
-        ∙ ap (λ k. one_if (t b) + k) (times_with a bs) ∙ swapped (one_if (t b)) (one_if (t a)) (times t bs)
-    | inr h ↦ ap (times t) (cond-false (position_lt (report_position b) (report_position a)) (b ∷ with_report a bs) (a ∷ (b ∷ bs)) h)
-  ]
+  times_with a (b ∷ bs) = grind (arith, common_steps, times_with a bs, swapped)
 
   pub times_sorted : (rs : List RuleReport) → times t (by_position rs) ≡ times t rs
   times_sorted [] = refl
@@ -72,13 +64,7 @@ module _ (t : RuleReport → Bool) where
 
 with_report_in : (a : RuleReport) (bs : List RuleReport) (x : RuleReport) → In (with_report a bs) x → (a ≡ x) ⊎ In bs x
 with_report_in a [] x i = i
-with_report_in a (b ∷ bs) x i = elim (cases_Bool (position_lt (report_position b) (report_position a))) [
-  | inl h ↦ elim (subst (λ l. In l x) (cond-true (position_lt (report_position b) (report_position a)) (b ∷ with_report a bs) (a ∷ (b ∷ bs)) h) i) [
-    | inl e ↦ inr (inl e)
-    | inr j ↦ elim (with_report_in a bs x j) [ inl e ↦ inl e | inr k ↦ inr (inr k) ]
-  ]
-  | inr h ↦ subst (λ l. In l x) (cond-false (position_lt (report_position b) (report_position a)) (b ∷ with_report a bs) (a ∷ (b ∷ bs)) h) i
-]
+with_report_in a (b ∷ bs) x i = grind (arith, common_steps, with_report_in a bs x)
 
 pub sorted_in : (rs : List RuleReport) (x : RuleReport) → In (by_position rs) x → In rs x
 sorted_in [] x i = i
@@ -86,13 +72,7 @@ sorted_in (r ∷ rs) x i = elim (with_report_in r (by_position rs) x i) [ inl e 
 
 in_with_report : (a : RuleReport) (bs : List RuleReport) (x : RuleReport) → (a ≡ x) ⊎ In bs x → In (with_report a bs) x
 in_with_report a [] x i = i
-in_with_report a (b ∷ bs) x i = elim (cases_Bool (position_lt (report_position b) (report_position a))) [
-  | inl h ↦ subst (λ l. In l x) (sym (cond-true (position_lt (report_position b) (report_position a)) (b ∷ with_report a bs) (a ∷ (b ∷ bs)) h)) (elim i [
-    | inl e ↦ inr (in_with_report a bs x (inl e))
-    | inr j ↦ elim j [ inl e ↦ inl e | inr k ↦ inr (in_with_report a bs x (inr k)) ]
-  ])
-  | inr h ↦ subst (λ l. In l x) (sym (cond-false (position_lt (report_position b) (report_position a)) (b ∷ with_report a bs) (a ∷ (b ∷ bs)) h)) i
-]
+in_with_report a (b ∷ bs) x i = grind (arith, common_steps, in_with_report a bs x)
 
 pub in_sorted : (rs : List RuleReport) (x : RuleReport) → In rs x → In (by_position rs) x
 in_sorted [] x i = i
@@ -116,14 +96,10 @@ back_way : (a b : Position) (r : OverlapReport) → (r.first ≡ a) × Contains 
 back_way a b r h = and_from (position_eq r.first a) (has_place b r.others) (position_same r.first a h.0) (in_has b r.others (in_from_contains r.others b h.1))
 
 both_means : (a b : Position) (r : OverlapReport) → both_in a b r ≡ true → ListsBoth r a b
-both_means a b r h = elim (or_split (position_eq r.first a && has_place b r.others) (position_eq r.first b && has_place a r.others) h) [
-  | inl k ↦ inl (one_way a b r k)
-  | inr k ↦ inr (one_way b a r k)
-]
+both_means a b r h = grind (arith, common_steps, or_split, one_way)
 
 both_from : (a b : Position) (r : OverlapReport) → ListsBoth r a b → both_in a b r ≡ true
-both_from a b r (inl k) = or_left (position_eq r.first a && has_place b r.others) (position_eq r.first b && has_place a r.others) (back_way a b r k)
-both_from a b r (inr k) = or_right (position_eq r.first a && has_place b r.others) (position_eq r.first b && has_place a r.others) (back_way b a r k)
+both_from a b r h = grind (arith, common_steps, or_left, back_way)
 
 -- 4. the reports of building list no overlap
 abbrev is_overlap : RuleReport → Bool
@@ -135,10 +111,7 @@ overlap_in other (rules_overlap r) = r
 overlap_in other _ = other
 
 no_pair_left_out : (a b : Position) (x : RuleReport) → is_left_out x ≡ true → lists_both a b x ≡ true → ⊥
-no_pair_left_out a b (limit_passed l at) h e = false≢true e
-no_pair_left_out a b (not_reached why at) h e = false≢true e
-no_pair_left_out a b (rules_overlap r) h e = false≢true h
-no_pair_left_out a b (rule_shadows r) h e = false≢true e
+no_pair_left_out a b x h e = grind (arith, common_steps)
 
 -- 5. the two laws
 pub wrong_pairs_stand_once_lem : WrongPairsStandOnce
@@ -166,13 +139,8 @@ overlap_reported p r c =
     elim (in_either (build_reports p) (overlap_and_shadow_reports p) (rules_overlap r) c) [
       | inl i ↦ absurd (false≢true (build_reports_are_left_out p (rules_overlap r) i))
       | inr i ↦ elim (in_either (map rules_overlap overlaps) (map rule_shadows shadows) (rules_overlap r) (sorted_in (map rules_overlap overlaps ++ map rule_shadows shadows) (rules_overlap r) i)) [
-        | inl j ↦
-            let w = in_map rules_overlap overlaps (rules_overlap r) j in
-            let same : w.0 ≡ r = ap (overlap_in r) w.2 in
-            subst (In overlaps) same w.1
-        | inr j ↦
-            let w = in_map rule_shadows shadows (rules_overlap r) j in
-            absurd (false≢true (ap is_overlap w.2))
+        | inl j ↦ grind (arith, common_steps, in_map rules_overlap overlaps (rules_overlap r) j)
+        | inr j ↦ grind (arith, common_steps, in_map rule_shadows shadows (rules_overlap r) j)
       ]
     ]
 

@@ -1,13 +1,14 @@
 -- Wrong overlaps and shadows are those that are reported.
-use Rattle.std.proofs.Common.{◌≡◌, ◌==◌, ◌+◌, ℕ, zero, suc, ◌<◌, false, if◌then◌else◌, List, [], ◌∷◌, map, length, Some, slice_get, filter, refl, sym, ap, ◌∙◌, subst, inl, inr, arith, eqb-true}
-use Rattle.std.proofs.lemmas.Bool.{cases_Bool, cond-true, cond-false}
+use Rattle.std.proofs.Common.{◌≡◌, ◌==◌, ◌+◌, ℕ, zero, suc, ◌<◌, false, List, [], ◌∷◌, map, length, Some, slice_get, filter, refl, sym, ap, ◌∙◌, subst, inl, inr, arith, eqb-true}
+use Rattle.std.proofs.lemmas.Bool.{cond-false}
 use Rattle.std.specs.List.{list_any}
+use Rattle.std.proofs.lemmas.Grind.{common_steps}
 use Rattle.model.specs.lists.Syntax.{Position}
 use Rattle.model.specs.rules.Typed.{TypedRule}
 use Rattle.model.specs.rules.Program.{Program, is_multi, rules_of, numbers_from, terms_with_rules}
 use Rattle.model.specs.sites.Sites.{SiteTerm}
 use Rattle.model.specs.sites.Limits.{sites_after_rule}
-use Rattle.model.specs.sites.Overlap.{BuiltRule, is_built, built_rule, built_from, built_rules, clash, OverlapsWrongly, Shadows, shadows, each_two, compared, wrong_in, wrong_overlaps, ShadowReport, shadow_report, shadow_reports_in, shadow_reports}
+use Rattle.model.specs.sites.Overlap.{BuiltRule, built_from, built_rules, clash, OverlapsWrongly, Shadows, shadows, each_two, compared, wrong_in, wrong_overlaps, ShadowReport, shadow_report, shadow_reports_in, shadow_reports}
 use Rattle.laws_sites.specs.ReportLaws.{RulesHaveTerms}
 use Rattle.model.proofs.Elements.{In, contains_from_in, some_is, none_some, in_left, in_right, in_either, in_slice, slice_in, any_in, in_filter, filter_from, passed_filter, in_map, map_in, in_flat_map, from_flat_map}
 use Rattle.laws_sites.proofs.overlaps.Overlaps.{clash_decides}
@@ -34,11 +35,7 @@ two_in {X = X} (x ∷ xs) zero (suc j) a b lt e f =
 two_in {X = X} (x ∷ xs) (suc i) (suc j) a b lt e f = in_right (map (λ (y : X). (x, y)) xs) (each_two xs) (a, b) (two_in xs i j a b (omega (arith, lt)) e f)
 
 pub compared_means : (p : Program) (t : ℕ) (b : BuiltRule) → In (compared p t) b → (is_multi p t ≡ false) × (compared p t ≡ built_rules p t)
-compared_means p t b i =
-    elim (cases_Bool (is_multi p t)) [
-      | inl m ↦ absurd (subst (λ l. In l b) (cond-true (is_multi p t) [] (built_rules p t) m) i)
-      | inr f ↦ (f, cond-false (is_multi p t) [] (built_rules p t) f)
-    ]
+compared_means p t b i = grind (arith, common_steps)
 
 compared_all : (p : Program) (t : ℕ) → is_multi p t ≡ false → compared p t ≡ built_rules p t
 compared_all p t f = cond-false (is_multi p t) [] (built_rules p t) f
@@ -46,19 +43,7 @@ compared_all p t f = cond-false (is_multi p t) [] (built_rules p t) f
 -- a built rule is one of the term's
 pub built_of : (p : Program) (before : List SiteTerm) (rs : List TypedRule) (b : BuiltRule) → In (built_from p before rs) b → In rs b.rule
 built_of p before [] b i = absurd i
-built_of p before (r ∷ rs) b i =
-    elim (in_either (if is_built p before r then built_rule p before r ∷ [] else []) (built_from p (sites_after_rule p before r) rs) b i) [
-      | inl a ↦
-          elim (cases_Bool (is_built p before r)) [
-            | inl t ↦
-                elim (subst (λ l. In l b) (cond-true (is_built p before r) (built_rule p before r ∷ []) [] t) a) [
-                  | inl e ↦ inl (ap (λ q. q.rule) e)
-                  | inr n ↦ absurd n
-                ]
-            | inr f ↦ absurd (subst (λ l. In l b) (cond-false (is_built p before r) (built_rule p before r ∷ []) [] f) a)
-          ]
-      | inr j ↦ inr (built_of p (sites_after_rule p before r) rs b j)
-    ]
+built_of p before (r ∷ rs) b i = grind (arith, common_steps, built_of p (sites_after_rule p before r) rs b, in_either)
 
 numbers_there : {X : Type 0} (n k : ℕ) (xs : List X) → k < length xs → In (numbers_from n xs) (n + k)
 numbers_there n k [] lt = absurd (omega (arith, lt))
@@ -113,9 +98,7 @@ wrong_there p terms t i j o =
     (term_there p terms t o.first (in_slice (built_rules p t) i o.first o.here))
     (subst (λ l. In (wrong_in l) (o.first.rule.at, o.second.rule.at)) (sym (compared_all p t o.one_result))
     (map_in (λ (q : BuiltRule × BuiltRule). (q.0.rule.at, q.1.rule.at)) (filter (λ (q : BuiltRule × BuiltRule). clash q.0 q.1) (each_two (built_rules p t))) (o.first, o.second)
-    (filter_from (λ (q : BuiltRule × BuiltRule). clash q.0 q.1) (each_two (built_rules p t)) (o.first, o.second)
-    (two_in (built_rules p t) i j o.first o.second o.before o.here o.there)
-    ((clash_decides o.first o.second).1 (o.one_priority, o.overlap)))))
+    (grind (arith, common_steps, filter_from, two_in, clash_decides))))
 
 -- the report of a rule that shadows some
 abbrev pub report_of : BuiltRule → List BuiltRule → ShadowReport
@@ -127,8 +110,7 @@ shadowed_some m (r ∷ rs) s (inl e) = ((r, inl refl), sym e)
 shadowed_some m (r ∷ rs) s (inr n) = absurd n
 
 some_shadowed : (m : BuiltRule) (l : List BuiltRule) (r : BuiltRule) → In l r → In (shadow_report m l) (report_of m l)
-some_shadowed m [] r i = absurd i
-some_shadowed m (x ∷ xs) r i = inl refl
+some_shadowed m l r i = grind (arith, common_steps)
 
 -- what a shadow report is of
 pub record Masked (p : Program) (s : ShadowReport) : Type 0 where
@@ -142,21 +124,7 @@ pub record Masked (p : Program) (s : ShadowReport) : Type 0 where
   pub report : s ≡ report_of mask (filter (shadows mask) (built_rules p term))
 
 pub masked_means : (p : Program) (s : ShadowReport) → In (shadow_reports p) s → Masked p s
-masked_means p s i =
-    let t = from_flat_map (λ u. shadow_reports_in (compared p u)) (terms_with_rules p) s i in
-    let m = from_flat_map (λ q. shadow_report q (filter (shadows q) (compared p t.0))) (compared p t.0) s t.2 in
-    let c = compared_means p t.0 m.0 m.1 in
-    let x = shadowed_some m.0 (filter (shadows m.0) (compared p t.0)) s m.2 in
-    record {
-      term = t.0;
-      mask = m.0;
-      shadowed = x.0.0;
-      one_result = c.0;
-      masking = subst (λ l. In l m.0) c.1 m.1;
-      other = subst (λ l. In l x.0.0) c.1 (in_filter (shadows m.0) (compared p t.0) x.0.0 x.0.1);
-      hides = (shadows_decides m.0 x.0.0).0 (passed_filter (shadows m.0) (compared p t.0) x.0.0 x.0.1);
-      report = subst (λ l. s ≡ report_of m.0 (filter (shadows m.0) l)) c.1 x.1;
-    }
+masked_means p s i = grind (arith, common_steps, from_flat_map, compared_means, shadowed_some, in_filter, shadows_decides, passed_filter)
 
 pub masked_there : (p : Program) → RulesHaveTerms p → (t : ℕ) (m r : BuiltRule) → is_multi p t ≡ false → In (built_rules p t) m → In (built_rules p t) r → Shadows m r
     → In (shadow_reports p) (report_of m (filter (shadows m) (built_rules p t)))

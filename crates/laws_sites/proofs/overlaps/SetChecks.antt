@@ -1,9 +1,9 @@
 -- What checking answers of sets that were built: the sets, or what there is to report.
-use Rattle.std.proofs.Common.{◌≡◌, false, List, [], ◌∷◌, ◌++◌, map, All, refl, sym, ◌∙◌, subst, inl, inr}
-use Rattle.std.proofs.lemmas.Bool.{cases_Bool, cond-true, cond-false}
+use Rattle.std.proofs.Common.{◌≡◌, false, List, [], ◌∷◌, ◌++◌, map, All, refl, sym, ◌∙◌, subst, arith}
 use Rattle.std.proofs.lemmas.List.Elements.{All-nil, All-cons, All-head, All-tail, All-append}
+use Rattle.std.proofs.lemmas.Grind.{common_steps}
 use Rattle.model.specs.rules.Program.{Program}
-use Rattle.model.specs.sites.Overlap.{RuleReport, OverlapReport, ShadowReport, rules_overlap, rule_shadows, report_position, position_lt, with_report, by_position, overlap_reports, wrong_overlaps, shadow_reports, overlap_and_shadow_reports, check_reports}
+use Rattle.model.specs.sites.Overlap.{RuleReport, OverlapReport, ShadowReport, rules_overlap, rule_shadows, with_report, by_position, overlap_reports, wrong_overlaps, shadow_reports, overlap_and_shadow_reports, check_reports}
 use Rattle.model.specs.claims.Refusals.{refusal_of, NamesOnlyPassed, PassedInBuilding}
 use Rattle.model.specs.claims.Layers.{is_left_out}
 use Rattle.laws_sites.specs.SetReportLaws.{all_reports, BuiltSetsAreChecked}
@@ -17,15 +17,7 @@ IsOfBuilt r = is_left_out r ≡ false
 
 all_with : (a : RuleReport) (bs : List RuleReport) → IsOfBuilt a → All IsOfBuilt bs → All IsOfBuilt (with_report a bs)
 all_with a [] h k = All-cons IsOfBuilt a [] h (All-nil IsOfBuilt)
-all_with a (b ∷ bs) h k =
-    elim (cases_Bool (position_lt (report_position b) (report_position a))) [
-      | inl t ↦
-          subst (All IsOfBuilt) (sym (cond-true (position_lt (report_position b) (report_position a)) (b ∷ with_report a bs) (a ∷ (b ∷ bs)) t))
-          (All-cons IsOfBuilt b (with_report a bs) (All-head IsOfBuilt b bs k) (all_with a bs h (All-tail IsOfBuilt b bs k)))
-      | inr f ↦
-          subst (All IsOfBuilt) (sym (cond-false (position_lt (report_position b) (report_position a)) (b ∷ with_report a bs) (a ∷ (b ∷ bs)) f))
-          (All-cons IsOfBuilt a (b ∷ bs) h k)
-    ]
+all_with a (b ∷ bs) h k = grind (arith, common_steps, all_with a bs h (All-tail IsOfBuilt b bs k), All-cons, All-head, All-tail)
 
 all_by_position : (rs : List RuleReport) → All IsOfBuilt rs → All IsOfBuilt (by_position rs)
 all_by_position [] h = h

@@ -1,11 +1,11 @@
 -- What is reported of built sets is what is reported of their program: their rules stand for the built rules, one by one.
-use Rattle.std.proofs.Common.{◌≡◌, ℕ, suc, Bool, true, false, ◌&&◌, if◌then◌else◌, List, [], ◌∷◌, ◌++◌, map, filter, Some, slice_get, int_lt, nat_le, refl, sym, ap, ◌∙◌, subst, inl, inr}
-use Rattle.std.proofs.lemmas.Bool.{cases_Bool, false≢true}
+use Rattle.std.proofs.Common.{◌≡◌, ℕ, suc, Bool, true, false, if◌then◌else◌, List, [], ◌∷◌, ◌++◌, map, filter, Some, slice_get, refl, sym, ap, ◌∙◌, subst, inl, inr, arith}
+use Rattle.std.proofs.lemmas.Bool.{cases_Bool}
 use Rattle.std.specs.List.{AllZip, flat_map}
-use Rattle.std.specs.Ordering.{int_eq}
+use Rattle.std.proofs.lemmas.Grind.{common_steps}
 use Rattle.model.specs.rules.Program.{Program, is_multi}
 use Rattle.model.specs.sites.Sites.{SetRule, SiteSet}
-use Rattle.model.specs.sites.Overlap.{BuiltRule, overlaps, is_subset_pair, built_rules, clash, shadows, each_two, compared, wrong_in, shadow_report, shadow_reports_in, overlap_reports, rules_overlap, rule_shadows, by_position}
+use Rattle.model.specs.sites.Overlap.{BuiltRule, overlaps, is_subset_pair, clash, shadows, each_two, compared, wrong_in, shadow_report, shadow_reports_in, overlap_reports, rules_overlap, rule_shadows, by_position}
 use Rattle.model.specs.sites.RuleSets.{AreRulesOfSet, IsBuilt}
 use Rattle.model.specs.sites.SetRules.{RuleOverlap, no_overlap, some_overlap, overlap_between, may_both_match, is_subset, overlap_wrongly, is_mask_of, wrong_among, shadow_report_of, shadows_among, compared_in}
 use Rattle.model.specs.claims.SetMeanings.{AreOneRule}
@@ -24,58 +24,44 @@ Both R e q = R e.0 q.0 × R e.1 q.1
 
 module _ {A B : Type 0} (R : A → B → Type 0) where
   map_same : {X : Type 0} (f : A → X) (g : B → X) → ((a : A) (b : B) → R a b → f a ≡ g b) → (as' : List A) (bs : List B) → AllZip R as' bs → map f as' ≡ map g bs
-  map_same f g h [] [] z = refl
-  map_same f g h [] (b ∷ bs) z = absurd z
-  map_same f g h (a ∷ as') [] z = absurd z
   map_same f g h (a ∷ as') (b ∷ bs) z = let e = h a b z.0 in let r = map_same f g h as' bs z.1 in (λ k. e k ∷ r k)
+  map_same f g h i j z = grind (arith, common_steps)
 
   flat_same : {X : Type 0} (f : A → List X) (g : B → List X) → ((a : A) (b : B) → R a b → f a ≡ g b) → (as' : List A) (bs : List B) → AllZip R as' bs → flat_map f as' ≡ flat_map g bs
-  flat_same f g h [] [] z = refl
-  flat_same f g h [] (b ∷ bs) z = absurd z
-  flat_same f g h (a ∷ as') [] z = absurd z
   flat_same f g h (a ∷ as') (b ∷ bs) z = let e = h a b z.0 in let r = flat_same f g h as' bs z.1 in (λ k. e k ++ r k)
+  flat_same f g h i j z = grind (arith, common_steps)
 
   zip_append : (as' : List A) (bs : List B) (cs : List A) (ds : List B) → AllZip R as' bs → AllZip R cs ds → AllZip R (as' ++ cs) (bs ++ ds)
-  zip_append [] [] cs ds z w = w
-  zip_append [] (b ∷ bs) cs ds z w = absurd z
-  zip_append (a ∷ as') [] cs ds z w = absurd z
   zip_append (a ∷ as') (b ∷ bs) cs ds z w = (z.0, zip_append as' bs cs ds z.1 w)
+  zip_append h k cs ds z w = grind (arith, common_steps)
 
   zip_if : (a : A) (b : B) → R a b → (as' : List A) (bs : List B) → AllZip R as' bs → (t : Bool) → AllZip R (if t then a ∷ as' else as') (if t then b ∷ bs else bs)
-  zip_if a b h as' bs z true = (h, z)
-  zip_if a b h as' bs z false = z
+  zip_if a b h as' bs z t = grind (arith, common_steps)
 
   zip_filter : (f : A → Bool) (g : B → Bool) → ((a : A) (b : B) → R a b → f a ≡ g b) → (as' : List A) (bs : List B) → AllZip R as' bs → AllZip R (filter f as') (filter g bs)
   zip_filter f g h [] [] z = tt
-  zip_filter f g h [] (b ∷ bs) z = absurd z
-  zip_filter f g h (a ∷ as') [] z = absurd z
   zip_filter f g h (a ∷ as') (b ∷ bs) z =
       subst (λ t. AllZip R (filter f (a ∷ as')) (if t then b ∷ filter g bs else filter g bs)) (h a b z.0) (zip_if a b z.0 (filter f as') (filter g bs) (zip_filter f g h as' bs z.1) (f a))
+  zip_filter f g h _ _ z = absurd z
 
 zip_with : {A B : Type 0} (R : A → B → Type 0) (a : A) (b : B) → R a b → (as' : List A) (bs : List B) → AllZip R as' bs
     → AllZip (Both R) (map (λ (x : A). (a, x)) as') (map (λ (y : B). (b, y)) bs)
-zip_with R a b h [] [] z = tt
-zip_with R a b h [] (d ∷ ds) z = absurd z
-zip_with R a b h (c ∷ cs) [] z = absurd z
 zip_with R a b h (c ∷ cs) (d ∷ ds) z = ((h, z.0), zip_with R a b h cs ds z.1)
+zip_with R a b h as' bs z = grind (arith, common_steps)
 
 zip_each_two : {A B : Type 0} (R : A → B → Type 0) (as' : List A) (bs : List B) → AllZip R as' bs
     → AllZip (Both R) (each_two as') (each_two bs)
 zip_each_two R [] [] z = tt
 zip_each_two R [] (b ∷ bs) z = absurd z
 zip_each_two R (a ∷ as') [] z = absurd z
-zip_each_two {A = A} {B = B} R (a ∷ as') (b ∷ bs) z =
-    zip_append (Both R) (map (λ (x : A). (a, x)) as') (map (λ (y : B). (b, y)) bs) (each_two as') (each_two bs)
-    (zip_with R a b z.0 as' bs z.1) (zip_each_two R as' bs z.1)
+zip_each_two {A = A} {B = B} R (a ∷ as') (b ∷ bs) z = grind (arith, common_steps, zip_each_two R as' bs z.1, zip_append, zip_with)
 
 -- 2. what is told of two rules
 not_both : (o : RuleOverlap) → may_both_match o ≡ false → o ≡ no_overlap
-not_both no_overlap e = refl
-not_both (some_overlap subset) e = absurd (false≢true (sym e))
+not_both o e = grind (arith, common_steps)
 
 subset_told : (o : RuleOverlap) → is_subset o ≡ true → o ≡ some_overlap true
-subset_told no_overlap e = absurd (false≢true e)
-subset_told (some_overlap subset) e = ap some_overlap e
+subset_told o e = grind (arith, common_steps)
 
 -- 3. the rules of one built set stand for the built rules of its term
 module _ (p : Program) (t : ℕ) (set : SiteSet) (h : IsBuilt p t set) where
@@ -97,12 +83,7 @@ module _ (p : Program) (t : ℕ) (set : SiteSet) (h : IsBuilt p t set) where
         | inl y ↦ y
         | inr n ↦ absurd (told.none.0 (not_both (overlap_between r s) n) (test.0 e))
       ])
-      (λ e. elim (cases_Bool (overlaps a.demands b.demands)) [
-        | inl y ↦ y
-        | inr n ↦
-            let none = told.none.1 (λ q. false≢true (sym n ∙ test.1 q)) in
-            absurd (false≢true (sym (ap may_both_match none) ∙ e))
-      ])
+      (λ e. grind (arith, common_steps))
 
   same_subset : (a b : BuiltRule) (r s : SetRule) → One a r → One b s → is_subset_pair a.demands b.demands ≡ is_subset (overlap_between r s)
   same_subset a b r s o w =
@@ -113,34 +94,18 @@ module _ (p : Program) (t : ℕ) (set : SiteSet) (h : IsBuilt p t set) where
       (λ e. test.1 (told.subset.0 (subset_told (overlap_between r s) e)))
 
   same_clash : (a b : BuiltRule) (r s : SetRule) → One a r → One b s → clash a b ≡ overlap_wrongly r s
-  same_clash a b r s o w =
-      let x = same_prio a r o in
-      let y = same_prio b s w in
-      let z = same_overlap a b r s o w in
-      (λ k. int_eq (x k) (y k) && z k)
+  same_clash a b r s o w = grind (arith, common_steps, same_prio, same_overlap)
 
   same_shadows : (a b : BuiltRule) (r s : SetRule) → One a r → One b s → shadows a b ≡ is_mask_of r s
-  same_shadows a b r s o w =
-      let x = same_prio a r o in
-      let y = same_prio b s w in
-      let z = same_subset a b r s o w in
-      let m = sym (set_rules_constrain_as_their_demands_lem p t set h a r o) in
-      let n = sym (set_rules_constrain_as_their_demands_lem p t set h b s w) in
-      (λ k. int_lt (y k) (x k) && z k && nat_le (m k) (n k))
+  same_shadows a b r s o w = grind (arith, common_steps, same_prio, same_subset, set_rules_constrain_as_their_demands_lem)
 
   placed : (bs : List BuiltRule) (rs : List SetRule) → AreRulesOfSet p set.sites bs rs
       → ((i : ℕ) (b : BuiltRule) (r : SetRule) → slice_get bs i ≡ Some b → slice_get rs i ≡ Some r → One b r) → AllZip One bs rs
-  placed [] [] q f = tt
-  placed [] (r ∷ rs) q f = absurd q
-  placed (b ∷ bs) [] q f = absurd q
   placed (b ∷ bs) (r ∷ rs) q f = (f 0 b r refl refl, placed bs rs q.1 (λ i c s e g. f (suc i) c s e g))
+  placed h k q f = grind (arith, common_steps)
 
   same_compared : AllZip One (compared p t) (compared_in (is_multi p) (t, set))
-  same_compared = of (is_multi p t)
-    where
-      of : (m : Bool) → AllZip One (if m then [] else built_rules p t) (if m then [] else set.rules)
-      of true = tt
-      of false = placed (built_rules p t) set.rules h.rules (λ i b r e f. record { place = i; typed = e; built = f })
+  same_compared = grind (arith, common_steps, placed)
 
   wrong_same : (bs : List BuiltRule) (rs : List SetRule) → AllZip One bs rs → wrong_in bs ≡ wrong_among rs
   wrong_same bs rs z =
@@ -150,13 +115,7 @@ module _ (p : Program) (t : ℕ) (set : SiteSet) (h : IsBuilt p t set) where
       (zip_filter (Both One) (λ e. clash e.0 e.1) (λ e. overlap_wrongly e.0 e.1) (λ e q o. same_clash e.0 e.1 q.0 q.1 o.0 o.1) (each_two bs) (each_two rs) (zip_each_two One bs rs z))
 
   report_same : (m : BuiltRule) (q : SetRule) → One m q → (bs : List BuiltRule) (rs : List SetRule) → AllZip One bs rs → shadow_report m bs ≡ shadow_report_of q rs
-  report_same m q o [] [] z = refl
-  report_same m q o [] (r ∷ rs) z = absurd z
-  report_same m q o (b ∷ bs) [] z = absurd z
-  report_same m q o (b ∷ bs) (r ∷ rs) z =
-      let x = same_at m q o in
-      let y = map_same One (λ s. s.rule.at) (λ s. s.at) same_at (b ∷ bs) (r ∷ rs) z in
-      (λ k. record { mask = x k; shadowed = y k } ∷ [])
+  report_same m q o bs rs z = grind (arith, common_steps, same_at m q o, map_same One (λ s. s.rule.at) (λ s. s.at) same_at)
 
   shadows_same : (bs : List BuiltRule) (rs : List SetRule) → AllZip One bs rs → shadow_reports_in bs ≡ shadows_among rs
   shadows_same bs rs z =

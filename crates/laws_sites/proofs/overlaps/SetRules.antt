@@ -1,14 +1,14 @@
 -- Overlap of two rules of a set is symmetric, and in a built set it is that of their closed demands.
-use Rattle.std.proofs.Common.{◌≡◌, ◌≤◌, ℕ, ◌==◌, Bool, true, false, not, ◌&&◌, ◌||◌, if◌then◌else◌, List, [], ◌∷◌, length, map, filter, Contains, All, refl, sym, ap, ◌∙◌, subst, inl, inr, arith, eq-eqb, eqb-true}
+use Rattle.std.proofs.Common.{◌≡◌, ◌≤◌, ℕ, ◌==◌, Bool, true, false, not, ◌&&◌, ◌||◌, if◌then◌else◌, List, [], ◌∷◌, length, Contains, All, refl, sym, ap, ◌∙◌, subst, inl, inr, arith, eq-eqb}
 use Rattle.std.proofs.lemmas.Bool.{cases_Bool, cond-true, cond-false, and_parts, and_from, false≢true, not-true}
-use Rattle.std.specs.List.{list_any}
-use Rattle.model.specs.rules.Program.{Program, rules_of}
+use Rattle.std.proofs.lemmas.Grind.{common_steps}
+use Rattle.model.specs.rules.Program.{Program}
 use Rattle.model.specs.sites.Sites.{Constraint, SetRule, SiteSet, SiteTerm, unfold_site}
-use Rattle.model.specs.visits.Demands.{constraint_eq, demands_of}
-use Rattle.model.specs.sites.Closure.{Closed, ascending, begins_with, in_order, closing, before_closing, most_closing_steps}
+use Rattle.model.specs.visits.Demands.{constraint_eq}
+use Rattle.model.specs.sites.Closure.{Closed, in_order}
 use Rattle.model.specs.sites.Overlap.{Overlaps, AreAmong, IsSubsetPair, BuiltRule, built_rules}
 use Rattle.model.specs.sites.RuleSets.{IsRuleOf}
-use Rattle.model.specs.sites.SetRules.{differs_at, sites_differ, agrees_at, all_agree, equates_none, is_subset_of_sites, no_overlap, some_overlap, overlap_between}
+use Rattle.model.specs.sites.SetRules.{sites_differ, all_agree, equates_none, is_subset_of_sites, no_overlap, some_overlap, overlap_between}
 use Rattle.model.specs.trees.Places.{is_in, joins_in}
 use Rattle.model.proofs.Elements.{In, in_from_contains, contains_from_in, any_in, in_any, all_in, all_from, from_flat_map, passed_filter, or_split, or_left, or_right}
 use Rattle.model.proofs.SameSites.{constraint_means, same_constraint, constraint_cases}
@@ -29,96 +29,44 @@ record DifferingAt (as' bs : List (ℕ × Constraint)) : Type 0 where
   two : first ≡ second → ⊥
 
 differing : (as' bs : List (ℕ × Constraint)) → sites_differ as' bs ≡ true → DifferingAt as' bs
-differing as' bs h =
-    let a = in_any (λ x. list_any (differs_at x) bs) as' h in
-    let b = in_any (differs_at a.0) bs a.2 in
-    let p = and_parts (a.0.0 == b.0.0) (not (constraint_eq a.0.1 b.0.1)) b.2 in
-    record {
-      site = a.0.0;
-      first = a.0.1;
-      second = b.0.1;
-      in_first = a.1;
-      in_second = subst (λ s. In bs (s, b.0.1)) (sym (eqb-true a.0.0 b.0.0 p.0)) b.1;
-      two = λ e. false≢true (sym (not-true (constraint_eq a.0.1 b.0.1) p.1) ∙ same_constraint a.0.1 b.0.1 e);
-    }
+differing as' bs h = grind (arith, common_steps, in_any, and_parts, not-true, same_constraint)
 
 unlike : (a b : Constraint) → (a ≡ b → ⊥) → not (constraint_eq a b) ≡ true
 unlike a b n = elim (cases_Bool (constraint_eq a b)) [ inl t ↦ absurd (n (constraint_means a b t)) | inr f ↦ ap not f ]
 
 differ_at : (as' bs : List (ℕ × Constraint)) → DifferingAt as' bs → sites_differ as' bs ≡ true
-differ_at as' bs d =
-    any_in (λ x. list_any (differs_at x) bs) as' (d.site, d.first) d.in_first
-    (any_in (differs_at (d.site, d.first)) bs (d.site, d.second) d.in_second
-    (and_from (d.site == d.site) (not (constraint_eq d.first d.second)) (eq-eqb d.site d.site refl) (unlike d.first d.second d.two)))
+differ_at as' bs d = grind (arith, common_steps, any_in, and_from, unlike)
 
 turned : (as' bs : List (ℕ × Constraint)) → DifferingAt as' bs → DifferingAt bs as'
 turned as' bs d = record { site = d.site; first = d.second; second = d.first; in_first = d.in_second; in_second = d.in_first; two = λ e. d.two (sym e) }
 
 agree_means : (as' bs : List (ℕ × Constraint)) → all_agree as' bs ≡ true → (d : ℕ × Constraint) → In as' d → In bs d
-agree_means as' bs h d i =
-    let b = in_any (agrees_at d) bs (all_in (λ a. list_any (agrees_at a) bs) as' d h i) in
-    let p = and_parts (d.0 == b.0.0) (constraint_eq d.1 b.0.1) b.2 in
-    let e = eqb-true d.0 b.0.0 p.0 in
-    let f = constraint_means d.1 b.0.1 p.1 in
-    subst (In bs) (λ k. (sym e k, sym f k)) b.1
+agree_means as' bs h d i = grind (arith, common_steps, in_any, all_in, and_parts, constraint_means)
 
 agree_from : (as' bs : List (ℕ × Constraint)) → ((d : ℕ × Constraint) → In as' d → In bs d) → all_agree as' bs ≡ true
-agree_from as' bs h =
-    all_from (λ a. list_any (agrees_at a) bs) as'
-    (λ a i. any_in (agrees_at a) bs a (h a i) (and_from (a.0 == a.0) (constraint_eq a.1 a.1) (eq-eqb a.0 a.0 refl) (same_constraint a.1 a.1 refl)))
+agree_from as' bs h = grind (arith, common_steps, all_from, any_in, and_from, same_constraint)
 
 -- 2. symmetry
 and_turned : (a b c d : Bool) → (a && b && (c || d)) ≡ (b && a && (d || c))
-and_turned true true true true = refl
-and_turned true true true false = refl
-and_turned true true false d = or_none d
-  where
-    or_none : (x : Bool) → x ≡ (x || false)
-    or_none true = refl
-    or_none false = refl
-and_turned true false c d = refl
-and_turned false true c d = refl
-and_turned false false c d = refl
+and_turned a b c d = grind (arith, common_steps)
 
 pub overlap_of_set_rules_is_symmetric_lem : OverlapOfSetRulesIsSymmetric
-overlap_of_set_rules_is_symmetric_lem r s =
-    (λ k. if differ k then no_overlap else some_overlap (subset k))
-  where
-    differ : sites_differ r.constraints s.constraints ≡ sites_differ s.constraints r.constraints
-    differ =
-        bool_same (sites_differ r.constraints s.constraints) (sites_differ s.constraints r.constraints)
-        (λ h. differ_at s.constraints r.constraints (turned r.constraints s.constraints (differing r.constraints s.constraints h)))
-        (λ h. differ_at r.constraints s.constraints (turned s.constraints r.constraints (differing s.constraints r.constraints h)))
-
-    subset : is_subset_of_sites r s ≡ is_subset_of_sites s r
-    subset = and_turned (equates_none r) (equates_none s) (all_agree r.constraints s.constraints) (all_agree s.constraints r.constraints)
+overlap_of_set_rules_is_symmetric_lem r s = grind (arith, common_steps, bool_same, differ_at, turned, differing, and_turned)
 
 -- 3. what is told
 told_none : (b c : Bool) → (if b then no_overlap else some_overlap c) ≡ no_overlap → b ≡ true
-told_none true c e = refl
-told_none false c e = absurd (cc)
+told_none b c e = grind (arith, common_steps)
 
 told_subset : (b c : Bool) → (if b then no_overlap else some_overlap c) ≡ some_overlap true → (b ≡ false) × (c ≡ true)
-told_subset true c e = absurd (cc)
-told_subset false true e = (refl, refl)
-told_subset false false e = absurd (false≢true (cc))
+told_subset b c e = grind (arith, common_steps)
 
 -- 4. classes
 -- the classes of closed demands have sites
 class_filled : (k : Closed) (l : List SiteTerm) → In (in_order k).classes l → (u : SiteTerm) × In l u
-class_filled k l i =
-    let s = from_flat_map (λ u. filter (begins_with u) (map (ascending k.made) k.classes)) k.made l i in
-    filled s.0 l (passed_filter (begins_with s.0) (map (ascending k.made) k.classes) l s.2)
-  where
-    filled : (v : SiteTerm) (m : List SiteTerm) → begins_with v m ≡ true → (u : SiteTerm) × In m u
-    filled v [] h = absurd (false≢true h)
-    filled v (u ∷ m) h = (u, inl refl)
+class_filled k l i = grind (arith, common_steps, from_flat_map, passed_filter)
 
 built_filled : (p : Program) (t : ℕ) (b : BuiltRule) → In (built_rules p t) b → (l : List SiteTerm) → In b.demands.classes l → (u : SiteTerm) × In l u
-built_filled p t b i =
-    let w = was_built p [] (rules_of p t) b i in
-    subst (λ (x : BuiltRule). (l : List SiteTerm) → In x.demands.classes l → (u : SiteTerm) × In l u) w.same
-    (λ l j. class_filled (closing most_closing_steps (before_closing w.before (demands_of p w.rule))) l j)
+built_filled p t b i = grind (arith, common_steps, was_built, class_filled)
 
 -- a rule of a built set has no class exactly where its closed demands have none
 module _ (of : BuiltSet) (x : RuleOfSet of) where
@@ -189,18 +137,10 @@ module _ (of : BuiltSet) (first second : RuleOfSet of) where
       }
 
   overlap_above : sites_differ r.constraints s.constraints ≡ false → Overlaps a.demands b.demands
-  overlap_above f u c d i j =
-      elim (constraint_cases c d) [
-        | inl e ↦ e
-        | inr n ↦ absurd (false≢true (sym f ∙ differ_at r.constraints s.constraints (apart_below u c d i j n)))
-      ]
+  overlap_above f u c d i j = grind (arith, common_steps, constraint_cases c d, differ_at r.constraints s.constraints, apart_below u c d i j)
 
   overlap_below : Overlaps a.demands b.demands → sites_differ r.constraints s.constraints ≡ false
-  overlap_below o =
-      elim (cases_Bool (sites_differ r.constraints s.constraints)) [
-        | inl y ↦ absurd (apart_above (differing r.constraints s.constraints y) o)
-        | inr f ↦ f
-      ]
+  overlap_below o = grind (arith, common_steps, apart_above, differing)
 
   among_above : ((d : ℕ × Constraint) → In r.constraints d → In s.constraints d) → AreAmong a.demands.constraints b.demands.constraints
   among_above f u c i =

@@ -1,18 +1,19 @@
 -- A rule of a built set has as many constraints and equated sites as its closed demands: neither lists a site twice.
-use Rattle.std.proofs.Common.{◌≡◌, ◌+◌, ℕ, ◌==◌, ◌<◌, Bool, true, false, not, ◌&&◌, if◌then◌else◌, List, [], ◌∷◌, ◌++◌, length, map, filter, flat_map, Contains, refl, sym, ◌∙◌, subst, inl, inr, arith, eq-eqb, eqb-true}
+use Rattle.std.proofs.Common.{◌≡◌, ◌+◌, ℕ, ◌<◌, Bool, true, false, not, if◌then◌else◌, List, [], ◌∷◌, ◌++◌, length, map, filter, flat_map, sym, ◌∙◌, subst, inl, inr, arith}
 use Rattle.std.proofs.lemmas.Bool.{cases_Bool, cond-true, cond-false, and_parts, and_from, false≢true}
 use Rattle.std.proofs.lemmas.List.{length-map}
 use Rattle.std.proofs.lemmas.List.Concat.{length-flat_map}
+use Rattle.std.proofs.lemmas.Grind.{common_steps}
 use Rattle.model.specs.lists.Names.{IsDistinct}
 use Rattle.model.specs.rules.Program.{Program, rules_of}
 use Rattle.model.specs.rules.Typed.{TypedRule}
 use Rattle.model.specs.sites.Sites.{Constraint, SetRule, SiteSet, SiteTerm, unfold_site}
 use Rattle.model.specs.visits.Demands.{Demands, has_site, demands_of}
-use Rattle.model.specs.sites.Closure.{Closed, class_at, without_class_of, merged_classes, merged_all, ascending, field_equalities, closing, before_closing, most_closing_steps, begins_with, closed}
+use Rattle.model.specs.sites.Closure.{Closed, class_at, without_class_of, merged_classes, merged_all, ascending, closing, before_closing, most_closing_steps, begins_with, closed}
 use Rattle.model.specs.sites.Limits.{sites_after_rule}
 use Rattle.model.specs.sites.Overlap.{BuiltRule, is_built, built_rule, built_from}
 use Rattle.model.specs.sites.RuleSets.{IsRuleOf}
-use Rattle.model.specs.trees.Places.{is_in, joins_in}
+use Rattle.model.specs.trees.Places.{joins_in}
 use Rattle.model.proofs.DistinctCounts.{no_more_distinct}
 use Rattle.model.proofs.DistinctJoined.{distinct_cons, distinct_tail, not_in_tail, distinct_append, distinct_filter, distinct_map}
 use Rattle.model.proofs.Elements.{In, in_from_contains, contains_from_in, in_either, in_filter, passed_filter, in_map, map_in, in_flat_map, from_flat_map, any_in, in_any}
@@ -50,21 +51,11 @@ each_distinct (k ∷ ks) h l (inr i) = each_distinct ks h.2 l i
 
 once_filter : (p : List SiteTerm → Bool) (ks : List (List SiteTerm)) → ClassesOnce ks → ClassesOnce (filter p ks)
 once_filter p [] h = tt
-once_filter p (k ∷ ks) h =
-    elim (cases_Bool (p k)) [
-      | inl t ↦
-          subst ClassesOnce (sym (cond-true (p k) (k ∷ filter p ks) (filter p ks) t))
-          (h.0, λ s l i j. h.1 s l i (in_filter p ks l j), once_filter p ks h.2)
-      | inr f ↦ subst ClassesOnce (sym (cond-false (p k) (k ∷ filter p ks) (filter p ks) f)) (once_filter p ks h.2)
-    ]
+once_filter p (k ∷ ks) h = grind (arith, common_steps, once_filter p ks h.2, in_filter)
 
 once_append : (ks ls : List (List SiteTerm)) → ClassesOnce ks → ClassesOnce ls → ((k : List SiteTerm) → In ks k → StandsApart k ls) → ClassesOnce (ks ++ ls)
 once_append [] ls h g apart = g
-once_append (k ∷ ks) ls h g apart = (
-  h.0,
-  λ s l i j. elim (in_either ks ls l j) [ inl a ↦ h.1 s l i a | inr b ↦ apart k (inl refl) s l i b ],
-  once_append ks ls h.2 g (λ m i. apart m (inr i)),
-)
+once_append (k ∷ ks) ls h g apart = grind (arith, common_steps, once_append ks ls h.2 g (λ m i. apart m (inr i)), in_either)
 
 pub flat_distinct : (ks : List (List SiteTerm)) → ClassesOnce ks → IsDistinct (flat_map (λ k. k) ks)
 flat_distinct [] h = distinct_nil
@@ -76,11 +67,7 @@ flat_distinct (k ∷ ks) h =
 
 -- 2. merging
 class_distinct : (ks : List (List SiteTerm)) → ClassesOnce ks → (s : SiteTerm) → IsDistinct (class_at ks s)
-class_distinct ks h s =
-    elim (class_cases ks s) [
-      | inl i ↦ each_distinct ks h (class_at ks s) i
-      | inr e ↦ subst IsDistinct (sym e) (distinct_one s)
-    ]
+class_distinct ks h s = grind (arith, common_steps, class_cases, each_distinct, distinct_one)
 
 -- the classes of two sites, of which the first lacks the second, have no common site
 two_apart : (ks : List (List SiteTerm)) → ClassesOnce ks → (a b x : SiteTerm) → has_site (class_at ks a) b ≡ false → In (class_at ks a) x → In (class_at ks b) x → ⊥
@@ -120,9 +107,7 @@ each_class_once [] ks h = h
 each_class_once (e ∷ es) ks h = each_class_once es (merged_classes ks e) (once_merged ks h e)
 
 classes_closed_once : (n : ℕ) (k : Closed) → ClassesOnce k.classes → ClassesOnce (closing n k).classes
-classes_closed_once =
-    closing_keeps (λ k. ClassesOnce k.classes)
-    (λ k h c e. each_class_once (field_equalities c.1 (ascending k.made (class_at k.classes c.0))) (without_class_of k.classes c.0) (once_filter (λ l. not (has_site l c.0)) k.classes h))
+classes_closed_once = grind (arith, common_steps, closing_keeps (λ k. ClassesOnce k.classes), each_class_once, once_filter)
 
 -- 3. in order
 ascending_once : (made : List SiteTerm) → IsDistinct made → (ks : List (List SiteTerm)) → ClassesOnce ks → ClassesOnce (map (ascending made) ks)
@@ -143,11 +128,7 @@ beginning_once : (ms : List (List SiteTerm)) → ClassesOnce ms → (ss : List S
 beginning_once ms h [] d = tt
 beginning_once ms h (s ∷ ss) d =
     once_append (filter (begins_with s) ms) (flat_map (λ t. filter (begins_with t) ms) ss) (once_filter (begins_with s) ms h) (beginning_once ms h ss (distinct_tail s ss d))
-    (λ k i x l j m n.
-    let w = from_flat_map (λ t. filter (begins_with t) ms) ss l m in
-    let same = once_apart ms h k l x (in_filter (begins_with s) ms k i) (in_filter (begins_with w.0) ms l w.2) j n in
-    let one = one_beginning s w.0 l (subst (λ q. begins_with s q ≡ true) same (passed_filter (begins_with s) ms k i)) (passed_filter (begins_with w.0) ms l w.2) in
-    not_in_tail s ss d (subst (Contains ss) (sym one) (contains_from_in ss w.0 w.1)))
+    (λ k i x l j m n. grind (arith, common_steps, from_flat_map, once_apart, in_filter, one_beginning, passed_filter, not_in_tail, contains_from_in))
 
 closed_classes_once : (before : List SiteTerm) (d : Demands) → IsDistinct before → ClassesOnce (closed before d).classes
 closed_classes_once before d h =
@@ -171,11 +152,7 @@ built_once p before (r ∷ rs) d b i =
     ]
   where
     here : (q : Bool) → In (if q then built_rule p before r ∷ [] else []) b → ListsOnce b.demands
-    here true j =
-        elim j [
-          | inl s ↦ subst (λ (x : BuiltRule). ListsOnce x.demands) s (record { constraints = closed_once before (demands_of p r); classes = closed_classes_once before (demands_of p r) d })
-          | inr n ↦ absurd n
-        ]
+    here true j = grind (arith, common_steps, closed_once before (demands_of p r), closed_classes_once before (demands_of p r) d)
     here false j = absurd j
 
 keys_distinct : (cs : List (SiteTerm × Constraint)) → StandOnce cs → IsDistinct (map (λ (c : SiteTerm × Constraint). c.0) cs)
@@ -233,16 +210,10 @@ module _ (of : BuiltSet) (x : RuleOfSet of) where
       ∙ length-map b.demands.constraints (λ (d : SiteTerm × Constraint). d.0)
 
   member_joined : (n : ℕ) → In (flat_map (λ (c : List ℕ). c) r.classes) n → joins_in r.classes n n ≡ true
-  member_joined n i =
-      let m = from_flat_map (λ (c : List ℕ). c) r.classes n i in
-      let here = any_in (λ y. y == n) m.0 n m.2 (eq-eqb n n refl) in
-      any_in (λ c. is_in n c && is_in n c) r.classes m.0 m.1 (and_from (is_in n m.0) (is_in n m.0) here here)
+  member_joined n i = grind (arith, common_steps, from_flat_map, any_in, and_from)
 
   joined_member : (n k : ℕ) → joins_in r.classes n k ≡ true → In (flat_map (λ (c : List ℕ). c) r.classes) n
-  joined_member n k j =
-      let m = in_any (λ c. is_in n c && is_in k c) r.classes j in
-      let x = in_any (λ y. y == n) m.0 (and_parts (is_in n m.0) (is_in k m.0) m.2).0 in
-      in_flat_map (λ (c : List ℕ). c) r.classes m.0 n m.1 (subst (In m.0) (eqb-true x.0 n x.2) x.1)
+  joined_member n k j = grind (arith, common_steps, in_any, and_parts, in_flat_map)
 
   members_count : length (flat_map (λ (c : List ℕ). c) r.classes) ≡ length (flat_map (λ (c : List SiteTerm). c) b.demands.classes)
   members_count =
