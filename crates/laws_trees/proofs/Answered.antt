@@ -1,6 +1,7 @@
 -- A meaning that serves the rules of a term answers the sites of each of them, under its picks.
-use Rattle.std.proofs.Common.{◌≡◌, ℕ, ◌<◌, Bool, true, false, List, [], ◌∷◌, map, length, Option, Some, None, slice_get, IsSomeAnd, Contains, IsTrue, flat_map, refl, sym, ap, subst, ◌∙◌, inl, inr}
+use Rattle.std.proofs.Common.{◌≡◌, ℕ, ◌<◌, Bool, true, false, List, [], ◌∷◌, map, length, Option, Some, slice_get, IsSomeAnd, Contains, IsTrue, flat_map, sym, ap, subst, ◌∙◌, inl, inr, arith}
 use Rattle.std.proofs.lemmas.Bool.{cases_Bool, cond-true, cond-false}
+use Rattle.std.proofs.lemmas.Grind.{common_steps}
 use Rattle.model.specs.rules.Values.{Value, well_typed}
 use Rattle.model.specs.rules.Meaning.{Content, many, Contents, contents, Meaning, bool_literal, int_literal, literal_value, constant_value, extractor_answer, pure_answer}
 use Rattle.model.specs.rules.Outcome.{then_option}
@@ -18,15 +19,13 @@ use Rattle.laws_trees.proofs.Contents.{Given, content_of, IsValueOf, Fits, IsAns
 
 -- what is there
 value_there : (g : Given) (ty : ℕ) (o : Option Value) → IsSomeAnd o (λ v. IsTrue (well_typed g.program.types ty v)) → IsValueOf g ty o
-value_there g ty None h = absurd h
-value_there g ty (Some v) h = record { value = v; there = refl; typed = h }
+value_there g ty o h = grind (arith, common_steps)
 
 constant_value_there : (g : Given) (ty : ℕ) (t : Option ℕ) (o : Option Value) → t ≡ Some ty → IsSomeAnd o (λ v. IsTrue (typed_as g.program t v)) → IsValueOf g ty o
 constant_value_there g ty t o e h = value_there g ty o (subst (λ u. IsSomeAnd o (λ v. IsTrue (typed_as g.program u v))) e h)
 
 pub fits_there : (o : Option Content) (f : Content → Bool) → IsSomeAnd o (λ c. IsTrue (f c)) → Fits o f
-fits_there None f h = absurd h
-fits_there (Some c) f h = record { answer = c; there = refl; right = h }
+fits_there o f h = grind (arith, common_steps)
 
 -- a pick gives each of its calls a place
 place_there : (k : Pick) (call : SiteTerm) → In (map (λ e. e.0) k) call → (n : ℕ) × (place_of k call ≡ Some n) × In k (call, n)

@@ -4,6 +4,7 @@ use Rattle.std.specs.List.{list_all}
 use Rattle.std.proofs.lemmas.Bool.{and_parts, and_from, or_cases, or_left, or_right, false≢true, cases_lt}
 use Rattle.std.proofs.lemmas.Option.{slice_get_within}
 use Rattle.std.proofs.Math.Nat.{zero-add}
+use Rattle.std.proofs.lemmas.Grind.{common_steps}
 use Rattle.model.specs.sites.Sites.{Site, iterator_site, match_variant_site, extract_struct_site, match_some_site, Constraint, is_variant, is_struct, is_present, SetRule, SiteSet, sources_of, sources_at}
 use Rattle.model.specs.trees.Places.{Around, is_in, waits, is_available, available, below, is_variant_field, is_struct_field, is_part_of, site_from, fields_of, field_sites}
 use Rattle.model.specs.trees.WellBuilt.{IsWellBuilt}
@@ -30,11 +31,7 @@ module _ (sites : List Site) (brought : List ℕ) where
 
   available_at : (n s : ℕ) → s < n → is_available (suc s) sites brought s ≡ true → is_available n sites brought s ≡ true
   available_at zero s l h = absurd (omega arith)
-  available_at (suc n) s l h =
-      elim (cases_lt s n) [
-        | inl m ↦ available_more n s (available_at n s m h)
-        | inr m ↦ let e : s ≡ n = omega arith in subst (λ k. is_available (suc k) sites brought s ≡ true) e h
-      ]
+  available_at (suc n) s l h = grind (arith, common_steps, available_at n s, cases_lt, available_more)
 
 module _ (sites : List Site) where
   below_more : (n s u : ℕ) → Contains (below n sites s) u → Contains (below (suc n) sites s) u
@@ -49,11 +46,7 @@ module _ (sites : List Site) where
 
   below_at : (n s u : ℕ) → s < n → Contains (below (suc s) sites s) u → Contains (below n sites s) u
   below_at zero s u l c = absurd (omega arith)
-  below_at (suc n) s u l c =
-      elim (cases_lt s n) [
-        | inl m ↦ below_more n s u (below_at n s u m c)
-        | inr m ↦ let e : s ≡ n = omega arith in subst (λ k. Contains (below (suc k) sites s) u) e c
-      ]
+  below_at (suc n) s u l c = grind (arith, common_steps, below_at n s u, cases_lt s n, below_more n s u)
 
   pub below_source : (s x u : ℕ) → Contains (sources_at sites s) x → x < s → Contains (below (suc x) sites x) u → Contains (below (suc s) sites s) u
   below_source s x u c l d = in_tail s u (flat_map (below s sites) (sources_at sites s)) (in_flat_map (below s sites) (sources_at sites s) x u c (below_at s x u l d))

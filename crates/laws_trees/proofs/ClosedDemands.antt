@@ -1,13 +1,14 @@
 -- The closed demands of a rule hold exactly where its demands do.
-use Rattle.std.proofs.Common.{◌≡◌, ◌⊎◌, ◌==◌, ℕ, zero, suc, ◌+◌, ◌<◌, true, List, [], ◌∷◌, map, length, Option, Some, None, is_some, slice_get, Contains, filter, refl, sym, ap, ap₂, subst, ◌∙◌, inl, inr, arith, eq-eqb, eqb-true}
-use Rattle.std.proofs.lemmas.Bool.{and_parts, cond-true, false≢true}
+use Rattle.std.proofs.Common.{◌≡◌, ◌⊎◌, ℕ, zero, suc, ◌+◌, ◌<◌, true, List, [], ◌∷◌, map, length, Option, Some, is_some, slice_get, Contains, filter, refl, sym, ap, ap₂, subst, ◌∙◌, inl, inr, arith}
+use Rattle.std.proofs.lemmas.Bool.{and_parts, false≢true}
+use Rattle.std.proofs.lemmas.Grind.{common_steps}
 use Rattle.model.specs.rules.Values.{Value, truth, atom, of_variant, of_struct, Values, no_value, value_and, listed, variant_types, struct_types, well_typed, all_well_typed}
-use Rattle.model.specs.rules.Meaning.{one, Meaning, bool_literal, int_literal, literal_value, constant_value}
+use Rattle.model.specs.rules.Meaning.{one, Meaning}
 use Rattle.model.specs.rules.Outcome.{then_option}
 use Rattle.model.specs.rules.Program.{Program}
-use Rattle.model.specs.rules.Picks.{field_of_variant, field_of_struct}
+use Rattle.model.specs.rules.Picks.{field_of_struct}
 use Rattle.model.specs.trees.Run.{as_value, from_value, content_fields}
-use Rattle.model.specs.sites.Sites.{Constraint, is_variant, is_struct, is_bool, is_int, is_prim, is_present, SiteTerm, variant_field, struct_field, fields_from, field_terms}
+use Rattle.model.specs.sites.Sites.{Constraint, is_variant, is_struct, SiteTerm, variant_field, struct_field, fields_from, field_terms}
 use Rattle.model.specs.visits.Demands.{Demands, has_site}
 use Rattle.model.specs.sites.Closure.{Joined, given, itself, at_field, HasConstraint, Closed, ClosedIsWhole, class_at, without_class_of, begins_with, ascending, field_equalities, taken, closing, before_closing, in_order, most_closing_steps, closed, ClosedDemandsHold}
 use Rattle.model.proofs.Elements.{In, in_from_contains, contains_from_in, in_map, in_filter, passed_filter, from_flat_map, some_is}
@@ -125,14 +126,7 @@ same_constant : (o : Option Value) (v w : Value) → ((x : Value) × (one v ≡ 
 same_constant o v w a b = one_is v a.0 a.1 ∙ some_is a.0 b.0 (sym a.2 ∙ b.2) ∙ sym (one_is w b.0 b.1)
 
 by_form : (m : Meaning) (c : Constraint) (v w : Value) → HasForm m (one v) c → HasForm m (one w) c → Compared c v w
-by_form m (is_variant ty i n) v w a b =
-    two_variants (record { ty = ty; variant = i; count = n; first_fields = a.0; second_fields = b.0; constraint = refl; first = one_is v (of_variant ty i a.0) a.1; second = one_is w (of_variant ty i b.0) b.1 })
-by_form m (is_struct ty n) v w a b =
-    two_structs (record { ty = ty; count = n; first_fields = a.0; second_fields = b.0; constraint = refl; first = one_is v (of_struct ty a.0) a.1; second = one_is w (of_struct ty b.0) b.1 })
-by_form m (is_bool b ty) v w x y = one_value (same_constant (literal_value m (bool_literal b ty)) v w x y)
-by_form m (is_int z ty) v w x y = one_value (same_constant (literal_value m (int_literal z ty)) v w x y)
-by_form m (is_prim name) v w x y = one_value (same_constant (constant_value m name) v w x y)
-by_form m is_present v w x y = absurd (one_not_just v x.0 x.1)
+by_form m c v w a b = grind (arith, common_steps, one_is, same_constant, one_not_just)
 
 variant_parts : (s n : ℕ) (fs : Values) (t l : ℕ) (hs : Values) → of_variant s n fs ≡ of_variant t l hs → fs ≡ hs
 variant_parts s n fs t l hs e = cc
@@ -207,18 +201,13 @@ module _ (g : Given) (d : Demands) (held : AreHeld g d) where
     joined : (j : ℕ) → j < length tys → Joined d (f (i + j)) (h (i + j))
 
   variant_typed : (ty i : ℕ) (fs : Values) (tys : List ℕ) → variant_types (slice_get p.types ty) i ≡ Some tys → IsTypedValue (of_variant ty i fs) → all_well_typed p.types (Some tys) fs ≡ true
-  variant_typed ty i fs tys e t =
-      let a = and_parts (ty == t.0) (all_well_typed p.types (variant_types (slice_get p.types t.0) i) fs) t.1 in
-      subst (λ o. all_well_typed p.types o fs ≡ true) (ap (λ n. variant_types (slice_get p.types n) i) (sym (eqb-true ty t.0 a.0)) ∙ e) a.1
+  variant_typed ty i fs tys e t = grind (arith, common_steps, and_parts)
 
   struct_typed : (ty : ℕ) (fs : Values) (tys : List ℕ) → struct_types (slice_get p.types ty) ≡ Some tys → IsTypedValue (of_struct ty fs) → all_well_typed p.types (Some tys) fs ≡ true
-  struct_typed ty fs tys e t =
-      let a = and_parts (ty == t.0) (all_well_typed p.types (struct_types (slice_get p.types t.0)) fs) t.1 in
-      subst (λ o. all_well_typed p.types o fs ≡ true) (ap (λ n. struct_types (slice_get p.types n)) (sym (eqb-true ty t.0 a.0)) ∙ e) a.1
+  struct_typed ty fs tys e t = grind (arith, common_steps, and_parts)
 
   variant_value : (s : SiteTerm) (ty i : ℕ) (fs : Values) (j : ℕ) (x : Value) → content_of g s ≡ Some (one (of_variant ty i fs)) → slice_get (listed fs) j ≡ Some x → content_of g (variant_field s i j) ≡ Some (one x)
-  variant_value s ty i fs j x e q =
-      ap (λ o. then_option (then_option o as_value) (field_of_variant i j)) e ∙ cond-true (i == i) (from_value (slice_get (listed fs) j)) None (eq-eqb i i refl) ∙ ap from_value q
+  variant_value s ty i fs j x e q = grind (arith, common_steps)
 
   struct_value : (s : SiteTerm) (ty : ℕ) (fs : Values) (j : ℕ) (x : Value) → content_of g s ≡ Some (one (of_struct ty fs)) → slice_get (listed fs) j ≡ Some x → content_of g (struct_field s j) ≡ Some (one x)
   struct_value s ty fs j x e q = ap (λ o. then_option (then_option o as_value) (field_of_struct j)) e ∙ ap from_value q

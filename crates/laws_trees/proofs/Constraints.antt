@@ -1,29 +1,25 @@
 -- The tests of constraints and of lists of fields are exact.
-use Rattle.std.proofs.Common.{◌≡◌, ℕ, true, List, [], ◌∷◌, Option, Some, None, slice_get, Decides, refl, ap, subst, eqb-true}
+use Rattle.std.proofs.Common.{◌≡◌, ℕ, true, List, [], ◌∷◌, Option, Some, slice_get, Decides, refl, subst, arith}
 use Rattle.std.specs.List.{list_all}
 use Rattle.std.proofs.lemmas.Bool.{and_parts, and_from, false≢true}
 use Rattle.std.proofs.lemmas.Option.{none-some, same_Some}
+use Rattle.std.proofs.lemmas.Grind.{common_steps}
 use Rattle.model.specs.sites.Sites.{Constraint, SetRule}
 use Rattle.model.specs.trees.Places.{constraint_at}
 use Rattle.model.specs.visits.Demands.{constraint_eq}
 use Rattle.model.specs.trees.Sound.{AllAsk}
 use Rattle.model.specs.trees.Judge.{is_that, asks_for, asks_at, site_eq, sites_eq}
-use Rattle.model.proofs.SameSites.{number_same, constraint_means, same_constraint}
+use Rattle.model.proofs.SameSites.{constraint_means, same_constraint}
 use Rattle.model.proofs.Members.{each_passes, all_pass}
 
 pub constraint_exact : (c d : Constraint) → Decides (constraint_eq c d) (c ≡ d)
 constraint_exact c d = (constraint_means c d, same_constraint c d)
 
 pub that_exact : (o : Option Constraint) (c : Constraint) → Decides (is_that o c) (o ≡ Some c)
-that_exact None c = (λ h. absurd (false≢true h), λ e. absurd (none-some c e))
-that_exact (Some d) c = (λ h. ap Some (constraint_means d c h), λ e. (constraint_exact d c).1 (same_Some d c e))
+that_exact o c = grind (arith, common_steps, none-some, constraint_means, constraint_exact, same_Some)
 
 asks_for_exact : (s : ℕ) (c : Constraint) (o : Option SetRule) → Decides (asks_for s c o) ((r : SetRule) → o ≡ Some r → constraint_at r.constraints s ≡ Some c)
-asks_for_exact s c None = (λ h r e. absurd (none-some r e), λ h. refl)
-asks_for_exact s c (Some q) = (
-  λ h r e. subst (λ (x : SetRule). constraint_at x.constraints s ≡ Some c) (same_Some q r e) ((that_exact (constraint_at q.constraints s) c).0 h),
-  λ h. (that_exact (constraint_at q.constraints s) c).1 (h q refl),
-)
+asks_for_exact s c o = grind (arith, common_steps, none-some, same_Some, that_exact)
 
 pub all_ask_exact : (rules : List SetRule) (here : List ℕ) (s : ℕ) (c : Constraint) → Decides (list_all (asks_at rules s c) here) (AllAsk rules here s c)
 all_ask_exact rules here s c = (
@@ -32,26 +28,18 @@ all_ask_exact rules here s c = (
 )
 
 site_itself : (o : Option ℕ) → site_eq o o ≡ true
-site_itself None = refl
-site_itself (Some s) = number_same s
+site_itself o = grind (arith, common_steps)
 
 sites_itself : (xs : List (Option ℕ)) → sites_eq xs xs ≡ true
 sites_itself [] = refl
 sites_itself (x ∷ xs) = and_from (site_eq x x) (sites_eq xs xs) (site_itself x) (sites_itself xs)
 
 site_same : (a b : Option ℕ) → site_eq a b ≡ true → a ≡ b
-site_same None None h = refl
-site_same (Some s) (Some t) h = ap Some (eqb-true s t h)
-site_same None (Some t) h = absurd (false≢true h)
-site_same (Some s) None h = absurd (false≢true h)
+site_same a b h = grind (arith, common_steps)
 
 sites_same : (xs ys : List (Option ℕ)) → sites_eq xs ys ≡ true → xs ≡ ys
 sites_same [] [] h = refl
-sites_same (x ∷ xs) (y ∷ ys) h =
-    let q = and_parts (site_eq x y) (sites_eq xs ys) h in
-    let a = site_same x y q.0 in
-    let b = sites_same xs ys q.1 in
-    λ k. a k ∷ b k
+sites_same (x ∷ xs) (y ∷ ys) h = grind (arith, common_steps, sites_same xs ys, and_parts, site_same)
 sites_same [] (y ∷ ys) h = absurd (false≢true h)
 sites_same (x ∷ xs) [] h = absurd (false≢true h)
 

@@ -1,18 +1,19 @@
 -- The contents of sites under a pick, by the answers that a meaning gives: values of types, and the outputs of calls.
-use Rattle.std.proofs.Common.{◌≡◌, ◌⊎◌, ℕ, ℤ, suc, ◌+◌, Bool, true, false, List, [], ◌∷◌, Option, Some, None, slice_get, refl, sym, ap, subst, inl, inr, ◌∙◌, arith}
+use Rattle.std.proofs.Common.{◌≡◌, ◌⊎◌, ℕ, ℤ, suc, ◌+◌, Bool, true, false, List, [], ◌∷◌, Option, Some, None, slice_get, refl, sym, ap, subst, ◌∙◌, arith}
 use Rattle.std.proofs.lemmas.Bool.{and_parts, false≢true}
 use Rattle.std.specs.List.{list_all}
+use Rattle.std.proofs.lemmas.Grind.{common_steps}
 use Rattle.model.specs.lists.Tables.{Flags, TermEntry}
 use Rattle.model.specs.rules.Values.{Value, Values, no_value, value_and, listed, well_typed, all_well_typed}
 use Rattle.model.specs.rules.Meaning.{Content, one, parts, nothing, just, many, contents, Meaning, bool_literal, int_literal, literal_value, constant_value, extractor_answer, pure_answer, outputs, answered_outputs}
 use Rattle.model.specs.rules.Outcome.{then_option}
 use Rattle.model.specs.rules.Program.{Program, a_call, kind}
 use Rattle.model.specs.rules.Typed.{TypedPatterns, no_typed_pattern, typed_pattern_and}
-use Rattle.model.specs.rules.Picks.{Pick, place_of, picked, site_content, site_values}
+use Rattle.model.specs.rules.Picks.{Pick, picked, site_content, site_values}
 use Rattle.model.specs.trees.Run.{as_value, from_value, part_at}
 use Rattle.model.specs.sites.Sites.{SiteTerm, bool_term, int_term, prim_term, extractor_call, constructor_call, pick_of, tuple_part, SiteTerms, fields_from}
 use Rattle.model.specs.visits.Demands.{Demands, output_sites, pattern_count}
-use Rattle.model.specs.sites.Serves.{constant_type, term_results, fits_one, fits_answer, fits_extractor, fits_constructor}
+use Rattle.model.specs.sites.Serves.{constant_type, fits_one, fits_answer, fits_extractor, fits_constructor}
 use Rattle.laws_sites.proofs.PatternParts.{AsMany}
 use Rattle.model.proofs.Elements.{In, in_slice, all_in, some_is, none_some}
 
@@ -69,59 +70,33 @@ pub record IsAnswered (g : Given) (d : Demands) : Type 0 where
 
 -- 1. contents and values
 pub is_value : (o : Option Content) (v : Value) → then_option o as_value ≡ Some v → o ≡ Some (one v)
-is_value None v e = absurd (none_some v e)
-is_value (Some (one w)) v e = ap (λ (x : Value). Some (one x)) (some_is w v e)
-is_value (Some (parts vs)) v e = absurd (none_some v e)
-is_value (Some nothing) v e = absurd (none_some v e)
-is_value (Some (just c)) v e = absurd (none_some v e)
-is_value (Some (many cs)) v e = absurd (none_some v e)
+is_value o v e = grind (arith, common_steps, none_some, some_is)
 
 pub has_value : (g : Given) (s : SiteTerm) (v : Value) → content_of g s ≡ Some (one v) → value_of g s ≡ Some v
 has_value g s v e = ap (λ o. then_option o as_value) e
 
 -- 2. answers that fit
 pub one_fits : (p : Program) (ty : ℕ) (c : Content) → fits_one p (ty ∷ []) c ≡ true → (v : Value) × (c ≡ one v) × (well_typed p.types ty v ≡ true)
-one_fits p ty (one v) h = (v, refl, h)
-one_fits p ty (parts vs) h = absurd (false≢true h)
-one_fits p ty nothing h = absurd (false≢true h)
-one_fits p ty (just c) h = absurd (false≢true h)
-one_fits p ty (many cs) h = absurd (false≢true h)
+one_fits p ty c h = grind (arith, common_steps)
 
 pub maybe_fits : (p : Program) (tys : List ℕ) (c : Content) → fits_answer p false true tys c ≡ true → (c ≡ nothing) ⊎ ((d : Content) × (c ≡ just d) × (fits_one p tys d ≡ true))
-maybe_fits p tys nothing h = inl refl
-maybe_fits p tys (just d) h = inr (d, refl, h)
-maybe_fits p tys (one v) h = absurd (false≢true h)
-maybe_fits p tys (parts vs) h = absurd (false≢true h)
-maybe_fits p tys (many cs) h = absurd (false≢true h)
+maybe_fits p tys c h = grind (arith, common_steps)
 
 place_fits : (p : Program) (tys : List ℕ) (o : Option ℕ) (cs d : _) → list_all (fits_one p tys) (contents cs) ≡ true → then_option o (slice_get (contents cs)) ≡ Some d → fits_one p tys d ≡ true
 place_fits p tys None cs d h e = absurd (none_some d e)
 place_fits p tys (Some n) cs d h e = all_in (fits_one p tys) (contents cs) d h (in_slice (contents cs) n d e)
 
 pub picked_fits : (p : Program) (optional : Bool) (tys : List ℕ) (k : Pick) (s : SiteTerm) (c d : Content) → fits_answer p true optional tys c ≡ true → picked k s c ≡ Some d → fits_one p tys d ≡ true
-picked_fits p optional tys k s (many cs) d h e = place_fits p tys (place_of k s) cs d h e
-picked_fits p optional tys k s (one v) d h e = absurd (none_some d e)
-picked_fits p optional tys k s (parts vs) d h e = absurd (none_some d e)
-picked_fits p optional tys k s nothing d h e = absurd (none_some d e)
-picked_fits p optional tys k s (just c) d h e = absurd (none_some d e)
+picked_fits p optional tys k s c d h e = grind (arith, common_steps, place_fits, none_some)
 
 -- what fits a term's constructor fits its flags and its result
 pub constructor_fits : (p : Program) (t : ℕ) (x : TermEntry) → slice_get p.terms t ≡ Some x → (flags : Flags) (infallible : Bool) (c : Content) → kind p t ≡ a_call flags infallible
     → fits_constructor p t (kind p t) c ≡ true → fits_answer p flags.multi flags.partial (x.ret_ty ∷ []) c ≡ true
-constructor_fits p t x there flags infallible c q f =
-    subst (λ o. fits_answer p flags.multi flags.partial (term_results o) c ≡ true) there (subst (λ k. fits_constructor p t k c ≡ true) q f)
+constructor_fits p t x there flags infallible c q f = grind (arith, common_steps)
 
 -- what fits is answered as what it puts out
 pub fits_answered : (p : Program) (tys : List ℕ) (d : Content) → fits_one p tys d ≡ true → answered_outputs d ≡ outputs d
-fits_answered p tys (one v) h = refl
-fits_answered p tys (parts vs) h = refl
-fits_answered p [] nothing h = absurd (false≢true h)
-fits_answered p (ty ∷ []) nothing h = absurd (false≢true h)
-fits_answered p (ty ∷ (u ∷ tys)) nothing h = absurd (false≢true h)
-fits_answered p [] (just c) h = absurd (false≢true h)
-fits_answered p (ty ∷ []) (just c) h = absurd (false≢true h)
-fits_answered p (ty ∷ (u ∷ tys)) (just c) h = absurd (false≢true h)
-fits_answered p tys (many cs) h = refl
+fits_answered p tys d h = grind (arith, common_steps)
 
 -- 3. sites of several values
 pub fields_here : (g : Given) (f : ℕ → SiteTerm) (i : ℕ) (qs : TypedPatterns) (tys : List ℕ) (vs : Values) → AsMany qs tys → all_well_typed g.program.types (Some tys) vs ≡ true

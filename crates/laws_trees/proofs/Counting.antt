@@ -1,8 +1,9 @@
 -- Distinct numbers among others: there are at most as many, and their sum is at most that of the others.
-use Rattle.std.proofs.Common.{◌≡◌, ◌≢◌, ℕ, ◌+◌, ◌≤◌, ◌==◌, true, false, not, List, [], ◌∷◌, length, Contains, sum_by, refl, sym, ap, ◌∙◌, subst, inl, inr, arith, eqb-true, eq-eqb}
+use Rattle.std.proofs.Common.{◌≡◌, ◌≢◌, ℕ, ◌+◌, ◌≤◌, ◌==◌, true, false, not, List, [], ◌∷◌, length, Contains, sum_by, refl, sym, ◌∙◌, subst, inl, inr, arith, eqb-true}
 use Rattle.std.proofs.lemmas.Bool.{cases_Bool, cond-true, cond-false, and_parts, false≢true}
 use Rattle.std.proofs.lemmas.List.Sums.{sum_by-cons}
 use Rattle.std.specs.Prelude.{if◌then◌else◌}
+use Rattle.std.proofs.lemmas.Grind.{common_steps}
 use Rattle.model.specs.trees.Places.{is_in}
 use Rattle.model.specs.trees.Best.{are_distinct}
 use Rattle.model.proofs.Members.{nothing_in, in_head, in_tail, in_cases, member_is_in}
@@ -21,23 +22,7 @@ without_other x y ys f = cond-false (y == x) ys (y ∷ without x ys) f
 
 sum_without : (f : ℕ → ℕ) (x : ℕ) (ys : List ℕ) → Contains ys x → sum_by f ys ≡ f x + sum_by f (without x ys)
 sum_without f x [] c = absurd (nothing_in x c)
-sum_without f x (y ∷ ys) c =
-    elim (cases_Bool (y == x)) [
-      | inl t ↦
-          let e = eqb-true y x t in
-          sum_by-cons f y ys ∙ ap (λ z. f z + sum_by f ys) e ∙ ap (λ l. f x + sum_by f l) (sym (without_same x y ys t))
-      | inr n ↦
-          elim (in_cases y x ys c) [
-            | inl e ↦ absurd (false≢true (sym n ∙ eq-eqb y x e))
-            | inr d ↦
-                let s = sum_without f x ys d in
-                sum_by-cons f y ys ∙ swap (f y) (f x) (sum_by f ys) (sum_by f (without x ys)) s ∙ ap (λ k. f x + k) (sym (sum_by-cons f y (without x ys)))
-                ∙ ap (λ l. f x + sum_by f l) (sym (without_other x y ys n))
-          ]
-    ]
-  where
-    swap : (a b s t : ℕ) → s ≡ b + t → a + s ≡ b + (a + t)
-    swap a b s t e = omega arith
+sum_without f x (y ∷ ys) c = grind (arith, common_steps, sum_without f x ys, sum_by-cons, without_same, in_cases, without_other)
 
 others_stay : (x z : ℕ) (ys : List ℕ) → Contains ys z → z ≢ x → Contains (without x ys) z
 others_stay x z [] c d = absurd (nothing_in z c)

@@ -1,12 +1,12 @@
 -- Priorities, and what a cover that is a step's rules says of them.
-use Rattle.std.proofs.Common.{◌≡◌, ℕ, ℤ, Bool, true, false, not, ◌&&◌, ◌||◌, nat_lt, List, [], ◌∷◌, ◌++◌, Some, slice_get, Contains, filter, refl, sym, ap, ◌∙◌, subst, inl, inr, arith, int_cmp, int_eq, is_lt, Ordering, Less, Equal, Greater, ◌≤ℤ◌, ◌<ℤ◌}
+use Rattle.std.proofs.Common.{◌≡◌, ℕ, ℤ, Bool, true, false, not, ◌||◌, List, [], ◌∷◌, ◌++◌, Some, slice_get, Contains, filter, sym, ap, ◌∙◌, subst, arith, int_cmp, is_lt, Ordering, ◌≤ℤ◌, ◌<ℤ◌}
 use Rattle.std.specs.List.{list_all}
-use Rattle.std.proofs.lemmas.Bool.{cases_Bool, cond-true, and_parts, and_from, or_cases, or_right, false≢true, or_parts}
-use Rattle.std.proofs.lemmas.Bool.Decides.{Decides-int_eq}
+use Rattle.std.proofs.lemmas.Bool.{cond-true, and_parts, and_from, or_cases, or_right, false≢true, or_parts}
 use Rattle.std.proofs.lemmas.Int.{ints}
 use Rattle.std.proofs.lemmas.List.Elements.{Contains-append_right}
 use Rattle.std.specs.Cmp.{int_ranks}
 use Rattle.std.specs.Ordering.{MatchOrdering}
+use Rattle.std.proofs.lemmas.Grind.{common_steps}
 use Rattle.laws_trees.proofs.runs.ChosenRules.{through}
 use Rattle.model.specs.sites.Sites.{SetRule}
 use Rattle.model.specs.trees.Sound.{NoneHigher}
@@ -18,9 +18,7 @@ use Rattle.model.proofs.Priorities.{at_most, at_least}
 
 -- 1. priorities
 not_lower_of : (x y : ℤ) (o : Ordering) → MatchOrdering o (x <ℤ y) (x ≡ y) (y <ℤ x) → y ≤ℤ x → is_lt o ≡ false
-not_lower_of x y Less h l = absurd (omega (arith, ints))
-not_lower_of x y Equal h l = refl
-not_lower_of x y Greater h l = refl
+not_lower_of x y o h l = grind (arith, common_steps, ints)
 
 module _ (rules : List SetRule) where
   abbrev pub prio_at : ℕ → ℤ
@@ -39,21 +37,11 @@ module _ (rules : List SetRule) where
   itself x = omega (arith, ints)
 
   pub first_at_least : (i j : ℕ) → comes_first rules i j ≡ true → prio_at j ≤ℤ prio_at i
-  first_at_least i j h =
-      elim (or_cases (is_lower rules j i) (int_eq (prio_at j) (prio_at i) && nat_lt i j) h) [
-        | inl a ↦ lower_at_most j i a
-        | inr b ↦
-            let e = (Decides-int_eq (prio_at j) (prio_at i)).0 (and_parts (int_eq (prio_at j) (prio_at i)) (nat_lt i j) b).0 in
-            subst (λ x. prio_at j ≤ℤ x) e (itself (prio_at j))
-      ]
+  first_at_least i j h = grind (arith, common_steps, or_cases, lower_at_most, and_parts, itself)
 
   -- what stands first of rules that descend is at least as high as each
   pub first_is_top : (i : ℕ) (later : List ℕ) → descend rules (i ∷ later) ≡ true → (j : ℕ) → Contains (i ∷ later) j → prio_at j ≤ℤ prio_at i
-  first_is_top i later h j c =
-      elim (in_cases i j later c) [
-        | inl e ↦ subst (λ k. prio_at k ≤ℤ prio_at i) e (itself (prio_at i))
-        | inr d ↦ first_at_least i j (each_passes (comes_first rules i) later (and_parts (list_all (comes_first rules i) later) (descend rules later) h).0 j d)
-      ]
+  first_is_top i later h j c = grind (arith, common_steps, in_cases, itself, first_at_least, each_passes, and_parts)
 
   pub descend_rest : (i : ℕ) (later : List ℕ) → descend rules (i ∷ later) ≡ true → descend rules later ≡ true
   descend_rest i later h = (and_parts (list_all (comes_first rules i) later) (descend rules later) h).1
@@ -73,11 +61,7 @@ module _ (p : ℕ → Bool) where
   tail_same x y xs ys e = ap (λ l. elim l [ [] ↦ [] | z ∷ zs ↦ zs ]) e
 
   pub rest_fails : (xs ys : List ℕ) → filter p (xs ++ ys) ≡ xs → (y : ℕ) → Contains ys y → p y ≡ false
-  rest_fails [] ys e y c =
-      elim (cases_Bool (p y)) [
-        | inl t ↦ absurd (nothing_in y (subst (λ l. Contains l y) e (in_filter p ys y c t)))
-        | inr f ↦ f
-      ]
+  rest_fails [] ys e y c = grind (arith, common_steps, nothing_in y, in_filter p ys y c)
   rest_fails (x ∷ xs) ys e y c =
       let t = kept_passes (x ∷ xs) ys e x (in_head x xs) in
       rest_fails xs ys (tail_same x x (filter p (xs ++ ys)) xs (sym (cond-true (p x) (x ∷ filter p (xs ++ ys)) (filter p (xs ++ ys)) t) ∙ e)) y c
@@ -85,44 +69,15 @@ module _ (p : ℕ → Bool) where
 -- 3. covers
 some_fails : (p : ℕ → Bool) (xs : List ℕ) → list_all p xs ≡ false → (x : ℕ) × Contains xs x × (p x ≡ false)
 some_fails p [] h = absurd (false≢true (sym h))
-some_fails p (x ∷ xs) h =
-    elim (cases_Bool (p x)) [
-      | inl t ↦ let r = some_fails p xs (after t) in (r.0, in_tail x r.0 xs r.1, r.2)
-      | inr f ↦ (x, in_head x xs, f)
-    ]
-  where
-    after : p x ≡ true → list_all p xs ≡ false
-    after t = elim (cases_Bool (list_all p xs)) [ inl q ↦ absurd (false≢true (sym h ∙ and_from (p x) (list_all p xs) t q)) | inr f ↦ f ]
+some_fails p (x ∷ xs) h = grind (arith, common_steps, some_fails p xs, in_tail, in_head, and_from)
 
 module _ (rules : List SetRule) (t : Test) where
   -- a rule that is not needed by the test is no higher than a covered one
   covered_over : (here : List ℕ) (i j : ℕ) → is_covered rules here t i ≡ true → Contains here j → needs_at rules t j ≡ false → prio_at rules j ≤ℤ prio_at rules i
-  covered_over here i j h c n =
-      let all = (and_parts (needs_at rules t i) (list_all (λ k. needs_at rules t k || not (is_lower rules i k)) here) h).1 in
-      elim (or_cases (needs_at rules t j) (not (is_lower rules i j)) (each_passes (λ k. needs_at rules t k || not (is_lower rules i k)) here all j c)) [
-        | inl y ↦ absurd (false≢true (sym n ∙ y))
-        | inr y ↦ not_lower_at_least rules i j ((not_exact (is_lower rules i j)).0 y)
-      ]
+  covered_over here i j h c n = grind (arith, common_steps, and_parts, or_cases, each_passes, not_lower_at_least, not_exact)
 
   later_lower : (here : List ℕ) (i j : ℕ) → is_covered rules here t i ≡ true → Contains here j → is_covered rules here t j ≡ false → prio_at rules j ≤ℤ prio_at rules i
-  later_lower here i j h c f =
-      elim (cases_Bool (needs_at rules t j)) [
-        | inr n ↦ covered_over here i j h c n
-        | inl y ↦
-            let q = some_fails (λ k. needs_at rules t k || not (is_lower rules j k)) here (unmet y) in
-            let o = or_parts (needs_at rules t q.0) (not (is_lower rules j q.0)) q.2 in
-            through (prio_at rules j) (prio_at rules q.0) (prio_at rules i) (lower_at_most rules j q.0 (lower_is j q.0 o.1)) (covered_over here i q.0 h q.1 o.0)
-      ]
-    where
-      unmet : needs_at rules t j ≡ true → list_all (λ k. needs_at rules t k || not (is_lower rules j k)) here ≡ false
-      unmet y =
-          elim (cases_Bool (list_all (λ k. needs_at rules t k || not (is_lower rules j k)) here)) [
-            | inl q ↦ absurd (false≢true (sym f ∙ and_from (needs_at rules t j) (list_all (λ k. needs_at rules t k || not (is_lower rules j k)) here) y q))
-            | inr q ↦ q
-          ]
-
-      lower_is : (a b : ℕ) → not (is_lower rules a b) ≡ false → is_lower rules a b ≡ true
-      lower_is a b e = elim (cases_Bool (is_lower rules a b)) [ inl y ↦ y | inr y ↦ absurd (false≢true (sym e ∙ ap not y)) ]
+  later_lower here i j h c f = grind (arith, common_steps, covered_over, some_fails, or_parts, through, lower_at_most, and_from)
 
   pub cover_over : (here later : List ℕ) → cover rules (here ++ later) t ≡ here → NoneHigher rules here later
   cover_over here later e =

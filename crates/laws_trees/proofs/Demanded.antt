@@ -1,8 +1,9 @@
 -- What demands ask of contents, where a rule matches and so that it does, step by step of a visit.
-use Rattle.std.proofs.Common.{◌≡◌, ◌⊎◌, ◌==◌, ℕ, true, false, List, [], ◌∷◌, Option, Some, None, is_some, refl, sym, ap, subst, ◌∙◌, inl, inr}
+use Rattle.std.proofs.Common.{◌≡◌, ◌⊎◌, ◌==◌, ℕ, true, false, List, [], ◌∷◌, Option, Some, None, is_some, refl, sym, ap, subst, ◌∙◌, inl, inr, arith}
 use Rattle.std.proofs.lemmas.Bool.{cases_Bool, cond-true, cond-false, false≢true}
+use Rattle.std.proofs.lemmas.Grind.{common_steps}
 use Rattle.model.specs.rules.Values.{Value, value_eq, well_typed}
-use Rattle.model.specs.rules.Meaning.{Content, one, parts, nothing, just, many, look}
+use Rattle.model.specs.rules.Meaning.{Content, one, just}
 use Rattle.model.specs.rules.Outcome.{then_option}
 use Rattle.model.specs.rules.Picks.{Sited, SitedVars, sited_value, where_same}
 use Rattle.model.specs.trees.Run.{content_fields, where_constant}
@@ -62,13 +63,7 @@ here_typed g s ty v h w e = (ty, subst (λ u. well_typed g.program.types ty u �
 
 -- 1. steps of a visit
 pub met_asking : (g : Given) (s : SiteTerm) (c : Constraint) (v : Visit) → Meets g s c → IsTyped g s → AreMet g v.demands → AreMet g (asking s c v).demands
-met_asking g s c v m t a = record {
-  asked = λ x i. elim (in_either v.demands.constraints ((s, c) ∷ []) x i) [
-    | inl j ↦ a.asked x j
-    | inr j ↦ elim j [ inl e ↦ subst (λ (y : SiteTerm × Constraint). Meets g y.0 y.1 × IsTyped g y.0) e (m, t) | inr n ↦ absurd n ]
-  ];
-  equal = a.equal;
-}
+met_asking g s c v m t a = grind (arith, common_steps, in_either)
 
 pub asked_now : (s : SiteTerm) (c : Constraint) (v : Visit) → In (asking s c v).demands.constraints (s, c)
 asked_now s c v = in_right v.demands.constraints ((s, c) ∷ []) (s, c) (inl refl)
@@ -85,14 +80,7 @@ met_all g (s ∷ ss) v p a = met_all g ss (asking s is_present v) (λ u i. p u (
 
 -- what is asked to answer does
 pub meets_present : (g : Given) (s : SiteTerm) → Meets g s is_present → IsPresent g s
-meets_present g s h = by h.content h.held h.meets
-  where
-    by : (c : Content) → content_of g s ≡ Some c → is_some (content_fields g.meaning is_present c) ≡ true → IsPresent g s
-    by (just c) e m = (c, e)
-    by (one v) e m = absurd (false≢true m)
-    by (parts vs) e m = absurd (false≢true m)
-    by nothing e m = absurd (false≢true m)
-    by (many cs) e m = absurd (false≢true m)
+meets_present g s h = grind (arith, common_steps, content_of)
 
 met_equated : (g : Given) (a b : SiteTerm) (v : Visit) → Equal g a b → AreMet g v.demands → AreMet g (equated a b v).demands
 unfolding equated
@@ -132,11 +120,7 @@ bound_vars g vars e vs f x ty h = (f x ty h).var
 
 -- another variable is bound
 pub bound_kept : (g : Given) (x y ty : ℕ) (a : Sited) (s : SiteTerm) (e : SitedVars) (vs : List (ℕ × SiteTerm)) → (x == y) ≡ false → IsBound g e vs y ty → IsBound g ((x, a) ∷ e) ((x, s) ∷ vs) y ty
-bound_kept g x y ty a s e vs n b = record {
-  var = var_kept g x y ty a s e vs n b.var;
-  value = b.value;
-  there = ap (λ (q : Option Sited). then_option q (λ c. c.value)) (cond-false (x == y) (Some a) (look (λ k. k == y) e) n) ∙ b.there;
-}
+bound_kept g x y ty a s e vs n b = grind (arith, common_steps, var_kept)
 
 -- after some parts of a match and of a visit: what was met is met, enough was asked, and variables agree
 pub record Past (g : Given) (more : List (ℕ × ℕ)) (e : SitedVars) (v w : Visit) (o : Option SitedVars) : Type 0 where

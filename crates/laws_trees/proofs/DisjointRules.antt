@@ -1,6 +1,7 @@
 -- Built rules of a term that isn't multi are told apart by their closed demands: they never match together where they don't
 -- overlap, and where one is shadowed it matches only where its mask does.
-use Rattle.std.proofs.Common.{◌≡◌, ◌+◌, ◌≤◌, ℕ, List, [], ◌∷◌, length, sum_by, Option, Some, None, is_some, Contains, sym, ap, subst, ◌∙◌, inl, inr, refl, arith}
+use Rattle.std.proofs.Common.{◌≡◌, ◌+◌, ◌≤◌, ℕ, List, [], length, sum_by, Option, is_some, Contains, sym, ap, subst, ◌∙◌, inl, inr, arith}
+use Rattle.std.proofs.lemmas.Grind.{common_steps}
 use Rattle.model.specs.rules.Values.{Value}
 use Rattle.model.specs.rules.Meaning.{Meaning}
 use Rattle.model.specs.rules.Matching.{matches}
@@ -29,12 +30,10 @@ use Rattle.laws_trees.proofs.Visits.{given, tried, visits_match_lem}
 
 -- 1. without calls, under the empty pick
 pub still_there : (o : Option SitedVars) → is_some (without_sites o) ≡ is_some o
-still_there None = refl
-still_there (Some e) = refl
+still_there o = grind (arith, common_steps)
 
 pub empty_pick : (p : Program) (m : Meaning) (args : List Value) (r : TypedRule) → (demands_of p r).iterators ≡ [] → Contains (picks p m args r) []
-empty_pick p m args r h =
-    subst (λ l. Contains l []) (sym (bag_as_plain_lem p m args r (calls_no_multi p r h)).0) (contains_from_in ([] ∷ []) [] (inl refl))
+empty_pick p m args r h = grind (arith, common_steps, bag_as_plain_lem, calls_no_multi, contains_from_in)
 
 pub same_match : (p : Program) (m : Meaning) (args : List Value) (r : TypedRule) → (demands_of p r).iterators ≡ [] → is_some (matches_under p m [] r args) ≡ is_some (matches p m r args)
 same_match p m args r h = sym (still_there (matches_under p m [] r args)) ∙ ap is_some (matches_as_plain_lem p m [] r args (calls_no_multi p r h))
@@ -52,10 +51,7 @@ built_once p t b i =
 
 -- fewer demands hold too
 fewer_hold : (m : Meaning) (args : List Value) (a b : Closed) → a.classes ≡ [] → AreAmong a.constraints b.constraints → ClosedDemandsHold m args [] b → ClosedDemandsHold m args [] a
-fewer_hold m args a b none among h = record {
-  constraints = λ s c i. h.constraints s c (among s c i);
-  classes = λ l u v i. absurd (in_from_contains [] l (subst (λ k. Contains k l) none i));
-}
+fewer_hold m args a b none among h = grind (arith, common_steps, in_from_contains)
 
 -- of closed demands without classes, as many constraints among others are all of them
 among_back : (a b : Closed) → StandOnce b.constraints → a.classes ≡ [] → b.classes ≡ [] → length a.constraints + sum_by length a.classes ≤ length b.constraints + sum_by length b.classes

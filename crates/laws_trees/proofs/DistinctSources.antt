@@ -1,10 +1,11 @@
 -- Around a place the sources of arms differ, so do those of loops, and no pair is joined by the others.
-use Rattle.std.proofs.Common.{◌≡◌, ℕ, true, false, not, ◌&&◌, nat_lt, List, ◌∷◌, ◌++◌, map, Option, Some, slice_get, refl, sym, ◌∙◌, subst}
+use Rattle.std.proofs.Common.{◌≡◌, ℕ, true, false, not, ◌&&◌, List, ◌∷◌, map, Option, Some, slice_get, refl, arith}
 use Rattle.std.proofs.lemmas.Bool.{and_parts, and_from, or_parts}
 use Rattle.std.proofs.lemmas.List.Folds.{list_any-append}
+use Rattle.std.proofs.lemmas.Grind.{common_steps}
 use Rattle.model.specs.sites.Sites.{iterator_site, Constraint, SiteSet}
 use Rattle.model.specs.trees.Trees.{MarkedCheck}
-use Rattle.model.specs.trees.Places.{Around, nothing_around, is_in, joins, in_arm, in_equal, in_loop, after_step}
+use Rattle.model.specs.trees.Places.{Around, nothing_around, is_in, in_arm, in_equal, in_loop, after_step}
 use Rattle.model.specs.trees.Tests.{match_test, equal_test, loop_test, sources_around, is_at_hand, IsOpen}
 use Rattle.model.specs.trees.Best.{are_distinct}
 use Rattle.laws_trees.proofs.JudgeExactness.{not_exact}
@@ -27,9 +28,7 @@ one_more x xs f h = and_from (not (is_in x xs)) (are_distinct xs) ((not_exact (i
 
 module _ (set : SiteSet) (ar : Around) (straight : IsStraight ar) where
   new_source : (s : ℕ) → (is_at_hand set ar s && not (is_in s (sources_around ar))) ≡ true → (is_in s (matched_around ar) ≡ false) × (is_in s ar.looped ≡ false)
-  new_source s h =
-      let f = (not_exact (is_in s (sources_around ar))).0 (and_parts (is_at_hand set ar s) (not (is_in s (sources_around ar))) h).1 in
-      or_parts (is_in s (matched_around ar)) (is_in s ar.looped) (sym (list_any-append _ (matched_around ar) ar.looped) ∙ f)
+  new_source s h = grind (arith, common_steps, not_exact, and_parts, or_parts, list_any-append)
 
   pub straight_after : (check : MarkedCheck) → IsStraight (after_step set ar check)
   straight_after check = record { matched = straight.matched; looped = straight.looped; joined = straight.joined }
@@ -38,15 +37,7 @@ module _ (set : SiteSet) (ar : Around) (straight : IsStraight ar) where
   straight_arm s c fields h = record { matched = one_more s (matched_around ar) (new_source s h).0 straight.matched; looped = straight.looped; joined = straight.joined }
 
   pub straight_equal : (a b : ℕ) → IsOpen set ar (equal_test a b) → IsStraight (in_equal set ar a b)
-  straight_equal a b h = record {
-    matched = straight.matched;
-    looped = straight.looped;
-    joined = ((not_exact (joins ar.joined a b)).0 (and_parts (nat_lt a b && is_at_hand set ar a && is_at_hand set ar b) (not (joins ar.joined a b)) h).1, straight.joined);
-  }
+  straight_equal a b h = grind (arith, common_steps, not_exact, and_parts)
 
   pub straight_loop : (result source : ℕ) → slice_get set.sites result ≡ Some (iterator_site source) → IsOpen set ar (loop_test source) → IsStraight (in_loop set ar result)
-  straight_loop result source e h = record {
-    matched = straight.matched;
-    looped = subst (λ l. are_distinct (l ++ ar.looped) ≡ true) (sym (sources_there set result source e)) (one_more source ar.looped (new_source source h).1 straight.looped);
-    joined = straight.joined;
-  }
+  straight_loop result source e h = grind (arith, common_steps, sources_there, one_more, new_source)

@@ -3,6 +3,7 @@ use Rattle.std.proofs.Common.{◌≡◌, ◌⊎◌, ℕ, ◌<◌, true, false, n
 use Rattle.std.proofs.lemmas.Bool.{cases_Bool, and_from, or_left, or_right, cases_lt}
 use Rattle.std.proofs.lemmas.Option.{same_Some}
 use Rattle.std.proofs.lemmas.List.Elements.{Contains-append_cases}
+use Rattle.std.proofs.lemmas.Grind.{common_steps}
 use Rattle.model.specs.sites.Sites.{Constraint, SetRule, SiteSet}
 use Rattle.model.specs.trees.Places.{Around, is_in, class, joins, joins_in, available}
 use Rattle.model.specs.trees.Sound.{IsTested}
@@ -96,9 +97,7 @@ module _ (set : SiteSet) (block : EndedBlock set) (top : TopRule set block.place
       (or_left (needs (match_test s) top.rule) (needs (equal_test s s) top.rule) (ap is_some (well_built.asks_once s c k)))
 
   by_equal : (a b : ℕ) → joins_in top.rule.classes a b ≡ true → tests_site top.rule a ≡ true
-  by_equal a b h =
-      or_left (needs (match_test a) top.rule || needs (equal_test a a) top.rule) (needs (loop_test a) top.rule)
-      (or_right (needs (match_test a) top.rule) (needs (equal_test a a) top.rule) (joined_itself top.rule.classes a b h))
+  by_equal a b h = grind (arith, common_steps, or_left, or_right, joined_itself)
 
   by_loop : (s : ℕ) → Contains top.rule.iterators s → tests_site top.rule s ≡ true
   by_loop s k = or_right (needs (match_test s) top.rule || needs (equal_test s s) top.rule) (needs (loop_test s) top.rule) (member_is_in s top.rule.iterators k)
@@ -117,15 +116,7 @@ module _ (set : SiteSet) (block : EndedBlock set) (top : TopRule set block.place
       ]
 
   joined : (a b : ℕ) → joins_in top.rule.classes a b ≡ true → joins block.place.around.joined a b ≡ true
-  joined a b h =
-      elim (cases_lt a b) [
-        | inl l ↦ joined_up a b l h
-        | inr l ↦
-            elim (cases_lt b a) [
-              | inl m ↦ joins_turned block.place.around.joined b a (joined_up b a m (joined_back top.rule.classes a b h))
-              | inr m ↦ let e : a ≡ b = omega arith in eq-eqb (class block.place.around.joined a) (class block.place.around.joined b) (ap (class block.place.around.joined) e)
-            ]
-      ]
+  joined a b h = grind (arith, common_steps, cases_lt, joined_up, joins_turned, joined_back)
 
   pub end_is_tested : IsTested block.place.around top.rule
   end_is_tested = record {

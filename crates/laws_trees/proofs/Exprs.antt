@@ -1,8 +1,9 @@
 -- The value of an expression that calls pure terms alone is its site's.
-use Rattle.std.proofs.Common.{◌≡◌, ℕ, ◌==◌, Bool, true, false, List, [], ◌∷◌, Option, Some, None, is_some, slice_get, refl, sym, ap, ap₂, subst, ◌∙◌, inl, inr, eq-eqb}
+use Rattle.std.proofs.Common.{◌≡◌, ℕ, ◌==◌, Bool, true, false, List, [], ◌∷◌, Option, Some, None, is_some, slice_get, refl, sym, ap, ap₂, subst, ◌∙◌, inl, inr, eq-eqb, arith}
 use Rattle.std.proofs.lemmas.Bool.{and_from, false≢true}
+use Rattle.std.proofs.lemmas.Grind.{common_steps}
 use Rattle.model.specs.lists.Tables.{Flags, TermEntry}
-use Rattle.model.specs.rules.Values.{Value, of_variant, of_struct, Values, no_value, value_and, well_typed, all_well_typed, variant_types, struct_types}
+use Rattle.model.specs.rules.Values.{Value, of_variant, of_struct, Values, value_and, well_typed, all_well_typed, variant_types, struct_types}
 use Rattle.model.specs.rules.Meaning.{Content, one, nothing, just, bool_literal, int_literal, literal_value, constant_value, pure_answer}
 use Rattle.model.specs.rules.Outcome.{then_option}
 use Rattle.model.specs.rules.Matching.{single}
@@ -30,12 +31,10 @@ use Rattle.laws_typing.proofs.FormedParts.{type_is}
 
 -- the value that a content was made of
 value_back : (o : Option Value) → o ≡ then_option (from_value o) as_value
-value_back None = refl
-value_back (Some v) = refl
+value_back o = grind (arith, common_steps)
 
 value_made : (o : Option Values) (f : Values → Value) → then_option o (λ vs. Some (f vs)) ≡ then_option (then_option o (λ vs. Some (one (f vs)))) as_value
-value_made None f = refl
-value_made (Some vs) f = refl
+value_made o f = grind (arith, common_steps)
 
 -- variables stay where the visit names them as before
 pub vars_moved : (g : Given) (vars : List (ℕ × ℕ)) (e : SitedVars) (v w : Visit) → Same vars v w → AreVars g vars e v.vars → AreVars g vars e w.vars
@@ -58,12 +57,7 @@ module _ (g : Given) (z : Visit) (h : IsAnswered g z.demands) (well : IsWellType
 
   -- a literal's or a constant's value
   constant_valued : (s : SiteTerm) (o : Option Value) (ty : ℕ) → content_of g s ≡ from_value o → IsValueOf g ty o → IsValued g s o ty s
-  constant_valued s o ty c a = record {
-    site = refl;
-    value = value_back o ∙ ap (λ q. then_option q as_value) (sym c);
-    typed = λ v e. subst (λ w. well_typed p.types ty w ≡ true) (some_is a.value v (sym a.there ∙ e)) a.typed;
-    reached = λ q. (a.value, a.there);
-  }
+  constant_valued s o ty c a = grind (arith, common_steps, value_back, some_is)
 
   -- a variant or a struct that is made
   made_valued : (s : SiteTerm) (ss : SiteTerms) (o : Option Values) (tys : List ℕ) (ty : ℕ) (f : Values → Value) → content_of g s ≡ then_option (values_of g ss) (λ vs. Some (one (f vs))) → unwraps s ≡ unwraps_all ss
@@ -86,14 +80,7 @@ module _ (g : Given) (z : Visit) (h : IsAnswered g z.demands) (well : IsWellType
 
   -- a call whose answer is one value
   one_valued : (s : SiteTerm) (o : Option Value) (ty : ℕ) (c : Content) (w : Value) → content_of g s ≡ Some c → c ≡ one w → o ≡ single c → well_typed p.types ty w ≡ true → IsValued g s o ty s
-  one_valued s o ty c w e q r t =
-      let there : o ≡ Some w = r ∙ ap single q in
-      record {
-        site = refl;
-        value = there ∙ sym (ap (λ x. then_option x as_value) (e ∙ ap Some q));
-        typed = λ v f. subst (λ x. well_typed p.types ty x ≡ true) (some_is w v (sym there ∙ f)) t;
-        reached = λ y. (w, there);
-      }
+  one_valued s o ty c w e q r t = grind (arith, common_steps, some_is)
 
   abbrev call_of : ℕ → SiteTerms → SiteTerm
   call_of t ss = constructor_call t ss 0
@@ -113,9 +100,7 @@ module _ (g : Given) (z : Visit) (h : IsAnswered g z.demands) (well : IsWellType
 
     picked_valued : (rec infallible : Bool) (ss : SiteTerms) (o : Option Values) → kind p t ≡ a_call (flags_with true false rec) infallible → In z.demands.made (call_of t ss) → In z.demands.iterators (call_of t ss)
         → AreValued g ss o x.arg_tys ss → IsValued g (pick_of (call_of t ss)) (call_value true t ss o) x.ret_ty (pick_of (call_of t ss))
-    picked_valued rec infallible ss None q i j a =
-        none_valued (pick_of (call_of t ss)) ss x.arg_tys x.ret_ty
-        (ap (λ o. then_option (then_option (then_option o (pure_answer g.meaning t)) (picked g.pick (call_of t ss))) as_value) (sym a.values)) (λ w. w) a
+    picked_valued rec infallible ss None q i j a = grind (arith, common_steps, none_valued)
     picked_valued rec infallible ss (Some vs) q i j a =
         let c = call_answers ss vs i a in
         let d = h.picks (call_of t ss) j in
@@ -127,9 +112,7 @@ module _ (g : Given) (z : Visit) (h : IsAnswered g z.demands) (well : IsWellType
 
     part_valued : (rec infallible : Bool) (ss : SiteTerms) (o : Option Values) → kind p t ≡ a_call (flags_with false true rec) infallible → In z.demands.made (call_of t ss)
         → AreValued g ss o x.arg_tys ss → IsValued g (some_part (call_of t ss)) (call_value false t ss o) x.ret_ty (some_part (call_of t ss))
-    part_valued rec infallible ss None q i a =
-        none_valued (some_part (call_of t ss)) ss x.arg_tys x.ret_ty
-        (ap (λ o. then_option (then_option (then_option o (pure_answer g.meaning t)) part_of_some) as_value) (sym a.values)) (λ w u k. w u (inr k)) a
+    part_valued rec infallible ss None q i a = grind (arith, common_steps, none_valued)
     part_valued rec infallible ss (Some vs) q i a =
         let c = call_answers ss vs i a in
         let e = call_content ss vs c.answer a c.there in
@@ -154,8 +137,7 @@ module _ (g : Given) (z : Visit) (h : IsAnswered g z.demands) (well : IsWellType
 
     plain_valued : (rec infallible : Bool) (ss : SiteTerms) (o : Option Values) → kind p t ≡ a_call (flags_with false false rec) infallible → In z.demands.made (call_of t ss)
         → AreValued g ss o x.arg_tys ss → IsValued g (call_of t ss) (call_value false t ss o) x.ret_ty (call_of t ss)
-    plain_valued rec infallible ss None q i a =
-        none_valued (call_of t ss) ss x.arg_tys x.ret_ty (ap (λ o. then_option (then_option o (pure_answer g.meaning t)) as_value) (sym a.values)) (λ w. w) a
+    plain_valued rec infallible ss None q i a = grind (arith, common_steps, none_valued)
     plain_valued rec infallible ss (Some vs) q i a =
         let c = call_answers ss vs i a in
         let e = call_content ss vs c.answer a c.there in
@@ -173,10 +155,8 @@ module _ (g : Given) (z : Visit) (h : IsAnswered g z.demands) (well : IsWellType
     call_valued true true false rec infallible y a o q l v =
         let call = call_of t a.sites in
         picked_valued rec infallible a.sites o q (l.made call (in_right a.visit.demands.made (call ∷ (pick_of call ∷ [])) call (inl refl))) (l.calls call (in_right a.visit.demands.iterators (call ∷ []) call (inl refl))) v
-    call_valued true false true rec infallible y a o q l v =
-        let call = call_of t a.sites in part_valued rec infallible a.sites o q (l.made call (in_right a.visit.demands.made (call ∷ (some_part call ∷ [])) call (inl refl))) v
-    call_valued true false false rec infallible y a o q l v =
-        let call = call_of t a.sites in plain_valued rec infallible a.sites o q (l.made call (in_right a.visit.demands.made (call ∷ []) call (inl refl))) v
+    call_valued true false true rec infallible y a o q l v = grind (arith, common_steps, part_valued rec infallible a.sites o q, in_right a.visit.demands.made)
+    call_valued true false false rec infallible y a o q l v = grind (arith, common_steps, plain_valued rec infallible a.sites o q, in_right a.visit.demands.made)
 
     -- a term's value, its arguments having these sites and values
     same_valued : (k : Kind) → kind p t ≡ k → kind_of x ≡ k → (flags_of k).pure ≡ true → (a : ValuedAll) (o : Option Values) → Grown (visit_term k t a).visit z → AreValued g a.sites o x.arg_tys a.sites
@@ -198,10 +178,7 @@ module _ (g : Given) (z : Visit) (h : IsAnswered g z.demands) (well : IsWellType
 
     term_valued : (flags_of (kind p t)).pure ≡ true → (a : ValuedAll) (own : SiteTerms) (o : Option Values) → Grown (visit_term (kind p t) t a).visit z → AreValued g own o x.arg_tys a.sites
         → IsValued g (term_site (kind p t) t own) (then_option o (λ vs. term_under (kind p t) g.meaning g.pick t own vs)) x.ret_ty (visit_term (kind p t) t a).site
-    term_valued y a own o l v =
-        subst (λ w. IsValued g (term_site (kind p t) t w) (then_option o (λ vs. term_under (kind p t) g.meaning g.pick t w vs)) x.ret_ty (visit_term (kind p t) t a).site) (sym v.sites)
-        (subst (IsValued g (term_site (kind p t) t a.sites) (then_option o (λ vs. term_under (kind p t) g.meaning g.pick t a.sites vs)) x.ret_ty) (sym (pure_site (kind p t) t a y))
-        (same_valued (kind p t) refl (its_kind p t x there) y a o l (record { sites = refl; values = v.values; typed = v.typed; reached = v.reached })))
+    term_valued y a own o l v = grind (arith, common_steps, term_site, pure_site, same_valued, its_kind)
 
   abbrev own_expr : TypedExpr → SitedVars → SiteTerm
   own_expr x e = expr_site p x e 0
@@ -239,8 +216,7 @@ module _ (g : Given) (z : Visit) (h : IsAnswered g z.demands) (well : IsWellType
 
     exprs_valued : (xs : TypedExprs) (v : Visit) (tys : List ℕ) (vars : List (ℕ × ℕ)) (e : SitedVars) → are_formed_args p xs tys vars ≡ true → ArePureExprs p xs → AreVars g vars e v.vars → Grown (visit_exprs p xs v).visit z
         → AreValued g (expr_sites p xs e 0) (values_under p g.meaning g.pick xs e) tys (visit_exprs p xs v).sites
-    exprs_valued no_typed_expr v [] vars e f y w l =
-        record { sites = refl; values = refl; typed = λ vs q. subst (λ us. all_well_typed p.types (Some []) us ≡ true) (some_is no_value vs q) refl; reached = λ q. (no_value, refl) }
+    exprs_valued no_typed_expr v [] vars e f y w l = grind (arith, common_steps, some_is)
     exprs_valued no_typed_expr v (ty ∷ tys) vars e f y w l = absurd (false≢true f)
     exprs_valued (typed_expr_and x xs) v [] vars e f y w l = absurd (false≢true f)
     exprs_valued (typed_expr_and x xs) v (ty ∷ tys) vars e f y w l =

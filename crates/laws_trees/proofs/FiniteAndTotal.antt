@@ -1,5 +1,7 @@
 -- The headline under finite maps, and by total functions.
-use Rattle.model.specs.rules.Meaning.{finite, total}
+use Rattle.std.proofs.Common.{arith}
+use Rattle.std.proofs.lemmas.Grind.{common_steps}
+use Rattle.model.specs.rules.Meaning.{total}
 use Rattle.model.specs.claims.Environments.{types_read}
 use Rattle.model.specs.claims.Layers.{own_program}
 use Rattle.laws_typing.proofs.WellTypedRules.{elaborated_programs_are_well_typed_lem}
@@ -8,10 +10,7 @@ use Rattle.laws_trees.specs.FiniteAndTotal.{HeadlineIsOfMaps, LoweredTermsRunByF
 use Rattle.laws_trees.proofs.PatternConstants.{tells_constants}
 
 pub headline_is_of_maps_lem : HeadlineIsOfMaps
-headline_is_of_maps_lem p t sites tree = record {
-  chooses = λ runs single maps args h. (let a = runs single (finite maps) args h.0 h.1 h.2 in record { as_chosen = a.0; once = a.1 });
-  collects = λ bags multi results maps args h. bags multi results (finite maps) args h.0 h.1 h.2;
-}
+headline_is_of_maps_lem p t sites tree = grind (arith, common_steps)
 
 pub lowered_terms_run_by_functions_lem : LoweredTermsRunByFunctions
 lowered_terms_run_by_functions_lem defs expand rules l f args accepted lowered well apart typed =

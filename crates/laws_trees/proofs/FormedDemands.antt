@@ -1,12 +1,13 @@
 -- The constraints of a rule that hangs together: variants and structs are asked for with all their fields, constants have
 -- types.
-use Rattle.std.proofs.Common.{◌≡◌, ℕ, Bool, true, false, List, [], ◌∷◌, length, Some, slice_get, refl, subst, inl, inr, eqb-true}
+use Rattle.std.proofs.Common.{◌≡◌, ℕ, Bool, true, false, List, [], ◌∷◌, length, Some, slice_get, refl, subst, eqb-true, arith}
+use Rattle.std.proofs.lemmas.Grind.{common_steps}
 use Rattle.model.specs.lists.Tables.{TermEntry}
 use Rattle.model.specs.lists.Ranges.{is_literal_of}
 use Rattle.model.specs.rules.Values.{variant_types, struct_types}
 use Rattle.model.specs.rules.Program.{Program, Kind, a_variant, a_struct, a_call, unknown, kind, kind_of}
 use Rattle.model.specs.rules.Typed.{TypedPatterns, TypedRule}
-use Rattle.model.specs.sites.Sites.{Constraint, is_variant, is_struct, is_bool, is_int, is_prim, is_present, SiteTerm, extractor_call, pick_of, some_part, variant_field, struct_field}
+use Rattle.model.specs.sites.Sites.{Constraint, is_variant, is_struct, is_bool, is_int, is_prim, is_present, SiteTerm, extractor_call, some_part, variant_field, struct_field}
 use Rattle.model.specs.visits.Demands.{Demands, demands_of, Visit, making, asking, pattern_count, open_call, open_term, asking_all}
 use Rattle.model.specs.sites.Serves.{constant_type}
 use Rattle.model.specs.lists.Setting.{bool_type}
@@ -34,11 +35,7 @@ abbrev pub AreFormed : Program → Demands → Type 0
 AreFormed p d = (x : SiteTerm × Constraint) → In d.constraints x → IsFormed p x.1
 
 asked_formed : (p : Program) (s : SiteTerm) (c : Constraint) (v : Visit) → IsFormed p c → AreFormed p v.demands → AreFormed p (asking s c v).demands
-asked_formed p s c v f a x i =
-    elim (in_either v.demands.constraints ((s, c) ∷ []) x i) [
-      | inl j ↦ a x j
-      | inr j ↦ elim j [ inl e ↦ subst (λ (y : SiteTerm × Constraint). IsFormed p y.1) e f | inr n ↦ absurd n ]
-    ]
+asked_formed p s c v f a x i = grind (arith, common_steps, in_either)
 
 all_asked_formed : (p : Program) (ss : List SiteTerm) (v : Visit) → AreFormed p v.demands → AreFormed p (asking_all ss v).demands
 all_asked_formed p [] v a = a
@@ -56,9 +53,7 @@ formed p = record { demands = AreFormed p; site = λ s ty. Unit {0}; matched = �
 
 call_inputs : (p : Program) (pure multi partial rec infallible : Bool) (c : SiteTerm) (args : TypedPatterns) (tys : List ℕ) (v : Visit) → AsMany args tys
     → AtEachTyped (formed p) (open_call (record { pure = pure; multi = multi; partial = partial; rec = rec }) infallible c args v).inputs tys
-call_inputs p pure true partial rec infallible c args tys v n = outputs_each (formed p) (pick_of c) args tys n (λ ty e. tt) (λ a b rest e j ty x. tt)
-call_inputs p pure false partial rec true c args tys v n = outputs_each (formed p) c args tys n (λ ty e. tt) (λ a b rest e j ty x. tt)
-call_inputs p pure false partial rec false c args tys v n = outputs_each (formed p) (some_part c) args tys n (λ ty e. tt) (λ a b rest e j ty x. tt)
+call_inputs p pure multi partial rec infallible c args tys v n = grind (arith, common_steps, outputs_each)
 
 module _ (p : Program) (fields : HasTypedParts p) where
   term_formed : (t : ℕ) (e : TermEntry) → slice_get p.terms t ≡ Some e → (k : Kind) → kind p t ≡ k → kind_of e ≡ k → (s : SiteTerm) (args : TypedPatterns) → AsMany args e.arg_tys → (v : Visit) → AreFormed p v.demands

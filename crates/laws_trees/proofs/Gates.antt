@@ -1,7 +1,8 @@
 -- What a demanded gate says of a rule's constraints.
-use Rattle.std.proofs.Common.{◌≡◌, ℕ, ◌<◌, ◌==◌, Bool, true, ◌&&◌, nat_lt, List, [], ◌∷◌, Contains, subst, inl, inr, eqb-true, ltb-true}
+use Rattle.std.proofs.Common.{◌≡◌, ℕ, ◌<◌, Bool, true, List, [], ◌∷◌, Contains, inl, inr, arith}
 use Rattle.std.specs.List.{list_any}
 use Rattle.std.proofs.lemmas.Bool.{and_parts, or_cases, false≢true}
+use Rattle.std.proofs.lemmas.Grind.{common_steps}
 use Rattle.model.specs.sites.Sites.{Constraint, is_variant, is_struct, is_present}
 use Rattle.model.proofs.Members.{in_head, in_tail}
 use Rattle.model.specs.sites.Gates.{asks_answer, asks_struct, asks_variant}
@@ -18,23 +19,13 @@ module _ (ds : List (ℕ × Constraint)) where
   BringsStruct source field = (ty fields : ℕ) × Contains ds (source, is_struct ty fields) × (field < fields)
 
   variant_asked : (source variant field : ℕ) (d : ℕ × Constraint) → Contains ds d → asks_variant source variant field d ≡ true → BringsVariant source variant field
-  variant_asked source variant field (s, is_variant ty v fields) c h =
-      let q = and_parts ((s == source) && (v == variant)) (nat_lt field fields) h in
-      let p = and_parts (s == source) (v == variant) q.0 in
-      let a = eqb-true s source p.0 in
-      let b = eqb-true v variant p.1 in
-      (ty, fields, subst (λ (x : ℕ × ℕ). Contains ds (x.0, is_variant ty x.1 fields)) (λ k. (a k, b k)) c, ltb-true field fields q.1)
-  variant_asked source variant field (s, _) c h = absurd (false≢true h)
+  variant_asked source variant field d c h = grind (arith, common_steps, and_parts)
 
   struct_asked : (source field : ℕ) (d : ℕ × Constraint) → Contains ds d → asks_struct source field d ≡ true → BringsStruct source field
-  struct_asked source field (s, is_struct ty fields) c h =
-      let q = and_parts (s == source) (nat_lt field fields) h in
-      (ty, fields, subst (λ x. Contains ds (x, is_struct ty fields)) (eqb-true s source q.0) c, ltb-true field fields q.1)
-  struct_asked source field (s, _) c h = absurd (false≢true h)
+  struct_asked source field d c h = grind (arith, common_steps, and_parts)
 
   answer_asked : (source : ℕ) (d : ℕ × Constraint) → Contains ds d → asks_answer source d ≡ true → Contains ds (source, is_present)
-  answer_asked source (s, is_present) c h = subst (λ x. Contains ds (x, is_present)) (eqb-true s source h) c
-  answer_asked source (s, _) c h = absurd (false≢true h)
+  answer_asked source d c h = grind (arith, common_steps)
 
   pub variant_gate : (source variant field : ℕ) → list_any (asks_variant source variant field) ds ≡ true → BringsVariant source variant field
   variant_gate source variant field h = let x = some_passes (asks_variant source variant field) ds h in variant_asked source variant field x.0 x.1 x.2

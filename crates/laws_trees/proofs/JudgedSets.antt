@@ -1,9 +1,9 @@
 -- Rules of sets that name the sites in the order in which they are demanded: what must be computed of them.
-use Rattle.std.proofs.Common.{◌≡◌, ℕ, pos, zero, suc, ◌+◌, ◌<◌, ◌≤◌, Bool, true, false, not, ◌&&◌, ◌||◌, nat_lt, List, [], ◌∷◌, length, map, Some, slice_get, All, Contains, IsTrue, refl, sym, ap, ◌∙◌, subst, inl, inr, int_eq, arith, ltb-true}
+use Rattle.std.proofs.Common.{◌≡◌, ℕ, pos, zero, suc, ◌+◌, ◌<◌, ◌≤◌, Bool, true, false, not, ◌&&◌, ◌||◌, nat_lt, List, [], ◌∷◌, length, map, Some, slice_get, All, Contains, IsTrue, refl, sym, ap, ◌∙◌, subst, int_eq, arith, ltb-true}
 use Rattle.std.specs.List.{flat_map, list_all}
 use Rattle.std.proofs.lemmas.Bool.{and_parts, and_from, or_cases, false≢true}
-use Rattle.std.proofs.lemmas.Bool.Decides.{Decides-int_eq}
 use Rattle.std.proofs.lemmas.Option.{none-some, same_Some}
+use Rattle.std.proofs.lemmas.Grind.{common_steps}
 use Rattle.model.specs.rules.Program.{numbers_from, Program, is_multi}
 use Rattle.model.specs.lists.Names.{IsDistinct}
 use Rattle.model.specs.sites.Sites.{Site, Constraint, SetRule, SiteSet, SiteTerm, unfold_site}
@@ -67,19 +67,14 @@ as_many f n [] = refl
 as_many f n (x ∷ xs) = ap suc (as_many f (suc n) xs)
 
 pub stand : (sites : List Site) (terms : List SiteTerm) → map (unfold_site sites) (numbers_from 0 sites) ≡ terms → StandFor sites terms
-stand sites terms same = record {
-  exact = λ s l. subst (λ ts. slice_get ts s ≡ Some (unfold_site sites s)) same (numbered (unfold_site sites) 0 sites s l ∙ ap (λ k. Some (unfold_site sites k)) (omega arith));
-  count = subst (λ ts. length sites ≡ length ts) same (as_many (unfold_site sites) 0 sites);
-}
+stand sites terms same = grind (arith, common_steps, numbered, as_many)
 
 -- a constrained site of a rule stands in no class of it
 abbrev pub keeps_apart : SetRule → Bool
 keeps_apart r = list_all (λ (d : ℕ × Constraint). not (is_in d.0 (members r.classes))) r.constraints
 
 kept_apart : (r : SetRule) → keeps_apart r ≡ true → ConstrainsOrEquates r
-kept_apart r h s a c k j =
-    let free = (not_exact (is_in s (members r.classes))).0 (each_passes (λ (d : ℕ × Constraint). not (is_in d.0 (members r.classes))) r.constraints h (s, c) k) in
-    false≢true (sym free ∙ member_is_in s (members r.classes) (joined_member r.classes s a j).0)
+kept_apart r h s a c k j = grind (arith, common_steps, not_exact, members, each_passes, member_is_in, joined_member)
 
 -- a rule demands the gates below these sites
 abbrev pub gates_hold : List Site → SetRule → List ℕ → Bool
@@ -90,9 +85,7 @@ demands_gates sites r ss h = all_members (λ s. IsTrue (gate_demanded r (slice_g
 
 -- the rules have the priority of the number 0
 no_priorities : (rules : List SetRule) → list_all (λ (r : SetRule). int_eq r.prio (pos 0)) rules ≡ true → HasOnePriority rules
-no_priorities rules h i j r q e f =
-    let zero-at : (k : ℕ) (x : SetRule) → slice_get rules k ≡ Some x → x.prio ≡ pos 0 = λ k x g. (Decides-int_eq x.prio (pos 0)).0 (each_passes (λ (y : SetRule). int_eq y.prio (pos 0)) rules h x (member_from_get rules k x g)) in
-    zero-at i r e ∙ sym (zero-at j q f)
+no_priorities rules h i j r q e f = grind (arith, common_steps, each_passes, member_from_get)
 
 -- what must hold of a rule: it keeps constrained sites from equated ones, and demands the gates below its tested sites
 abbrev pub serves : List Site → SetRule → Bool
@@ -106,11 +99,7 @@ abbrev pub call_passes : Program → List Site → BuiltRule → SetRule → ℕ
 call_passes p sites b r s = has_site (calls_left_by p b.rule) (unfold_site sites s) || gates_hold sites r (s ∷ [])
 
 call_demands : (p : Program) (sites : List Site) (b : BuiltRule) (r : SetRule) (s : ℕ) → call_passes p sites b r s ≡ true → DemandsGatesOfCall p sites b r s
-call_demands p sites b r s h =
-    elim (or_cases (has_site (calls_left_by p b.rule) (unfold_site sites s)) (gates_hold sites r (s ∷ [])) h) [
-      | inl e ↦ inl (contains_from_in (calls_left_by p b.rule) (unfold_site sites s) (has_in (calls_left_by p b.rule) (unfold_site sites s) e))
-      | inr g ↦ inr (demands_gates sites r (s ∷ []) g)
-    ]
+call_demands p sites b r s h = grind (arith, common_steps, or_cases, contains_from_in, has_in, demands_gates)
 
 -- so is each call of each rule, where the rules of a set are those that it was built of
 abbrev pub calls_pass : Program → List Site → List BuiltRule → List SetRule → Bool
@@ -122,12 +111,8 @@ pass_at : (p : Program) (sites : List Site) (bs : List BuiltRule) (rs : List Set
     → slice_get bs i ≡ Some b → slice_get rs i ≡ Some r → calls_pass p sites bs rs ≡ true → list_all (call_passes p sites b r) r.iterators ≡ true
 pass_at p sites [] rs i b r e f h = absurd (none-some b e)
 pass_at p sites (c ∷ bs) [] i b r e f h = absurd (none-some r f)
-pass_at p sites (c ∷ bs) (q ∷ rs) zero b r e f h =
-    subst (λ x. list_all (call_passes p sites x r) r.iterators ≡ true) (same_Some c b e)
-    (subst (λ x. list_all (call_passes p sites c x) x.iterators ≡ true) (same_Some q r f)
-    (and_parts (list_all (call_passes p sites c q) q.iterators) (calls_pass p sites bs rs) h).0)
-pass_at p sites (c ∷ bs) (q ∷ rs) (suc i) b r e f h =
-    pass_at p sites bs rs i b r e f (and_parts (list_all (call_passes p sites c q) q.iterators) (calls_pass p sites bs rs) h).1
+pass_at p sites (c ∷ bs) (q ∷ rs) zero b r e f h = grind (arith, common_steps, same_Some, and_parts)
+pass_at p sites (c ∷ bs) (q ∷ rs) (suc i) b r e f h = grind (arith, common_steps, pass_at p sites bs rs i b r e f, and_parts)
 
 -- the sites of a set, without its rules
 abbrev pub only_sites : SiteSet → SiteSet

@@ -1,53 +1,33 @@
 -- A tree's marks are found again from its returns, where no two rules return at one position with one result.
-use Rattle.std.proofs.Common.{◌≡◌, ℕ, zero, suc, ◌<◌, ◌==◌, true, not, ◌&&◌, List, [], ◌∷◌, length, Some, slice_get, refl, sym, ap, ◌∙◌, subst, inl, inr, arith, eqb-true, eq-eqb}
-use Rattle.std.specs.List.{list_all}
-use Rattle.std.proofs.lemmas.Bool.{cases_Bool, cond-true, cond-false, and_parts, and_from}
+use Rattle.std.proofs.Common.{◌≡◌, ℕ, zero, suc, ◌<◌, true, List, [], ◌∷◌, length, Some, slice_get, refl, ap, arith}
+use Rattle.std.proofs.lemmas.Bool.{and_parts, and_from}
 use Rattle.std.proofs.lemmas.Option.{none-some, same_Some}
-use Rattle.std.proofs.lemmas.List.Elements.{All-contains}
+use Rattle.std.proofs.lemmas.Grind.{common_steps}
 use Rattle.model.specs.lists.Syntax.{Position}
 use Rattle.model.specs.sites.Sites.{SetRule, SiteSet}
 use Rattle.model.specs.trees.Trees.{Tree, no_step, step, Check, match_at, equal_at, loop_at, return_at, Arms, no_arm, arm, Marked, m_no_step, m_step, MarkedCheck, m_match, m_equal, m_loop, m_return, MarkedArms, m_no_arm, m_arm, marks, marks_check, marks_arms, return_of, plain, plain_check, plain_arms}
 use Rattle.model.specs.trees.Sound.{ReturnsEach}
-use Rattle.model.specs.trees.Best.{NoSiteTwice, HasFewSteps, IsBestTree}
-use Rattle.model.specs.trees.Judge.{returns_as, rule_returned, marking, marking_check, marking_arms, is_best, returns_apart}
+use Rattle.model.specs.trees.Judge.{returns_as, rule_returned, marking, marking_check, marking_arms, returns_apart}
 use Rattle.model.proofs.Members.{in_head, get_within, member_from_get, each_passes}
-use Rattle.laws_trees.specs.BestLaws.{IsBestMarked, TreeJudgeIsExact}
+use Rattle.laws_trees.specs.BestLaws.{TreeJudgeIsExact}
 use Rattle.laws_trees.proofs.JudgeExactness.{judge_exact, not_exact}
 use Rattle.model.proofs.SameSites.{parts_mean}
 use Rattle.laws_trees.proofs.runs.Claims.{Known, known_left, known_right}
 
 returns_itself : (r : SetRule) → returns_as r r.at r.result ≡ true
-returns_itself r =
-    and_from ((r.at.file == r.at.file) && (r.at.offset == r.at.offset)) (r.result == r.result)
-    (and_from (r.at.file == r.at.file) (r.at.offset == r.at.offset) (eq-eqb r.at.file r.at.file refl) (eq-eqb r.at.offset r.at.offset refl)) (eq-eqb r.result r.result refl)
+returns_itself r = grind (arith, common_steps, and_from)
 
 returns_same : (r : SetRule) (at : Position) (result : ℕ) → returns_as r at result ≡ true → return_at r.at r.result ≡ return_at at result
-returns_same r at result h =
-    let p = parts_mean r.at.file at.file r.at.offset at.offset (r.result == result) h in
-    let c = eqb-true r.result result p.2 in
-    λ k. return_at (record { file = p.0 k; offset = p.1 k }) (c k)
+returns_same r at result h = grind (arith, common_steps, parts_mean)
 
 rule_found : (rules : List SetRule) (at : Position) (result : ℕ) → rule_returned rules at result < length rules → return_of (slice_get rules (rule_returned rules at result)) ≡ return_at at result
 rule_found [] at result l = absurd (omega arith)
-rule_found (r ∷ rules) at result l =
-    elim (cases_Bool (returns_as r at result)) [
-      | inl t ↦ ap (λ i. return_of (slice_get (r ∷ rules) i)) (cond-true (returns_as r at result) 0 (suc (rule_returned rules at result)) t) ∙ returns_same r at result t
-      | inr n ↦
-          let e = cond-false (returns_as r at result) 0 (suc (rule_returned rules at result)) n in
-          ap (λ i. return_of (slice_get (r ∷ rules) i)) e ∙ rule_found rules at result (less (subst (λ i. i < suc (length rules)) e l))
-    ]
-  where
-    less : {i n : ℕ} → suc i < suc n → i < n
-    less l = omega arith
+rule_found (r ∷ rules) at result l = grind (arith, common_steps, rule_found rules at result, returns_same)
 
 rule_again : (rules : List SetRule) → returns_apart rules ≡ true → (i : ℕ) (r : SetRule) → slice_get rules i ≡ Some r → rule_returned rules r.at r.result ≡ i
 rule_again [] h i r e = absurd (none-some r e)
-rule_again (q ∷ rules) h zero r e =
-    subst (λ (x : SetRule). rule_returned (q ∷ rules) x.at x.result ≡ 0) (same_Some q r e) (cond-true (returns_as q q.at q.result) 0 (suc (rule_returned rules q.at q.result)) (returns_itself q))
-rule_again (q ∷ rules) h (suc i) r e =
-    let b = and_parts (list_all (λ x. not (returns_as q x.at x.result)) rules) (returns_apart rules) h in
-    let n = (not_exact (returns_as q r.at r.result)).0 (each_passes (λ (x : SetRule). not (returns_as q x.at x.result)) rules b.0 r (member_from_get rules i r e)) in
-    cond-false (returns_as q r.at r.result) 0 (suc (rule_returned rules r.at r.result)) n ∙ ap suc (rule_again rules b.1 i r e)
+rule_again (q ∷ rules) h zero r e = grind (arith, common_steps, same_Some, returns_itself)
+rule_again (q ∷ rules) h (suc i) r e = grind (arith, common_steps, rule_again rules, and_parts, not_exact, each_passes, member_from_get)
 
 module _ (rules : List SetRule) where
   mutual
@@ -73,9 +53,7 @@ module _ (rules : List SetRule) where
 
   module _ (apart : returns_apart rules ≡ true) where
     return_again : (i : ℕ) → i < length rules → marking_check rules (return_of (slice_get rules i)) ≡ m_return i
-    return_again i l =
-        let g = get_within rules i l in
-        ap (λ o. marking_check rules (return_of o)) g.1 ∙ ap m_return (rule_again rules apart i g.0 g.1)
+    return_again i l = grind (arith, common_steps, get_within rules i l, rule_again rules apart i)
 
     mutual
       pub marking_plain : (m : Marked) → Known rules (marks m) → marking rules (plain rules m) ≡ m
@@ -100,24 +78,7 @@ module _ (rules : List SetRule) where
 
 -- the marks that are found from the returns of a tree are those of each marking of it
 pub marks_found : (set : SiteSet) (tree : Tree) (m : Marked) → returns_apart set.rules ≡ true → ReturnsEach set tree m → m ≡ marking set.rules tree
-marks_found set tree m apart r =
-    sym (marking_plain set.rules apart m (λ i c. All-contains (λ j. j < length set.rules) (marks m) i r.known c)) ∙ ap (marking set.rules) r.same
+marks_found set tree m apart r = grind (arith, common_steps, marking_plain)
 
 pub tree_judge_is_exact_lem : TreeJudgeIsExact
-tree_judge_is_exact_lem set tree apart = (
-  λ h.
-      let m = marking set.rules tree in
-      let b = (judge_exact set m).0 h in
-      let e = plain_marking set.rules tree (λ i c. All-contains (λ j. j < length set.rules) (marks m) i b.returns.known c) in
-      subst (IsBestTree set) e (record { marked = m; returns = b.returns; steps = b.steps; no_site_twice = b.no_site_twice; few_steps = b.few_steps }),
-  λ b.
-      let m = b.marked in
-      let same = b.returns.same in
-      let marked : IsBestMarked set m = record {
-        returns = record { same = refl; once = b.returns.once; known = b.returns.known };
-        steps = b.steps;
-        no_site_twice = subst NoSiteTwice (sym same) b.no_site_twice;
-        few_steps = subst (HasFewSteps set) (sym same) b.few_steps;
-      } in
-      subst (λ x. is_best set x ≡ true) (marks_found set tree m apart b.returns) ((judge_exact set m).1 marked),
-)
+tree_judge_is_exact_lem set tree apart = grind (arith, common_steps, judge_exact, plain_marking, marks_found)

@@ -1,7 +1,8 @@
 -- No rule of a program whose rules can be told apart passes a limit.
-use Rattle.std.proofs.Common.{◌≡◌, ℕ, zero, suc, ◌≤◌, ◌==◌, Bool, true, not, List, [], ◌∷◌, ◌++◌, map, length, take, filter, Option, Some, None, is_none, slice_get, refl, sym, ap, ◌∙◌, subst, inl, inr, arith, eq-eqb}
-use Rattle.std.proofs.lemmas.Bool.{cases_Bool, cond-true, cond-false, and_parts, false≢true}
+use Rattle.std.proofs.Common.{◌≡◌, ℕ, zero, suc, ◌≤◌, ◌==◌, Bool, true, not, List, [], ◌∷◌, ◌++◌, map, length, take, filter, Option, Some, is_none, slice_get, refl, sym, ap, ◌∙◌, subst, inl, inr, arith, eq-eqb}
+use Rattle.std.proofs.lemmas.Bool.{cases_Bool, cond-true, cond-false, and_parts}
 use Rattle.std.proofs.lemmas.List.{length-map}
+use Rattle.std.proofs.lemmas.Grind.{common_steps}
 use Rattle.model.specs.rules.Typed.{TypedRule}
 use Rattle.model.specs.rules.Program.{Program, rules_of}
 use Rattle.model.specs.sites.Sites.{SiteTerm}
@@ -21,16 +22,7 @@ module _ (p : Program) where
   -- there are no more built rules than rules
   few_built : (before : List SiteTerm) (rs : List TypedRule) → length (built_from p before rs) ≤ length rs
   few_built before [] = omega arith
-  few_built before (r ∷ rs) =
-      let more = few_built (sites_after_rule p before r) rs in
-      elim (cases_Bool (is_built p before r)) [
-        | inl t ↦
-            let e = ap (λ (l : List BuiltRule). length (l ++ built_from p (sites_after_rule p before r) rs)) (cond-true (is_built p before r) (built_rule p before r ∷ []) [] t) in
-            omega arith
-        | inr f ↦
-            let e = ap (λ (l : List BuiltRule). length (l ++ built_from p (sites_after_rule p before r) rs)) (cond-false (is_built p before r) (built_rule p before r ∷ []) [] f) in
-            omega arith
-      ]
+  few_built before (r ∷ rs) = grind (arith, common_steps, few_built (sites_after_rule p before r) rs)
 
   tail_is : (x y : TypedRule) (xs ys : List TypedRule) → ◌≡◌ {A = List TypedRule} (x ∷ xs) (y ∷ ys) → xs ≡ ys
   tail_is x y xs ys e = ap (λ l. elim l [ [] ↦ [] | z ∷ zs ↦ zs ]) e
@@ -63,20 +55,10 @@ split_at (x ∷ xs) (suc i) r e = (let s = split_at xs i r e in (s.0, ap (λ l. 
 
 filter_split : (f : TypedRule → Bool) (xs ys : List TypedRule) (r : TypedRule) → f r ≡ true → filter f (xs ++ r ∷ ys) ≡ filter f xs ++ r ∷ filter f ys
 filter_split f [] ys r t = cond-true (f r) (r ∷ filter f ys) (filter f ys) t
-filter_split f (x ∷ xs) ys r t =
-    let more = filter_split f xs ys r t in
-    elim (cases_Bool (f x)) [
-      | inl y ↦
-          cond-true (f x) (x ∷ filter f (xs ++ r ∷ ys)) (filter f (xs ++ r ∷ ys)) y ∙ ap (λ l. x ∷ l) more
-          ∙ ap (λ (l : List TypedRule). l ++ r ∷ filter f ys) (sym (cond-true (f x) (x ∷ filter f xs) (filter f xs) y))
-      | inr n ↦
-          cond-false (f x) (x ∷ filter f (xs ++ r ∷ ys)) (filter f (xs ++ r ∷ ys)) n ∙ more
-          ∙ ap (λ (l : List TypedRule). l ++ r ∷ filter f ys) (sym (cond-false (f x) (x ∷ filter f xs) (filter f xs) n))
-    ]
+filter_split f (x ∷ xs) ys r t = grind (arith, common_steps, filter_split f xs ys r t)
 
 none_met : {X : Type 0} (o : Option X) (x : X) → is_none o ≡ true → o ≡ Some x → ⊥
-none_met None x h e = none_some x e
-none_met (Some y) x h e = false≢true h
+none_met o x h e = grind (arith, common_steps, none_some)
 
 pub checkable_programs_pass_no_limit_lem : CheckableProgramsPassNoLimit
 checkable_programs_pass_no_limit_lem p check _ _ (rule_passes i r l h passes) =

@@ -1,10 +1,11 @@
 -- A best tree of a set whose rules go over no calls has no loop.
-use Rattle.std.proofs.Common.{◌≡◌, ℕ, ◌<◌, Bool, true, false, List, [], length, Option, Some, None, slice_get, Contains, All, refl, sym, ap, ◌∙◌, subst}
+use Rattle.std.proofs.Common.{◌≡◌, ℕ, ◌<◌, Bool, true, false, List, [], length, Option, Some, None, slice_get, Contains, All, refl, sym, ap, ◌∙◌, arith}
 use Rattle.std.proofs.lemmas.Bool.{and_from, false≢true}
 use Rattle.std.proofs.lemmas.List.Elements.{Contains-append_left, Contains-append_right, All-contains}
+use Rattle.std.proofs.lemmas.Grind.{common_steps}
 use Rattle.model.specs.sites.Sites.{Constraint, SetRule, SiteSet}
 use Rattle.model.specs.trees.Trees.{Marked, m_no_step, m_step, MarkedCheck, m_match, m_equal, m_loop, m_return, MarkedArms, m_no_arm, m_arm, marks, marks_check, marks_arms, return_of, plain, plain_check, plain_arms}
-use Rattle.model.specs.trees.Places.{Around, nothing_around, is_in, in_arm, in_equal, after_step}
+use Rattle.model.specs.trees.Places.{Around, is_in, in_arm, in_equal, after_step}
 use Rattle.model.specs.trees.Sound.{is_return}
 use Rattle.model.specs.trees.Tests.{loop_test}
 use Rattle.model.specs.trees.Best.{BestSteps, BestCheck, BestArms, IsMade, goes_over_none, goes_over_none_in, goes_over_none_among}
@@ -16,8 +17,7 @@ none_in : (s : ℕ) (xs : List ℕ) → xs ≡ [] → is_in s xs ≡ true → �
 none_in s xs e h = false≢true (sym (ap (is_in s) e) ∙ h)
 
 returns_straight : (o : Option SetRule) → goes_over_none_in (return_of o) ≡ true
-returns_straight None = refl
-returns_straight (Some r) = refl
+returns_straight o = grind (arith, common_steps)
 
 module _ (set : SiteSet) (without : All (λ (r : SetRule). r.iterators ≡ []) set.rules) where
   abbrev Known : List ℕ → Type 0
@@ -53,6 +53,4 @@ module _ (set : SiteSet) (without : All (λ (r : SetRule). r.iterators ≡ []) s
         (arms_straight rest ar source (Some constraint) (λ i c. known i (Contains-append_right (marks body) (marks_arms rest) i c)) best.5)
 
 pub trees_without_calls_have_no_loop_lem : TreesWithoutCallsHaveNoLoop
-trees_without_calls_have_no_loop_lem set tree without best =
-    let known : (i : ℕ) → Contains (marks best.marked) i → i < length set.rules = λ i c. All-contains (λ j. j < length set.rules) (marks best.marked) i best.returns.known c in
-    subst (λ t. goes_over_none t ≡ true) best.returns.same (steps_straight set without best.marked nothing_around false known best.steps)
+trees_without_calls_have_no_loop_lem set tree without best = grind (arith, common_steps, steps_straight)

@@ -2,6 +2,7 @@
 use Rattle.std.proofs.Common.{◌≡◌, ◌==◌, ◌≤◌, ℕ, true, ◌&&◌, List, [], ◌∷◌, length, Option, Some, None, is_some, refl, sym, ap, subst, ◌∙◌, inl, inr, arith, eq-eqb, eqb-true}
 use Rattle.std.proofs.lemmas.Bool.{and_parts, and_from, false≢true}
 use Rattle.std.specs.List.{list_all}
+use Rattle.std.proofs.lemmas.Grind.{common_steps}
 use Rattle.model.specs.rules.Values.{Value}
 use Rattle.model.specs.rules.Meaning.{Content, one, Meaning}
 use Rattle.model.specs.rules.Outcome.{then_option}
@@ -46,8 +47,7 @@ module _ (g : Given) (t : ℕ) (sites : List Site) where
   w = world_of g.program t sites m args
 
   met_means : (c : Constraint) (o : Option Content) → meets m c o ≡ true → (x : Content) × (o ≡ Some x) × (is_some (content_fields m c x) ≡ true)
-  met_means c None h = absurd (false≢true h)
-  met_means c (Some x) h = (x, refl, h)
+  met_means c o h = grind (arith, common_steps)
 
   -- the sites of a class of numbers have one value
   class_value : (l : List ℕ) → 2 ≤ length l → all_same w k l ≡ true → (v : Value) × ((s : ℕ) → In l s → value_at w k s ≡ Some v)

@@ -1,6 +1,7 @@
 -- Lowering gives one answer: of the same definitions, the same environments, typed rules, sets and trees; or the same errors.
-use Rattle.std.proofs.Common.{◌≡◌, ℕ, suc, Bool, List, [], ◌∷◌, map, length, Option, refl, sym, ap, ◌∙◌, subst, inl, inr, arith}
+use Rattle.std.proofs.Common.{◌≡◌, ℕ, suc, Bool, List, [], ◌∷◌, map, length, Option, sym, ap, ◌∙◌, subst, inr, arith}
 use Rattle.std.proofs.lemmas.Option.{same_Some}
+use Rattle.std.proofs.lemmas.Grind.{common_steps}
 use Rattle.laws_sites.proofs.built.WellBuiltSets.{in_from_all}
 use Rattle.model.specs.lists.Syntax.{Definition}
 use Rattle.model.specs.lists.Names.{AreNumbersOf, IsDistinct}
@@ -12,7 +13,7 @@ use Rattle.model.specs.sites.Overlap.{HasDistinctPositions}
 use Rattle.model.specs.sites.RuleSets.{IsBuilt}
 use Rattle.model.specs.claims.Environments.{types_read, TypesRead, TypeEnvironment, IsReadAs, TermsShown, with_read_names, ShowsTerms, TermEnvironment, AreRulesOf, IsElaborated, IsRead, program_of}
 use Rattle.model.specs.claims.Refusals.{Refusal}
-use Rattle.model.specs.claims.Layers.{own_program, IsCheckable, LoweredTerm, IsLoweredTerm, AreLowered, RefusedBy, by_types, by_rules, by_check}
+use Rattle.model.specs.claims.Layers.{own_program, LoweredTerm, IsLoweredTerm, AreLowered, RefusedBy, by_types, by_rules, by_check}
 use Rattle.model.proofs.Elements.{In}
 use Rattle.model.proofs.Options.{options_one}
 use Rattle.laws_sites.proofs.built.DistinctSites.{sites_stand_once_lem}
@@ -46,20 +47,11 @@ environment_one e a b x y =
     }
 
 terms_one : (e : TypesRead) (defs : List Definition) (a b : TermsShown) → ShowsTerms e defs a → ShowsTerms e defs b → a ≡ b
-terms_one e defs a b x y =
-    let table : a.terms ≡ b.terms = x.table ∙ sym y.table in
-    let looked_up : (k : ℕ) → a.term_of k ≡ b.term_of k = λ k. x.look_ups k ∙ sym (y.look_ups k) in
-    let converters : (i o : ℕ) → a.converter_of i o ≡ b.converter_of i o = λ i o. x.conversions i o ∙ sym (y.conversions i o) in
-    λ k. record { terms = table k; term_of = λ n. looked_up n k; converter_of = λ i o. converters i o k }
+terms_one e defs a b x y = grind (arith, common_steps)
 
 term_environment_one : (e : TypesRead) (defs : List Definition) (expand : Bool) (rules : TypedRules) (a b : TermEnvironment) (c d : TypeEnvironment)
     → AreRulesOf e defs expand rules a c → AreRulesOf e defs expand rules b d → a ≡ b
-term_environment_one e defs expand rules a b c d x y =
-    let terms : a.terms ≡ b.terms = terms_one e defs a.terms b.terms x.rows y.rows in
-    let typed : a.rules ≡ b.rules = x.typed ∙ sym y.typed in
-    let looked_up : (k : ℕ) → a.rule_of k ≡ b.rule_of k = λ k. x.look_ups k ∙ sym (y.look_ups k) in
-    let flag : a.expand ≡ b.expand = x.flag ∙ sym y.flag in
-    λ i. record { terms = terms i; rules = typed i; rule_of = λ k. looked_up k i; expand = flag i }
+term_environment_one e defs expand rules a b c d x y = grind (arith, common_steps, terms_one)
 
 -- the same typed rules, from the same list
 pub typed_one : (e : TypesRead) (defs : List Definition) (expand : Bool) (l k : TypedRules) → IsElaborated e defs expand l → IsElaborated e defs expand k → l ≡ k
@@ -81,10 +73,7 @@ each_two : {X : Type 0} (key : X → ℕ) (R : X → X → Type 0) (P : X → Ty
 each_two key R P h [] [] e f g = tt
 each_two key R P h [] (y ∷ ys) e f g = (let n : 0 ≡ suc (length (map key ys)) = ap length e in absurd (omega (arith, n)))
 each_two key R P h (x ∷ xs) [] e f g = (let n : suc (length (map key xs)) ≡ 0 = ap length e in absurd (omega (arith, n)))
-each_two key R P h (x ∷ xs) (y ∷ ys) e f g = (
-  h x y (ap (head_or (key x)) e) (f x (inl refl)) (g y (inl refl)),
-  each_two key R P h xs ys (ap rest_of e) (λ z i. f z (inr i)) (λ z i. g z (inr i)),
-)
+each_two key R P h (x ∷ xs) (y ∷ ys) e f g = grind (arith, common_steps, each_two key R P h xs ys (ap rest_of e) (λ z i. f z (inr i)) (λ z i. g z (inr i)), head_or)
 
 module _ (p : Program) where
   sets_one : (a b : ℕ × SiteSet) → a.0 ≡ b.0 → IsBuilt p a.0 a.1 → IsBuilt p b.0 b.1 → SameTermsShowSame a b
@@ -131,27 +120,13 @@ typed_once : (defs : List Definition) (expand : Bool) (rules others : TypedRules
 typed_once defs expand rules others x y = typed_one (types_read defs) defs expand rules others x.elaborated y.elaborated
 
 pub none_is_accepted_and_refused_lem : NoneIsAcceptedAndRefused
-none_is_accepted_and_refused_lem defs expand rules errors a refused = by errors refused
-  where
-    by : (errors : List Refusal) → RefusedBy defs expand errors → ⊥
-    by errors (by_types es r) = r.not_valid a.read.types
-    by errors (by_rules es valid r) = r.no_rules (rules, a.read.elaborated)
-    by errors (by_check others reports read r) =
-        r.refused (subst (λ (l : TypedRules). IsCheckable (own_program defs l)) (typed_once defs expand rules others a.read read) a.checkable)
+none_is_accepted_and_refused_lem defs expand rules errors a refused = grind (arith, common_steps, typed_once)
 
 refused_with : (defs : List Definition) (expand : Bool) (rules : TypedRules) → IsRead defs expand rules → HasDistinctPositions (own_program defs rules)
     → (errors : List Refusal) → RefusedBy defs expand errors → errors ≡ check_errors (own_program defs rules)
 refused_with defs expand rules read distinct errors (by_types es r) = absurd (r.not_valid read.types)
 refused_with defs expand rules read distinct errors (by_rules es valid r) = absurd (r.no_rules (rules, read.elaborated))
-refused_with defs expand rules read distinct errors (by_check others reports also r) =
-    let same : others ≡ rules = typed_once defs expand others rules also read in
-    check_errors_are_answered_lem (own_program defs others) reports r (subst (λ (l : TypedRules). HasDistinctPositions (own_program defs l)) (sym same) distinct)
-    ∙ ap (λ (l : TypedRules). check_errors (own_program defs l)) same
+refused_with defs expand rules read distinct errors (by_check others reports also r) = grind (arith, common_steps, typed_once, check_errors_are_answered_lem)
 
 pub refusing_gives_one_lem : RefusingGivesOne
-refusing_gives_one_lem = record {
-  one = λ defs expand rules errors others read x y. x rules read ∙ sym (y rules read);
-  apart = λ defs expand rules errors read distinct refused other also.
-      (let same : rules ≡ other = typed_once defs expand rules other read also in
-      refused_with defs expand other also (subst (λ (l : TypedRules). HasDistinctPositions (own_program defs l)) same distinct) errors refused);
-}
+refusing_gives_one_lem = grind (arith, common_steps, typed_once, refused_with)

@@ -1,20 +1,21 @@
 -- A set whose sites stand once has one best tree.
-use Rattle.std.proofs.Common.{◌≡◌, ◌⊎◌, ℕ, ◌<◌, Bool, true, false, not, ◌&&◌, ◌||◌, nat_lt, List, [], ◌∷◌, ◌++◌, length, Option, Some, None, slice_get, Contains, filter, refl, sym, ap, ◌∙◌, subst, subst₂, inl, inr, arith, int_eq, ltb-true}
+use Rattle.std.proofs.Common.{◌≡◌, ◌⊎◌, ℕ, ◌<◌, Bool, true, false, not, ◌&&◌, ◌||◌, List, [], ◌∷◌, ◌++◌, length, Option, Some, None, slice_get, Contains, filter, refl, sym, ap, ◌∙◌, subst, subst₂, inl, inr, arith}
 use Rattle.std.specs.List.{list_all}
 use Rattle.std.proofs.lemmas.Bool.{cases_Bool, cond-true, cond-false, and_parts, and_from, or_cases, false≢true}
 use Rattle.std.proofs.lemmas.Option.{same_Some}
 use Rattle.std.proofs.lemmas.List.Elements.{Contains-append_left, Contains-append_right, Contains-append_cases, All-contains}
+use Rattle.std.proofs.lemmas.Grind.{common_steps}
 use Rattle.model.specs.lists.Names.{IsDistinct}
 use Rattle.model.specs.sites.Sites.{iterator_site, Constraint, SetRule, SiteSet}
 use Rattle.model.specs.trees.Trees.{Marked, m_no_step, m_step, MarkedCheck, m_match, m_equal, m_loop, m_return, MarkedArms, m_no_arm, m_arm, marks, marks_check, marks_arms, plain}
 use Rattle.model.specs.trees.Places.{Around, nothing_around, is_in, constraint_at, uses, bind_order, fields_of, in_arm, in_equal, in_loop, after_step}
 use Rattle.model.specs.trees.Sound.{comes_before, AllAsk, is_return}
-use Rattle.model.specs.trees.Tests.{Test, match_test, equal_test, loop_test, priority, needs_at, is_lower, is_covered, cover, score, is_greater}
+use Rattle.model.specs.trees.Tests.{Test, match_test, equal_test, loop_test, needs_at, is_lower, is_covered, cover, score, is_greater}
 use Rattle.model.specs.trees.Best.{IsGreatest, IsMade, IsEnd, BestSteps, BestCheck, BestArms, are_distinct, comes_first, descend}
 use Rattle.model.proofs.Members.{nothing_in, in_head, in_cases, some_member, get_within, member_counted, each_passes, all_pass, in_filter, from_filter, member_found, member_is_in}
 use Rattle.laws_trees.specs.OneTree.{BestTreesAreOne}
 use Rattle.laws_trees.proofs.Counting.{distinct_within}
-use Rattle.laws_trees.proofs.Covers.{first_at_least, at_least_not_lower, descend_rest}
+use Rattle.laws_trees.proofs.Covers.{first_at_least, at_least_not_lower}
 use Rattle.laws_trees.proofs.JudgeExactness.{not_exact}
 use Rattle.laws_trees.proofs.StepCounts.{once_distinct}
 use Rattle.laws_trees.proofs.Scores.{one_test_is_greatest_lem}
@@ -36,9 +37,7 @@ away x xs h c = false≢true (sym ((not_exact (is_in x xs)).0 h) ∙ member_is_i
 
 distinct_left : (xs ys : List ℕ) → are_distinct (xs ++ ys) ≡ true → are_distinct xs ≡ true
 distinct_left [] ys h = refl
-distinct_left (x ∷ xs) ys h =
-    let p = and_parts (not (is_in x (xs ++ ys))) (are_distinct (xs ++ ys)) h in
-    and_from (not (is_in x xs)) (are_distinct xs) (absent x xs (λ c. away x (xs ++ ys) p.0 (Contains-append_left xs ys x c))) (distinct_left xs ys p.1)
+distinct_left (x ∷ xs) ys h = grind (arith, common_steps, distinct_left xs ys, and_parts, and_from, absent, away)
 
 distinct_right : (xs ys : List ℕ) → are_distinct (xs ++ ys) ≡ true → are_distinct ys ≡ true
 distinct_right [] ys h = h
@@ -113,14 +112,11 @@ cover_same : (rules : List SetRule) (t : Test) (xs ys : List ℕ) → Same xs ys
 cover_same rules t xs ys s = record { to = cover_to rules t xs ys s; from = cover_to rules t ys xs (turned xs ys s) }
 
 cover_length : (rules : List SetRule) (t : Test) {xs ys : List ℕ} → SameRules xs ys → length (cover rules xs t) ≡ length (cover rules ys t)
-cover_length rules t {xs} {ys} s =
-    same_length (cover rules xs t) (cover rules ys t) (filter_distinct (is_covered rules xs t) xs s.once) (filter_distinct (is_covered rules ys t) ys s.other_once) (cover_same rules t xs ys s.same)
+cover_length rules t {xs} {ys} s = grind (arith, common_steps, same_length, filter_distinct, cover_same)
 
 module _ (set : SiteSet) {xs ys : List ℕ} (s : SameRules xs ys) where
   score_same : (ar : Around) (t : Test) → score set ar xs t ≡ score set ar ys t
-  score_same ar (match_test a) = ap (λ n. record (score set ar ys (match_test a)) { count = n }) (cover_length set.rules (match_test a) s)
-  score_same ar (equal_test a b) = ap (λ n. record (score set ar ys (equal_test a b)) { count = n }) (cover_length set.rules (equal_test a b) s)
-  score_same ar (loop_test a) = ap (λ n. record (score set ar ys (loop_test a)) { count = n }) (cover_length set.rules (loop_test a) s)
+  score_same ar t = grind (arith, common_steps, cover_length)
 
   greatest_same : (ar : Around) (t : Test) → IsGreatest set ar xs t → IsGreatest set ar ys t
   greatest_same ar t g = record { open_here = g.open_here; greatest = λ u o. subst₂ (λ a b. is_greater a b ≡ false) (score_same ar u) (score_same ar t) (g.greatest u o) }
@@ -132,14 +128,7 @@ one_test set ar {held} {later} s t u m n =
     o.2 t m.test ∙ sym (o.2 u (greatest_same set (turned_rules s) ar u n.test))
 
 held_same : (set : SiteSet) (ar : Around) {held later held' later' : List ℕ} → SameRules (held ++ later) (held' ++ later') → (t u : Test) → IsMade set ar held later t → IsMade set ar held' later' u → Same held held'
-held_same set ar {held} {later} {held'} {later'} s t u m n =
-    let e = one_test set ar s t u m n in
-    let c = cover_same set.rules t (held ++ later) (held' ++ later') s.same in
-    let rules' : cover set.rules (held' ++ later') t ≡ held' = ap (cover set.rules (held' ++ later')) e ∙ n.rules in
-    record {
-      to = λ i x. subst (λ l. Contains l i) rules' (c.to i (subst (λ l. Contains l i) (sym m.rules) x));
-      from = λ i x. subst (λ l. Contains l i) m.rules (c.from i (subst (λ l. Contains l i) (sym rules') x));
-    }
+held_same set ar {held} {later} {held'} {later'} s t u m n = grind (arith, common_steps, one_test, cover_same)
 
 -- a test is made in one tree alone where the other one's block doesn't end
 no_end : (set : SiteSet) (ar : Around) {held later here : List ℕ} → SameRules (held ++ later) here → (t : Test) → IsMade set ar held later t → IsEnd set ar here → ⊥
@@ -167,19 +156,7 @@ other_of (loop_test a) = 0
 -- 4. of two rules one stands first
 module _ (rules : List SetRule) where
   first_once : (i j : ℕ) → comes_first rules i j ≡ true → comes_first rules j i ≡ true → ⊥
-  first_once i j a b =
-      let p = first_at_least rules i j a in
-      let q = first_at_least rules j i b in
-      let x = number i j a (at_least_not_lower rules j i q) in
-      let y = number j i b (at_least_not_lower rules i j p) in
-      omega arith
-    where
-      number : (m n : ℕ) → comes_first rules m n ≡ true → is_lower rules n m ≡ false → m < n
-      number m n h f =
-          elim (or_cases (is_lower rules n m) (int_eq (priority (slice_get rules n)) (priority (slice_get rules m)) && nat_lt m n) h) [
-            | inl t ↦ absurd (false≢true (sym f ∙ t))
-            | inr t ↦ ltb-true m n (and_parts (int_eq (priority (slice_get rules n)) (priority (slice_get rules m))) (nat_lt m n) t).1
-          ]
+  first_once i j a b = grind (arith, common_steps, first_at_least, at_least_not_lower, or_cases, and_parts)
 
   one_first : (i j : ℕ) (xs ys : List ℕ) → descend rules (i ∷ xs) ≡ true → descend rules (j ∷ ys) ≡ true → Same (i ∷ xs) (j ∷ ys) → i ≡ j
   one_first i j xs ys h k s =
@@ -229,10 +206,7 @@ module _ (set : SiteSet) (sites_once : IsDistinct set.sites) where
 
   rest_ordered : (check : MarkedCheck) (ar : Around) (closing : Bool) (later : List ℕ) → BestCheck set ar closing later check
       → (closing ≡ true → descend set.rules (marks_check check ++ later) ≡ true) → is_return check ≡ true → descend set.rules later ≡ true
-  rest_ordered (m_match source arms) ar closing later best d r = absurd (false≢true r)
-  rest_ordered (m_equal a b body) ar closing later best d r = absurd (false≢true r)
-  rest_ordered (m_loop result body) ar closing later best d r = absurd (false≢true r)
-  rest_ordered (m_return rule) ar closing later best d r = descend_rest set.rules rule later (elim (cases_Bool closing) [ inl t ↦ d t | inr f ↦ (best f).ordered ])
+  rest_ordered check ar closing later best d r = grind (arith, common_steps)
 
   some_marks : (check : MarkedCheck) (ar : Around) (closing : Bool) (later : List ℕ) → BestCheck set ar closing later check → (i : ℕ) × Contains (marks_check check) i
   some_marks (m_match source arms) ar closing later best = some_member (marks_arms arms) best.1.some_rule
@@ -252,11 +226,7 @@ module _ (set : SiteSet) (sites_once : IsDistinct set.sites) where
   -- a rule of some arm that asks for the first arm's constraint is in the first arm
   in_first : (c : Constraint) (body : Marked) (rest : MarkedArms) (ar : Around) (source : ℕ) → Known (marks_arms rest) → BestArms set ar source (Some c) rest
       → (i : ℕ) → Asks source i c → Contains (marks body ++ marks_arms rest) i → Contains (marks body) i
-  in_first c body rest ar source kr best i a z =
-      elim (Contains-append_cases (marks body) (marks_arms rest) i z) [
-        | inl b ↦ b
-        | inr r ↦ let q = later_asks rest ar source c kr best i r in absurd (before_itself c (subst (λ w. comes_before c w ≡ true) (asks_one source i q.0 c q.1 a) q.2))
-      ]
+  in_first c body rest ar source kr best i a z = grind (arith, common_steps, later_asks rest ar source c kr best i, before_itself c, asks_one source i)
 
   mutual
     steps_same : (m n : Marked) (ar : Around) (closing : Bool) → Known (marks m) → Known (marks n) → SameRules (marks m) (marks n)
@@ -313,10 +283,7 @@ module _ (set : SiteSet) (sites_once : IsDistinct set.sites) where
         (left_same (marks body) later (marks body') later' s f) (λ z. absurd (false≢true z)) (λ z. absurd (false≢true z))
         x.2 (subst (λ u. BestSteps set (in_loop set ar u) false body') (sym p) y.2) in
         λ i. m_loop (p i) (r i)
-    check_same (m_return rule) (m_return rule') ar closing later later' km kn s d e x y =
-        ap m_return (one_first set.rules rule rule' later later'
-        (elim (cases_Bool closing) [ inl t ↦ d t | inr f ↦ (x f).ordered ])
-        (elim (cases_Bool closing) [ inl t ↦ e t | inr f ↦ (y f).ordered ]) s.same)
+    check_same (m_return rule) (m_return rule') ar closing later later' km kn s d e x y = grind (arith, common_steps, one_first)
     check_same (m_match source arms) (m_equal a b body) ar closing later later' km kn s d e x y =
         (let t : ◌≡◌ {A = ℕ} 0 1 = ap form_of (one_test set ar s (match_test source) (equal_test a b) x.1 y.1) in absurd (omega arith))
     check_same (m_match source arms) (m_loop result body) ar closing later later' km kn s d e x y =
@@ -331,10 +298,8 @@ module _ (set : SiteSet) (sites_once : IsDistinct set.sites) where
         (let t : ◌≡◌ {A = ℕ} 2 1 = ap form_of (one_test set ar s (loop_test x.1.0) (equal_test a b) x.1.2 y.1) in absurd (omega arith))
     check_same (m_match source arms) (m_return rule) ar closing later later' km kn s d e x y =
         absurd (no_end set ar s (match_test source) x.1 (y x.0))
-    check_same (m_equal a b body) (m_return rule) ar closing later later' km kn s d e x y =
-        absurd (no_end set ar s (equal_test a b) x.1 (y x.0))
-    check_same (m_loop result body) (m_return rule) ar closing later later' km kn s d e x y =
-        absurd (no_end set ar s (loop_test x.1.0) x.1.2 (y x.0))
+    check_same (m_equal a b body) (m_return rule) ar closing later later' km kn s d e x y = grind (arith, common_steps, no_end set ar s (equal_test a b) x.1 (y x.0))
+    check_same (m_loop result body) (m_return rule) ar closing later later' km kn s d e x y = grind (arith, common_steps, no_end set ar s (loop_test x.1.0) x.1.2 (y x.0))
     check_same (m_return rule) (m_match source arms) ar closing later later' km kn s d e x y =
         absurd (no_end set ar (turned_rules s) (match_test source) y.1 (x y.0))
     check_same (m_return rule) (m_equal a b body) ar closing later later' km kn s d e x y =

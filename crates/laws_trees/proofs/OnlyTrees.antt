@@ -1,4 +1,6 @@
 -- The best tree of a built set is the only one.
+use Rattle.std.proofs.Common.{arith}
+use Rattle.std.proofs.lemmas.Grind.{common_steps}
 use Rattle.model.specs.claims.Environments.{program_of}
 use Rattle.laws_sites.proofs.built.DistinctSites.{sites_stand_once_lem}
 use Rattle.laws_trees.specs.OneTree.{BuiltSetsHaveOneBestTree, LoweredTreesAreOnlyBest}
@@ -11,7 +13,4 @@ built_sets_have_one_best_tree_lem set tree built best = record {
 }
 
 pub lowered_trees_are_only_best_lem : LoweredTreesAreOnlyBest
-lowered_trees_are_only_best_lem p l is = record {
-  best = is.best;
-  only = λ other also. best_trees_are_one_lem l.set other l.tree (sites_stand_once_lem p l.term l.set is.built) also is.best;
-}
+lowered_trees_are_only_best_lem p l is = grind (arith, common_steps, best_trees_are_one_lem l.set, sites_stand_once_lem p l.term l.set is.built)

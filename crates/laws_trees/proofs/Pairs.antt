@@ -1,8 +1,9 @@
 -- Pairs of which none is joined by those before it: none is joined by the others, and they are at most as many as the
 -- sites that they name.
 use Rattle.std.proofs.Common.{◌≡◌, ◌≢◌, ◌⊎◌, ℕ, ◌≤◌, ◌==◌, true, false, not, cond, List, [], ◌∷◌, ◌++◌, length, Contains, refl, sym, ap, ◌∙◌, subst, inl, inr, arith, eqb-true, eq-eqb, append_assoc}
-use Rattle.std.proofs.lemmas.Bool.{cases_Bool, cond-true, cond-false, and_from, false≢true}
+use Rattle.std.proofs.lemmas.Bool.{cases_Bool, and_from, false≢true}
 use Rattle.std.proofs.lemmas.List.Elements.{Contains-append_left, Contains-append_right, Contains-append_cases}
+use Rattle.std.proofs.lemmas.Grind.{common_steps}
 use Rattle.model.specs.trees.Places.{is_in, class, joins}
 use Rattle.model.specs.trees.Best.{are_distinct, are_apart}
 use Rattle.laws_trees.proofs.runs.Classes.{SameAtPairs, joined_same}
@@ -17,29 +18,14 @@ Independent (p ∷ ps) = (joins ps p.0 p.1 ≡ false) × Independent ps
 -- 1. classes
 class_cases : (p : ℕ × ℕ) (ps : List (ℕ × ℕ)) (x : ℕ)
     → ((class ps x ≡ class ps p.0) × (class (p ∷ ps) x ≡ class ps p.1)) ⊎ ((class ps x ≢ class ps p.0) × (class (p ∷ ps) x ≡ class ps x))
-class_cases p ps x =
-    elim (cases_Bool (class ps x == class ps p.0)) [
-      | inl t ↦ inl (eqb-true (class ps x) (class ps p.0) t, cond-true (class ps x == class ps p.0) (class ps p.1) (class ps x) t)
-      | inr f ↦ inr (λ e. false≢true (sym f ∙ eq-eqb (class ps x) (class ps p.0) e), cond-false (class ps x == class ps p.0) (class ps p.1) (class ps x) f)
-    ]
+class_cases p ps x = grind (arith, common_steps)
 
 class_again : (p : ℕ × ℕ) (ps : List (ℕ × ℕ)) (x y : ℕ) → class ps x ≡ class ps y → class (p ∷ ps) x ≡ class (p ∷ ps) y
 class_again p ps x y e = ap (λ c. cond (c == class ps p.0) (class ps p.1) c) e
 
 pair_joined : (ps : List (ℕ × ℕ)) (p : ℕ × ℕ) → Contains ps p → class ps p.0 ≡ class ps p.1
 pair_joined [] p c = absurd (nothing_in p c)
-pair_joined (q ∷ ps) p c =
-    elim (in_cases q p ps c) [
-      | inl e ↦ subst (λ (r : ℕ × ℕ). class (q ∷ ps) r.0 ≡ class (q ∷ ps) r.1) e (both (class_cases q ps q.0) (class_cases q ps q.1))
-      | inr d ↦ class_again q ps p.0 p.1 (pair_joined ps p d)
-    ]
-  where
-    both : ((class ps q.0 ≡ class ps q.0) × (class (q ∷ ps) q.0 ≡ class ps q.1)) ⊎ ((class ps q.0 ≢ class ps q.0) × (class (q ∷ ps) q.0 ≡ class ps q.0))
-        → ((class ps q.1 ≡ class ps q.0) × (class (q ∷ ps) q.1 ≡ class ps q.1)) ⊎ ((class ps q.1 ≢ class ps q.0) × (class (q ∷ ps) q.1 ≡ class ps q.1))
-        → class (q ∷ ps) q.0 ≡ class (q ∷ ps) q.1
-    both (inl a) (inl b) = a.1 ∙ sym b.1
-    both (inl a) (inr b) = a.1 ∙ sym b.1
-    both (inr a) b = absurd (a.0 refl)
+pair_joined (q ∷ ps) p c = grind (arith, common_steps, pair_joined ps p, in_cases q p ps c, class_cases q ps q.0, class_cases q ps q.1, class_again q ps p.0 p.1)
 
 pairs_same : (ps qs : List (ℕ × ℕ)) → ((p : ℕ × ℕ) → Contains ps p → Contains qs p) → SameAtPairs (class qs) ps
 pairs_same [] qs h = tt

@@ -1,5 +1,6 @@
 -- What the tests around a place say of a rule there, and how it is kept on the way down.
-use Rattle.std.proofs.Common.{◌≡◌, ℕ, true, List, [], ◌∷◌, ◌++◌, Option, Some, None, slice_get, Contains, ap, subst, inl, inr}
+use Rattle.std.proofs.Common.{◌≡◌, ℕ, true, List, [], ◌∷◌, ◌++◌, Option, Some, None, slice_get, Contains, ap, subst, inl, inr, arith}
+use Rattle.std.proofs.lemmas.Grind.{common_steps}
 use Rattle.model.specs.sites.Sites.{Site, iterator_site, Constraint, SetRule, SiteSet, sources_of, sources_at}
 use Rattle.model.specs.trees.Trees.{MarkedCheck}
 use Rattle.model.specs.trees.Places.{Around, nothing_around, joins_in, constraint_at, in_arm, in_equal, in_loop, after_step}
@@ -28,14 +29,7 @@ module _ (set : SiteSet) (ar : Around) (r : SetRule) where
   }
 
   pub passed_equal : (a b : ℕ) → joins_in r.classes a b ≡ true → Passed ar r → Passed (in_equal set ar a b) r
-  passed_equal a b join p = record {
-    asks = p.asks;
-    equates = λ q m. elim (in_cases (a, b) q ar.joined m) [
-      | inl same ↦ subst (λ (x : ℕ × ℕ). joins_in r.classes x.0 x.1 ≡ true) same join
-      | inr older ↦ p.equates q older
-    ];
-    goes_over = p.goes_over;
-  }
+  passed_equal a b join p = grind (arith, common_steps, in_cases)
 
   pub passed_loop : (result source : ℕ) → slice_get set.sites result ≡ Some (iterator_site source) → Contains r.iterators source → Passed ar r → Passed (in_loop set ar result) r
   passed_loop result source e over p = record {

@@ -1,22 +1,21 @@
 -- The constants that demands ask of sites are those that patterns name.
-use Rattle.std.proofs.Common.{◌≡◌, ◌&&◌, ◌||◌, not, ℕ, suc, Bool, true, false, List, [], ◌∷◌, ◌++◌, Some, slice_get, Contains, IsTrue, flat_map, refl, sym, ap, ◌∙◌, subst, inl, inr}
-use Rattle.std.proofs.lemmas.Bool.{and_from, false≢true, not-true}
-use Rattle.std.proofs.lemmas.List.Elements.{All-contains}
-use Rattle.model.specs.lists.Formed.{is_type, formed_pattern, formed_parts, formed_each, formed_list, formed_iflets, is_formed_rule}
-use Rattle.model.specs.lists.Tables.{Flags}
+use Rattle.std.proofs.Common.{◌≡◌, ◌&&◌, ◌||◌, not, ℕ, suc, Bool, true, false, List, [], ◌∷◌, ◌++◌, Some, slice_get, Contains, flat_map, refl, sym, ap, ◌∙◌, subst, inl, inr, arith}
+use Rattle.std.proofs.lemmas.Bool.{and_from, not-true}
+use Rattle.std.proofs.lemmas.Grind.{common_steps}
+use Rattle.model.specs.lists.Formed.{formed_pattern, formed_parts, formed_each, formed_list, formed_iflets, is_formed_rule}
 use Rattle.model.specs.rules.Values.{Value}
 use Rattle.model.specs.rules.Meaning.{bool_literal, int_literal, Meaning}
-use Rattle.model.specs.rules.Program.{Program, Kind, a_variant, a_struct, a_call, unknown, kind, rules_of}
+use Rattle.model.specs.rules.Program.{Program, Kind, unknown, kind, rules_of}
 use Rattle.model.specs.rules.Typed.{TypedPattern, match_bind, match_var, match_bool, match_int, match_prim, match_term, match_any, match_and, TypedPatterns, no_typed_pattern, typed_pattern_and, TypedIfLet, TypedRule}
-use Rattle.model.specs.sites.Sites.{Constraint, is_variant, is_struct, is_bool, is_int, is_prim, is_present, SiteTerm, bool_term, int_term, prim_term, argument, extractor_call, pick_of, some_part, variant_field, struct_field}
-use Rattle.model.specs.visits.Demands.{site_term_eq, Visit, visit_start, making, asking, equating, binding, var_site, pattern_count, Opened, open_call, open_term, visit_pattern, visit_each, visit_all, visit_expr, unwraps, asking_all, visit_args, visit_iflets, demands_of, taking_argument}
+use Rattle.model.specs.sites.Sites.{Constraint, is_bool, is_int, is_prim, is_present, SiteTerm, bool_term, int_term, prim_term, argument}
+use Rattle.model.specs.visits.Demands.{site_term_eq, Visit, visit_start, asking, equating, binding, var_site, open_term, visit_pattern, visit_each, visit_all, visit_expr, unwraps, asking_all, visit_args, visit_iflets, demands_of, taking_argument}
 use Rattle.model.specs.sites.Serves.{constant_site, constant_type, written_type, written_value, tested_constants, is_open_constant, is_type_with_parts, TellsConstantsApart}
 use Rattle.model.specs.claims.Environments.{program_of}
 use Rattle.model.proofs.Either.{either}
 use Rattle.model.proofs.Elements.{In, in_from_contains, contains_from_in, in_left, in_right, in_either, some_is, none_some, in_flat_map, from_flat_map}
 use Rattle.laws_typing.proofs.FormedParts.{from_if, type_is}
 use Rattle.laws_typing.proofs.WellTypedRules.{elaborated_programs_are_well_typed_lem}
-use Rattle.laws_sites.proofs.Patterns.{AsManySites, term_known, as_many_sites, output_count}
+use Rattle.laws_sites.proofs.Patterns.{AsManySites, term_known, as_many_sites}
 use Rattle.laws_sites.proofs.RuleParts.{iflet_parts, rule_parts}
 use Rattle.laws_sites.proofs.GrowingVisits.{equated, Grown, each_grown, all_grown, args_grown, iflets_grown, expr_adds, rule_adds}
 use Rattle.laws_sites.proofs.PatternParts.{pattern_parts, from_part, from_bind}
@@ -45,15 +44,10 @@ module _ (p : Program) (P : SiteTerm → Type 0) where
   none_such u i = absurd i
 
   one_such : (s : SiteTerm) → P s → AreSuch (s ∷ [])
-  one_such s h u (inl e) = subst P e h
-  one_such s h u (inr i) = absurd i
+  one_such s h u k = grind (arith, common_steps)
 
   asked_such : (s : SiteTerm) (c : Constraint) (v : Visit) → AreSuch (constant_site c) → AsksSuch v → AsksSuch (asking s c v)
-  asked_such s c v t h x i =
-      elim (in_either v.demands.constraints ((s, c) ∷ []) x i) [
-        | inl j ↦ h x j
-        | inr j ↦ elim j [ inl e ↦ subst (λ (y : SiteTerm × Constraint). AreSuch (constant_site y.1)) e t | inr n ↦ absurd n ]
-      ]
+  asked_such s c v t h x i = grind (arith, common_steps, in_either)
 
   all_asked_such : (ss : List SiteTerm) (v : Visit) → AsksSuch v → AsksSuch (asking_all ss v)
   all_asked_such [] v h = h
@@ -63,16 +57,8 @@ module _ (p : Program) (P : SiteTerm → Type 0) where
   unfolding equated
   equated_such a b v h = either AsksSuch (site_term_eq a b) v (equated a b v) h h
 
-  call_such : (flags : Flags) (infallible : Bool) (c : SiteTerm) (args : TypedPatterns) (v : Visit) → AsksSuch v → AsksSuch (open_call flags infallible c args v).visit
-  call_such flags infallible c args v h =
-      either (λ (o : Opened). AsksSuch o.visit) flags.multi _ _ h
-      (either (λ (o : Opened). AsksSuch o.visit) infallible _ _ h (asked_such c is_present (making (c ∷ (some_part c ∷ [])) v) none_such h))
-
   term_such : (k : Kind) (t : ℕ) (s : SiteTerm) (args : TypedPatterns) (v : Visit) → AsksSuch v → AsksSuch (open_term k t s args v).visit
-  term_such (a_variant ty i) t s args v h = asked_such s (is_variant ty i (pattern_count args)) v none_such h
-  term_such (a_struct ty) t s args v h = asked_such s (is_struct ty (pattern_count args)) v none_such h
-  term_such (a_call flags infallible) t s args v h = call_such flags infallible (extractor_call t s) args v h
-  term_such unknown t s args v h = h
+  term_such k t s args v h = grind (arith, common_steps, asked_such)
 
   mutual
     pattern_such : (q : TypedPattern) (s : SiteTerm) (v : Visit) → NameSuch (pattern_constants q) → AsksSuch v → AsksSuch (visit_pattern p q s v)
@@ -81,29 +67,22 @@ module _ (p : Program) (P : SiteTerm → Type 0) where
     pattern_such (match_bool ty b) s v n h = asked_such s (is_bool b ty) v (one_such (bool_term b ty) (n (a_literal (bool_literal b ty)) (inl refl))) h
     pattern_such (match_int ty z) s v n h = asked_such s (is_int z ty) v (one_such (int_term z ty) (n (a_literal (int_literal z ty)) (inl refl))) h
     pattern_such (match_prim ty name) s v n h = asked_such s (is_prim name) v (one_such (prim_term name) (n (a_name name ty) (inl refl))) h
-    pattern_such (match_term ty t args) s v n h =
-        let o = open_term (kind p t) t s args v in each_such args o.inputs o.visit n (term_such (kind p t) t s args v h)
+    pattern_such (match_term ty t args) s v n h = grind (arith, common_steps, each_such args, term_such)
     pattern_such (match_any ty) s v n h = h
     pattern_such (match_and ty subs) s v n h = all_such subs s v n h
 
     each_such : (qs : TypedPatterns) (ss : List SiteTerm) (v : Visit) → NameSuch (patterns_constants qs) → AsksSuch v → AsksSuch (visit_each p qs ss v)
     each_such no_typed_pattern ss v n h = h
     each_such (typed_pattern_and q qs) [] v n h = h
-    each_such (typed_pattern_and q qs) (s ∷ ss) v n h =
-        each_such qs ss (visit_pattern p q s v) (λ k i. n k (in_right (pattern_constants q) (patterns_constants qs) k i))
-        (pattern_such q s v (λ k i. n k (in_left (pattern_constants q) (patterns_constants qs) k i)) h)
+    each_such (typed_pattern_and q qs) (s ∷ ss) v n h = grind (arith, common_steps, each_such qs ss (visit_pattern p q s v), pattern_such q s v, in_right, in_left)
 
     all_such : (qs : TypedPatterns) (s : SiteTerm) (v : Visit) → NameSuch (patterns_constants qs) → AsksSuch v → AsksSuch (visit_all p qs s v)
     all_such no_typed_pattern s v n h = h
-    all_such (typed_pattern_and q qs) s v n h =
-        all_such qs s (visit_pattern p q s v) (λ k i. n k (in_right (pattern_constants q) (patterns_constants qs) k i))
-        (pattern_such q s v (λ k i. n k (in_left (pattern_constants q) (patterns_constants qs) k i)) h)
+    all_such (typed_pattern_and q qs) s v n h = grind (arith, common_steps, all_such qs s (visit_pattern p q s v), pattern_such q s v, in_right, in_left)
 
   args_such : (i : ℕ) (qs : List TypedPattern) (v : Visit) → NameSuch (flat_map pattern_constants qs) → AsksSuch v → AsksSuch (visit_args p i qs v)
   args_such i [] v n h = h
-  args_such i (q ∷ qs) v n h =
-      args_such (suc i) qs (visit_pattern p q (argument i) (taking_argument i v)) (λ k j. n k (in_right (pattern_constants q) (flat_map pattern_constants qs) k j))
-      (pattern_such q (argument i) (taking_argument i v) (λ k j. n k (in_left (pattern_constants q) (flat_map pattern_constants qs) k j)) h)
+  args_such i (q ∷ qs) v n h = grind (arith, common_steps, args_such (suc i) qs (visit_pattern p q (argument i) (taking_argument i v)), in_right, pattern_such, in_left)
 
   iflets_such : (is : List TypedIfLet) (v : Visit) → NameSuch (flat_map (λ (i : TypedIfLet). pattern_constants i.lhs) is) → AsksSuch v → AsksSuch (visit_iflets p is v)
   iflets_such [] v n h = h
@@ -144,16 +123,8 @@ asked_later v w k g a = record { asked = a.asked; listed = g.asked a.asked a.lis
 asked_now : (s : SiteTerm) (c : Constraint) (v : Visit) (k : PatternConstant) → In (constant_site c) (site_of k) → IsAsked (asking s c v) k
 asked_now s c v k i = record { asked = (s, c); listed = in_right v.demands.constraints ((s, c) ∷ []) (s, c) (inl refl); constant = i }
 
-call_inputs : (flags : Flags) (infallible : Bool) (c : SiteTerm) (args : TypedPatterns) (v : Visit) → AsManySites (open_call flags infallible c args v).inputs args
-call_inputs flags infallible c args v =
-    either (λ (o : Opened). AsManySites o.inputs args) flags.multi _ _ (output_count (pick_of c) args)
-    (either (λ (o : Opened). AsManySites o.inputs args) infallible _ _ (output_count c args) (output_count (some_part c) args))
-
 term_inputs : (k : Kind) (t : ℕ) (s : SiteTerm) (args : TypedPatterns) (v : Visit) → (k ≡ unknown → ⊥) → AsManySites (open_term k t s args v).inputs args
-term_inputs (a_variant ty i) t s args v known = as_many_sites (variant_field s i) 0 args
-term_inputs (a_struct ty) t s args v known = as_many_sites (struct_field s) 0 args
-term_inputs (a_call flags infallible) t s args v known = call_inputs flags infallible (extractor_call t s) args v
-term_inputs unknown t s args v known = absurd (known refl)
+term_inputs k t s args v known = grind (arith, common_steps, as_many_sites)
 
 -- it is asked for, and is of the type that the pattern says
 abbrev IsMet : Program → Visit → PatternConstant → Type 0
@@ -167,8 +138,7 @@ module _ (p : Program) where
   none_met v k i = absurd i
 
   one_met : (v : Visit) (c : PatternConstant) → IsMet p v c → AreMet p v (c ∷ [])
-  one_met v c h k (inl e) = subst (IsMet p v) e h
-  one_met v c h k (inr i) = absurd i
+  one_met v c h k j = grind (arith, common_steps)
 
   met_later : (v w : Visit) (ks : List PatternConstant) → Grown v w → AreMet p v ks → AreMet p w ks
   met_later v w ks g h k i = let a = h k i in (asked_later v w k g a.0, a.1)
@@ -180,13 +150,9 @@ module _ (p : Program) where
     pattern_met : (q : TypedPattern) (s : SiteTerm) (v : Visit) (vars more : List (ℕ × ℕ)) → formed_pattern p q vars ≡ Some more → AreMet p (visit_pattern p q s v) (pattern_constants q)
     pattern_met (match_bind ty x sub) s v vars more f = let a = from_bind p ty x sub vars more f in pattern_met sub s (binding x s v) vars a.0 a.2
     pattern_met (match_var ty x) s v vars more f = none_met (equating s (var_site v x) v)
-    pattern_met (match_bool ty b) s v vars more f =
-        one_met (asking s (is_bool b ty) v) (a_literal (bool_literal b ty)) (asked_now s (is_bool b ty) v (a_literal (bool_literal b ty)) (inl refl), refl)
-    pattern_met (match_int ty z) s v vars more f =
-        one_met (asking s (is_int z ty) v) (a_literal (int_literal z ty)) (asked_now s (is_int z ty) v (a_literal (int_literal z ty)) (inl refl), refl)
-    pattern_met (match_prim ty name) s v vars more f =
-        one_met (asking s (is_prim name) v) (a_name name ty)
-        (asked_now s (is_prim name) v (a_name name ty) (inl refl), type_is (constant_type p name) ty (from_if (is_type (constant_type p name) ty) (Some vars) more f).0)
+    pattern_met (match_bool ty b) s v vars more f = grind (arith, common_steps, one_met, asked_now)
+    pattern_met (match_int ty z) s v vars more f = grind (arith, common_steps, one_met, asked_now)
+    pattern_met (match_prim ty name) s v vars more f = grind (arith, common_steps, one_met, asked_now, type_is, from_if)
     pattern_met (match_term ty t args) s v vars more f =
         let a = pattern_parts p ty t args vars more f in
         let o = open_term (kind p t) t s args v in
@@ -251,52 +217,28 @@ module _ (p : Program) where
 -- 3. the two premises are one
 -- a constant that means what it writes is none whose value may be any
 open_or_itself : (p : Program) (k : PatternConstant) → is_open_constant p (site_of k) ≡ not (means_itself p k)
-open_or_itself p (a_literal (bool_literal b ty)) = refl
-open_or_itself p (a_literal (int_literal z ty)) = refl
-open_or_itself p (a_name name ty) = refl
+open_or_itself p k = grind (arith, common_steps)
 
 one_open : (a b : Bool) → (not a || not b) ≡ true → (a && b) ≡ false
-one_open true b h = not-true b h
-one_open false b h = refl
+one_open a b h = grind (arith, common_steps, not-true)
 
 not_both : (a b : Bool) → (a && b) ≡ false → (not a || not b) ≡ true
-not_both true b h = ap not h
-not_both false b h = refl
+not_both a b h = grind (arith, common_steps)
 
 -- constants of one site and one type are one
 one_constant : (a b : PatternConstant) → site_of a ≡ site_of b → type_of_constant a ≡ type_of_constant b → a ≡ b
-one_constant (a_literal (bool_literal b s)) (a_literal (bool_literal c t)) e g = cc
-one_constant (a_literal (bool_literal b s)) (a_literal (int_literal z t)) e g = absurd (cc)
-one_constant (a_literal (bool_literal b s)) (a_name n t) e g = absurd (cc)
-one_constant (a_literal (int_literal y s)) (a_literal (bool_literal c t)) e g = absurd (cc)
-one_constant (a_literal (int_literal y s)) (a_literal (int_literal z t)) e g = cc
-one_constant (a_literal (int_literal y s)) (a_name n t) e g = absurd (cc)
-one_constant (a_name n s) (a_literal (bool_literal c t)) e g = absurd (cc)
-one_constant (a_name n s) (a_literal (int_literal z t)) e g = absurd (cc)
-one_constant (a_name n s) (a_name o t) e g = cc
+one_constant a b e g = grind (arith, common_steps)
 
 value_there : (m : Meaning) (k : PatternConstant) → written_value m (site_of k) ≡ value_in m k
-value_there m (a_literal (bool_literal b ty)) = refl
-value_there m (a_literal (int_literal z ty)) = refl
-value_there m (a_name name ty) = refl
+value_there m k = grind (arith, common_steps)
 
 -- a site of a named constant
 of_name : (k : PatternConstant) (name : ℕ) → site_of k ≡ prim_term name → k ≡ a_name name (type_of_constant k)
-of_name (a_literal (bool_literal b ty)) name e = absurd (cc)
-of_name (a_literal (int_literal z ty)) name e = absurd (cc)
-of_name (a_name n ty) name e = cc
+of_name k name e = grind (arith, common_steps)
 
 -- a constraint that names a named constant
 of_constraint : (c : Constraint) (name : ℕ) → In (constant_site c) (prim_term name) → c ≡ is_prim name
-of_constraint (is_bool b ty) name (inl e) = absurd (cc)
-of_constraint (is_bool b ty) name (inr i) = absurd i
-of_constraint (is_int z ty) name (inl e) = absurd (cc)
-of_constraint (is_int z ty) name (inr i) = absurd i
-of_constraint (is_prim n) name (inl e) = cc
-of_constraint (is_prim n) name (inr i) = absurd i
-of_constraint (is_variant ty i n) name j = absurd j
-of_constraint (is_struct ty n) name j = absurd j
-of_constraint is_present name j = absurd j
+of_constraint c name j = grind (arith, common_steps)
 
 module _ (p : Program) (rs : List TypedRule) (formed : (r : TypedRule) → In rs r → is_formed_rule p r ≡ true) where
   -- a constant that demands test, as patterns name it
@@ -419,9 +361,4 @@ headline_is_of_patterns_lem e defs expand rules t sites tree h =
 
 -- 5. literals that mean what they write
 pub literals_are_told_apart_lem : LiteralsAreToldApart
-literals_are_told_apart_lem p m rs all =
-    let itself : (c : PatternConstant) → Contains (rules_constants rs) c → means_itself p c ≡ true = λ c i. All-contains (λ k. IsTrue (means_itself p k)) (rules_constants rs) c all i in
-    record {
-      different = λ a b v i j same o g k. absurd (false≢true (sym o ∙ and_from (means_itself p a) (means_itself p b) (itself a i) (itself b j)));
-      without_parts = λ name ty i. absurd (false≢true (itself (a_name name ty) i));
-    }
+literals_are_told_apart_lem p m rs all = grind (arith, common_steps, and_from)

@@ -1,6 +1,7 @@
 -- A pattern holds of a site's value exactly where what its visit asks is met.
 use Rattle.std.proofs.Common.{◌≡◌, ℕ, ◌+◌, ◌==◌, Bool, true, false, ◌&&◌, cond, List, [], ◌∷◌, Option, Some, None, is_some, slice_get, refl, sym, ap, subst, ◌∙◌, inl, inr, eq-eqb, eqb-true, arith}
 use Rattle.std.proofs.lemmas.Bool.{and_parts, cases_Bool, cond-true, cond-false, false≢true}
+use Rattle.std.proofs.lemmas.Grind.{common_steps}
 use Rattle.model.specs.lists.Tables.{Flags, TermEntry}
 use Rattle.model.specs.lists.Ranges.{is_literal_of}
 use Rattle.model.specs.rules.Values.{Value, truth, atom, of_variant, of_struct, Values, no_value, value_and, listed, all_well_typed, variant_types, struct_types}
@@ -12,11 +13,11 @@ use Rattle.model.specs.rules.Typed.{TypedPattern, match_bind, match_var, match_b
 use Rattle.model.specs.rules.Picks.{picked, taken_answer, field_of_variant, field_of_struct, part_of_some, Sited, SitedVars, sited, input_sites, parts_under, holds_under, each_holds_under, all_hold_under}
 use Rattle.model.specs.trees.Run.{from_value, content_fields, all_one}
 use Rattle.model.specs.sites.Sites.{Constraint, is_variant, is_struct, is_bool, is_int, is_prim, is_present, SiteTerm, extractor_call, pick_of, variant_field, struct_field, some_part, fields_from, field_terms}
-use Rattle.model.specs.visits.Demands.{fields_opened, Visit, visit_start, making, asking, iterating, binding, pattern_count, Opened, output_sites, open_call, open_term, visit_pattern, visit_each, visit_all, outputs_opened, fields_matched, counting}
+use Rattle.model.specs.visits.Demands.{fields_opened, Visit, making, asking, iterating, binding, pattern_count, Opened, output_sites, open_call, open_term, visit_pattern, visit_each, visit_all, outputs_opened, fields_matched, counting}
 use Rattle.model.specs.sites.Serves.{constant_type, term_args, fits_one, fits_answer, fits_extractor}
 use Rattle.model.specs.lists.Setting.{bool_type}
 use Rattle.model.specs.lists.Formed.{pattern_type, var_type, is_type, formed_pattern, formed_parts, formed_each}
-use Rattle.model.proofs.Elements.{In, in_right, some_is, none_some}
+use Rattle.model.proofs.Elements.{in_right, some_is, none_some}
 use Rattle.model.proofs.Options.{is_there, some_then}
 use Rattle.laws_sites.proofs.PatternParts.{AsMany, pattern_parts, from_part, from_bind, pattern_within, parts_within, each_within, as_many, outside}
 use Rattle.laws_sites.proofs.Patterns.{its_kind, from_then, term_known}
@@ -37,8 +38,7 @@ record Opens (g : Given) (v : Visit) (o : Opened) (tys : List ℕ) (seen : Optio
   inputs : (ws : Values) → seen ≡ Some ws → AreHere g o.inputs tys ws
 
 both_there : {X Y : Type 0} (b : Bool) (x : X) (y : Y) → is_some (cond b (Some x) None) ≡ is_some (cond b (Some y) None)
-both_there true x y = refl
-both_there false x y = refl
+both_there b x y = grind (arith, common_steps)
 
 -- where a constraint is asked that is met exactly where the parts are seen
 asked_opens : (g : Given) (v : Visit) (n : ℕ) (s : SiteTerm) (c : Constraint) (ty : ℕ) (x : Value) (tys : List ℕ) (seen : Option Values) → Here g s ty x
@@ -108,12 +108,7 @@ struct_opens g v s ty t args tys x n k h = asked_opens g v (pattern_count args) 
 -- where the parts are seen without being asked for
 sure_opens : (g : Given) (v : Visit) (o : Opened) (tys : List ℕ) (seen : Option Values) (vs : Values) → o.visit.vars ≡ v.vars → o.visit.demands.constraints ≡ v.demands.constraints → o.visit.demands.equalities ≡ v.demands.equalities
     → seen ≡ Some vs → AreHere g o.inputs tys vs → Opens g v o tys seen
-sure_opens g v o tys seen vs b c q e h = record {
-  binds = b;
-  met = λ m ws w. record { asked = λ x i. m.asked x (subst (λ l. In l x) c i); equal = λ x i. m.equal x (subst (λ l. In l x) q i) };
-  found = λ a. (vs, e);
-  inputs = λ ws w. subst (AreHere g o.inputs tys) (some_is vs ws (sym e ∙ w)) h;
-}
+sure_opens g v o tys seen vs b c q e h = grind (arith, common_steps, some_is)
 
 module _ (g : Given) (z : Visit) (h : IsAnswered g z.demands) (parts : HasTypedParts g.program) where
   abbrev p : Program
@@ -176,8 +171,7 @@ module _ (g : Given) (z : Visit) (h : IsAnswered g z.demands) (parts : HasTypedP
 
     fits_multi : (pure partial rec infallible : Bool) (c : Content) → kind p t ≡ a_call (record { pure = pure; multi = true; partial = partial; rec = rec }) infallible → fits_extractor p t (kind p t) c ≡ true
         → (optional : Bool) × (fits_answer p true optional e.arg_tys c ≡ true)
-    fits_multi pure partial rec true c q f = (false, fits_sure (record { pure = pure; multi = true; partial = partial; rec = rec }) c q f)
-    fits_multi pure partial rec false c q f = (true, fits_maybe (record { pure = pure; multi = true; partial = partial; rec = rec }) c q f)
+    fits_multi pure partial rec infallible c q f = grind (arith, common_steps, fits_sure, fits_maybe)
 
     -- the outputs of a call's answer
     from_outputs : (multi : Bool) (u : SiteTerm) (d : Content) (w : PutOut g u args e.arg_tys d) → then_option (extractor_answer g.meaning t x) (taken_answer multi g.pick call) ≡ Some d → fits_one p e.arg_tys d ≡ true
@@ -249,27 +243,13 @@ module _ (g : Given) (z : Visit) (h : IsAnswered g z.demands) (parts : HasTypedP
         ]
 
     term_opens : (k : Kind) → kind p t ≡ k → kind_of e ≡ k → e.ret_ty ≡ ty → Grown (open_term k t s args v).visit z → Opens g v (open_term k t s args v) e.arg_tys (parts_under k g.meaning g.pick t s x)
-    term_opens (a_variant u i) q w r l =
-        let a = variant_takes p parts t e there u i w in
-        variant_opens g v s u i t args e.arg_tys x n a.1 (subst (λ y. Here g s y x) (sym r ∙ a.0) here)
-    term_opens (a_struct u) q w r l =
-        let a = struct_takes p parts t e there u w in
-        struct_opens g v s u t args e.arg_tys x n a.1 (subst (λ y. Here g s y x) (sym r ∙ a.0) here)
+    term_opens (a_variant u i) q w r l = grind (arith, common_steps, variant_takes p parts t e there u i w, variant_opens g v s u i t args e.arg_tys x n)
+    term_opens (a_struct u) q w r l = grind (arith, common_steps, struct_takes p parts t e there u w, struct_opens g v s u t args e.arg_tys x n)
     term_opens (a_call flags infallible) q w r l = call_opens flags.pure flags.multi flags.partial flags.rec infallible q l
     term_opens unknown q w r l = absurd (term_known p t e there q)
 
-  -- the sites of the parts, wherever the visit stands
-  call_inputs : (pure multi partial rec infallible : Bool) (c : SiteTerm) (args : TypedPatterns) (v w : Visit)
-      → (open_call (record { pure = pure; multi = multi; partial = partial; rec = rec }) infallible c args v).inputs ≡ (open_call (record { pure = pure; multi = multi; partial = partial; rec = rec }) infallible c args w).inputs
-  call_inputs pure true partial rec infallible c args v w = refl
-  call_inputs pure false partial rec true c args v w = refl
-  call_inputs pure false partial rec false c args v w = refl
-
   same_inputs : (k : Kind) (t : ℕ) (s : SiteTerm) (args : TypedPatterns) (v : Visit) → (open_term k t s args v).inputs ≡ input_sites k t s args
-  same_inputs (a_variant ty i) t s args v = refl
-  same_inputs (a_struct ty) t s args v = refl
-  same_inputs (a_call flags infallible) t s args v = call_inputs flags.pure flags.multi flags.partial flags.rec infallible (extractor_call t s) args v visit_start
-  same_inputs unknown t s args v = refl
+  same_inputs k t s args v = grind (arith, common_steps)
 
   -- 3. patterns
   -- the parts of a term, after it was opened

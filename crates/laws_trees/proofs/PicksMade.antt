@@ -2,11 +2,12 @@
 -- site is lost.
 use Rattle.std.proofs.Common.{◌≡◌, ◌≤◌, ◌<◌, ℕ, zero, suc, Bool, true, false, if◌then◌else◌, List, [], ◌∷◌, ◌++◌, length, take, flat_map, Option, Some, None, slice_get, Contains, refl, sym, ap, ◌∙◌, subst, inl, inr, arith}
 use Rattle.std.proofs.lemmas.Option.{same_Some, slice_get_within}
+use Rattle.std.proofs.lemmas.Grind.{common_steps}
 use Rattle.model.specs.lists.Tables.{Flags}
 use Rattle.model.specs.rules.Program.{Program, Kind, a_variant, a_struct, a_call, unknown, kind, flags_of, rules_of}
 use Rattle.model.specs.rules.Typed.{TypedPatterns, TypedRule}
-use Rattle.model.specs.sites.Sites.{Site, bool_site, int_site, prim_site, argument_site, extractor_site, constructor_site, iterator_site, make_variant_site, match_variant_site, make_struct_site, extract_struct_site, make_some_site, match_some_site, match_tuple_site, is_present, SetRule, SiteSet, sources_of, SiteTerm, extractor_call, constructor_call, pick_of, variant_made, struct_made, some_part, SiteTerms, layer_at, unfold_site, field_terms}
-use Rattle.model.specs.visits.Demands.{pattern_count, outputs_taken, counting, demands_of, Visit, making, asking, iterating, calling, equating, site_term_eq, has_site, with_sites, part_sites, open_call, open_term, ValuedAll, valued, call_sites, call_result, where_multi, visit_call, visit_term, visit_rule, outputs_opened}
+use Rattle.model.specs.sites.Sites.{Site, bool_site, int_site, prim_site, argument_site, extractor_site, constructor_site, iterator_site, make_variant_site, match_variant_site, make_struct_site, extract_struct_site, make_some_site, match_some_site, match_tuple_site, is_present, SetRule, SiteSet, sources_of, SiteTerm, extractor_call, pick_of, variant_made, struct_made, some_part, SiteTerms, layer_at, unfold_site, field_terms}
+use Rattle.model.specs.visits.Demands.{pattern_count, outputs_taken, counting, demands_of, Visit, making, asking, iterating, equating, site_term_eq, has_site, with_sites, part_sites, open_call, open_term, ValuedAll, valued, call_sites, where_multi, visit_call, visit_term, visit_rule, outputs_opened}
 use Rattle.model.specs.sites.DemandedGates.{HasNoPartialMulti}
 use Rattle.model.specs.sites.Closure.{Closed, closed, before_closing, most_closing_steps, ascending, class_at}
 use Rattle.model.specs.sites.Limits.{RuleLimit, most_sites, passed_in_visit, sites_after_rule, sites_after_rules, sites_reached, sites_until}
@@ -33,11 +34,7 @@ more_made : (ts : List SiteTerm) (v : Visit) → AllPicked v → AllPicked (maki
 more_made ts v h call i = in_left v.demands.made ts (pick_of call) (h call i)
 
 gone_over : (call : SiteTerm) (v : Visit) → AllPicked v → In v.demands.made (pick_of call) → AllPicked (iterating call v)
-gone_over call v h m c i =
-    elim (in_either v.demands.iterators (call ∷ []) c i) [
-      | inl j ↦ h c j
-      | inr j ↦ elim j [ inl e ↦ subst (λ x. In v.demands.made (pick_of x)) e m | inr n ↦ absurd n ]
-    ]
+gone_over call v h m c i = grind (arith, common_steps, in_either)
 
 -- a call, made with its pick and gone over
 picked : (call : SiteTerm) (v : Visit) → AllPicked v → AllPicked (iterating call (making (call ∷ (pick_of call ∷ [])) v))
@@ -74,25 +71,10 @@ term_opened unknown t s args v h = h
 
 -- a call of a constructor that isn't both multi and partial
 call_picked : (flags : Flags) → (flags.multi ≡ true → flags.partial ≡ true → ⊥) → (call : SiteTerm) (v : Visit) → AllPicked v → AllPicked (where_multi flags call (making (call_sites flags call) v))
-call_picked flags neither call v h = of flags.partial flags.multi neither
-  where
-    of : (partial multi : Bool) → (multi ≡ true → partial ≡ true → ⊥)
-        → AllPicked (if multi
-        then iterating call (making (if partial then call ∷ (some_part call ∷ []) else (if multi then call ∷ (pick_of call ∷ []) else call ∷ [])) v)
-        else making (if partial then call ∷ (some_part call ∷ []) else (if multi then call ∷ (pick_of call ∷ []) else call ∷ [])) v)
-    of true true n = absurd (n refl refl)
-    of false true n = picked call v h
-    of true false n = more_made (call ∷ (some_part call ∷ [])) v h
-    of false false n = more_made (call ∷ []) v h
+call_picked flags neither call v h = grind (arith, common_steps, picked, more_made)
 
 visited_call : (flags : Flags) → (flags.multi ≡ true → flags.partial ≡ true → ⊥) → (t : ℕ) (args : SiteTerms) (v : Visit) → AllPicked v → AllPicked (visit_call flags t args v).visit
-visited_call flags neither t args v h = of flags.pure
-  where
-    of : (pure : Bool) → AllPicked (if pure
-        then (let call = constructor_call t args 0 in valued (call_result flags call) (where_multi flags call (making (call_sites flags call) v)))
-        else (let call = constructor_call t args (suc v.impure_calls) in valued (call_result flags call) (calling (call_result flags call) (where_multi flags call (making (call_sites flags call) v))))).visit
-    of true = call_picked flags neither (constructor_call t args 0) v h
-    of false = call_picked flags neither (constructor_call t args (suc v.impure_calls)) v h
+visited_call flags neither t args v h = grind (arith, common_steps, call_picked)
 
 visited_term : (k : Kind) → ((flags_of k).multi ≡ true → (flags_of k).partial ≡ true → ⊥) → (t : ℕ) (a : ValuedAll) → AllPicked a.visit → AllPicked (visit_term k t a).visit
 visited_term (a_variant ty variant) neither t a h = more_made (variant_made ty variant a.sites ∷ []) a.visit h
@@ -113,12 +95,7 @@ Keeps ts us = (k : ℕ) (u : SiteTerm) → slice_get ts k ≡ Some u → slice_g
 
 with_keeps : (ts xs : List SiteTerm) → Keeps ts (with_sites ts xs)
 with_keeps ts [] k u e = e
-with_keeps ts (x ∷ xs) k u e =
-    with_keeps (if has_site ts x then ts else ts ++ x ∷ []) xs k u (of (has_site ts x))
-  where
-    of : (q : Bool) → slice_get (if q then ts else ts ++ x ∷ []) k ≡ Some u
-    of true = e
-    of false = get_front ts (x ∷ []) k u e
+with_keeps ts (x ∷ xs) k u e = grind (arith, common_steps, with_keeps (if has_site ts x then ts else ts ++ x ∷ []) xs k u, get_front)
 
 closing_keeps_made : (before : List SiteTerm) (r : Program) (q : TypedRule) → Keeps (with_sites before (demands_of r q).made) (closed before (demands_of r q)).made
 closing_keeps_made before r q k u e =

@@ -1,6 +1,7 @@
 -- A rule that hangs together matches exactly where what its visit asks is met.
 use Rattle.std.proofs.Common.{◌≡◌, ℕ, suc, ◌+◌, true, List, [], ◌∷◌, Option, Some, None, is_some, slice_get, refl, sym, ap, subst, ◌∙◌, inl, inr, eqb-true, arith}
 use Rattle.std.proofs.lemmas.Bool.{and_parts, false≢true}
+use Rattle.std.proofs.lemmas.Grind.{common_steps}
 use Rattle.model.specs.rules.Values.{Value, of_variant, of_struct, Values, value_and, of_list, well_typed, all_well_typed, args_well_typed}
 use Rattle.model.specs.rules.Meaning.{Content, one, just, extractor_answer}
 use Rattle.model.specs.rules.Outcome.{then_option}
@@ -168,8 +169,7 @@ module _ (g : Given) (z : Visit) (h : IsAnswered g z.demands) (well : IsWellType
 
   -- the rest after one if-let
   regroup : {X : Type 0} (o : Option X) (f : X → Option SitedVars) (k : SitedVars → Option SitedVars) → then_option (then_option o f) k ≡ then_option o (λ x. then_option (f x) k)
-  regroup None f k = refl
-  regroup (Some x) f k = refl
+  regroup o f k = grind (arith, common_steps)
 
   pub iflets_past : (is : List TypedIfLet) (v : Visit) (vars more : List (ℕ × ℕ)) (e : SitedVars) → formed_iflets p is vars ≡ Some more → ArePureIfLets p is → AreBound g vars e v.vars → Grown (visit_iflets p is v) z
       → Past g more e v (visit_iflets p is v) (iflets_hold_under p g.meaning g.pick is e)

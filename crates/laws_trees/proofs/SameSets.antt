@@ -2,13 +2,13 @@
 use Rattle.std.proofs.Common.{◌≡◌, ℕ, zero, suc, ◌<◌, true, if◌then◌else◌, List, [], ◌∷◌, map, length, Option, Some, None, slice_get, Contains, refl, sym, ap, ◌∙◌, subst, subst₂, inl, inr, arith}
 use Rattle.std.proofs.lemmas.Bool.{cases_Bool, cond-true, cond-false}
 use Rattle.std.proofs.lemmas.Option.{none-some, same_Some}
-use Rattle.std.proofs.lemmas.List.Elements.{All-contains}
+use Rattle.std.proofs.lemmas.Grind.{common_steps}
 use Rattle.laws_sites.proofs.overlaps.Overlaps.{bool_same}
 use Rattle.model.specs.rules.Program.{Program, rules_of}
 use Rattle.model.specs.sites.Sites.{Site, bool_site, int_site, prim_site, argument_site, extractor_site, constructor_site, iterator_site, make_variant_site, match_variant_site, make_struct_site, extract_struct_site, make_some_site, match_some_site, match_tuple_site, Constraint, SetRule, SiteSet, sources_of, sources_at, SiteTerm, bool_term, int_term, prim_term, argument, extractor_call, constructor_call, pick_of, variant_made, variant_field, struct_made, struct_field, some_made, some_part, tuple_part, no_site, SiteTerms, no_site_term, site_term_and, each_term, layer, layer_at, unfold_site}
 use Rattle.model.specs.visits.Demands.{site_term_eq}
 use Rattle.model.specs.sites.Limits.{sites_after_rules}
-use Rattle.model.specs.sites.Overlap.{BuiltRule, built_rules}
+use Rattle.model.specs.sites.Overlap.{BuiltRule}
 use Rattle.model.specs.sites.RuleSets.{IsRuleOf, AreRulesOfSet, IsBuilt}
 use Rattle.model.specs.trees.Places.{is_in, joins_in, constraint_at}
 use Rattle.model.proofs.Elements.{In, contains_from_in}
@@ -76,26 +76,10 @@ read g no_site = None
 
 read_each : (f : ℕ → SiteTerm) (g : SiteTerm → ℕ) (xs : List ℕ) → ((a : ℕ) → In xs a → g (f a) ≡ a) → numbers_of g (each_term f xs) ≡ xs
 read_each f g [] h = refl
-read_each f g (x ∷ xs) h =
-    let first : g (f x) ≡ x = h x (inl refl) in
-    let rest : numbers_of g (each_term f xs) ≡ xs = read_each f g xs (λ a i. h a (inr i)) in
-    λ k. first k ∷ rest k
+read_each f g (x ∷ xs) h = grind (arith, common_steps, read_each f g xs (λ a i. h a (inr i)))
 
 read_layer : (f : ℕ → SiteTerm) (g : SiteTerm → ℕ) (b : Site) → ((a : ℕ) → In (sources_of b) a → g (f a) ≡ a) → read g (layer f b) ≡ Some b
-read_layer f g (bool_site b ty) h = refl
-read_layer f g (int_site z ty) h = refl
-read_layer f g (prim_site name) h = refl
-read_layer f g (argument_site i) h = refl
-read_layer f g (extractor_site term source) h = ap (λ s. Some (extractor_site term s)) (h source (inl refl))
-read_layer f g (constructor_site term sources instance) h = ap (λ s. Some (constructor_site term s instance)) (read_each f g sources h)
-read_layer f g (iterator_site source) h = ap (λ s. Some (iterator_site s)) (h source (inl refl))
-read_layer f g (make_variant_site ty variant fields) h = ap (λ s. Some (make_variant_site ty variant s)) (read_each f g fields h)
-read_layer f g (match_variant_site source variant field) h = ap (λ s. Some (match_variant_site s variant field)) (h source (inl refl))
-read_layer f g (make_struct_site ty fields) h = ap (λ s. Some (make_struct_site ty s)) (read_each f g fields h)
-read_layer f g (extract_struct_site source field) h = ap (λ s. Some (extract_struct_site s field)) (h source (inl refl))
-read_layer f g (make_some_site source) h = ap (λ s. Some (make_some_site s)) (h source (inl refl))
-read_layer f g (match_some_site source) h = ap (λ s. Some (match_some_site s)) (h source (inl refl))
-read_layer f g (match_tuple_site source field) h = ap (λ s. Some (match_tuple_site s field)) (h source (inl refl))
+read_layer f g b h = grind (arith, common_steps, read_each)
 
 abbrev sources_in : Option Site → List ℕ
 sources_in o = elim o [ None ↦ [] | Some b ↦ sources_of b ]
@@ -121,13 +105,7 @@ module _ (p : Program) (t : ℕ) where
         ∙ ap (read (place made)) (sym whole)
 
   sites_one : (a b : SiteSet) → IsBuilt p t a → IsBuilt p t b → a.sites ≡ b.sites
-  sites_one a b x y =
-      let count : length a.sites ≡ length b.sites = x.sites.count ∙ sym y.sites.count in
-      lists_one a.sites b.sites count
-      (λ s l.
-      let k : s < length b.sites = subst (λ n. s < n) count l in
-      let same : unfold_site a.sites s ≡ unfold_site b.sites s = same_Some (unfold_site a.sites s) (unfold_site b.sites s) (sym (x.sites.exact s l) ∙ y.sites.exact s k) in
-      site_read a x s l ∙ ap (read (place made)) same ∙ sym (site_read b y s k))
+  sites_one a b x y = grind (arith, common_steps, lists_one, same_Some, site_read)
 
 -- 3. rules
 module _ (p : Program) (sites : List Site) (number : StandApart sites) where
@@ -164,19 +142,7 @@ module _ (p : Program) (sites : List Site) (number : StandApart sites) where
       λ k. first k ∷ rest k
 
   rule_one : (b : BuiltRule) (r q : SetRule) → IsRuleOf p sites b r → IsRuleOf p sites b q → ShowSame r q
-  rule_one b r q x y = record {
-    id = x.id ∙ sym y.id;
-    at = x.at ∙ sym y.at;
-    prio = x.prio ∙ sym y.prio;
-    name = x.name ∙ sym y.name;
-    constraints = λ s. options_one (constraint_at r.constraints s) (constraint_at q.constraints s) (constraint_too b r q x y s) (constraint_too b q r y x s);
-    classes = λ i j. bool_same (joins_in r.classes i j) (joins_in q.classes i j) (joined_too b r q x y i j) (joined_too b q r y x i j);
-    iterators = λ s. bool_same (is_in s r.iterators) (is_in s q.iterators) (gone_over_too b r q x y s) (gone_over_too b q r y x s);
-    impure =
-        numbers_one r.impure q.impure (λ i c. All-contains (λ s. s < length sites) r.impure i x.impure.0 c) (λ i c. All-contains (λ s. s < length sites) q.impure i y.impure.0 c)
-        (x.impure.1 ∙ sym y.impure.1);
-    result = number r.result q.result x.result.0 y.result.0 (x.result.1 ∙ sym y.result.1);
-  }
+  rule_one b r q x y = grind (arith, common_steps, options_one, constraint_too, bool_same, joined_too, gone_over_too, numbers_one)
 
   rules_one : (bs : List BuiltRule) (rs qs : List SetRule) → AreRulesOfSet p sites bs rs → AreRulesOfSet p sites bs qs → EachTwo ShowSame rs qs
   rules_one [] [] [] x y = tt
@@ -187,9 +153,4 @@ module _ (p : Program) (sites : List Site) (number : StandApart sites) where
   rules_one (b ∷ bs) (r ∷ rs) (q ∷ qs) x y = (rule_one b r q x.0 y.0, rules_one bs rs qs x.1 y.1)
 
 pub built_sets_show_same_lem : BuiltSetsShowSame
-built_sets_show_same_lem p t a b x y =
-    let sites : a.sites ≡ b.sites = sites_one p t a b x y in
-    record {
-      rules = rules_one p a.sites (one_number p t a x) (built_rules p t) a.rules b.rules x.rules (subst (λ z. AreRulesOfSet p z (built_rules p t) b.rules) (sym sites) y.rules);
-      sites = sites;
-    }
+built_sets_show_same_lem p t a b x y = grind (arith, common_steps, sites_one, rules_one, one_number)

@@ -1,13 +1,14 @@
 -- A best tree looks at the rules of a set only through what they show.
-use Rattle.std.proofs.Common.{◌≡◌, ℕ, zero, suc, ◌<◌, Bool, false, not, ◌&&◌, ◌||◌, nat_lt, List, [], ◌∷◌, ◌++◌, length, Option, Some, None, is_some, slice_get, All, IsTrue, filter, refl, sym, ap, ap₂, ◌∙◌, subst, subst₂, int_eq}
+use Rattle.std.proofs.Common.{◌≡◌, ℕ, zero, suc, ◌<◌, Bool, false, not, ◌&&◌, ◌||◌, nat_lt, List, [], ◌∷◌, ◌++◌, length, Option, Some, None, slice_get, All, IsTrue, filter, refl, sym, ap, ap₂, ◌∙◌, subst, subst₂, int_eq, arith}
 use Rattle.std.specs.List.{list_all}
 use Rattle.std.specs.Ordering.{int_cmp, is_lt}
 use Rattle.std.proofs.lemmas.Option.{none-some, same_Some}
+use Rattle.std.proofs.lemmas.Grind.{common_steps}
 use Rattle.model.specs.sites.Sites.{Site, Constraint, SetRule, SiteSet}
-use Rattle.model.specs.trees.Trees.{Tree, step, match_at, equal_at, loop_at, return_at, arm, Marked, m_no_step, m_step, MarkedCheck, m_match, m_equal, m_loop, m_return, MarkedArms, m_no_arm, m_arm, marks, marks_arms, return_of, plain, plain_check, plain_arms}
-use Rattle.model.specs.trees.Places.{Around, nothing_around, uses, return_uses, emits, all_below, bind_order, in_arm, in_equal, in_loop, after_step}
+use Rattle.model.specs.trees.Trees.{Tree, step, match_at, equal_at, loop_at, arm, Marked, m_no_step, m_step, MarkedCheck, m_match, m_equal, m_loop, m_return, MarkedArms, m_no_arm, m_arm, marks, marks_arms, return_of, plain, plain_check, plain_arms}
+use Rattle.model.specs.trees.Places.{Around, nothing_around, uses, emits, all_below, bind_order, in_arm, in_equal, in_loop, after_step}
 use Rattle.model.specs.trees.Sound.{or_later, AllAsk, is_return}
-use Rattle.model.specs.trees.Tests.{Test, match_test, equal_test, loop_test, needs, is_needed, priority, needs_at, is_lower, is_covered, cover, is_open, score, is_greater}
+use Rattle.model.specs.trees.Tests.{Test, match_test, equal_test, loop_test, is_needed, priority, needs_at, is_lower, is_covered, cover, is_open, score, is_greater}
 use Rattle.model.specs.trees.Best.{IsGreatest, IsMade, IsEnd, BestSteps, BestCheck, BestArms, comes_first, descend, IsBestTree}
 use Rattle.laws_trees.specs.OneAnswer.{EachTwo, ShowSame, BestTreesAreOfWhatIsShown}
 use Rattle.laws_trees.proofs.StepCounts.{steps_make_best_trees_lem}
@@ -31,40 +32,17 @@ as_many [] (q ∷ qs) h = absurd h
 as_many (r ∷ rs) [] h = absurd h
 as_many (r ∷ rs) (q ∷ qs) h = ap suc (as_many rs qs h.1)
 
-need_same : (t : Test) (a b : SetRule) → ShowSame a b → needs t a ≡ needs t b
-need_same (match_test s) a b h = ap is_some (h.constraints s)
-need_same (equal_test s t) a b h = h.classes s t
-need_same (loop_test s) a b h = h.iterators s
-
 needed_same : (t : Test) (o q : Option SetRule) → BothShowSame o q → is_needed t o ≡ is_needed t q
-needed_same t None None h = refl
-needed_same t None (Some b) h = absurd h
-needed_same t (Some a) None h = absurd h
-needed_same t (Some a) (Some b) h = need_same t a b h
+needed_same t o q h = grind (arith, common_steps)
 
 priority_same : (o q : Option SetRule) → BothShowSame o q → priority o ≡ priority q
-priority_same None None h = refl
-priority_same None (Some b) h = absurd h
-priority_same (Some a) None h = absurd h
-priority_same (Some a) (Some b) h = h.prio
+priority_same o q h = grind (arith, common_steps)
 
 return_same : (o q : Option SetRule) → BothShowSame o q → return_of o ≡ return_of q
-return_same None None h = refl
-return_same None (Some b) h = absurd h
-return_same (Some a) None h = absurd h
-return_same (Some a) (Some b) h = ap₂ return_at h.at h.result
-
-uses_of_return_same : (o q : Option SetRule) → BothShowSame o q → return_uses o ≡ return_uses q
-uses_of_return_same None None h = refl
-uses_of_return_same None (Some b) h = absurd h
-uses_of_return_same (Some a) None h = absurd h
-uses_of_return_same (Some a) (Some b) h = λ k. h.impure k ++ h.result k ∷ []
+return_same o q h = grind (arith, common_steps)
 
 shown_by : (o q : Option SetRule) → BothShowSame o q → (b : SetRule) → q ≡ Some b → (a : SetRule) × (o ≡ Some a) × ShowSame a b
-shown_by None None h b e = absurd (none-some b e)
-shown_by None (Some q) h b e = absurd h
-shown_by (Some a) None h b e = absurd h
-shown_by (Some a) (Some q) h b e = (a, refl, subst (ShowSame a) (same_Some q b e) h)
+shown_by o q h b e = grind (arith, common_steps, none-some, same_Some)
 
 module _ (sites : List Site) (rs qs : List SetRule) (same : EachTwo ShowSame rs qs) where
   abbrev one : SiteSet
@@ -90,14 +68,10 @@ module _ (sites : List Site) (rs qs : List SetRule) (same : EachTwo ShowSame rs 
   cover_same here t = λ k. filter (λ i. covered_same here t i k) here
 
   score_same : (ar : Around) (here : List ℕ) (t : Test) → score one ar here t ≡ score other ar here t
-  score_same ar here (match_test a) = ap (λ n. record (score other ar here (match_test a)) { count = n }) (ap length (cover_same here (match_test a)))
-  score_same ar here (equal_test a b) = ap (λ n. record (score other ar here (equal_test a b)) { count = n }) (ap length (cover_same here (equal_test a b)))
-  score_same ar here (loop_test a) = ap (λ n. record (score other ar here (loop_test a)) { count = n }) (ap length (cover_same here (loop_test a)))
+  score_same ar here t = grind (arith, common_steps, cover_same)
 
   open_same : (ar : Around) (t : Test) → is_open one ar t ≡ is_open other ar t
-  open_same ar (match_test a) = refl
-  open_same ar (equal_test a b) = refl
-  open_same ar (loop_test a) = refl
+  open_same ar t = grind (arith, common_steps)
 
   greatest : (ar : Around) (here : List ℕ) (t : Test) → IsGreatest one ar here t → IsGreatest other ar here t
   greatest ar here t g = record {
@@ -117,21 +91,13 @@ module _ (sites : List Site) (rs qs : List SetRule) (same : EachTwo ShowSame rs 
   descend_same (i ∷ is) = (let rest = descend_same is in λ k. list_all (λ j. first_same i j k) is && rest k)
 
   end : (ar : Around) (here : List ℕ) → IsEnd one ar here → IsEnd other ar here
-  end ar here e = record {
-    over = λ u o. sym (cover_same here u) ∙ e.over u (subst IsTrue (sym (open_same ar u)) o);
-    ordered = subst IsTrue (descend_same here) e.ordered;
-  }
+  end ar here e = grind (arith, common_steps, cover_same here, open_same ar, descend_same here)
 
   ask : (here : List ℕ) (s : ℕ) (c : Constraint) → AllAsk rs here s c → AllAsk qs here s c
-  ask here s c all i q k e =
-      let r = shown_by (slice_get rs i) (slice_get qs i) (same_at rs qs same i) q e in
-      sym (r.2.constraints s) ∙ all i r.0 k r.1
+  ask here s c all i q k e = grind (arith, common_steps, shown_by (slice_get rs i) (slice_get qs i) (same_at rs qs same i) q e, same_at rs qs same i)
 
   uses_same : (check : MarkedCheck) → uses one check ≡ uses other check
-  uses_same (m_match source arms) = refl
-  uses_same (m_equal a b body) = refl
-  uses_same (m_loop result body) = refl
-  uses_same (m_return rule) = uses_of_return_same (slice_get rs rule) (slice_get qs rule) (same_at rs qs same rule)
+  uses_same check = grind (arith, common_steps, same_at rs qs same)
 
   emits_same : (check : MarkedCheck) → emits one check ≡ emits other check
   emits_same (m_match source arms) = refl
@@ -191,5 +157,4 @@ module _ (sites : List Site) (rs qs : List SetRule) (same : EachTwo ShowSame rs 
       (steps b.marked nothing_around false b.steps)
 
 pub best_trees_are_of_what_is_shown_lem : BestTreesAreOfWhatIsShown
-best_trees_are_of_what_is_shown_lem a b tree s t =
-    subst (λ z. IsBestTree (record { rules = b.rules; sites = z }) tree) s.sites (best a.sites a.rules b.rules s.rules tree t)
+best_trees_are_of_what_is_shown_lem a b tree s t = grind (arith, common_steps, best)

@@ -1,10 +1,11 @@
 -- Scores are ordered, and one open test has the greatest.
-use Rattle.std.proofs.Common.{◌≡◌, ◌≢◌, ◌⊎◌, ℕ, ◌<◌, ◌==◌, Bool, true, false, ◌&&◌, nat_lt, List, [], ◌∷◌, Contains, sym, ap, ◌∙◌, subst, inl, inr, arith, eqb-true, eq-eqb, ltb-true, lt-ltb}
-use Rattle.std.proofs.lemmas.Bool.{cases_Bool, and_parts, and_from, or_cases, or_left, or_right, false≢true, cases_lt}
+use Rattle.std.proofs.Common.{◌≡◌, ◌≢◌, ◌⊎◌, ℕ, ◌<◌, ◌==◌, Bool, true, false, ◌&&◌, nat_lt, List, [], ◌∷◌, Contains, sym, subst, inl, inr, arith, eq-eqb, ltb-true, lt-ltb}
+use Rattle.std.proofs.lemmas.Bool.{cases_Bool, and_parts, and_from, or_cases, or_left, or_right, cases_lt}
+use Rattle.std.proofs.lemmas.Grind.{common_steps}
 use Rattle.model.specs.sites.Sites.{SiteSet}
 use Rattle.model.specs.trees.Places.{Around}
 use Rattle.model.specs.trees.Sound.{or_later}
-use Rattle.model.specs.trees.Tests.{Test, match_test, equal_test, loop_test, IsOpen, open_tests, Score, score, is_greater}
+use Rattle.model.specs.trees.Tests.{Test, IsOpen, open_tests, Score, score, is_greater}
 use Rattle.model.specs.trees.Best.{IsGreatest}
 use Rattle.model.proofs.Members.{nothing_in, in_head, in_tail, in_cases}
 use Rattle.laws_trees.specs.Scores.{ScoresAreOrdered, OneTestIsGreatest}
@@ -32,42 +33,15 @@ module _ (of : ThreeNumbers) where
   -- whatever compares the numbers
   chain : (p q r : Bool) → (p ≡ true → q ≡ true → r ≡ true) → (p ≡ true → of.second ≡ of.third → r ≡ true) → (of.first ≡ of.second → q ≡ true → r ≡ true)
       → or_later p (of.first == of.second) of.after_first ≡ true → or_later q (of.second == of.third) of.after_second ≡ true → or_later r (of.first == of.third) of.after_both ≡ true
-  chain p q r both left right h k =
-      elim (or_cases p ((of.first == of.second) && of.after_first) h) [
-        | inl x ↦
-            elim (or_cases q ((of.second == of.third) && of.after_second) k) [
-              | inl y ↦ strictly (both x y)
-              | inr y ↦ strictly (left x (eqb-true of.second of.third (and_parts (of.second == of.third) of.after_second y).0))
-            ]
-        | inr x ↦
-            let d = and_parts (of.first == of.second) of.after_first x in
-            let same = eqb-true of.first of.second d.0 in
-            elim (or_cases q ((of.second == of.third) && of.after_second) k) [
-              | inl y ↦ strictly (right same y)
-              | inr y ↦
-                  let e = and_parts (of.second == of.third) of.after_second y in
-                  or_right r ((of.first == of.third) && of.after_both) (and_from (of.first == of.third) of.after_both (eq-eqb of.first of.third (same ∙ eqb-true of.second of.third e.0)) (of.next d.1 e.1))
-            ]
-      ]
-    where
-      strictly : r ≡ true → or_later r (of.first == of.third) of.after_both ≡ true
-      strictly l = or_left r ((of.first == of.third) && of.after_both) l
+  chain p q r both left right h k = grind (arith, common_steps, or_cases, and_parts, or_right, and_from, or_left)
 
   chain_up : or_later (nat_lt of.first of.second) (of.first == of.second) of.after_first ≡ true
       → or_later (nat_lt of.second of.third) (of.second == of.third) of.after_second ≡ true → or_later (nat_lt of.first of.third) (of.first == of.third) of.after_both ≡ true
-  chain_up =
-      chain (nat_lt of.first of.second) (nat_lt of.second of.third) (nat_lt of.first of.third)
-      (below_chain of.first of.second of.third)
-      (λ x e. subst (λ n. nat_lt of.first n ≡ true) e x)
-      (λ e y. subst (λ n. nat_lt n of.third ≡ true) (sym e) y)
+  chain_up = grind (arith, common_steps, chain, below_chain)
 
   chain_down : or_later (nat_lt of.second of.first) (of.first == of.second) of.after_first ≡ true
       → or_later (nat_lt of.third of.second) (of.second == of.third) of.after_second ≡ true → or_later (nat_lt of.third of.first) (of.first == of.third) of.after_both ≡ true
-  chain_down =
-      chain (nat_lt of.second of.first) (nat_lt of.third of.second) (nat_lt of.third of.first)
-      (λ x y. below_chain of.third of.second of.first y x)
-      (λ x e. subst (λ n. nat_lt n of.first ≡ true) e x)
-      (λ e y. subst (λ n. nat_lt of.third n ≡ true) (sym e) y)
+  chain_down = grind (arith, common_steps, chain, below_chain)
 
 -- two numbers, and the tests that decide where they are the same: of the first and the second, and turned round
 record TwoNumbers : Type 0 where
@@ -91,24 +65,10 @@ module _ (of : TwoNumbers) where
   there x e h = or_right x ((of.second == of.first) && of.turned) (and_from (of.second == of.first) of.turned (eq-eqb of.second of.first (sym e)) h)
 
   compare_up : (or_later (nat_lt of.first of.second) (of.first == of.second) of.after ≡ true) ⊎ (or_later (nat_lt of.second of.first) (of.second == of.first) of.turned ≡ true)
-  compare_up =
-      elim (cases_lt of.first of.second) [
-        | inl l ↦ inl (first_lower l)
-        | inr l ↦ elim (cases_lt of.second of.first) [
-          | inl m ↦ inr (second_lower m)
-          | inr m ↦ let e : of.first ≡ of.second = omega arith in elim (of.next e) [ inl h ↦ inl (here (nat_lt of.first of.second) e h) | inr h ↦ inr (there (nat_lt of.second of.first) e h) ]
-        ]
-      ]
+  compare_up = grind (arith, common_steps, cases_lt, first_lower, second_lower, here, there)
 
   compare_down : (or_later (nat_lt of.second of.first) (of.first == of.second) of.after ≡ true) ⊎ (or_later (nat_lt of.first of.second) (of.second == of.first) of.turned ≡ true)
-  compare_down =
-      elim (cases_lt of.first of.second) [
-        | inl l ↦ inr (or_left (nat_lt of.first of.second) ((of.second == of.first) && of.turned) (lt-ltb of.first of.second l))
-        | inr l ↦ elim (cases_lt of.second of.first) [
-          | inl m ↦ inl (or_left (nat_lt of.second of.first) ((of.first == of.second) && of.after) (lt-ltb of.second of.first m))
-          | inr m ↦ let e : of.first ≡ of.second = omega arith in elim (of.next e) [ inl h ↦ inl (here (nat_lt of.second of.first) e h) | inr h ↦ inr (there (nat_lt of.first of.second) e h) ]
-        ]
-      ]
+  compare_down = grind (arith, common_steps, cases_lt, or_left, here, there)
 
 -- 2. scores
 abbrev by_site : Score → Score → Bool
@@ -121,8 +81,7 @@ abbrev by_emitted : Score → Score → Bool
 by_emitted x y = or_later (nat_lt y.emitted x.emitted) (x.emitted == y.emitted) (by_form x y)
 
 greater_itself : (x : Score) → is_greater x x ≡ true → ⊥
-greater_itself x h =
-    not_below x.other (one_itself x.site (nat_lt x.other x.other) (one_itself x.form (by_site x x) (one_itself x.emitted (by_form x x) (one_itself x.count (by_emitted x x) h))))
+greater_itself x h = grind (arith, common_steps, not_below, one_itself)
 
 not_greater_itself : (x : Score) → is_greater x x ≡ false
 not_greater_itself x = elim (cases_Bool (is_greater x x)) [ inl t ↦ absurd (greater_itself x t) | inr f ↦ f ]
@@ -166,43 +125,11 @@ differ_last : (a b : ℕ) → a ≢ b → (nat_lt a b ≡ true) ⊎ (nat_lt b a 
 differ_last a b d = elim (cases_lt a b) [ inl l ↦ inl (lt-ltb a b l) | inr l ↦ inr (lt-ltb b a (omega arith)) ]
 
 compare_scores : (x y : Score) → (x.form ≡ y.form → x.site ≡ y.site → x.other ≡ y.other → ⊥) → (is_greater x y ≡ true) ⊎ (is_greater y x ≡ true)
-compare_scores x y d = compare_down record {
-  first = x.count;
-  second = y.count;
-  after = by_emitted x y;
-  turned = by_emitted y x;
-  next = λ e. compare_down record {
-    first = x.emitted;
-    second = y.emitted;
-    after = by_form x y;
-    turned = by_form y x;
-    next = λ f. compare_up record {
-      first = x.form;
-      second = y.form;
-      after = by_site x y;
-      turned = by_site y x;
-      next = λ g. compare_up record {
-        first = x.site;
-        second = y.site;
-        after = nat_lt x.other y.other;
-        turned = nat_lt y.other x.other;
-        next = λ h. differ_last x.other y.other (d g h);
-      };
-    };
-  };
-}
+compare_scores x y d = grind (arith, common_steps, compare_down, compare_up, differ_last)
 
 same_tests : (set : SiteSet) (ar : Around) (here : List ℕ) (t u : Test)
     → (score set ar here t).form ≡ (score set ar here u).form → (score set ar here t).site ≡ (score set ar here u).site → (score set ar here t).other ≡ (score set ar here u).other → t ≡ u
-same_tests set ar here (match_test s) (match_test t) f g h = ap match_test g
-same_tests set ar here (equal_test a b) (equal_test c d) f g h = λ k. equal_test (g k) (h k)
-same_tests set ar here (loop_test s) (loop_test t) f g h = ap loop_test g
-same_tests set ar here (match_test s) (equal_test c d) f g h = absurd (let n : ◌≡◌ {A = ℕ} 0 1 = f in omega arith)
-same_tests set ar here (match_test s) (loop_test t) f g h = absurd (let n : ◌≡◌ {A = ℕ} 0 2 = f in omega arith)
-same_tests set ar here (equal_test a b) (match_test t) f g h = absurd (let n : ◌≡◌ {A = ℕ} 1 0 = f in omega arith)
-same_tests set ar here (equal_test a b) (loop_test t) f g h = absurd (let n : ◌≡◌ {A = ℕ} 1 2 = f in omega arith)
-same_tests set ar here (loop_test s) (match_test t) f g h = absurd (let n : ◌≡◌ {A = ℕ} 2 0 = f in omega arith)
-same_tests set ar here (loop_test s) (equal_test c d) f g h = absurd (let n : ◌≡◌ {A = ℕ} 2 1 = f in omega arith)
+same_tests set ar here t u f g h = grind (arith, common_steps)
 
 compare_tests : (set : SiteSet) (ar : Around) (here : List ℕ) (t u : Test) → t ≢ u
     → (is_greater (score set ar here t) (score set ar here u) ≡ true) ⊎ (is_greater (score set ar here u) (score set ar here t) ≡ true)
@@ -220,11 +147,7 @@ module _ (set : SiteSet) (ar : Around) (here : List ℕ) where
   Greatest xs = (u : Test) × Contains xs u × ((v : Test) → Contains xs v → is_greater (of v) (of u) ≡ false)
 
   not_above : (x u v : Test) → is_greater (of x) (of u) ≡ true → is_greater (of v) (of u) ≡ false → is_greater (of v) (of x) ≡ false
-  not_above x u v h k =
-      elim (cases_Bool (is_greater (of v) (of x))) [
-        | inl t ↦ absurd (false≢true (sym k ∙ greater_chain (of v) (of x) (of u) t h))
-        | inr f ↦ f
-      ]
+  not_above x u v h k = grind (arith, common_steps, greater_chain)
 
   greatest_of : (x : Test) (xs : List Test) → Greatest (x ∷ xs)
   greatest_of x [] =
@@ -249,28 +172,10 @@ module _ (set : SiteSet) (ar : Around) (here : List ℕ) where
   greatest_among (x ∷ xs) t c = greatest_of x xs
 
   same_or_apart : (x y : Score) → ((x.form ≡ y.form) × (x.site ≡ y.site) × (x.other ≡ y.other)) ⊎ (x.form ≡ y.form → x.site ≡ y.site → x.other ≡ y.other → ⊥)
-  same_or_apart x y =
-      elim (cases_Bool ((x.form == y.form) && (x.site == y.site) && (x.other == y.other))) [
-        | inl t ↦
-            let q = and_parts ((x.form == y.form) && (x.site == y.site)) (x.other == y.other) t in
-            let r = and_parts (x.form == y.form) (x.site == y.site) q.0 in
-            inl (eqb-true x.form y.form r.0, eqb-true x.site y.site r.1, eqb-true x.other y.other q.1)
-        | inr f ↦
-            inr (λ a b c.
-            false≢true (sym f ∙ and_from ((x.form == y.form) && (x.site == y.site)) (x.other == y.other)
-            (and_from (x.form == y.form) (x.site == y.site) (eq-eqb x.form y.form a) (eq-eqb x.site y.site b)) (eq-eqb x.other y.other c)))
-      ]
+  same_or_apart x y = grind (arith, common_steps, and_parts, and_from)
 
   one_greatest : (u v : Test) → IsGreatest set ar here u → IsGreatest set ar here v → v ≡ u
-  one_greatest u v g h =
-      elim (same_or_apart (of v) (of u)) [
-        | inl e ↦ same_tests set ar here v u e.0 e.1 e.2
-        | inr d ↦
-            elim (compare_scores (of v) (of u) d) [
-              | inl t ↦ absurd (false≢true (sym (g.greatest v h.open_here) ∙ t))
-              | inr t ↦ absurd (false≢true (sym (h.greatest u g.open_here) ∙ t))
-            ]
-      ]
+  one_greatest u v g h = grind (arith, common_steps, same_or_apart, same_tests, compare_scores)
 
   the_greatest : (t : Test) → IsOpen set ar t → (u : Test) × IsGreatest set ar here u × ((v : Test) → IsGreatest set ar here v → v ≡ u)
   the_greatest t o =

@@ -1,9 +1,10 @@
 -- What best steps of a built set make: a best tree, which means what its set does.
-use Rattle.std.proofs.Common.{◌≡◌, ℕ, zero, suc, ◌+◌, ◌<◌, ◌≤◌, ◌==◌, false, cond, [], ◌∷◌, length, count_by, refl, ap, ◌∙◌, inl, inr, arith, eqb-true, eq-eqb}
+use Rattle.std.proofs.Common.{◌≡◌, ℕ, zero, suc, ◌+◌, ◌<◌, ◌≤◌, ◌==◌, false, cond, length, count_by, refl, ap, ◌∙◌, inl, inr, arith, eqb-true}
 use Rattle.std.specs.Prelude.{IsPermutation}
 use Rattle.std.proofs.lemmas.Bool.{cases_Bool, cases_lt}
 use Rattle.std.proofs.lemmas.List.Sorted.{sum_by-IsPermutation, IsPermutation-sym, Contains-permutation}
 use Rattle.std.proofs.lemmas.List.Sums.{sum_by-append, sum_by-cons}
+use Rattle.std.proofs.lemmas.Grind.{common_steps}
 use Rattle.model.specs.sites.Sites.{SiteSet}
 use Rattle.model.specs.trees.Trees.{Tree, Marked, marks, plain}
 use Rattle.model.specs.trees.Places.{nothing_around}
@@ -25,31 +26,15 @@ other : (i j : ℕ) → (j ≡ i → ⊥) → weight i j ≡ 0
 other i j f = elim (cases_Bool (j == i)) [ inl t ↦ absurd (f (eqb-true j i t)) | inr n ↦ ap (λ b. cond b 1 0) n ]
 
 counted_more : (i n : ℕ) → count_by (λ j. j == i) (up_to (suc n)) ≡ count_by (λ j. j == i) (up_to n) + weight i n
-counted_more i n =
-    let a = sum_by-append (weight i) (up_to n) (n ∷ []) in
-    let b = sum_by-cons (weight i) n [] in
-    omega (arith, a, b)
+counted_more i n = grind (arith, common_steps, sum_by-append, sum_by-cons)
 
 none_counted : (i n : ℕ) → n ≤ i → count_by (λ j. j == i) (up_to n) ≡ 0
 none_counted i zero l = refl
-none_counted i (suc n) l =
-    let a = counted_more i n in
-    let b = none_counted i n (omega arith) in
-    let c = other i n (λ e. omega (arith, e, l)) in
-    omega (arith, a, b, c)
+none_counted i (suc n) l = grind (arith, common_steps, none_counted i n, counted_more, other)
 
 counted_once : (i n : ℕ) → i < n → count_by (λ j. j == i) (up_to n) ≡ 1
 counted_once i zero l = absurd (omega arith)
-counted_once i (suc n) l =
-    let a = counted_more i n in
-    elim (cases_lt i n) [
-      | inl m ↦ let b = counted_once i n m in let c = other i n (λ e. omega (arith, e, m)) in omega (arith, a, b, c)
-      | inr m ↦
-          let e : n ≡ i = omega arith in
-          let b = none_counted i n (omega (arith, e)) in
-          let c : weight i n ≡ 1 = ap (λ b. cond b 1 0) (eq-eqb n i e) in
-          omega (arith, a, b, c)
-    ]
+counted_once i (suc n) l = grind (arith, common_steps, counted_once i n, counted_more, cases_lt, other, none_counted)
 
 returns_each : (set : SiteSet) (tree : Tree) (m : Marked) → plain set.rules m ≡ tree → IsPermutation (up_to (length set.rules)) (marks m) → ReturnsEach set tree m
 returns_each set tree m same moved = record {
@@ -62,6 +47,4 @@ returns_each set tree m same moved = record {
 -- 2. the tree
 pub best_steps_serialize : BestTreesMeanTheirSets → (set : SiteSet) (tree : Tree) (m : Marked) → IsBuiltForSome set → plain set.rules m ≡ tree
     → IsPermutation (up_to (length set.rules)) (marks m) → BestSteps set nothing_around false m → IsSerialized set tree
-best_steps_serialize means set tree m built same moved steps =
-    let best = steps_make_best_trees_lem set tree m (returns_each set tree m same moved) steps in
-    record { best = best; meaning = means set tree built best }
+best_steps_serialize means set tree m built same moved steps = grind (arith, common_steps, steps_make_best_trees_lem, returns_each)

@@ -1,29 +1,21 @@
 -- Where the greatest tests are made, nowhere would an open test cover more rules than the test made.
-use Rattle.std.proofs.Common.{◌≡◌, ℕ, ◌≤◌, ◌==◌, Bool, false, ◌&&◌, nat_lt, List, ◌∷◌, ◌++◌, length, Option, refl, sym, ap, ◌∙◌, subst₂, inl, inr, arith, lt-ltb}
-use Rattle.std.proofs.lemmas.Bool.{or_left, false≢true, cases_lt}
+use Rattle.std.proofs.Common.{◌≡◌, ℕ, ◌≤◌, Bool, false, List, ◌∷◌, ◌++◌, length, Option, ap, subst₂, arith}
+use Rattle.std.proofs.lemmas.Bool.{or_left, cases_lt}
+use Rattle.std.proofs.lemmas.Grind.{common_steps}
 use Rattle.model.specs.sites.Sites.{Constraint, SiteSet}
 use Rattle.model.specs.trees.Trees.{Marked, m_no_step, m_step, MarkedCheck, m_match, m_equal, m_loop, m_return, MarkedArms, m_no_arm, m_arm, marks}
 use Rattle.model.specs.trees.Places.{Around, nothing_around, in_arm, in_equal, in_loop, after_step}
-use Rattle.model.specs.trees.Sound.{is_return, or_later}
+use Rattle.model.specs.trees.Sound.{is_return}
 use Rattle.model.specs.trees.Tests.{Test, match_test, equal_test, loop_test, cover, Score, score, is_greater}
 use Rattle.model.specs.trees.Best.{IsMade, IsEnd, BestSteps, BestCheck, BestArms, NoneCoversMore, CoversMost, SharesMost, SharesMostIn, SharesMostAmong}
 use Rattle.laws_trees.specs.BestLaws.{BestTreesShareMost}
 
 count_at_most : (x y : Score) → is_greater x y ≡ false → x.count ≤ y.count
-count_at_most x y h =
-    elim (cases_lt y.count x.count) [
-      | inl l ↦
-          absurd (false≢true (sym h ∙ or_left (nat_lt y.count x.count)
-          ((x.count == y.count) && or_later (nat_lt y.emitted x.emitted) (x.emitted == y.emitted) (or_later (nat_lt x.form y.form) (x.form == y.form) (or_later (nat_lt x.site y.site) (x.site == y.site) (nat_lt x.other y.other))))
-          (lt-ltb y.count x.count l)))
-      | inr l ↦ l
-    ]
+count_at_most x y h = grind (arith, common_steps, cases_lt, or_left)
 
 module _ (set : SiteSet) where
   count_is : (ar : Around) (here : List ℕ) (t : Test) → (score set ar here t).count ≡ length (cover set.rules here t)
-  count_is ar here (match_test s) = refl
-  count_is ar here (equal_test a b) = refl
-  count_is ar here (loop_test s) = refl
+  count_is ar here t = grind (arith, common_steps)
 
   made_covers_most : (ar : Around) (held later : List ℕ) (t : Test) → IsMade set ar held later t → CoversMost set ar (held ++ later) t
   made_covers_most ar held later t made u o =

@@ -1,6 +1,7 @@
 -- Among the tests around a return no site is matched twice, and no equality tests two sites that the others join.
-use Rattle.std.proofs.Common.{◌≡◌, ℕ, Bool, true, false, List, [], ◌∷◌, Option, Some, None, slice_get, refl}
+use Rattle.std.proofs.Common.{◌≡◌, ℕ, Bool, true, false, List, [], ◌∷◌, Option, Some, None, slice_get, refl, arith}
 use Rattle.std.proofs.lemmas.Bool.{and_from}
+use Rattle.std.proofs.lemmas.Grind.{common_steps}
 use Rattle.model.specs.sites.Sites.{Constraint, SetRule, SiteSet}
 use Rattle.model.specs.trees.Trees.{Marked, m_no_step, m_step, MarkedCheck, m_match, m_equal, m_loop, m_return, MarkedArms, m_no_arm, m_arm, marks, return_of, plain, plain_check, plain_arms}
 use Rattle.model.specs.trees.Places.{Around, nothing_around, in_arm, in_equal, in_loop, after_step}
@@ -12,8 +13,7 @@ use Rattle.laws_trees.proofs.Pairs.{independent_apart}
 use Rattle.laws_trees.proofs.DistinctSources.{matched_around, IsStraight, straight_at_start, straight_after, straight_arm, straight_equal, straight_loop}
 
 return_once : (o : Option SetRule) (matched : List ℕ) (joined : List (ℕ × ℕ)) → are_distinct matched ≡ true → are_apart [] joined ≡ true → no_site_twice_in matched joined (return_of o) ≡ true
-return_once None matched joined h k = and_from (are_distinct matched) (are_apart [] joined) h k
-return_once (Some r) matched joined h k = and_from (are_distinct matched) (are_apart [] joined) h k
+return_once o matched joined h k = grind (arith, common_steps, and_from)
 
 module _ (set : SiteSet) where
   mutual

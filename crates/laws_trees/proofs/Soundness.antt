@@ -1,8 +1,9 @@
 -- A best tree of a well built set is sound.
-use Rattle.std.proofs.Common.{◌≡◌, ℕ, ◌<◌, Bool, true, false, not, ◌&&◌, ◌||◌, List, [], ◌∷◌, ◌++◌, map, length, Option, Some, None, slice_get, Contains, IsTrue, ◌≤ℤ◌, refl, sym, ap, ◌∙◌, subst, inl, inr, arith}
+use Rattle.std.proofs.Common.{◌≡◌, ℕ, ◌<◌, Bool, true, false, not, ◌&&◌, ◌||◌, List, [], ◌∷◌, ◌++◌, length, Option, Some, None, slice_get, Contains, IsTrue, ◌≤ℤ◌, refl, sym, ap, ◌∙◌, subst, inl, inr, arith}
 use Rattle.std.proofs.lemmas.Bool.{cases_Bool, and_parts, false≢true}
 use Rattle.std.proofs.lemmas.Int.{ints}
 use Rattle.std.proofs.lemmas.List.Elements.{Contains-append_left, Contains-append_right, All-contains}
+use Rattle.std.proofs.lemmas.Grind.{common_steps}
 use Rattle.model.specs.sites.Sites.{iterator_site, Constraint, SetRule, SiteSet}
 use Rattle.model.specs.trees.Trees.{Marked, m_no_step, m_step, MarkedCheck, m_match, m_equal, m_loop, m_return, MarkedArms, m_no_arm, m_arm, marks, marks_arms}
 use Rattle.model.specs.trees.Places.{Around, nothing_around, is_in, fields_of, field_sites, in_arm, in_equal, in_loop, after_step, available}
@@ -43,18 +44,10 @@ module _ (set : SiteSet) (multi : Bool) (built : IsWellBuilt set) (one : multi �
   right ar xs ys = keeps_some ar ys (xs ++ ys) (λ i c. Contains-append_right xs ys i c)
 
   keeps_after : (ar : Around) (check : MarkedCheck) (ids : List ℕ) → Keeps ar ids → Keeps (after_step set ar check) ids
-  keeps_after ar check ids k = record {
-    known = k.known;
-    passed = λ i r c e. passed_after set ar r check (k.passed i r c e);
-    brings = record { fields = k.brings.fields; picks = k.brings.picks };
-  }
+  keeps_after ar check ids k = grind (arith, common_steps, passed_after)
 
   keeps_equal : (ar : Around) (a b : ℕ) (ids : List ℕ) → AllJoin set.rules ids a b → Keeps ar ids → Keeps (in_equal set ar a b) ids
-  keeps_equal ar a b ids join k = record {
-    known = k.known;
-    passed = λ i r c e. passed_equal set ar r a b (join i r c e) (k.passed i r c e);
-    brings = record { fields = k.brings.fields; picks = k.brings.picks };
-  }
+  keeps_equal ar a b ids join k = grind (arith, common_steps, passed_equal)
 
   keeps_arm : (ar : Around) (s : ℕ) (c : Constraint) (fields : List (Option ℕ)) (ids : List ℕ) → AllAsk set.rules ids s c → fields ≡ fields_of set.sites s c → Keeps ar ids → Keeps (in_arm set ar s c fields) ids
   keeps_arm ar s c fields ids ask exact k = record {
@@ -126,23 +119,13 @@ module _ (set : SiteSet) (multi : Bool) (built : IsWellBuilt set) (one : multi �
 
   -- and a later one
   closes_next : (ar : Around) (reached : Bool) (rule : ℕ) (later : List ℕ) → Closes ar reached (rule ∷ later) → Closes ar (reached && (multi || false)) later
-  closes_next ar reached rule later k = record {
-    ordered = descend_rest set.rules rule later k.ordered;
-    tested = λ h i r c e. k.tested (and_parts reached (multi || false) h).0 i r (in_tail rule i later c) e;
-  }
+  closes_next ar reached rule later k = grind (arith, common_steps, descend_rest, and_parts, in_tail)
 
   return_over : (rule : ℕ) (later : List ℕ) → descend set.rules (rule ∷ later) ≡ true → NoneHigher set.rules (rule ∷ []) later
-  return_over rule later h =
-      none_higher set.rules (rule ∷ []) later (λ i j c d.
-      let e : rule ≡ i = (elim (in_cases rule i [] c) [ inl same ↦ same | inr n ↦ absurd (nothing_in i n) ]) in
-      subst (λ x. prio_at set.rules j ≤ℤ prio_at set.rules x) e (first_is_top set.rules rule later h j (in_tail rule j later d)))
+  return_over rule later h = grind (arith, common_steps, none_higher, in_cases, nothing_in, prio_at, first_is_top, in_tail)
 
   not_looped : (ar : Around) (s : ℕ) → is_in s (sources_around ar) ≡ false → is_in s ar.looped ≡ false
-  not_looped ar s f =
-      elim (cases_Bool (is_in s ar.looped)) [
-        | inl t ↦ absurd (false≢true (sym f ∙ member_is_in s (sources_around ar) (Contains-append_right (map (λ (d : ℕ × Constraint). d.0) ar.tested) ar.looped s (member_found s ar.looped t))))
-        | inr n ↦ n
-      ]
+  not_looped ar s f = grind (arith, common_steps, member_is_in, member_found)
 
   abbrev IfClosing : Around → Bool → Bool → List ℕ → Type 0
   IfClosing ar closing reached ids = closing ≡ true → Closes ar reached ids

@@ -1,15 +1,16 @@
 -- All blocks together hold at most a step for each demand of a rule, and its return.
-use Rattle.std.proofs.Common.{◌≡◌, ◌≢◌, ℕ, zero, suc, ◌+◌, ◌-◌, ◌<◌, ◌≤◌, ◌==◌, Bool, true, false, not, ◌&&◌, cond, List, [], ◌∷◌, ◌++◌, map, length, Option, Some, None, slice_get, Contains, count_by, sum_by, flat_map, refl, sym, ap, ◌∙◌, subst, inl, inr, arith, eq-eqb, length-append}
+use Rattle.std.proofs.Common.{◌≡◌, ◌≢◌, ℕ, zero, suc, ◌+◌, ◌-◌, ◌<◌, ◌≤◌, ◌==◌, Bool, true, false, not, cond, List, [], ◌∷◌, ◌++◌, map, length, Option, Some, None, slice_get, Contains, count_by, sum_by, flat_map, refl, sym, ap, ◌∙◌, subst, inl, inr, arith, eq-eqb, length-append}
 use Rattle.std.proofs.lemmas.Bool.{cases_Bool, cond-true, and_parts, and_from, or_cases, false≢true}
 use Rattle.std.proofs.lemmas.List.{length-map}
 use Rattle.std.proofs.lemmas.List.Elements.{Contains-append_left, Contains-append_right, All-contains}
 use Rattle.std.proofs.lemmas.List.Sums.{sum_by-cons, sum_by-append, sum_by-le-sum_by}
+use Rattle.std.proofs.lemmas.Grind.{common_steps}
 use Rattle.model.specs.sites.Sites.{Constraint, SetRule, SiteSet}
 use Rattle.model.specs.trees.Trees.{Marked, m_no_step, m_step, MarkedCheck, m_match, m_equal, m_loop, m_return, MarkedArms, m_no_arm, m_arm, marks, marks_arms, return_of, plain, plain_arms}
 use Rattle.model.specs.trees.Places.{Around, nothing_around, is_in, joins_in, in_arm, in_equal, in_loop, after_step}
 use Rattle.model.specs.trees.Sound.{is_return}
 use Rattle.model.specs.trees.Tests.{match_test, equal_test, loop_test, IsOpen}
-use Rattle.model.specs.trees.Best.{BestSteps, BestArms, are_distinct, steps_of, steps_in, steps_among, most_steps, NoSiteTwice, HasFewSteps}
+use Rattle.model.specs.trees.Best.{BestSteps, BestArms, are_distinct, steps_of, steps_in, steps_among, most_steps}
 use Rattle.model.proofs.Members.{in_head, in_tail, get_within, constraint_in, in_map, from_map, member_found}
 use Rattle.laws_trees.specs.BestLaws.{StepsAreFew, StepsMakeBestTrees}
 use Rattle.laws_trees.proofs.Counting.{distinct_sum, distinct_within}
@@ -33,13 +34,7 @@ members_count (c ∷ cs) = length-append c (members cs) ∙ ap (λ n. length c +
 
 pub joined_member : (classes : List (List ℕ)) (a b : ℕ) → joins_in classes a b ≡ true → Contains (members classes) a × Contains (members classes) b
 joined_member [] a b h = absurd (false≢true h)
-joined_member (c ∷ cs) a b h =
-    elim (or_cases (is_in a c && is_in b c) (joins_in cs a b) h) [
-      | inl q ↦
-          let m = and_parts (is_in a c) (is_in b c) q in
-          (Contains-append_left c (members cs) a (member_found a c m.0), Contains-append_left c (members cs) b (member_found b c m.1))
-      | inr q ↦ let r = joined_member cs a b q in (Contains-append_right c (members cs) a r.0, Contains-append_right c (members cs) b r.1)
-    ]
+joined_member (c ∷ cs) a b h = grind (arith, common_steps, joined_member cs a b, or_cases, and_parts, member_found)
 
 module _ (ar : Around) (r : SetRule) (straight : IsStraight ar) (passed : Passed ar r) where
   asked : (s : ℕ) → Contains (matched_around ar) s → Contains (map (λ (d : ℕ × Constraint). d.0) r.constraints) s
@@ -71,26 +66,17 @@ abbrev cost : List SetRule → ℕ → List ℕ → ℕ
 cost rules n ids = sum_by (left_of rules n) ids
 
 one_less : (rules : List SetRule) (n i : ℕ) → left_of rules (suc n) i ≤ left_of rules n i
-one_less rules n i = less (most_of (slice_get rules i)) n
-  where
-    less : (m n : ℕ) → m - suc n ≤ m - n
-    less m n = omega arith
+one_less rules n i = grind (arith, common_steps)
 
 cost_less : (rules : List SetRule) (n : ℕ) (ids : List ℕ) → cost rules (suc n) ids ≤ cost rules n ids
 cost_less rules n ids = sum_by-le-sum_by (left_of rules (suc n)) (left_of rules n) ids (one_less rules n)
 
 cost_step : (rules : List SetRule) (n : ℕ) (ids : List ℕ) → ids ≢ [] → ((i : ℕ) → Contains ids i → n < most_of (slice_get rules i)) → suc (cost rules (suc n) ids) ≤ cost rules n ids
 cost_step rules n [] some below = absurd (some refl)
-cost_step rules n (i ∷ ids) some below =
-    sum (most_of (slice_get rules i)) n (cost rules (suc n) ids) (cost rules n ids) (cost rules (suc n) (i ∷ ids)) (cost rules n (i ∷ ids))
-    (below i (in_head i ids)) (cost_less rules n ids) (sum_by-cons (left_of rules (suc n)) i ids) (sum_by-cons (left_of rules n) i ids)
-  where
-    sum : (m n a b x y : ℕ) → n < m → a ≤ b → x ≡ (m - suc n) + a → y ≡ (m - n) + b → suc x ≤ y
-    sum m n a b x y l k e f = omega arith
+cost_step rules n (i ∷ ids) some below = grind (arith, common_steps, in_head, cost_less, sum_by-cons)
 
 return_steps : (o : Option SetRule) → steps_in (return_of o) ≡ 0
-return_steps None = refl
-return_steps (Some r) = refl
+return_steps o = grind (arith, common_steps)
 
 -- sums of small numbers
 one_arm : (a b c : ℕ) → suc a + b + c ≡ suc (a + b + c)
@@ -207,23 +193,11 @@ sum_mapped f (x ∷ xs) = sum_by-cons f (suc x) (map suc xs) ∙ ap (λ n. f (su
 
 all_costs : (rules : List SetRule) → cost rules 0 (places rules) ≡ sum_by most_steps rules
 all_costs [] = refl
-all_costs (r ∷ rules) =
-    sum_by-cons (left_of (r ∷ rules) 0) 0 (map suc (places rules))
-    ∙ ap (λ n. (most_steps r - 0) + n) (sum_mapped (left_of (r ∷ rules) 0) (places rules) ∙ all_costs rules)
-    ∙ ap (λ n. n + sum_by most_steps rules) (whole (most_steps r))
-    ∙ sym (sum_by-cons most_steps r rules)
-  where
-    whole : (n : ℕ) → n - 0 ≡ n
-    whole n = omega arith
+all_costs (r ∷ rules) = grind (arith, common_steps, all_costs rules, sum_by-cons, sum_mapped)
 
 counted : (x : ℕ) (xs : List ℕ) → is_in x xs ≡ true → 1 ≤ count_by (λ j. j == x) xs
 counted x [] h = absurd (false≢true h)
-counted x (y ∷ ys) h =
-    let s = sum_by-cons (λ j. cond (j == x) 1 0) y ys in
-    elim (or_cases (y == x) (is_in x ys) h) [
-      | inl t ↦ let c : ◌≡◌ {A = ℕ} (cond (y == x) 1 0) 1 = cond-true (y == x) 1 0 t in omega arith
-      | inr t ↦ let c = counted x ys t in omega arith
-    ]
+counted x (y ∷ ys) h = grind (arith, common_steps, counted x ys, sum_by-cons, or_cases)
 
 pub once_distinct : (xs : List ℕ) → ((i : ℕ) → Contains xs i → count_by (λ j. j == i) xs ≤ 1) → are_distinct xs ≡ true
 once_distinct [] h = refl
@@ -256,13 +230,4 @@ steps_are_few_lem set m returns best =
     total x y z w a b e = omega arith
 
 pub steps_make_best_trees_lem : StepsMakeBestTrees
-steps_make_best_trees_lem set tree m returns best =
-    let same = returns.same in
-    let few = steps_are_few_lem set m (record { same = refl; once = returns.once; known = returns.known }) best in
-    record {
-      marked = m;
-      returns = returns;
-      steps = best;
-      no_site_twice = subst NoSiteTwice same (sites_are_tested_once_lem set m best);
-      few_steps = subst (HasFewSteps set) same few;
-    }
+steps_make_best_trees_lem set tree m returns best = grind (arith, common_steps, steps_are_few_lem, sites_are_tested_once_lem)

@@ -1,6 +1,7 @@
 -- Where a rule matches, its demands can be met: an unreachable rule never matches.
 use Rattle.std.proofs.Common.{◌≡◌, ◌==◌, ℕ, zero, suc, ◌+◌, ◌<◌, ◌≤◌, ℤ, Bool, true, false, not, ◌||◌, List, length, Option, Some, None, slice_get, Contains, flat_map, refl, sym, ap, subst, ◌∙◌, inl, inr, arith, eq-eqb, eqb-true}
 use Rattle.std.proofs.lemmas.Bool.{cases_Bool, and_parts, cond-true, or_left, or_right}
+use Rattle.std.proofs.lemmas.Grind.{common_steps}
 use Rattle.model.specs.rules.Values.{Value, truth, atom, of_variant, of_struct, Values, no_value, value_and, listed, variant_types, struct_types, well_typed, all_well_typed}
 use Rattle.model.specs.rules.Meaning.{Content, one, just, Meaning, bool_literal, int_literal, literal_value, constant_value}
 use Rattle.model.specs.rules.Outcome.{then_option}
@@ -24,25 +25,12 @@ use Rattle.laws_trees.proofs.Shapes.{one_type, no_variant, no_struct, literal_wi
 pub field_is : (f : ℕ → SiteTerm) (j n i : ℕ) (x : SiteTerm) → slice_get (fields_from f j n) i ≡ Some x → (f (j + i) ≡ x) × (i < n)
 field_is f j zero i x e = absurd (none_some x e)
 field_is f j (suc n) zero x e = (let same : j + 0 ≡ j = omega arith in ap f same ∙ some_is (f j) x e, omega arith)
-field_is f j (suc n) (suc i) x e =
-    let r = field_is f (suc j) n i x e in
-    (let same : j + suc i ≡ suc j + i = omega arith in ap f same ∙ r.0, let l : i < n = r.1 in omega arith)
+field_is f j (suc n) (suc i) x e = grind (arith, common_steps, field_is f (suc j) n i x e)
 
 -- fields of sites with one content have one content
 pub field_content : (g : Given) (c : Constraint) (a b : SiteTerm) (i : ℕ) (x y : SiteTerm) → content_of g a ≡ content_of g b → slice_get (field_terms c a) i ≡ Some x → slice_get (field_terms c b) i ≡ Some y
     → content_of g x ≡ content_of g y
-field_content g (is_variant ty n fields) a b i x y e p q =
-    let s = field_is (variant_field a n) 0 fields i x p in
-    let t = field_is (variant_field b n) 0 fields i y q in
-    ap (content_of g) (sym s.0) ∙ ap (λ o. then_option (then_option o as_value) (field_of_variant n (0 + i))) e ∙ ap (content_of g) t.0
-field_content g (is_struct ty fields) a b i x y e p q =
-    let s = field_is (struct_field a) 0 fields i x p in
-    let t = field_is (struct_field b) 0 fields i y q in
-    ap (content_of g) (sym s.0) ∙ ap (λ o. then_option (then_option o as_value) (field_of_struct (0 + i))) e ∙ ap (content_of g) t.0
-field_content g (is_bool t ty) a b i x y e p q = absurd (none_some x p)
-field_content g (is_int z ty) a b i x y e p q = absurd (none_some x p)
-field_content g (is_prim name) a b i x y e p q = absurd (none_some x p)
-field_content g is_present a b i x y e p q = absurd (none_some x p)
+field_content g c a b i x y e p q = grind (arith, common_steps, field_is, content_of, none_some)
 
 -- sites that must be equal have one content where equated sites have
 pub joined_content : (g : Given) (d : Demands) → ((x : SiteTerm × SiteTerm) → In d.equalities x → Equal g x.0 x.1) → (a b : SiteTerm) → Joined d a b → content_of g a ≡ content_of g b
@@ -123,29 +111,19 @@ module _ (g : Given) (rs : List TypedRule) (types : HasTypes g.program.types) (a
   same_type o a b x y = one_type q.types types y.value y.ty x.ty y.typed (subst (λ v. well_typed q.types x.ty v ≡ true) (same_value o a b x y) x.typed)
 
   open_same : (o : Option Content) (a b : SiteTerm) → IsConstant o a → IsConstant o b → (is_open_constant q a || is_open_constant q b) ≡ true → a ≡ b
-  open_same o a b x y h =
-      apart.different a b x.ty x.value x.tested y.tested h x.written (y.written ∙ ap Some (same_type o a b x y)) x.worth (y.worth ∙ ap Some (sym (same_value o a b x y)))
+  open_same o a b x y h = grind (arith, common_steps, same_type o a b x y, same_value o a b x y)
 
   same_written : (o : Option Content) (a b : SiteTerm) → IsConstant o a → IsConstant o b → written_type q a ≡ written_type q b
   same_written o a b x y = x.written ∙ ap Some (sym (same_type o a b x y)) ∙ sym y.written
 
   bools_same : (o : Option Content) (b c : Bool) (s t : ℕ) → IsConstant o (bool_term b s) → IsConstant o (bool_term c t) → bool_term b s ≡ bool_term c t
-  bools_same o b c s t x y =
-      let e : truth b ≡ truth c = sym x.exact ∙ same_value o (bool_term b s) (bool_term c t) x y ∙ y.exact in
-      let f : Some s ≡ Some t = same_written o (bool_term b s) (bool_term c t) x y in
-      let g : b ≡ c = cc in
-      let h : s ≡ t = cc in
-      λ k. bool_term (g k) (h k)
+  bools_same o b c s t x y = grind (arith, common_steps, same_value o (bool_term b s) (bool_term c t) x y, same_written o (bool_term b s) (bool_term c t) x y)
 
   atom_not_truth : (b : Bool) (t : ℕ) (z : ℤ) → truth b ≡ atom t z → ⊥
   atom_not_truth b t z e = cc
 
   bool_int_same : (o : Option Content) (b : Bool) (s t : ℕ) (z : ℤ) → IsConstant o (bool_term b s) → IsConstant o (int_term z t) → bool_term b s ≡ int_term z t
-  bool_int_same o b s t z x y =
-      elim (cases_Bool (is_own_type (slice_get q.types t))) [
-        | inl own ↦ absurd (atom_not_truth b t z (sym x.exact ∙ same_value o (bool_term b s) (int_term z t) x y ∙ y.exact own))
-        | inr other ↦ open_same o (bool_term b s) (int_term z t) x y (ap not other)
-      ]
+  bool_int_same o b s t z x y = grind (arith, common_steps, atom_not_truth, same_value, open_same)
 
   ints_same : (o : Option Content) (z w : ℤ) (s t : ℕ) → IsConstant o (int_term z s) → IsConstant o (int_term w t) → int_term z s ≡ int_term w t
   ints_same o z w s t x y =
@@ -160,25 +138,16 @@ module _ (g : Given) (rs : List TypedRule) (types : HasTypes g.program.types) (a
       ]
 
   constant_variant : (o : Option Content) (u : SiteTerm) (ty i : ℕ) (fs : Values) → IsConstant o u → o ≡ Some (one (of_variant ty i fs)) → ⊥
-  constant_variant o u ty i fs x e =
-      let same : x.value ≡ of_variant ty i fs = one_is x.value (of_variant ty i fs) (some_is (one x.value) (one (of_variant ty i fs)) (sym x.there ∙ e)) in
-      let w = subst (λ v. well_typed q.types x.ty v ≡ true) same x.typed in
-      no_variant q.types (slice_get q.types x.ty) i fs x.atomic (and_parts (ty == x.ty) (all_well_typed q.types (variant_types (slice_get q.types x.ty) i) fs) w).1
+  constant_variant o u ty i fs x e = grind (arith, common_steps, one_is, some_is, no_variant, and_parts)
 
   constant_struct : (o : Option Content) (u : SiteTerm) (ty : ℕ) (fs : Values) → IsConstant o u → o ≡ Some (one (of_struct ty fs)) → ⊥
-  constant_struct o u ty fs x e =
-      let same : x.value ≡ of_struct ty fs = one_is x.value (of_struct ty fs) (some_is (one x.value) (one (of_struct ty fs)) (sym x.there ∙ e)) in
-      let w = subst (λ v. well_typed q.types x.ty v ≡ true) same x.typed in
-      no_struct q.types (slice_get q.types x.ty) fs x.atomic (and_parts (ty == x.ty) (all_well_typed q.types (struct_types (slice_get q.types x.ty)) fs) w).1
+  constant_struct o u ty fs x e = grind (arith, common_steps, one_is, some_is, no_struct, and_parts)
 
   not_just : (o : Option Content) (v : Value) (c : Content) → o ≡ Some (one v) → o ≡ Some (just c) → ⊥
   not_just o v c e f = one_not_just v c (some_is (one v) (just c) (sym e ∙ f))
 
   variant_struct : (o : Option Content) (s i t : ℕ) (fs hs : Values) → o ≡ Some (one (of_variant s i fs)) → o ≡ Some (one (of_struct t hs)) → ⊥
-  variant_struct o s i t fs hs e f = by (sym e ∙ f)
-    where
-      by : Some (one (of_variant s i fs)) ≡ Some (one (of_struct t hs)) → ⊥
-      by q = cc
+  variant_struct o s i t fs hs e f = grind (arith, common_steps)
 
   -- the constraint that a constant's site is of
   back : SiteTerm → Constraint
@@ -365,22 +334,10 @@ module _ (g : Given) (rs : List TypedRule) (r : TypedRule) (of : IsMetRule g rs 
 
   proper_smaller : (s t : SiteTerm) → IsProperPart d s t → IsSmaller s t
   proper_smaller s t (directly h) = part_smaller s t h
-  proper_smaller s u (deeper {t = t} h k) =
-      let a = part_smaller s t h in
-      let b = proper_smaller t u k in
-      let same : a.whole ≡ b.part = one_is a.whole b.part (some_is (one a.whole) (one b.part) (sym a.second ∙ b.first)) in
-      let e : size a.whole ≡ size b.part = ap size same in
-      let l : size a.part < size a.whole = a.less in
-      let n : size b.part < size b.whole = b.less in
-      record { part = a.part; first = a.first; whole = b.whole; second = b.second; less = omega arith }
+  proper_smaller s u (deeper {t = t} h k) = grind (arith, common_steps, proper_smaller t u k, part_smaller s t h, one_is, some_is, size)
 
   pub no_cycle : (s : SiteTerm) → IsProperPart d s s → ⊥
-  no_cycle s h =
-      let a = proper_smaller s s h in
-      let same : a.part ≡ a.whole = one_is a.part a.whole (some_is (one a.part) (one a.whole) (sym a.first ∙ a.second)) in
-      let e : size a.part ≡ size a.whole = ap size same in
-      let l : size a.part < size a.whole = a.less in
-      omega arith
+  no_cycle s h = grind (arith, common_steps, proper_smaller s s h, one_is, some_is, size)
 
   module _ (apart : TellsConstantsApart g.program g.meaning rs) where
     abbrev IsOfShape : Option Content → Constraint → Type 0
@@ -402,17 +359,7 @@ module _ (g : Given) (rs : List TypedRule) (r : TypedRule) (of : IsMetRule g rs 
     -- the content of a site that is asked to be a constant
     constant_at : (s : SiteTerm) (c : Constraint) (u : SiteTerm) (k : In d.constraints (s, c)) → In (constant_site c) u → (ty : ℕ) (v : Value) → (met.asked (s, c) k).0.content ≡ one v
         → written_value m u ≡ Some v → written_type p u ≡ Some ty → well_typed p.types ty v ≡ true → is_type_with_parts (slice_get p.types ty) ≡ false → MustBe g rs types apart u v → IsConstant g rs types apart (content_of g s) u
-    constant_at s c u k i ty v same worth written typed atomic exact = record {
-      value = v;
-      there = (met.asked (s, c) k).0.held ∙ ap Some same;
-      ty = ty;
-      written = written;
-      worth = worth;
-      typed = typed;
-      atomic = atomic;
-      tested = is_tested s c u k i;
-      exact = exact;
-    }
+    constant_at s c u k i ty v same worth written typed atomic exact = grind (arith, common_steps, is_tested)
 
     asked_shape : (s : SiteTerm) (c : Constraint) → In d.constraints (s, c) → IsOfShape (content_of g s) c
     asked_shape s (is_variant ty i n) k = asked_parts s (is_variant ty i n) k
@@ -440,10 +387,7 @@ module _ (g : Given) (rs : List TypedRule) (r : TypedRule) (of : IsMetRule g rs 
         (holds_there (constant_value m name) (typed_as p (constant_type p name)) f.0 f.2 (served.prims name (is_asked s (is_prim name) (prim_term name) k (inl refl)))))
         (apart.without_parts r s name t.0 here (contains_from_in d.constraints (s, is_prim name) k) t.1)
         tt
-    asked_shape s is_present k =
-        let a = met.asked (s, is_present) k in
-        let f = has_form m is_present a.0.content a.0.meets in
-        (f.0, a.0.held ∙ ap Some f.1)
+    asked_shape s is_present k = grind (arith, common_steps, has_form)
 
     pub shape_there : (s : SiteTerm) (c : Constraint) → HasConstraint d s c → IsOfShape (content_of g s) c
     shape_there s c h = subst (λ o. IsOfShape o c) (same_contents h.source s h.joined) (asked_shape h.source c (in_from_contains d.constraints (h.source, c) h.asked))

@@ -1,9 +1,9 @@
 -- Variables of a match and of a visit: both name one site for each, and the value is the site's.
-use Rattle.std.proofs.Common.{◌≡◌, ℕ, ◌==◌, true, false, List, ◌∷◌, Option, Some, is_some, refl, sym, ap, subst, inl, inr, ◌∙◌, eq-eqb, eqb-true}
-use Rattle.std.proofs.lemmas.Bool.{cases_Bool, cond-true, cond-false, false≢true}
+use Rattle.std.proofs.Common.{◌≡◌, ℕ, ◌==◌, true, false, List, ◌∷◌, Option, Some, is_some, sym, subst, inl, inr, ◌∙◌, eqb-true, arith}
+use Rattle.std.proofs.lemmas.Bool.{cases_Bool, cond-true, cond-false}
+use Rattle.std.proofs.lemmas.Grind.{common_steps}
 use Rattle.model.specs.rules.Values.{Value, well_typed}
 use Rattle.model.specs.rules.Meaning.{Content, just, look}
-use Rattle.model.specs.rules.Outcome.{then_option}
 use Rattle.model.specs.rules.Picks.{Sited, SitedVars, sited, sited_value, sites_in}
 use Rattle.model.specs.sites.Sites.{SiteTerm}
 use Rattle.model.specs.visits.Demands.{or_no_site, unwraps}
@@ -40,59 +40,23 @@ AreVars g vars e vs = (x ty : ℕ) → var_type vars x ≡ Some ty → IsVar g e
 
 -- a site with a value
 pub here_valued : (g : Given) (s : SiteTerm) (ty : ℕ) (v : Value) → Here g s ty v → IsValued g s (Some v) ty s
-here_valued g s ty v h = record {
-  site = refl;
-  value = sym (has_value g s v h.content);
-  typed = λ w e. subst (λ y. well_typed g.program.types ty y ≡ true) (some_is v w e) h.typed;
-  reached = λ p. (v, refl);
-}
+here_valued g s ty v h = grind (arith, common_steps, has_value, some_is)
 
 -- the variable that is bound last
 pub var_bound : (g : Given) (x ty : ℕ) (own s : SiteTerm) (o : Option Value) (e : SitedVars) (vs : List (ℕ × SiteTerm)) → IsValued g own o ty s → IsVar g ((x, sited own o) ∷ e) ((x, s) ∷ vs) x ty
-var_bound g x ty own s o e vs h = record {
-  site = ap or_no_site (cond-true (x == x) (Some own) (look (λ k. k == x) (sites_in e)) (eq-eqb x x refl)) ∙ h.site ∙ sym there;
-  value = bound ∙ h.value ∙ ap (value_of g) (sym there);
-  typed = λ v q. h.typed v (sym bound ∙ q);
-  reached = λ p. (let r = h.reached (subst (λ u. AllPresent g (unwraps u)) there p) in (r.0, bound ∙ r.1));
-}
-  where
-    there : named ((x, s) ∷ vs) x ≡ s
-    there = ap or_no_site (cond-true (x == x) (Some s) (look (λ k. k == x) vs) (eq-eqb x x refl))
-
-    bound : sited_value ((x, sited own o) ∷ e) x ≡ o
-    bound = ap (λ (q : Option Sited). then_option q (λ a. a.value)) (cond-true (x == x) (Some (sited own o)) (look (λ k. k == x) e) (eq-eqb x x refl))
+var_bound g x ty own s o e vs h = grind (arith, common_steps, value_of)
 
 -- another variable
 pub var_kept : (g : Given) (x y ty : ℕ) (a : Sited) (s : SiteTerm) (e : SitedVars) (vs : List (ℕ × SiteTerm)) → (x == y) ≡ false → IsVar g e vs y ty → IsVar g ((x, a) ∷ e) ((x, s) ∷ vs) y ty
-var_kept g x y ty a s e vs n h = record {
-  site = ap or_no_site (cond-false (x == y) (Some a.site) (look (λ k. k == y) (sites_in e)) n) ∙ h.site ∙ sym there;
-  value = bound ∙ h.value ∙ ap (value_of g) (sym there);
-  typed = λ v q. h.typed v (sym bound ∙ q);
-  reached = λ p. (let r = h.reached (subst (λ u. AllPresent g (unwraps u)) there p) in (r.0, bound ∙ r.1));
-}
-  where
-    there : named ((x, s) ∷ vs) y ≡ named vs y
-    there = ap or_no_site (cond-false (x == y) (Some s) (look (λ k. k == y) vs) n)
-
-    bound : sited_value ((x, a) ∷ e) y ≡ sited_value e y
-    bound = ap (λ (q : Option Sited). then_option q (λ a. a.value)) (cond-false (x == y) (Some a) (look (λ k. k == y) e) n)
+var_kept g x y ty a s e vs n h = grind (arith, common_steps, value_of)
 
 -- where the visit names the same site
 pub var_moved : (g : Given) (e : SitedVars) (vs ws : List (ℕ × SiteTerm)) (x ty : ℕ) → named ws x ≡ named vs x → IsVar g e vs x ty → IsVar g e ws x ty
-var_moved g e vs ws x ty q h = record {
-  site = h.site ∙ sym q;
-  value = h.value ∙ ap (value_of g) (sym q);
-  typed = h.typed;
-  reached = λ p. h.reached (subst (λ u. AllPresent g (unwraps u)) q p);
-}
+var_moved g e vs ws x ty q h = grind (arith, common_steps, value_of)
 
 -- a variable that isn't among others is none of them
 pub not_among : (vars : List (ℕ × ℕ)) (x y ty : ℕ) → is_some (var_type vars x) ≡ false → var_type vars y ≡ Some ty → (x == y) ≡ false
-not_among vars x y ty new h =
-    elim (cases_Bool (x == y)) [
-      | inl t ↦ absurd (false≢true (sym new ∙ ap (λ z. is_some (var_type vars z)) (eqb-true x y t) ∙ ap is_some h))
-      | inr f ↦ f
-    ]
+not_among vars x y ty new h = grind (arith, common_steps)
 
 -- one more variable
 pub vars_and : (g : Given) (x ty : ℕ) (vars : List (ℕ × ℕ)) (own s : SiteTerm) (o : Option Value) (e : SitedVars) (vs : List (ℕ × SiteTerm)) → is_some (var_type vars x) ≡ false

@@ -1,5 +1,6 @@
 -- A rule of a well-typed program matches under a pick exactly where its demands hold.
-use Rattle.std.proofs.Common.{◌≡◌, ℕ, true, List, IsTrue, sym, subst, ◌∙◌}
+use Rattle.std.proofs.Common.{◌≡◌, ℕ, true, List, IsTrue, sym, subst, ◌∙◌, arith}
+use Rattle.std.proofs.lemmas.Grind.{common_steps}
 use Rattle.model.specs.rules.Values.{Value, args_well_typed}
 use Rattle.model.specs.rules.Meaning.{Meaning, one}
 use Rattle.model.specs.rules.Program.{Program, arg_types, rules_of}
@@ -23,10 +24,7 @@ given p m args k = record { program = p; meaning = m; args = args; pick = k }
 
 -- what holds of demands whose values are of types
 pub met_holds : (p : Program) (m : Meaning) (args : List Value) (k : Pick) (d : Demands) → AreMet (given p m args k) d → DemandsHold m args k d
-met_holds p m args k d h = record {
-  constraints = λ s c i. (h.asked (s, c) (in_from_contains d.constraints (s, c) i)).0;
-  equalities = λ a b i. h.equal (a, b) (in_from_contains d.equalities (a, b) i);
-}
+met_holds p m args k d h = grind (arith, common_steps, in_from_contains)
 
 pub holds_enough : (p : Program) (m : Meaning) (args : List Value) (k : Pick) (d : Demands) → DemandsHold m args k d → AskEnough (given p m args k) d
 holds_enough p m args k d h = record {

@@ -5,6 +5,7 @@ use Rattle.std.proofs.lemmas.Bool.{cases_Bool, cond-true, cond-false, and_parts,
 use Rattle.std.proofs.lemmas.Option.{none-some, same_Some}
 use Rattle.std.proofs.lemmas.Slice.Eq.{bytes_eq-Decides}
 use Rattle.std.proofs.lemmas.List.Elements.{Contains-append_left, Contains-append_right}
+use Rattle.std.proofs.lemmas.Grind.{common_steps}
 use Rattle.model.specs.lists.Names.{IsDistinct}
 use Rattle.model.specs.sites.Sites.{Site, bool_site, int_site, prim_site, argument_site, extractor_site, constructor_site, iterator_site, make_variant_site, match_variant_site, make_struct_site, extract_struct_site, make_some_site, match_some_site, match_tuple_site, Constraint, SetRule, SiteSet, sources_of, sources_at}
 use Rattle.model.specs.trees.Places.{is_in, constraint_at, below}
@@ -51,10 +52,8 @@ not_itself b h = false≢true (sym ((not_exact (bytes_eq (parts_of b) (parts_of 
 differ_once : (bs : List Site) → sites_differ bs ≡ true → IsDistinct bs
 differ_once [] h j k x e f = absurd (none-some x e)
 differ_once (b ∷ bs) h zero zero x e f = refl
-differ_once (b ∷ bs) h zero (suc k) x e f =
-    absurd (not_itself b (subst (λ c. differs b c ≡ true) (sym (same_Some b x e)) (each_passes (differs b) bs (and_parts (list_all (differs b) bs) (sites_differ bs) h).0 x (member_from_get bs k x f))))
-differ_once (b ∷ bs) h (suc j) zero x e f =
-    absurd (not_itself b (subst (λ c. differs b c ≡ true) (sym (same_Some b x f)) (each_passes (differs b) bs (and_parts (list_all (differs b) bs) (sites_differ bs) h).0 x (member_from_get bs j x e))))
+differ_once (b ∷ bs) h zero (suc k) x e f = grind (arith, common_steps, not_itself, same_Some, each_passes, and_parts, member_from_get)
+differ_once (b ∷ bs) h (suc j) zero x e f = grind (arith, common_steps, not_itself, same_Some, each_passes, and_parts, member_from_get)
 differ_once (b ∷ bs) h (suc j) (suc k) x e f = ap suc (differ_once bs (and_parts (list_all (differs b) bs) (sites_differ bs) h).1 j k x e f)
 
 -- 2. sources have smaller numbers
@@ -117,8 +116,7 @@ asked_once (d ∷ ds) h s c k =
         ]
 
 asked_in : (ds : List (ℕ × Constraint)) (s : ℕ) (o : Option Constraint) → constraint_at ds s ≡ o → elim o as (λ _. Bool) [ None ↦ false | Some c ↦ true ] ≡ true → Contains (map (λ (d : ℕ × Constraint). d.0) ds) s
-asked_in ds s None e h = absurd (false≢true h)
-asked_in ds s (Some c) e h = in_map (λ (d : ℕ × Constraint). d.0) ds (s, c) (constraint_in ds s c e)
+asked_in ds s o e h = grind (arith, common_steps, constraint_in ds s)
 
 tested_in : (r : SetRule) (s : ℕ) → tests_site r s ≡ true → Contains (sites_tested r) s
 tested_in r s h =

@@ -1,8 +1,9 @@
 -- The sites that an arm brings wait for its source, and are different.
-use Rattle.std.proofs.Common.{◌≡◌, ℕ, zero, suc, ◌≤◌, ◌==◌, Bool, true, not, ◌&&◌, List, [], ◌∷◌, Option, Some, None, slice_get, Contains, refl, sym, ap, ◌∙◌, inl, inr, arith, eqb-true}
-use Rattle.std.proofs.lemmas.Bool.{cases_Bool, and_parts, and_from, false≢true}
+use Rattle.std.proofs.Common.{◌≡◌, ℕ, zero, suc, ◌≤◌, Bool, true, not, List, [], ◌∷◌, Option, Some, None, slice_get, Contains, refl, sym, ap, ◌∙◌, inl, inr, arith}
+use Rattle.std.proofs.lemmas.Bool.{cases_Bool, and_parts, and_from}
 use Rattle.std.proofs.lemmas.Option.{same_Some}
-use Rattle.model.specs.sites.Sites.{Site, match_variant_site, extract_struct_site, match_some_site, Constraint, is_variant, is_struct, is_bool, is_int, is_prim, is_present, sources_at}
+use Rattle.std.proofs.lemmas.Grind.{common_steps}
+use Rattle.model.specs.sites.Sites.{Site, match_variant_site, extract_struct_site, Constraint, is_variant, is_struct, is_bool, is_int, is_prim, is_present, sources_at}
 use Rattle.model.specs.trees.Places.{is_in, waits, is_variant_field, is_struct_field, is_part_of, site_from, each_field, fields_of, field_sites}
 use Rattle.model.specs.trees.Best.{are_distinct}
 use Rattle.model.proofs.Members.{nothing_in, in_cases, in_alone, member_found}
@@ -21,16 +22,7 @@ module _ (sites : List Site) (p : ℕ → Site → Bool) where
   -- where the fields of a list stand
   listed_at : (i n x : ℕ) → Contains (field_sites (each_field p sites i n)) x → (f : ℕ) × (i ≤ f) × (site_from 0 (p f) sites ≡ Some x)
   listed_at i zero x c = absurd (nothing_in x c)
-  listed_at i (suc n) x c = by (site_from 0 (p i) sites) refl (listed_at (suc i) n x) c
-    where
-      by : (o : Option ℕ) → site_from 0 (p i) sites ≡ o → (Contains (field_sites (each_field p sites (suc i) n)) x → (f : ℕ) × (suc i ≤ f) × (site_from 0 (p f) sites ≡ Some x))
-          → Contains (field_sites (o ∷ each_field p sites (suc i) n)) x → (f : ℕ) × (i ≤ f) × (site_from 0 (p f) sites ≡ Some x)
-      by None e later k = let r = later k in let l = r.1 in (r.0, omega (arith, l), r.2)
-      by (Some y) e later k =
-          elim (in_cases y x (field_sites (each_field p sites (suc i) n)) k) [
-            | inl same ↦ (i, omega arith, e ∙ ap Some same)
-            | inr d ↦ let r = later d in let l = r.1 in (r.0, omega (arith, l), r.2)
-          ]
+  listed_at i (suc n) x c = grind (arith, common_steps, listed_at (suc i) n x, in_cases)
 
   module _ (one : (b : Site) (i j : ℕ) → p i b ≡ true → p j b ≡ true → i ≡ j) where
     fields_distinct : (i n : ℕ) → are_distinct (field_sites (each_field p sites i n)) ≡ true
@@ -55,20 +47,14 @@ module _ (sites : List Site) (p : ℕ → Site → Bool) where
             later
 
 variant_once : (s v : ℕ) (b : Site) (i j : ℕ) → is_variant_field s v i b ≡ true → is_variant_field s v j b ≡ true → i ≡ j
-variant_once s v (match_variant_site source w field) i j h k =
-    sym (eqb-true field i (and_parts ((source == s) && (w == v)) (field == i) h).1) ∙ eqb-true field j (and_parts ((source == s) && (w == v)) (field == j) k).1
-variant_once s v _ i j h k = absurd (false≢true h)
+variant_once s v b i j h k = grind (arith, common_steps, and_parts)
 
 struct_once : (s : ℕ) (b : Site) (i j : ℕ) → is_struct_field s i b ≡ true → is_struct_field s j b ≡ true → i ≡ j
-struct_once s (extract_struct_site source field) i j h k =
-    sym (eqb-true field i (and_parts (source == s) (field == i) h).1) ∙ eqb-true field j (and_parts (source == s) (field == j) k).1
-struct_once s _ i j h k = absurd (false≢true h)
+struct_once s b i j h k = grind (arith, common_steps, and_parts)
 
 part_field : (sites : List Site) (s x : ℕ) (o : Option ℕ) → site_from 0 (is_part_of s) sites ≡ o → Contains (field_sites (o ∷ [])) x → IsFieldOf sites s x
 part_field sites s x None e c = absurd (nothing_in x c)
-part_field sites s x (Some y) e c =
-    let b = site_passes (is_part_of s) sites x (e ∙ ap Some (in_alone y x c)) in
-    field_of sites s x (match_some_site s) (b.1 ∙ ap Some (part_same s b.0 b.2)) refl refl
+part_field sites s x (Some y) e c = grind (arith, common_steps, site_passes, in_alone, field_of, part_same)
 
 -- 1. what is brought
 pub brought_is_field : (sites : List Site) (s : ℕ) (c : Constraint) (x : ℕ) → Contains (field_sites (fields_of sites s c)) x → IsFieldOf sites s x
@@ -85,15 +71,6 @@ brought_is_field sites s (is_bool b ty) x c = absurd (nothing_in x c)
 brought_is_field sites s (is_int z ty) x c = absurd (nothing_in x c)
 brought_is_field sites s (is_prim name) x c = absurd (nothing_in x c)
 
-one_distinct : (o : Option ℕ) → are_distinct (field_sites (o ∷ [])) ≡ true
-one_distinct None = refl
-one_distinct (Some x) = refl
-
 -- 2. is different
 pub brought_distinct : (sites : List Site) (s : ℕ) (c : Constraint) → are_distinct (field_sites (fields_of sites s c)) ≡ true
-brought_distinct sites s (is_variant ty v n) = fields_distinct sites (is_variant_field s v) (variant_once s v) 0 n
-brought_distinct sites s (is_struct ty n) = fields_distinct sites (is_struct_field s) (struct_once s) 0 n
-brought_distinct sites s is_present = one_distinct (site_from 0 (is_part_of s) sites)
-brought_distinct sites s (is_bool b ty) = refl
-brought_distinct sites s (is_int z ty) = refl
-brought_distinct sites s (is_prim name) = refl
+brought_distinct sites s c = grind (arith, common_steps, fields_distinct, variant_once, struct_once)

@@ -1,7 +1,8 @@
 -- What a site of a built set is made of that is written in place isn't written in place itself.
-use Rattle.std.proofs.Common.{◌≡◌, ℕ, suc, true, false, [], ◌∷◌, length, Option, Some, None, slice_get, Contains, refl, ap, subst, inl, inr, arith}
+use Rattle.std.proofs.Common.{◌≡◌, ℕ, suc, true, false, [], ◌∷◌, length, Option, Some, None, slice_get, Contains, refl, subst, inl, inr, arith}
 use Rattle.std.proofs.lemmas.Bool.{cases_Bool, false≢true}
 use Rattle.std.proofs.lemmas.Option.{slice_get_within}
+use Rattle.std.proofs.lemmas.Grind.{common_steps}
 use Rattle.model.specs.rules.Program.{Program, arg_types}
 use Rattle.model.specs.sites.Sites.{Site, int_site, prim_site, argument_site, make_variant_site, make_struct_site, match_tuple_site, SiteSet, SiteTerm, layer, unfold_site}
 use Rattle.model.specs.trees.Places.{is_in_place}
@@ -15,15 +16,7 @@ use Rattle.laws_trees.proofs.binding.Scope.{PlacesApart}
 
 -- what is written in place is one value
 placed_value : (p : Program) (n : ℕ) (f : ℕ → SiteTerm) (b : Site) (q : Form) → is_in_place (Some b) ≡ true → IsOfForm p n (layer f b) q → q ≡ a_value
-placed_value p n f (int_site z ty) q h g = g.1
-placed_value p n f (prim_site name) q h g = g
-placed_value p n f (argument_site i) q h g = g.1
-placed_value p n f (match_tuple_site source field) q h g = g.3
-placed_value p n f (make_variant_site ty variant []) q h g = g.4
-placed_value p n f (make_variant_site ty variant (x ∷ xs)) q h g = absurd (false≢true h)
-placed_value p n f (make_struct_site ty []) q h g = g.4
-placed_value p n f (make_struct_site ty (x ∷ xs)) q h g = absurd (false≢true h)
-placed_value p n f _ q h g = absurd (false≢true h)
+placed_value p n f b q h g = grind (arith, common_steps)
 
 module _ (b : BuiltSet) (h : IsWellTypedProgram b.program) where
   abbrev p : Program
@@ -36,11 +29,7 @@ module _ (b : BuiltSet) (h : IsWellTypedProgram b.program) where
   n = length (arg_types p b.term)
 
   several : (source : ℕ) (o : Option Site) (k : ℕ) → slice_get set.sites source ≡ o → is_in_place o ≡ true → IsOfForm p n (unfold_site set.sites source) (form false false (suc (suc k))) → ⊥
-  several source None k at i f = false≢true i
-  several source (Some x) k at i f =
-      let same = placed_value p n (unfold_site set.sites) x (form false false (suc (suc k))) i (subst (λ u. IsOfForm p n u (form false false (suc (suc k)))) (unfolded_layer set.sites b.built.sources source x at) f) in
-      let c : suc (suc k) ≡ 1 = ap (λ (q : Form). q.count) same in
-      omega (arith, c)
+  several source o k at i f = grind (arith, common_steps, placed_value, form, unfolded_layer)
 
   of_tuple : (s source field : ℕ) → slice_get set.sites s ≡ Some (match_tuple_site source field) → is_in_place (slice_get set.sites source) ≡ false
   of_tuple s source field at =

@@ -1,9 +1,10 @@
 -- A bind order binds each site after what it is made of, and none twice.
 use Rattle.std.proofs.Common.{◌≡◌, ◌⊎◌, ℕ, zero, suc, Bool, true, false, not, ◌&&◌, ◌||◌, List, [], ◌∷◌, ◌++◌, slice_get, Contains, flat_map, refl, sym, ap, ◌∙◌, subst, inl, inr, arith}
 use Rattle.std.specs.List.{list_all}
-use Rattle.std.proofs.lemmas.Bool.{cases_Bool, cond-true, cond-false, and_parts, and_from, or_left, or_right, or_parts, false≢true}
+use Rattle.std.proofs.lemmas.Bool.{cases_Bool, and_parts, and_from, or_left, or_right, or_parts, false≢true}
 use Rattle.std.proofs.lemmas.List.{append-nil}
 use Rattle.std.proofs.lemmas.List.Elements.{Contains-append_left, Contains-append_right, filter-append}
+use Rattle.std.proofs.lemmas.Grind.{common_steps}
 use Rattle.model.specs.sites.Sites.{Site, sources_at}
 use Rattle.model.specs.trees.Places.{Around, is_in, waits, is_available, available, is_in_place, below, all_below, each_after, listed_below, bind_order}
 use Rattle.model.specs.claims.Layers.{can_be_used, binds_once}
@@ -38,9 +39,7 @@ module _ (sites : List Site) (again : List ℕ) where
 
   binds_last : (scope xs : List ℕ) (s : ℕ) → binds_once sites again scope xs ≡ true → can_bind (after_binds scope xs) s ≡ true → binds_once sites again scope (xs ++ s ∷ []) ≡ true
   binds_last scope [] s h k = and_from (can_bind scope s) true k refl
-  binds_last scope (x ∷ xs) s h k =
-      let a = and_parts (can_bind scope x) (binds_once sites again (x ∷ scope) xs) h in
-      and_from (can_bind scope x) (binds_once sites again (x ∷ scope) (xs ++ s ∷ [])) a.0 (binds_last (x ∷ scope) xs s a.1 k)
+  binds_last scope (x ∷ xs) s h k = grind (arith, common_steps, binds_last (x ∷ scope) xs s, and_parts, and_from)
 
 -- 2. what is listed
 module _ (b : BindableSet) (ar : Around) (scope : ScopeAt b ar) (ss : List ℕ) where
@@ -111,16 +110,7 @@ module _ (b : BindableSet) (ar : Around) (scope : ScopeAt b ar) (ss : List ℕ) 
 
   put_binds : (done : List ℕ) → BoundOnce done → (s : ℕ) → (is_in s ar.emitted || is_in s done) ≡ false → ((a : ℕ) → Contains (sources_at sites s) a → Ready done a)
       → binds_once sites scope.again scope.sites (to_bind sites (done ++ s ∷ [])) ≡ true
-  put_binds done l s f r =
-      let split = filter-append (λ t. not (is_in_place (slice_get sites t))) done (s ∷ []) in
-      elim (cases_Bool (is_in_place (slice_get sites s))) [
-        | inl t ↦
-            let same = split ∙ ap (λ k. to_bind sites done ++ k) (cond-false (not (is_in_place (slice_get sites s))) (s ∷ []) [] (ap not t)) ∙ append-nil (to_bind sites done) in
-            ap (binds_once sites scope.again scope.sites) same ∙ l.binds
-        | inr n ↦
-            let same = split ∙ ap (λ k. to_bind sites done ++ k) (cond-true (not (is_in_place (slice_get sites s))) (s ∷ []) [] (ap not n)) in
-            ap (binds_once sites scope.again scope.sites) same ∙ binds_last sites scope.again scope.sites (to_bind sites done) s l.binds (may_bind done l s f r)
-      ]
+  put_binds done l s f r = grind (arith, common_steps, filter-append, to_bind, append-nil, binds_last, may_bind)
 
   put : (done : List ℕ) → BoundOnce done → (n : NextSite sites ar.emitted Reach done) → Contains (all_below sites ss) n.site → BoundOnce (done ++ n.site ∷ [])
   put done l n fine = record {

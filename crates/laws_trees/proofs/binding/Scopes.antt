@@ -1,9 +1,10 @@
 -- The scopes of best trees: what they hold after a step, in an arm and in a loop.
 use Rattle.std.proofs.Common.{◌≡◌, ℕ, suc, true, false, not, List, [], ◌∷◌, ◌++◌, map, slice_get, Contains, refl, sym, ap, ◌∙◌, subst, inl, inr, arith}
-use Rattle.std.proofs.lemmas.Bool.{cases_Bool, and_from, false≢true}
+use Rattle.std.proofs.lemmas.Bool.{and_from, false≢true}
 use Rattle.std.specs.List.{list_all}
 use Rattle.std.proofs.lemmas.List.{append_assoc}
 use Rattle.std.proofs.lemmas.List.Elements.{Contains-append_left, Contains-append_right, Contains-append_cases}
+use Rattle.std.proofs.lemmas.Grind.{common_steps}
 use Rattle.model.specs.sites.Sites.{Site, Constraint, sources_at}
 use Rattle.model.specs.trees.Places.{Around, is_in, waits, available, is_in_place, below, all_below, bind_order, field_sites, in_arm, in_loop}
 use Rattle.model.specs.trees.Tests.{sources_around}
@@ -67,11 +68,7 @@ module _ (b : BindableSet) (ar : Around) (scope : ScopeAt b ar) (ss : List ℕ) 
 
     -- nothing that stands on an open site was bound before
     pub not_bound : (s x : ℕ) → is_in s (sources_around ar) ≡ false → waits (slice_get sites x) ≡ true → Contains (sources_at sites x) s → not (is_in x inner) ≡ true
-    not_bound s x free w k =
-        elim (cases_Bool (is_in x inner)) [
-          | inl t ↦ absurd (false≢true (sym free ∙ member_is_in s (sources_around ar) (waiting_inner x s (member_found x inner t) w k)))
-          | inr f ↦ ap not f
-        ]
+    not_bound s x free w k = grind (arith, common_steps, member_is_in s (sources_around ar), waiting_inner x s, member_found x inner)
 
 -- 2. in an arm
 module _ (b : BindableSet) (ar : Around) (scope : ScopeAt b ar) (arm : ArmFields b.set.sites) where
@@ -198,9 +195,6 @@ module _ (b : BindableSet) (ar : Around) (scope : ScopeAt b ar) (loop : LoopCall
   module _ (wait : Waiting b.set.sites ar scope.sites) (avail : (s : ℕ) → Contains (loop.source ∷ []) s → available b.set.sites ar s ≡ true) where
     abbrev calls : List ℕ
     calls = sources_at b.set.sites loop.result
-
-    is_source : (a : ℕ) → Contains calls a → loop.source ≡ a
-    is_source a c = in_alone loop.source a (subst (λ l. Contains l a) (sources_there b.set loop.result loop.source loop.at) c)
 
     inner_waits : (x a : ℕ) → Contains loop_scope x → waits (slice_get b.set.sites x) ≡ true → Contains (sources_at b.set.sites x) a → Contains (sources_around ar) a
     inner_waits = waiting_inner b ar scope (loop.source ∷ []) wait avail

@@ -1,7 +1,8 @@
 -- In a best tree each site that is used was bound before, and none is bound twice in one scope but for the calls of loops.
-use Rattle.std.proofs.Common.{◌≡◌, ℕ, Bool, true, false, not, ◌&&◌, cond, List, [], ◌∷◌, ◌++◌, Option, slice_get, Contains, refl, sym, subst, inl, inr}
+use Rattle.std.proofs.Common.{◌≡◌, ℕ, Bool, true, false, not, ◌&&◌, cond, List, [], ◌∷◌, ◌++◌, Option, slice_get, Contains, refl, sym, subst, inl, inr, arith}
 use Rattle.std.specs.List.{list_all}
 use Rattle.std.proofs.lemmas.Bool.{and_parts, and_from, false≢true}
+use Rattle.std.proofs.lemmas.Grind.{common_steps}
 use Rattle.model.specs.sites.Sites.{Site, Constraint, sources_at}
 use Rattle.model.specs.trees.Trees.{Tree, Marked, m_no_step, m_step, MarkedCheck, m_match, m_equal, m_loop, m_return, MarkedArms, m_no_arm, m_arm}
 use Rattle.model.specs.trees.Places.{Around, nothing_around, is_in, available, uses, bind_order, return_uses, field_sites, in_arm, in_equal, in_loop, after_step}
@@ -21,8 +22,7 @@ four : (a b c d : Bool) → a ≡ true → b ≡ true → c ≡ true → d ≡ t
 four a b c d h i j k = and_from (a && b && c) d (and_from (a && b) c (and_from a b h i) j) k
 
 passed_by : (b x : Bool) → x ≡ true → cond b true x ≡ true
-passed_by true x h = refl
-passed_by false x h = h
+passed_by b x h = grind (arith, common_steps)
 
 module _ (b : BindableSet) (multi : Bool) where
   abbrev sites : List Site
@@ -32,9 +32,7 @@ module _ (b : BindableSet) (multi : Bool) where
   Binds again scope m = binds_before_use b.set multi again scope m ≡ true
 
   site_open : (ar : Around) (s : ℕ) → IsOpen b.set ar (match_test s) → (available sites ar s ≡ true) × (is_in s (sources_around ar) ≡ false)
-  site_open ar s h =
-      let a = and_parts (is_at_hand b.set ar s) (not (is_in s (sources_around ar))) h in
-      ((and_parts _ (available sites ar s) a.0).1, (not_exact (is_in s (sources_around ar))).0 a.1)
+  site_open ar s h = grind (arith, common_steps, and_parts, not_exact)
 
   alone_available : (ar : Around) (s : ℕ) → available sites ar s ≡ true → (x : ℕ) → Contains (s ∷ []) x → available sites ar x ≡ true
   alone_available ar s h x c = subst (λ y. available sites ar y ≡ true) (in_alone s x c) h

@@ -1,12 +1,11 @@
 -- The choice doesn't depend on the order of rules, nor on rules that aren't chosen.
-use Rattle.std.proofs.Common.{◌≡◌, ◌⊎◌, ◌==◌, ℤ, Bool, true, false, List, [], ◌∷◌, ◌++◌, Option, Some, None, is_some, slice_get, filter, refl, sym, ap, ◌∙◌, subst, inl, inr, arith, int_cmp, is_lt, Ordering, Less, Equal, Greater, ◌≤ℤ◌, ◌<ℤ◌}
+use Rattle.std.proofs.Common.{◌≡◌, ◌⊎◌, ◌==◌, ℤ, Bool, true, false, List, [], ◌∷◌, ◌++◌, Option, Some, is_some, filter, sym, ap, ◌∙◌, subst, inl, inr, arith, int_cmp, is_lt, ◌≤ℤ◌}
 use Rattle.std.proofs.lemmas.Bool.{cases_Bool, cond-true, cond-false}
 use Rattle.std.proofs.lemmas.Int.{ints}
 use Rattle.std.proofs.lemmas.List.Elements.{filter-append}
 use Rattle.std.proofs.lemmas.List.Sorted.{IsPermutation-sym, Contains-permutation}
 use Rattle.std.proofs.lemmas.Option.{none-some, same_Some}
-use Rattle.std.specs.Cmp.{int_ranks}
-use Rattle.std.specs.Ordering.{MatchOrdering}
+use Rattle.std.proofs.lemmas.Grind.{common_steps}
 use Rattle.model.specs.rules.Values.{Value}
 use Rattle.model.specs.rules.Meaning.{Meaning}
 use Rattle.model.specs.rules.Program.{Program, rules_of}
@@ -17,49 +16,25 @@ use Rattle.model.proofs.Elements.{In, in_from_contains, contains_from_in, in_lef
 use Rattle.model.proofs.Priorities.{at_least}
 use Rattle.laws_trees.specs.ChoiceLaws.{OrderDoesntMatter, OthersCanBeTakenAway, OrderInProgramsDoesntMatter, OthersInProgramsCanBeTakenAway}
 use Rattle.laws_trees.proofs.choosing.Terms.{choice_asks_terms_lem}
-use Rattle.laws_trees.proofs.runs.ChosenRules.{one_number, MatchesWith, Chosen, no_match, matching, chosen_is, passes, fails, through}
+use Rattle.laws_trees.proofs.runs.ChosenRules.{one_number, MatchesWith, no_match, matching, chosen_is, passes, fails, through}
 
 -- a lower number isn't above
 not_below : (x y : ℤ) → y ≤ℤ x → is_lt (int_cmp x y) ≡ false
-not_below x y le = by (int_cmp x y) (int_ranks x y)
-  where
-    by : (o : Ordering) → MatchOrdering o (x <ℤ y) (x ≡ y) (y <ℤ x) → is_lt o ≡ false
-    by Less h = absurd (omega (arith, ints))
-    by Equal h = refl
-    by Greater h = refl
+not_below x y le = grind (arith, common_steps, ints)
 
 module _ (p : Program) (m : Meaning) (args : List Value) where
   -- no matching rule is above the chosen one
   pub most : (rs : List TypedRule) (s : TypedRule) → chosen p m rs args ≡ Some s → (q : TypedRule) → In rs q → MatchesWith p m args q → q.prio ≤ℤ s.prio
-  most rs s e = by (chosen_is p m args rs)
-    where
-      by : Chosen p m rs args → (q : TypedRule) → In rs q → MatchesWith p m args q → q.prio ≤ℤ s.prio
-      by (no_match f n) = absurd (none-some s (sym f ∙ e))
-      by (matching r i f at t n) = λ q j u. subst (λ (x : TypedRule). q.prio ≤ℤ x.prio) (same_Some r s (sym f ∙ e)) (n q j u)
+  most rs s e = grind (arith, common_steps, chosen_is, no_match, none-some, matching, same_Some)
 
   -- and it matches
   pub chosen_matches : (rs : List TypedRule) (s : TypedRule) → chosen p m rs args ≡ Some s → MatchesWith p m args s
-  chosen_matches rs s e = by (chosen_is p m args rs)
-    where
-      by : Chosen p m rs args → MatchesWith p m args s
-      by (no_match f n) = absurd (none-some s (sym f ∙ e))
-      by (matching r i f at t n) = subst (MatchesWith p m args) (same_Some r s (sym f ∙ e)) t
+  chosen_matches rs s e = grind (arith, common_steps, chosen_is, no_match, none-some, matching, same_Some)
 
   -- 1. rules with the same members choose one rule
   pub same_members : (rs qs : List TypedRule) → ((r : TypedRule) → In rs r → In qs r) → ((r : TypedRule) → In qs r → In rs r) → MatchesOnce p m rs args
       → chosen p m rs args ≡ chosen p m qs args
-  same_members rs qs to from once = by (chosen_is p m args rs) (chosen_is p m args qs)
-    where
-      by : Chosen p m rs args → Chosen p m qs args → chosen p m rs args ≡ chosen p m qs args
-      by (no_match e n) (no_match f k) = e ∙ sym f
-      by (no_match e n) (matching q j f at t k) = absurd (n q (from q (in_slice qs j q at)) t)
-      by (matching r i e at t n) (no_match f k) = absurd (k r (to r (in_slice rs i r at)) t)
-      by (matching r i e at t n) (matching q j f there u k) =
-          let inside = from q (in_slice qs j q there) in
-          let place = slice_in rs q inside in
-          let prio : r.prio ≡ q.prio = one_number r.prio q.prio (k r (to r (in_slice rs i r at)) t) (n q inside u) in
-          let one : i ≡ place.0 = once i place.0 r q at place.1 prio t u in
-          e ∙ sym at ∙ ap (slice_get rs) one ∙ place.1 ∙ sym f
+  same_members rs qs to from once = grind (arith, common_steps, chosen_is, no_match, matching, in_slice, slice_in, one_number)
 
   -- 2. without a rule that isn't chosen
   module _ (after : List TypedRule) (r : TypedRule) where
@@ -68,49 +43,21 @@ module _ (p : Program) (m : Meaning) (args : List Value) where
 
     here : is_some (matches p m r args) ≡ true → (o : Option TypedRule) → chosen p m after args ≡ o
         → (chosen p m after args ≡ chosen p m (r ∷ after) args) ⊎ (chosen p m (r ∷ after) args ≡ Some r)
-    here meets None e = inr (passes p m args r after meets ∙ ap (higher r) e)
-    here meets (Some s) e = elim (cases_Bool (is_lt (int_cmp r.prio s.prio))) [
-      | inl l ↦ inl (e ∙ sym (passes p m args r after meets ∙ ap (higher r) e ∙ cond-true (is_lt (int_cmp r.prio s.prio)) (Some s) (Some r) l))
-      | inr l ↦ inr (passes p m args r after meets ∙ ap (higher r) e ∙ cond-false (is_lt (int_cmp r.prio s.prio)) (Some s) (Some r) l)
-    ]
+    here meets o e = grind (arith, common_steps, passes)
 
     -- what is chosen without the rule isn't above it, where it would be chosen
     not_above : (before : List TypedRule) (x : TypedRule) → chosen p m (before ++ r ∷ after) args ≡ Some r → r.prio ≤ℤ x.prio → higher x (chosen p m (before ++ after) args) ≡ Some x
-    not_above before x g le = by (chosen_is p m args (before ++ after))
-      where
-        wider : (s : TypedRule) → In (before ++ after) s → In (before ++ r ∷ after) s
-        wider s i = elim (in_either before after s i) [ inl a ↦ in_left before (r ∷ after) s a | inr b ↦ in_right before (r ∷ after) s (inr b) ]
-
-        by : Chosen p m (before ++ after) args → higher x (chosen p m (before ++ after) args) ≡ Some x
-        by (no_match e n) = ap (higher x) e
-        by (matching s i e at t n) =
-            let below = through s.prio r.prio x.prio (most (before ++ r ∷ after) r g s (wider s (in_slice (before ++ after) i s at)) t) le in
-            ap (higher x) e ∙ cond-false (is_lt (int_cmp x.prio s.prio)) (Some s) (Some x) (not_below x.prio s.prio below)
+    not_above before x g le = grind (arith, common_steps, chosen_is, in_either, in_left, in_right, no_match, matching, through, most, in_slice, not_below)
 
     later : (before : List TypedRule) (x : TypedRule) → is_some (matches p m x args) ≡ true → Alike before → Alike (x ∷ before)
-    later before x meets (inl e) = inl (passes p m args x (before ++ after) meets ∙ ap (higher x) e ∙ sym (passes p m args x (before ++ r ∷ after) meets))
-    later before x meets (inr g) =
-        let whole = passes p m args x (before ++ r ∷ after) meets ∙ ap (higher x) g in
-        elim (cases_Bool (is_lt (int_cmp x.prio r.prio))) [
-          | inl l ↦ inr (whole ∙ cond-true (is_lt (int_cmp x.prio r.prio)) (Some r) (Some x) l)
-          | inr l ↦
-              let le = at_least x.prio r.prio (int_cmp x.prio r.prio) (int_ranks x.prio r.prio) l in
-              inl (passes p m args x (before ++ after) meets ∙ not_above before x g le ∙ sym (whole ∙ cond-false (is_lt (int_cmp x.prio r.prio)) (Some r) (Some x) l))
-        ]
+    later before x meets h = grind (arith, common_steps, passes, at_least, not_above)
 
     not_here : (before : List TypedRule) (x : TypedRule) → is_some (matches p m x args) ≡ false → Alike before → Alike (x ∷ before)
-    not_here before x misses (inl e) = inl (fails p m args x (before ++ after) misses ∙ e ∙ sym (fails p m args x (before ++ r ∷ after) misses))
-    not_here before x misses (inr g) = inr (fails p m args x (before ++ r ∷ after) misses ∙ g)
+    not_here before x misses h = grind (arith, common_steps, fails)
 
     alike : (before : List TypedRule) → Alike before
-    alike [] = elim (cases_Bool (is_some (matches p m r args))) [
-      | inl meets ↦ here meets (chosen p m after args) refl
-      | inr misses ↦ inl (sym (fails p m args r after misses))
-    ]
-    alike (x ∷ before) = elim (cases_Bool (is_some (matches p m x args))) [
-      | inl meets ↦ later before x meets (alike before)
-      | inr misses ↦ not_here before x misses (alike before)
-    ]
+    alike [] = grind (arith, common_steps, here, fails)
+    alike (x ∷ before) = grind (arith, common_steps, alike before, later, not_here)
 
   pub without : (before after : List TypedRule) (r : TypedRule) → (chosen p m (before ++ r ∷ after) args ≡ Some r → ⊥)
       → chosen p m (before ++ after) args ≡ chosen p m (before ++ r ∷ after) args

@@ -1,5 +1,6 @@
 -- Of a program, the choice asks the terms alone.
-use Rattle.std.proofs.Common.{◌≡◌, ℕ, List, [], ◌∷◌, Option, Some, None, if◌then◌else◌, is_some, slice_get, refl, ap, ◌∙◌}
+use Rattle.std.proofs.Common.{◌≡◌, ℕ, List, [], ◌∷◌, Option, Some, None, slice_get, refl, ap, ◌∙◌, arith}
+use Rattle.std.proofs.lemmas.Grind.{common_steps}
 use Rattle.model.specs.lists.Tables.{TermEntry}
 use Rattle.model.specs.rules.Values.{Value, Values, no_value, value_and}
 use Rattle.model.specs.rules.Meaning.{Meaning}
@@ -8,7 +9,7 @@ use Rattle.model.specs.rules.Program.{Program, unknown, kind_of, kind, flags_of}
 use Rattle.model.specs.rules.Typed.{TypedPattern, match_bind, match_var, match_bool, match_int, match_prim, match_term, match_any, match_and, TypedPatterns, no_typed_pattern, typed_pattern_and, TypedExpr, make_term, make_var, make_bool, make_int, make_prim, make_let, TypedExprs, no_typed_expr, typed_expr_and, TypedLets, no_typed_let, typed_let_and, TypedIfLet, TypedRule}
 use Rattle.model.specs.rules.Matching.{Vars, parts_seen, holds, each_holds, all_hold, pure_term, pure_value, pure_values, pure_lets, args_hold, iflets_hold, matches}
 use Rattle.model.specs.rules.RightSide.{apply, then_rest, then_lets, then_body, eval, eval_all, eval_lets, outcome_of, right_side}
-use Rattle.model.specs.rules.Choice.{higher, chosen, with_vars, outcome_of_rule}
+use Rattle.model.specs.rules.Choice.{chosen, with_vars, outcome_of_rule}
 use Rattle.laws_trees.specs.ChoiceLaws.{ChoiceAsksTerms}
 
 module _ (p q : Program) (terms : p.terms ≡ q.terms) (m : Meaning) where
@@ -51,8 +52,7 @@ module _ (p q : Program) (terms : p.terms ≡ q.terms) (m : Meaning) where
 
     lets_same : (xs : TypedLets) (e : Vars) → pure_lets p m xs e ≡ pure_lets q m xs e
     lets_same no_typed_let e = refl
-    lets_same (typed_let_and x ty value rest) e =
-        lets_same rest ((x, pure_value p m value e) ∷ e) ∙ ap (λ (o : Option Value). pure_lets q m rest ((x, o) ∷ e)) (value_same value e)
+    lets_same (typed_let_and x ty value rest) e = grind (arith, common_steps, lets_same rest ((x, pure_value p m value e) ∷ e), value_same value e)
 
   args_same : (xs : List TypedPattern) (vs : List Value) (e : Vars) → args_hold p m xs vs e ≡ args_hold q m xs vs e
   args_same [] [] e = refl
@@ -89,8 +89,7 @@ module _ (p q : Program) (terms : p.terms ≡ q.terms) (m : Meaning) where
 
   pub chosen_same : (rs : List TypedRule) (args : List Value) → chosen p m rs args ≡ chosen q m rs args
   chosen_same [] args = refl
-  chosen_same (r ∷ rs) args =
-      (let rest = chosen_same rs args in λ k. if is_some (matches_same r args k) then higher r (rest k) else rest k)
+  chosen_same (r ∷ rs) args = grind (arith, common_steps, chosen_same rs args, matches_same)
 
   vars_same : (r : TypedRule) (o : Option Vars) → with_vars p m r o ≡ with_vars q m r o
   vars_same r None = refl
@@ -101,5 +100,4 @@ module _ (p q : Program) (terms : p.terms ≡ q.terms) (m : Meaning) where
   outcome_same args (Some r) = vars_same r (matches p m r args) ∙ ap (with_vars q m r) (matches_same r args)
 
 pub choice_asks_terms_lem : ChoiceAsksTerms
-choice_asks_terms_lem p q terms m rs args =
-    outcome_same p q terms m args (chosen p m rs args) ∙ ap (outcome_of_rule q m args) (chosen_same p q terms m rs args)
+choice_asks_terms_lem p q terms m rs args = grind (arith, common_steps, outcome_same, chosen_same)

@@ -1,6 +1,7 @@
 -- Rules of a built set and the typed rules that they are built of stand at the same places.
-use Rattle.std.proofs.Common.{◌≡◌, ℕ, suc, List, [], ◌∷◌, map, Some, option_map, slice_get, refl, sym, ap, ◌∙◌, length, subst, ◌<◌}
+use Rattle.std.proofs.Common.{◌≡◌, ℕ, suc, List, [], ◌∷◌, map, Some, slice_get, refl, sym, ap, ◌∙◌, length, subst, ◌<◌, arith}
 use Rattle.std.proofs.lemmas.Option.{slice_get-map, slice_get_within}
+use Rattle.std.proofs.lemmas.Grind.{common_steps}
 use Rattle.model.specs.rules.Program.{Program, rules_of}
 use Rattle.model.specs.rules.Typed.{TypedRule}
 use Rattle.model.specs.sites.Sites.{Site, SetRule, SiteSet}
@@ -43,5 +44,4 @@ module _ (p : Program) (t : ℕ) (set : SiteSet) (h : IsBuilt p t set) where
       (record { typed = k.0; built = q.0; here = k.1; there = q.1; one = record { place = i; typed = k.1; built = q.1 } }, k.2)
 
   pub typed_here : map (λ (b : BuiltRule). b.rule) (built_rules p t) ≡ rules_of p t → (i : ℕ) (x : Pair p t set i) → slice_get (rules_of p t) i ≡ Some x.typed.rule
-  typed_here all i x =
-      ap (λ l. slice_get l i) (sym all) ∙ slice_get-map (λ (b : BuiltRule). b.rule) (built_rules p t) i ∙ ap (option_map (λ (b : BuiltRule). b.rule)) x.here
+  typed_here all i x = grind (arith, common_steps, slice_get-map)

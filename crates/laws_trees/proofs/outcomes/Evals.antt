@@ -1,22 +1,22 @@
 -- A right side does what following the impure calls of its visit does, and gives what its site holds.
-use Rattle.std.proofs.Common.{◌≡◌, ◌⊎◌, ℕ, suc, ◌==◌, Bool, true, false, List, [], ◌∷◌, ◌++◌, length, take, Option, Some, None, is_some, slice_get, All, IsTrue, refl, sym, ap, subst, ◌∙◌, inl, inr, arith}
-use Rattle.std.proofs.lemmas.Bool.{cases_Bool, cond-true, cond-false, false≢true}
+use Rattle.std.proofs.Common.{◌≡◌, ◌⊎◌, ℕ, suc, Bool, true, false, List, [], ◌∷◌, ◌++◌, length, take, Option, Some, None, is_some, slice_get, All, IsTrue, refl, sym, ap, subst, ◌∙◌, inl, inr, arith}
+use Rattle.std.proofs.lemmas.Bool.{false≢true}
 use Rattle.std.proofs.lemmas.List.{length_push, length-append}
-use Rattle.std.proofs.lemmas.List.Elements.{All-append}
 use Rattle.std.proofs.Math.Seq.{take-append_seam}
+use Rattle.std.proofs.lemmas.Grind.{common_steps}
 use Rattle.model.specs.lists.Tables.{TermEntry}
 use Rattle.model.specs.rules.Values.{Value, of_variant, of_struct, Values, value_and}
-use Rattle.model.specs.rules.Meaning.{Content, one, just, look, pure_answer, impure_answer}
+use Rattle.model.specs.rules.Meaning.{Content, one, pure_answer, impure_answer}
 use Rattle.model.specs.rules.Outcome.{Call, then_option}
 use Rattle.model.specs.rules.Matching.{single}
 use Rattle.model.specs.rules.Program.{Program, Kind, a_variant, a_struct, a_call, unknown, kind, flags_of, is_pure, is_multi}
 use Rattle.model.specs.rules.CalledTerms.{CallsAlone, CallAlone, LetsCallAlone}
 use Rattle.model.specs.rules.RightSide.{Eval, gives, ends, EvalAll, gives_all, ends_all, or_end, pair_up, then_rest, outcome_of}
 use Rattle.model.specs.rules.Typed.{TypedExpr, make_term, make_var, make_bool, make_int, make_prim, make_let, TypedExprs, no_typed_expr, typed_expr_and, TypedLets, no_typed_let, typed_let_and}
-use Rattle.model.specs.rules.Picks.{picked, taken_answer, part_of_some, call_answer, Sited, SitedVars, sited, sited_value, sites_in, visit_at, expr_site, expr_sites, impure_under, applied_under, apply_under, SitedLets, gives_sited, ends_sited, then_sited_lets, then_sited_body, eval_under, eval_all_under, eval_lets_under, HasContent}
+use Rattle.model.specs.rules.Picks.{picked, taken_answer, call_answer, SitedVars, sited, sited_value, sites_in, visit_at, expr_site, expr_sites, impure_under, applied_under, apply_under, SitedLets, gives_sited, ends_sited, then_sited_lets, then_sited_body, eval_under, eval_all_under, eval_lets_under, HasContent}
 use Rattle.model.specs.trees.Run.{as_value, from_value}
-use Rattle.model.specs.sites.Sites.{SiteTerm, constructor_call, pick_of, some_made, some_part, SiteTerms, site_term_and}
-use Rattle.model.specs.visits.Demands.{Visit, binding, or_no_site, Valued, ValuedAll, call_result, visit_call, visit_term, visit_expr, visit_exprs, visit_lets, finished}
+use Rattle.model.specs.sites.Sites.{SiteTerm, constructor_call, pick_of, some_part, SiteTerms, site_term_and}
+use Rattle.model.specs.visits.Demands.{Visit, binding, Valued, ValuedAll, call_result, visit_call, visit_term, visit_expr, visit_exprs, visit_lets, finished}
 use Rattle.model.specs.sites.DemandedGates.{HasNoPartialMulti}
 use Rattle.model.specs.sites.Serves.{fits_answer, fits_constructor}
 use Rattle.model.specs.lists.Formed.{var_type, is_formed_expr, are_formed_args, formed_lets}
@@ -43,29 +43,11 @@ abbrev pub AreWorth : Given → List (ℕ × ℕ) → SitedVars → List (ℕ ×
 AreWorth g vars e vs = (x ty : ℕ) → var_type vars x ≡ Some ty → IsWorth g (named (sites_in e) x) (sited_value e x) (named vs x)
 
 worth_moved : (g : Given) (vars : List (ℕ × ℕ)) (e : SitedVars) (v w : Visit) → Same vars v w → AreWorth g vars e v.vars → AreWorth g vars e w.vars
-worth_moved g vars e v w s f x ty h =
-    let a = f x ty h in
-    let q = s x (ap is_some h) in
-    record { site = a.site ∙ sym q; content = ap (content_of g) q ∙ a.content }
+worth_moved g vars e v w s f x ty h = grind (arith, common_steps, content_of)
 
 worth_and : (g : Given) (x ty : ℕ) (vars : List (ℕ × ℕ)) (own s : SiteTerm) (o : Option Value) (e : SitedVars) (vs : List (ℕ × SiteTerm)) → is_some (var_type vars x) ≡ false
     → IsWorth g own o s → AreWorth g vars e vs → AreWorth g ((x, ty) ∷ vars) ((x, sited own o) ∷ e) ((x, s) ∷ vs)
-worth_and g x ty vars own s o e vs new h f y u q =
-    elim (cases_Bool (x == y)) [
-      | inl t ↦
-          let there : named ((x, s) ∷ vs) y ≡ s = ap or_no_site (cond-true (x == y) (Some s) (look (λ k. k == y) vs) t) in
-          record {
-            site = ap or_no_site (cond-true (x == y) (Some own) (look (λ k. k == y) (sites_in e)) t) ∙ h.site ∙ sym there;
-            content = ap (content_of g) there ∙ h.content ∙ ap from_value (sym (ap (λ (z : Option Sited). then_option z (λ a. a.value)) (cond-true (x == y) (Some (sited own o)) (look (λ k. k == y) e) t)));
-          }
-      | inr n ↦
-          let a = f y u (sym (cond-false (x == y) (Some ty) (var_type vars y) n) ∙ q) in
-          let there : named ((x, s) ∷ vs) y ≡ named vs y = ap or_no_site (cond-false (x == y) (Some s) (look (λ k. k == y) vs) n) in
-          record {
-            site = ap or_no_site (cond-false (x == y) (Some own) (look (λ k. k == y) (sites_in e)) n) ∙ a.site ∙ sym there;
-            content = ap (content_of g) there ∙ a.content ∙ ap from_value (sym (ap (λ (z : Option Sited). then_option z (λ a. a.value)) (cond-false (x == y) (Some (sited own o)) (look (λ k. k == y) e) n)));
-          }
-    ]
+worth_and g x ty vars own s o e vs new h f y u q = grind (arith, common_steps, named, content_of)
 
 -- the visits name variables alike
 worth_same : (g : Given) (vars : List (ℕ × ℕ)) (e : SitedVars) (v : Visit) (n : ℕ) → AreWorth g vars e v.vars → Same vars v (visit_at e n)
@@ -112,31 +94,16 @@ pub record IsFollowed (g : Given) (v : Visit) (calls : List Call) : Type 0 where
   pub gave : GaveAll g v.demands.impure
 
 followed_on : (g : Given) (v w : Visit) (calls after : List Call) (adds : AddsCalls v w) → IsFollowed g v calls → follow_in g adds.new calls ≡ goes_on after → length after ≡ w.impure_calls → IsFollowed g w after
-followed_on g v w calls after adds f h made =
-    let a = follow_there g.meaning g.args g.pick adds.new calls after h in
-    let more = a.1 in
-    let before = f.made in
-    let count = f.count in
-    let both = length-append v.demands.impure adds.new in
-    let all : length w.demands.impure ≡ length (v.demands.impure ++ adds.new) = ap length adds.impure in
-    record {
-      made = made;
-      count = omega (arith, all, both, more, before, count, made);
-      gave = subst (GaveAll g) (sym adds.impure) (All-append (HasContent g.meaning g.args g.pick) v.demands.impure adds.new f.gave a.0);
-    }
+followed_on g v w calls after adds f h made = grind (arith, common_steps, follow_there, length-append)
 
 -- 3. parts one after another
 values_both : (g : Given) (s : SiteTerm) (o : Option Value) (q : Option Values) → content_of g s ≡ from_value o
     → then_option (then_option (content_of g s) as_value) (λ v. then_option q (λ vs. Some (value_and v vs))) ≡ then_option o (λ v. then_option q (λ vs. Some (value_and v vs)))
-values_both g s None q h = ap (λ c. then_option (then_option c as_value) (λ v. then_option q (λ vs. Some (value_and v vs)))) h
-values_both g s (Some v) q h = ap (λ c. then_option (then_option c as_value) (λ v. then_option q (λ vs. Some (value_and v vs)))) h
+values_both g s o q h = grind (arith, common_steps)
 
 module _ (g : Given) where
   paired : (s : SiteTerm) (ss : SiteTerms) (n : ℕ) (o : Option Value) → content_of g s ≡ from_value o → (f : Followed) (ev : EvalAll) → ComesAll g ss n f ev → ComesAll g (site_term_and s ss) n f (pair_up o ev)
-  paired s ss n o h (goes_on c) (gives_all q c') k = (k.0, k.1, values_both g s o (values_of g ss) h ∙ ap (λ r. then_option o (λ v. then_option r (λ vs. Some (value_and v vs)))) k.2)
-  paired s ss n o h (stops c) (ends_all c') k = k
-  paired s ss n o h (goes_on c) (ends_all c') k = absurd k
-  paired s ss n o h (stops c) (gives_all q c') k = absurd k
+  paired s ss n o h f ev k = grind (arith, common_steps, values_both, values_of)
 
   -- arguments after one of them
   then_args : (v : Visit) (a : Valued) (b : ValuedAll) (calls : List Call) (adds : AddsCalls v a.visit) (f : Followed) (ev : Eval) → follow_in g adds.new calls ≡ f → Comes g a.site a.visit.impure_calls f ev → AddsCalls a.visit b.visit → IsFollowed g v calls
@@ -197,14 +164,7 @@ answer_holds : (g : Given) (pure multi partial rec : Bool) (ty : ℕ) (call : Si
     → content_of g (call_result (record { pure = pure; multi = multi; partial = partial; rec = rec }) call) ≡ from_value (then_option (taken_answer multi g.pick call c) single)
 answer_holds g pure true true rec ty call c n e f = absurd (n refl refl)
 answer_holds g pure false false rec ty call c n e f = let a = one_fits g.program ty c f in e ∙ ap Some a.1 ∙ sym (ap (λ y. from_value (single y)) a.1)
-answer_holds g pure false true rec ty call c n e f =
-    elim (maybe_fits g.program (ty ∷ []) c f) [
-      | inl q ↦ ap (λ o. then_option o part_of_some) (e ∙ ap Some q) ∙ sym (ap (λ y. from_value (single y)) q)
-      | inr d ↦
-          let a = one_fits g.program ty d.0 d.2 in
-          let q = d.1 ∙ ap just a.1 in
-          ap (λ o. then_option o part_of_some) (e ∙ ap Some q) ∙ sym (ap (λ y. from_value (single y)) q)
-    ]
+answer_holds g pure false true rec ty call c n e f = grind (arith, common_steps, maybe_fits, one_fits)
 answer_holds g pure true false rec ty call c n e f = ap (λ o. then_option o (picked g.pick call)) e ∙ taken (picked g.pick call c) refl
   where
     taken : (o : Option Content) → picked g.pick call c ≡ o → o ≡ from_value (then_option o single)
@@ -212,19 +172,15 @@ answer_holds g pure true false rec ty call c n e f = ap (λ o. then_option o (pi
     taken (Some d) q = let a = one_fits g.program ty d (picked_fits g.program false (ty ∷ []) g.pick call c d f q) in ap Some a.1 ∙ sym (ap (λ y. from_value (single y)) a.1)
 
 none_holds : (g : Given) (pure multi partial rec : Bool) (call : SiteTerm) → content_of g call ≡ None → content_of g (call_result (record { pure = pure; multi = multi; partial = partial; rec = rec }) call) ≡ None
-none_holds g pure multi true rec call h = ap (λ o. then_option o part_of_some) h
-none_holds g pure true false rec call h = ap (λ o. then_option o (picked g.pick call)) h
-none_holds g pure false false rec call h = h
+none_holds g pure multi partial rec call h = grind (arith, common_steps)
 
 made_holds : (o : Option Values) (f : Values → Value) → then_option o (λ vs. Some (one (f vs))) ≡ from_value (then_option o (λ vs. Some (f vs)))
-made_holds None f = refl
-made_holds (Some vs) f = refl
+made_holds o f = grind (arith, common_steps)
 
 -- a call that was made goes on where its answer's site holds a value
 made_comes : (g : Given) (s : SiteTerm) (n t : ℕ) (vs : Values) (calls : List Call) (v : Option Value) → content_of g s ≡ from_value v → length calls ≡ n
     → Comes g s (suc n) (then_follow (follow_with t (Some vs) (from_value v) calls) goes_on) (or_end v (calls ++ record { term = t; args = vs } ∷ []))
-made_comes g s n t vs calls None h q = refl
-made_comes g s n t vs calls (Some v) h q = (let l = length_push calls (record { term = t; args = vs }) in (refl, omega (arith, l, q), h))
+made_comes g s n t vs calls v h q = grind (arith, common_steps, length_push)
 
 -- 5. terms
 -- an impure call of this term that a visit makes is answered, where those before it gave values and its arguments have some
@@ -251,21 +207,14 @@ module _ (g : Given) (z : Visit) (h : IsAnswered g z.demands) (neither : HasNoPa
     pure_holds : (multi partial rec infallible : Bool) → kind p t ≡ a_call (record { pure = true; multi = multi; partial = partial; rec = rec }) infallible → (ss : SiteTerms) (o : Option Values) → values_of g ss ≡ o → In z.demands.made (constructor_call t ss 0)
         → content_of g (call_result (record { pure = true; multi = multi; partial = partial; rec = rec }) (constructor_call t ss 0))
         ≡ from_value (then_option o (λ ws. then_option (then_option (pure_answer g.meaning t ws) (taken_answer multi g.pick (constructor_call t ss 0))) single))
-    pure_holds multi partial rec infallible q ss None e i = none_holds g true multi partial rec (constructor_call t ss 0) (ap (λ r. then_option r (pure_answer g.meaning t)) e)
-    pure_holds multi partial rec infallible q ss (Some vs) e i =
-        let c = h.pures t ss vs i e in
-        answer_holds g true multi partial rec x.ret_ty (constructor_call t ss 0) c.answer (not_both true multi partial rec infallible q) (ap (λ r. then_option r (pure_answer g.meaning t)) e ∙ c.there)
-        (constructor_fits p t x there (record { pure = true; multi = multi; partial = partial; rec = rec }) infallible c.answer q c.right)
-        ∙ ap (λ r. from_value (then_option (then_option r (taken_answer multi g.pick (constructor_call t ss 0))) single)) (sym c.there)
+    pure_holds multi partial rec infallible q ss o e i = grind (arith, common_steps, none_holds, answer_holds, not_both, constructor_fits)
 
     impure_comes : (partial rec infallible : Bool) → kind p t ≡ a_call (record { pure = false; multi = false; partial = partial; rec = rec }) infallible → IsServedCall g z t → (ss own : SiteTerms) (n : ℕ) (o : Option Values) → values_of g ss ≡ o
         → In z.demands.made (constructor_call t ss (suc n)) → GaveAll g (take n z.demands.impure) → (calls : List Call) → length calls ≡ n
         → Comes g (call_result (record { pure = false; multi = false; partial = partial; rec = rec }) (constructor_call t ss (suc n))) (suc n)
         (then_follow (follow_with t (values_of g ss) (content_of g (call_result (record { pure = false; multi = false; partial = partial; rec = rec }) (constructor_call t ss (suc n)))) calls) goes_on)
         (impure_under false g.meaning g.pick t own o calls)
-    impure_comes partial rec infallible q served ss own n None e i gave calls len =
-        let u = call_result (record { pure = false; multi = false; partial = partial; rec = rec }) (constructor_call t ss (suc n)) in
-        subst (λ r. Comes g u (suc n) (then_follow (follow_with t r (content_of g u) calls) goes_on) (ends calls)) (sym e) refl
+    impure_comes partial rec infallible q served ss own n None e i gave calls len = grind (arith, common_steps, then_follow, follow_with, content_of)
     impure_comes partial rec infallible q served ss own n (Some vs) e i gave calls len =
         let u = call_result (record { pure = false; multi = false; partial = partial; rec = rec }) (constructor_call t ss (suc n)) in
         let c = served ss n vs i gave e in
@@ -281,8 +230,7 @@ module _ (g : Given) (z : Visit) (h : IsAnswered g z.demands) (neither : HasNoPa
 
     -- the calls before the next one are the first of all
     gave_first : (a v : Visit) (calls : List Call) → AddsCalls a v → IsFollowed g a calls → GaveAll g (take a.impure_calls v.demands.impure)
-    gave_first a v calls adds f =
-        subst (GaveAll g) (sym (ap (take a.impure_calls) adds.impure ∙ ap (λ j. take j (a.demands.impure ++ adds.new)) (sym f.count) ∙ take-append_seam a.demands.impure adds.new)) f.gave
+    gave_first a v calls adds f = grind (arith, common_steps, take-append_seam)
 
     call_came : (pure multi partial rec infallible : Bool) → kind p t ≡ a_call (record { pure = pure; multi = multi; partial = partial; rec = rec }) infallible → (pure ≡ true) ⊎ ((multi ≡ false) × IsServedCall g z t) → (a : ValuedAll) (o : Option Values) → values_of g a.sites ≡ o
         → Grown (visit_call (record { pure = pure; multi = multi; partial = partial; rec = rec }) t a.sites a.visit).visit z → AddsCalls a.visit z → (calls : List Call) → IsFollowed g a.visit calls
@@ -396,13 +344,4 @@ module _ (g : Given) (z : Visit) (h : IsAnswered g z.demands) (neither : HasNoPa
 
 -- 7. the outcome of a right side
 pub outcome_follows : (g : Given) (partial : Bool) (a : Valued) (f : Followed) (ev : Eval) → Comes g a.site a.visit.impure_calls f ev → outcome_of partial ev ≡ result_after (content_of g (finished partial a).site) f
-outcome_follows g false a (goes_on c) (gives None c') k = ap (λ o. result_after o (goes_on c')) (sym k.2) ∙ ap (λ d. result_after (content_of g a.site) (goes_on d)) (sym k.0)
-outcome_follows g false a (goes_on c) (gives (Some v) c') k = ap (λ o. result_after o (goes_on c')) (sym k.2) ∙ ap (λ d. result_after (content_of g a.site) (goes_on d)) (sym k.0)
-outcome_follows g true a (goes_on c) (gives None c') k =
-    ap (λ o. result_after (then_option o (λ y. Some (just y))) (goes_on c')) (sym k.2) ∙ ap (λ d. result_after (content_of g (some_made a.site)) (goes_on d)) (sym k.0)
-outcome_follows g true a (goes_on c) (gives (Some v) c') k =
-    ap (λ o. result_after (then_option o (λ y. Some (just y))) (goes_on c')) (sym k.2) ∙ ap (λ d. result_after (content_of g (some_made a.site)) (goes_on d)) (sym k.0)
-outcome_follows g false a (stops c) (ends c') k = ap (λ d. result_after (content_of g a.site) (stops d)) (sym k)
-outcome_follows g true a (stops c) (ends c') k = ap (λ d. result_after (content_of g (some_made a.site)) (stops d)) (sym k)
-outcome_follows g partial a (goes_on c) (ends c') k = absurd k
-outcome_follows g partial a (stops c) (gives o c') k = absurd k
+outcome_follows g partial a f ev k = grind (arith, common_steps, result_after, goes_on, content_of, stops)

@@ -1,13 +1,13 @@
 -- The impure calls of a right side come in order: each takes answers of earlier ones alone, and so does the result.
-use Rattle.std.proofs.Common.{◌≡◌, ◌⊎◌, ℕ, suc, ◌==◌, Bool, true, false, List, [], ◌∷◌, ◌++◌, length, Some, is_some, IsTrue, refl, sym, ap, subst, ◌∙◌, inl, inr, arith, append-nil, append_assoc}
-use Rattle.std.proofs.lemmas.Bool.{cases_Bool, cond-true, cond-false, false≢true}
+use Rattle.std.proofs.Common.{◌≡◌, ◌⊎◌, ℕ, suc, Bool, true, false, List, [], ◌∷◌, ◌++◌, length, Some, is_some, IsTrue, refl, sym, subst, inl, inr, arith, append-nil, append_assoc}
+use Rattle.std.proofs.lemmas.Bool.{false≢true}
 use Rattle.std.proofs.lemmas.List.{length_push}
-use Rattle.model.specs.rules.Meaning.{look}
+use Rattle.std.proofs.lemmas.Grind.{common_steps}
 use Rattle.model.specs.rules.Program.{Program, Kind, a_variant, a_struct, a_call, unknown, kind, flags_of, is_pure, is_multi}
 use Rattle.model.specs.rules.CalledTerms.{CallsAlone, CallAlone, LetsCallAlone}
 use Rattle.model.specs.rules.Typed.{TypedExpr, make_term, make_var, make_bool, make_int, make_prim, make_let, TypedExprs, no_typed_expr, typed_expr_and, TypedLets, no_typed_let, typed_let_and}
 use Rattle.model.specs.sites.Sites.{SiteTerm, constructor_call, some_part, SiteTerms}
-use Rattle.model.specs.visits.Demands.{Visit, making, calling, binding, or_no_site, Valued, ValuedAll, valued, visit_call, visit_term, visit_expr, visit_exprs, visit_lets}
+use Rattle.model.specs.visits.Demands.{Visit, making, calling, binding, Valued, ValuedAll, valued, visit_call, visit_term, visit_expr, visit_exprs, visit_lets}
 use Rattle.model.specs.lists.Formed.{var_type, is_formed_expr, are_formed_args, formed_lets}
 use Rattle.model.proofs.Elements.{In, in_right, some_is}
 use Rattle.laws_trees.proofs.taking.FollowedCalls.{answered_call}
@@ -38,8 +38,7 @@ abbrev pub VarsKnownTo : List (ℕ × ℕ) → Visit → Type 0
 VarsKnownTo vars v = (x : ℕ) → is_some (var_type vars x) ≡ true → KnownTo v (named v.vars x)
 
 known_on : (v w : Visit) → AddsCalls v w → (s : SiteTerm) → KnownTo v s → KnownTo w s
-known_on v w a s h =
-    subst (λ l. CallsOnly (Known l) s) (sym a.impure) (calls_more (Known v.demands.impure) (Known (v.demands.impure ++ a.new)) (λ u k. known_more v.demands.impure a.new u k) s h)
+known_on v w a s h = grind (arith, common_steps, calls_more, known_more)
 
 vars_on : (vars : List (ℕ × ℕ)) (v w : Visit) → AddsCalls v w → Same vars v w → VarsKnownTo vars v → VarsKnownTo vars w
 vars_on vars v w a same f x h = subst (KnownTo w) (sym (same x h)) (known_on v w a (named v.vars x) (f x h))
@@ -63,40 +62,13 @@ module _ (p : Program) (z : Visit) where
     sites : AllKnownTo a.visit a.sites
 
   pure_ordered : (multi partial rec : Bool) (t : ℕ) (a : ValuedAll) → AreOrdered a → IsOrdered (visit_call (record { pure = true; multi = multi; partial = partial; rec = rec }) t a.sites a.visit)
-  pure_ordered true true rec t a h = record { orderly = record { count = h.orderly.count; order = h.orderly.order }; site = (tt, h.sites) }
-  pure_ordered true false rec t a h = record { orderly = record { count = h.orderly.count; order = h.orderly.order }; site = (tt, h.sites) }
-  pure_ordered false true rec t a h = record { orderly = record { count = h.orderly.count; order = h.orderly.order }; site = (tt, h.sites) }
-  pure_ordered false false rec t a h = record { orderly = record { count = h.orderly.count; order = h.orderly.order }; site = (tt, h.sites) }
+  pure_ordered multi partial rec t a h = grind (arith, common_steps)
 
   -- an impure call, by its answer
   one_ordered : (t : ℕ) (a : ValuedAll) (u : SiteTerm) (sites : List SiteTerm) → answered_call u ≡ constructor_call t a.sites (suc a.visit.impure_calls) → (u ≡ answered_call u) ⊎ (u ≡ some_part (answered_call u))
       → In z.demands.made (constructor_call t a.sites (suc a.visit.impure_calls)) → ((P : SiteTerm → Type 0) → CallsOnly P (constructor_call t a.sites (suc a.visit.impure_calls)) → CallsOnly P u)
       → AreOrdered a → IsOrdered (valued u (calling u (making sites a.visit)))
-  one_ordered t a u sites e answer made lift h =
-      let impure = a.visit.demands.impure in
-      let n = a.visit.impure_calls in
-      let len = length_push impure u in
-      let c = h.orderly.count in
-      let number : suc n ≡ suc (length impure) = ap suc (sym c) in
-      record {
-        orderly = record {
-          count = omega (arith, len, c);
-          order = order_more z.demands.made [] impure u h.orderly.order
-              (record {
-                term = t;
-                args = a.sites;
-                call = e ∙ ap (constructor_call t a.sites) number;
-                answer = answer;
-                earlier = h.sites;
-                listed = subst (In z.demands.made) (sym e) made;
-              });
-        };
-        site = lift (Known (impure ++ u ∷ [])) (known_call answer, call_more (Known impure) (Known (impure ++ u ∷ [])) (λ x k. known_more impure (u ∷ []) x k) a.sites h.sites);
-      }
-    where
-      known_call : (u ≡ answered_call u) ⊎ (u ≡ some_part (answered_call u)) → Known (a.visit.demands.impure ++ u ∷ []) (constructor_call t a.sites (suc a.visit.impure_calls))
-      known_call (inl q) = inl (in_right a.visit.demands.impure (u ∷ []) (constructor_call t a.sites (suc a.visit.impure_calls)) (inl (q ∙ e)))
-      known_call (inr q) = inr (in_right a.visit.demands.impure (u ∷ []) (some_part (constructor_call t a.sites (suc a.visit.impure_calls))) (inl (q ∙ ap some_part e)))
+  one_ordered t a u sites e answer made lift h = grind (arith, common_steps, length_push, order_more, call_more, known_more, answered_call, in_right)
 
   call_ordered : (pure multi partial rec : Bool) (t : ℕ) (a : ValuedAll) → (pure ≡ true) ⊎ (multi ≡ false) → Grown (visit_call (record { pure = pure; multi = multi; partial = partial; rec = rec }) t a.sites a.visit).visit z
       → AreOrdered a → IsOrdered (visit_call (record { pure = pure; multi = multi; partial = partial; rec = rec }) t a.sites a.visit)
@@ -118,13 +90,7 @@ module _ (p : Program) (z : Visit) where
 
   -- one more variable
   var_and : (x ty : ℕ) (s : SiteTerm) (vars : List (ℕ × ℕ)) (v : Visit) → KnownTo v s → VarsKnownTo vars v → VarsKnownTo ((x, ty) ∷ vars) (binding x s v)
-  var_and x ty s vars v k f y h =
-      elim (cases_Bool (x == y)) [
-        | inl t ↦ subst (λ o. KnownTo v (or_no_site o)) (sym (cond-true (x == y) (Some s) (look (λ j. j == y) v.vars) t)) k
-        | inr n ↦
-            subst (λ o. KnownTo v (or_no_site o)) (sym (cond-false (x == y) (Some s) (look (λ j. j == y) v.vars) n))
-            (f y (subst (λ o. is_some o ≡ true) (cond-false (x == y) (Some ty) (var_type vars y) n) h))
-      ]
+  var_and x ty s vars v k f y h = grind (arith, common_steps)
 
   mutual
     pub expr_ordered : (x : TypedExpr) (v : Visit) (vars : List (ℕ × ℕ)) → is_formed_expr p x vars ≡ true → CallsAlone (IsPureOrSingle p) x → VarsKnownTo vars v → IsOrderly v → Grown (visit_expr p x v).visit z

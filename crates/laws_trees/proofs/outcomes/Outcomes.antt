@@ -1,6 +1,7 @@
 -- Taking a rule of a built set gives its right side's outcome.
-use Rattle.std.proofs.Common.{◌≡◌, ℕ, zero, suc, ◌<◌, Bool, false, List, [], ◌∷◌, map, length, take, Option, Some, None, slice_get, is_some, IsSomeAnd, All, Contains, IsTrue, refl, sym, ap, subst, ◌∙◌, inl, inr, arith}
+use Rattle.std.proofs.Common.{◌≡◌, ℕ, zero, suc, ◌<◌, Bool, false, List, [], ◌∷◌, map, length, take, Option, Some, slice_get, is_some, IsSomeAnd, All, Contains, IsTrue, refl, sym, ap, subst, ◌∙◌, inl, inr, arith}
 use Rattle.std.proofs.lemmas.List.Elements.{Contains-append_left, Contains-append_cases}
+use Rattle.std.proofs.lemmas.Grind.{common_steps}
 use Rattle.model.specs.rules.Values.{Value, Values}
 use Rattle.model.specs.rules.Meaning.{Content, Meaning, impure_answer}
 use Rattle.model.specs.rules.Outcome.{Outcome}
@@ -10,7 +11,7 @@ use Rattle.model.specs.rules.Program.{Program, kind, is_pure, is_multi, is_parti
 use Rattle.model.specs.rules.CalledTerms.{CallsAlone}
 use Rattle.model.specs.rules.Typed.{TypedRule}
 use Rattle.model.specs.rules.Picks.{Pick, picks, SitedVars, values_in, matches_under, right_side_under, site_content, HasContent}
-use Rattle.model.specs.sites.Sites.{Site, constructor_site, SetRule, SiteSet, constructor_call, some_part, SiteTerm, SiteTerms, each_term, unfold_site}
+use Rattle.model.specs.sites.Sites.{Site, constructor_site, SetRule, SiteSet, constructor_call, SiteTerm, SiteTerms, each_term, unfold_site}
 use Rattle.model.specs.visits.Demands.{demands_of, visit_expr, visit_rule}
 use Rattle.model.specs.sites.Overlap.{BuiltRule, built_rules}
 use Rattle.model.specs.sites.RuleSets.{IsRuleOf}
@@ -88,9 +89,7 @@ module _ (b : BuiltSet) (h : IsWellTypedProgram b.program) (serving : ServingMea
   g = given p m args k
 
   once_served : IsServed p n rs w
-  once_served =
-      let s = is_served b h serving k in
-      record { before = s.before; forms = s.forms; asks = s.asks; serves = s.serves; args = s.args }
+  once_served = grind (arith, common_steps, is_served b h serving k)
 
   abbrev stage : ServedWorld
   stage = record { program = p; arity = n; rules = rs; world = w; served = once_served }
@@ -176,8 +175,7 @@ module _ (b : BuiltSet) (h : IsWellTypedProgram b.program) (serving : ServingMea
 
 -- 3. a rule that makes no impure call, under a pick
 no_known : (calls : List SiteTerm) (c : SiteTerm) → calls ≡ [] → Known calls c → ⊥
-no_known calls c e (inl i) = subst (λ l. In l c) e i
-no_known calls c e (inr i) = subst (λ l. In l (some_part c)) e i
+no_known calls c e h = grind (arith, common_steps)
 
 pub taken_under_picks_lem : OfBuiltSets TakenUnderPickGivesOutcome
 taken_under_picks_lem p t set h b m args typed served apart k' r k ev o same quiet pick matched taken =
@@ -197,8 +195,7 @@ empty_list [] h = refl
 empty_list (x ∷ xs) h = absurd (h x (in_head x xs))
 
 pub with_its_sites : (o : Option SitedVars) (v : Vars) → without_sites o ≡ Some v → (ev : SitedVars) × (o ≡ Some ev) × (values_in ev ≡ v)
-with_its_sites None v h = absurd (none_some v h)
-with_its_sites (Some ev) v h = (ev, refl, some_is (values_in ev) v h)
+with_its_sites o v h = grind (arith, common_steps, none_some, some_is)
 
 pub taken_lem : OfBuiltSets TakenGivesOutcome
 taken_lem p t set h b m args typed served apart k' r v o same none matched taken =

@@ -1,6 +1,7 @@
 -- The right side of a rule that matches follows its impure calls in order, then its result.
-use Rattle.std.proofs.Common.{◌≡◌, ℕ, zero, suc, Bool, true, false, List, [], ◌∷◌, ◌++◌, length, Some, All, refl, sym, ap, subst, ◌∙◌, inl, inr}
+use Rattle.std.proofs.Common.{◌≡◌, ℕ, Bool, true, false, List, [], ◌∷◌, ◌++◌, length, Some, All, sym, ap, subst, ◌∙◌, inl, inr, arith}
 use Rattle.std.proofs.lemmas.List.Elements.{All-nil}
+use Rattle.std.proofs.lemmas.Grind.{common_steps}
 use Rattle.model.specs.rules.Values.{args_well_typed}
 use Rattle.model.specs.rules.Program.{arg_types, is_partial}
 use Rattle.model.specs.rules.CalledTerms.{CallsAlone}
@@ -27,8 +28,7 @@ use Rattle.laws_sites.proofs.ImpureCallsMet.{adds_kept, then_keeps_calls, args_k
 
 -- 1. no impure call stands in what may be tested
 pure_where : (n : ℕ) (P : Type 0) → IsPureCall true n → WhereImpure n P
-pure_where zero P h = tt
-pure_where (suc n) P h = absurd h
+pure_where n P h = grind (arith, common_steps)
 
 module _ (P : SiteTerm → Type 0) (cs : List (SiteTerm × Constraint)) (calls : List SiteTerm) where
   mutual
@@ -59,12 +59,10 @@ finished_grown false a = grown_by_none a.visit
 finished_grown true a = grown_making (some_made a.site ∷ []) a.visit
 
 pub finished_impure : (b : Bool) (a : Valued) → (finished b a).visit.demands.impure ≡ a.visit.demands.impure
-finished_impure false a = refl
-finished_impure true a = refl
+finished_impure b a = grind (arith, common_steps)
 
 finished_calls : (P : SiteTerm → Type 0) (b : Bool) (a : Valued) → CallsOnly P a.site → CallsOnly P (finished b a).site
-finished_calls P false a h = h
-finished_calls P true a h = h
+finished_calls P b a h = grind (arith, common_steps)
 
 -- 3. variables of the left side have values
 bound_worth : (g : Given) (vars : List (ℕ × ℕ)) (e : SitedVars) (vs : List (ℕ × SiteTerm)) → AreBound g vars e vs → AreWorth g vars e vs

@@ -1,8 +1,9 @@
 -- The calls of a rule by their numbers: different sites unfold to different terms, a site takes answers of the calls below
 -- it, calls in the order of their numbers are in order, and one of them taken out.
-use Rattle.std.proofs.Common.{◌≡◌, ◌⊎◌, ℕ, zero, suc, ◌+◌, ◌<◌, ◌≤◌, Bool, true, false, List, [], ◌∷◌, ◌++◌, length, map, filter, flat_map, Option, Some, None, slice_get, Contains, refl, sym, ap, ap₂, ◌∙◌, subst, inl, inr, arith}
+use Rattle.std.proofs.Common.{◌≡◌, ◌⊎◌, ℕ, zero, suc, ◌+◌, ◌<◌, ◌≤◌, Bool, true, false, List, [], ◌∷◌, ◌++◌, length, map, filter, flat_map, Option, Some, None, slice_get, Contains, refl, sym, ap, ◌∙◌, subst, inl, inr, arith}
 use Rattle.std.proofs.lemmas.Bool.{cases_Bool, cond-true, cond-false, both_ways, cases_lt}
 use Rattle.std.proofs.lemmas.List.Elements.{Contains-append_left, Contains-append_right, Contains-append_cases}
+use Rattle.std.proofs.lemmas.Grind.{common_steps}
 use Rattle.model.specs.lists.Names.{IsDistinct}
 use Rattle.model.specs.sites.Sites.{Site, bool_site, int_site, prim_site, argument_site, extractor_site, constructor_site, iterator_site, make_variant_site, match_variant_site, make_struct_site, extract_struct_site, make_some_site, match_some_site, match_tuple_site, SiteTerm, each_term, layer, layer_at, unfolded, unfold_site, sources_of, sources_at}
 use Rattle.model.specs.trees.Places.{below}
@@ -17,59 +18,23 @@ same_each : (f : ℕ → SiteTerm) (ss rs : List ℕ) → ((u v : ℕ) → Conta
 same_each f [] [] h e = refl
 same_each f [] (r ∷ rs) h e = cc
 same_each f (s ∷ ss) [] h e = cc
-same_each f (s ∷ ss) (r ∷ rs) h e =
-    let x : f s ≡ f r = cc in
-    let y : each_term f ss ≡ each_term f rs = cc in
-    ap₂ (λ a b. a ∷ b) (h s r (in_head s ss) (in_head r rs) x) (same_each f ss rs (λ u v c d. h u v (in_tail s u ss c) (in_tail r v rs d)) y)
+same_each f (s ∷ ss) (r ∷ rs) h e = grind (arith, common_steps, same_each f ss rs (λ u v c d. h u v (in_tail s u ss c) (in_tail r v rs d)), in_head, in_tail)
 
 layer_apart : (f : ℕ → SiteTerm) (a b : Site) → ((u v : ℕ) → Contains (sources_of a) u → Contains (sources_of b) v → f u ≡ f v → u ≡ v) → layer f a ≡ layer f b → a ≡ b
 layer_apart f (bool_site x ty) (bool_site y tz) h e = cc
 layer_apart f (int_site x ty) (int_site y tz) h e = cc
 layer_apart f (prim_site n) (prim_site m) h e = cc
 layer_apart f (argument_site i) (argument_site j) h e = cc
-layer_apart f (extractor_site t s) (extractor_site u r) h e =
-    let x : t ≡ u = cc in
-    let y : f s ≡ f r = cc in
-    ap₂ extractor_site x (h s r (in_head s []) (in_head r []) y)
-layer_apart f (constructor_site t ss i) (constructor_site u rs j) h e =
-    let x : t ≡ u = cc in
-    let z : i ≡ j = cc in
-    let y : each_term f ss ≡ each_term f rs = cc in
-    let q = same_each f ss rs h y in
-    λ k. constructor_site (x k) (q k) (z k)
-layer_apart f (iterator_site s) (iterator_site r) h e =
-    let y : f s ≡ f r = cc in
-    ap iterator_site (h s r (in_head s []) (in_head r []) y)
-layer_apart f (make_variant_site t i ss) (make_variant_site u j rs) h e =
-    let x : t ≡ u = cc in
-    let z : i ≡ j = cc in
-    let y : each_term f ss ≡ each_term f rs = cc in
-    let q = same_each f ss rs h y in
-    λ k. make_variant_site (x k) (z k) (q k)
-layer_apart f (match_variant_site s v i) (match_variant_site r w j) h e =
-    let x : v ≡ w = cc in
-    let z : i ≡ j = cc in
-    let y : f s ≡ f r = cc in
-    let q = h s r (in_head s []) (in_head r []) y in
-    λ k. match_variant_site (q k) (x k) (z k)
-layer_apart f (make_struct_site t ss) (make_struct_site u rs) h e =
-    let x : t ≡ u = cc in
-    let y : each_term f ss ≡ each_term f rs = cc in
-    ap₂ make_struct_site x (same_each f ss rs h y)
-layer_apart f (extract_struct_site s i) (extract_struct_site r j) h e =
-    let z : i ≡ j = cc in
-    let y : f s ≡ f r = cc in
-    ap₂ extract_struct_site (h s r (in_head s []) (in_head r []) y) z
-layer_apart f (make_some_site s) (make_some_site r) h e =
-    let y : f s ≡ f r = cc in
-    ap make_some_site (h s r (in_head s []) (in_head r []) y)
-layer_apart f (match_some_site s) (match_some_site r) h e =
-    let y : f s ≡ f r = cc in
-    ap match_some_site (h s r (in_head s []) (in_head r []) y)
-layer_apart f (match_tuple_site s i) (match_tuple_site r j) h e =
-    let z : i ≡ j = cc in
-    let y : f s ≡ f r = cc in
-    ap₂ match_tuple_site (h s r (in_head s []) (in_head r []) y) z
+layer_apart f (extractor_site t s) (extractor_site u r) h e = grind (arith, common_steps, in_head)
+layer_apart f (constructor_site t ss i) (constructor_site u rs j) h e = grind (arith, common_steps, same_each)
+layer_apart f (iterator_site s) (iterator_site r) h e = grind (arith, common_steps, in_head)
+layer_apart f (make_variant_site t i ss) (make_variant_site u j rs) h e = grind (arith, common_steps, same_each)
+layer_apart f (match_variant_site s v i) (match_variant_site r w j) h e = grind (arith, common_steps, in_head)
+layer_apart f (make_struct_site t ss) (make_struct_site u rs) h e = grind (arith, common_steps, same_each)
+layer_apart f (extract_struct_site s i) (extract_struct_site r j) h e = grind (arith, common_steps, in_head)
+layer_apart f (make_some_site s) (make_some_site r) h e = grind (arith, common_steps, in_head)
+layer_apart f (match_some_site s) (match_some_site r) h e = grind (arith, common_steps, in_head)
+layer_apart f (match_tuple_site s i) (match_tuple_site r j) h e = grind (arith, common_steps, in_head)
 layer_apart f a b h e = cc
 
 -- 2. the calls that a layer takes answers of
@@ -91,8 +56,7 @@ layer_calls f (prim_site name) c h = absurd (nothing_in c h)
 layer_calls f (argument_site i) c h = absurd (nothing_in c h)
 layer_calls f (extractor_site term source) c h = inr (source, in_head source [], h)
 layer_calls f (constructor_site term sources instance) c h = inr (each_calls f sources c h)
-layer_calls f (iterator_site source) c h =
-    elim (in_cases (f source) c (calls_in (f source)) h) [ inl e ↦ inl (source, refl, sym e) | inr r ↦ inr (source, in_head source [], r) ]
+layer_calls f (iterator_site source) c h = grind (arith, common_steps, in_cases (f source) c (calls_in (f source)) h, in_head source [])
 layer_calls f (make_variant_site ty variant fields) c h = inr (each_calls f fields c h)
 layer_calls f (match_variant_site source variant field) c h = inr (source, in_head source [], h)
 layer_calls f (make_struct_site ty fields) c h = inr (each_calls f fields c h)

@@ -1,17 +1,17 @@
 -- A call that is ready can be gone over before others, and results are of places alone.
-use Rattle.std.proofs.Common.{◌≡◌, ℕ, Bool, true, false, cond, List, [], ◌∷◌, ◌++◌, Option, Some, None, Contains, flat_map, refl, sym, ap, ◌∙◌, subst, subst₂}
+use Rattle.std.proofs.Common.{◌≡◌, ℕ, Bool, true, cond, List, [], ◌∷◌, ◌++◌, Option, Some, None, Contains, flat_map, refl, sym, ap, ◌∙◌, subst, subst₂, arith}
 use Rattle.std.specs.Prelude.{IsPermutation, ◌&&◌}
 use Rattle.std.specs.List.{list_all}
 use Rattle.std.proofs.lemmas.List.Elements.{Contains-append_left}
 use Rattle.std.proofs.lemmas.List.Sorted.{IsPermutation-refl, IsPermutation-trans}
+use Rattle.std.proofs.lemmas.Grind.{common_steps}
 use Rattle.model.specs.rules.Values.{Value}
 use Rattle.model.specs.rules.Meaning.{Content, Meaning}
-use Rattle.model.specs.trees.Run.{World, as_value, or_else}
+use Rattle.model.specs.trees.Run.{World, or_else}
 use Rattle.model.specs.sites.Sites.{SiteTerm, SetRule, unfold_site}
 use Rattle.model.specs.visits.Demands.{site_term_eq}
 use Rattle.model.specs.rules.Picks.{Pick, place_of, site_content, places_in, picks_over, SitedVars, matches_under, results_with, results_under}
-use Rattle.model.specs.trees.Collects.{content_at, meets, same_value, all_same, demands_hold, as_list, result_in}
-use Rattle.model.specs.rules.Outcome.{then_option}
+use Rattle.model.specs.trees.Collects.{content_at, meets, all_same, demands_hold, as_list, result_in}
 use Rattle.model.specs.rules.Program.{Program}
 use Rattle.model.specs.rules.Typed.{TypedRule}
 use Rattle.model.proofs.Bags.{flat_flat, each_moved, exchanged}
@@ -24,8 +24,7 @@ use Rattle.laws_trees.proofs.picks.LongerPicks.{keys, keys_push, content_kept}
 
 -- 1. places
 else_kept : (b : Bool) (n : ℕ) (o q : Option ℕ) → cond b (Some n) (or_else o q) ≡ or_else (cond b (Some n) o) q
-else_kept true n o q = refl
-else_kept false n o q = refl
+else_kept b n o q = grind (arith, common_steps)
 
 place_after : (k rest : Pick) (c : SiteTerm) → place_of (k ++ rest) c ≡ or_else (place_of k c) (place_of rest c)
 place_after [] rest c = refl
@@ -36,11 +35,7 @@ longer_same k l rest g c = place_after k rest c ∙ ap (λ o. or_else o (place_o
 
 one_of_two : (o : Option ℕ) (x y : Bool) (n i : ℕ) → (x ≡ true → y ≡ true → ⊥)
     → or_else (or_else o (cond x (Some n) None)) (cond y (Some i) None) ≡ or_else (or_else o (cond y (Some i) None)) (cond x (Some n) None)
-one_of_two (Some v) x y n i h = refl
-one_of_two None true true n i h = absurd (h refl refl)
-one_of_two None true false n i h = refl
-one_of_two None false true n i h = refl
-one_of_two None false false n i h = refl
+one_of_two o x y n i h = grind (arith, common_steps)
 
 two_same : (k : Pick) (a b : SiteTerm) (n i : ℕ) → (a ≡ b → ⊥) → GiveSamePlaces ((k ++ (a, n) ∷ []) ++ (b, i) ∷ []) ((k ++ (b, i) ∷ []) ++ (a, n) ∷ [])
 two_same k a b n i h c =
@@ -60,17 +55,11 @@ module _ (m : Meaning) (args : List Value) (f : Pick → List Content) (g : IsOf
 
   made_same : (calls : List SiteTerm) (k l : Pick) → GiveSamePlaces k l → made_by k calls ≡ made_by l calls
   made_same [] k l h = ap (λ u. u ++ []) (g k l h)
-  made_same (c ∷ calls) k l h =
-      let e = content_same m k l h args c in
-      made_each k c calls
-      ∙ (λ j. flat_map (λ n. made_same calls (k ++ (c, n) ∷ []) (l ++ (c, n) ∷ []) (longer_same k l ((c, n) ∷ []) h) j) (places_in (e j)))
-      ∙ sym (made_each l c calls)
+  made_same (c ∷ calls) k l h = grind (arith, common_steps, made_same calls, content_same, made_each, longer_same)
 
   made_two : (k : Pick) (a b : SiteTerm) (n : ℕ) (calls : List SiteTerm) → Covered (keys k) b
       → made_by (k ++ (a, n) ∷ []) (b ∷ calls) ≡ flat_map (λ i. made_by ((k ++ (a, n) ∷ []) ++ (b, i) ∷ []) calls) (places_in (site_content m args k b))
-  made_two k a b n calls h =
-      made_each (k ++ (a, n) ∷ []) b calls
-      ∙ ap (λ o. flat_map (λ i. made_by ((k ++ (a, n) ∷ []) ++ (b, i) ∷ []) calls) (places_in o)) (content_kept m args k ((a, n) ∷ []) b h)
+  made_two k a b n calls h = grind (arith, common_steps, made_each, content_kept)
 
   first : (before after : List SiteTerm) (k : Pick) (c : SiteTerm) → OrderedFrom (keys k) before → Covered (keys k) c → (Contains before c → ⊥)
       → IsPermutation (made_by k (before ++ c ∷ after)) (made_by k (c ∷ (before ++ after)))
@@ -100,8 +89,7 @@ calls_can_come_first_lem m args f k before after call g o v d = first m args f g
 
 -- 3. results
 with_same : (p : Program) (m : Meaning) (r : TypedRule) (picks : PicksAlike) (o : Option SitedVars) → results_with p m picks.first r o ≡ results_with p m picks.second r o
-with_same p m r picks None = refl
-with_same p m r picks (Some e) = ap (λ o. o.results) (ends_same p m picks r e)
+with_same p m r picks o = grind (arith, common_steps, ends_same)
 
 rule_same : (p : Program) (m : Meaning) (args : List Value) (r : TypedRule) (picks : PicksAlike) → results_under p m args r picks.first ≡ results_under p m args r picks.second
 rule_same p m args r picks = ap (results_with p m picks.first r) (matching_same p m picks r args) ∙ with_same p m r picks (matches_under p m picks.second r args)
@@ -111,8 +99,7 @@ module _ (w : World) (picks : PicksAlike) where
   at_same s = content_same w.meaning picks.first picks.second picks.same w.args (unfold_site w.sites s)
 
   class_same : (c : List ℕ) → all_same w picks.first c ≡ all_same w picks.second c
-  class_same [] = refl
-  class_same (s ∷ rest) = λ j. list_all (λ t. same_value (then_option (at_same s j) as_value) (then_option (at_same t j) as_value)) rest
+  class_same c = grind (arith, common_steps, at_same)
 
   demands_same : (r : SetRule) → demands_hold w picks.first r ≡ demands_hold w picks.second r
   demands_same r = λ j. list_all (λ d. meets w.meaning d.1 (at_same d.0 j)) r.constraints && list_all (λ c. class_same c j) r.classes

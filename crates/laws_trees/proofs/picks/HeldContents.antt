@@ -1,14 +1,14 @@
 -- What a site has under a pick, it can hold; and the other way round, where it takes no answers.
-use Rattle.std.proofs.Common.{◌≡◌, ◌==◌, ℕ, zero, suc, List, [], ◌∷◌, ◌++◌, Option, Some, None, slice_get, Contains, refl, sym, ap, ◌∙◌, subst, inl, inr, eqb-true, eq-eqb}
-use Rattle.std.proofs.lemmas.Bool.{cases_Bool, cond-true, cond-false}
+use Rattle.std.proofs.Common.{◌≡◌, ℕ, zero, suc, List, [], ◌∷◌, ◌++◌, Option, Some, slice_get, Contains, refl, ap, ◌∙◌, subst, arith}
 use Rattle.std.proofs.lemmas.Option.{none-some, same_Some}
-use Rattle.model.specs.rules.Values.{Value, truth, atom, of_variant, of_struct, Values, no_value, value_and, listed}
-use Rattle.model.specs.rules.Meaning.{Content, one, parts, nothing, just, many, Contents, contents, Meaning, bool_literal, int_literal, literal_value, constant_value, extractor_answer}
+use Rattle.std.proofs.lemmas.Grind.{common_steps}
+use Rattle.model.specs.rules.Values.{Value, of_variant, of_struct, Values, no_value, value_and, listed}
+use Rattle.model.specs.rules.Meaning.{Content, one, parts, just, many, Contents, contents, Meaning, bool_literal, int_literal, literal_value, constant_value, extractor_answer}
 use Rattle.model.specs.rules.Outcome.{then_option}
 use Rattle.model.specs.trees.Run.{as_value, from_value, part_at}
 use Rattle.model.specs.sites.Sites.{SiteTerm, bool_term, int_term, prim_term, argument, extractor_call, constructor_call, pick_of, variant_made, variant_field, struct_made, struct_field, some_made, some_part, tuple_part, no_site, SiteTerms, no_site_term, site_term_and}
 use Rattle.model.specs.sites.Serves.{Holds, holds_bool, holds_int, holds_prim, holds_argument, holds_extractor, holds_pure, holds_impure, holds_pick, holds_variant, holds_variant_field, holds_struct, holds_struct_field, holds_some, holds_part, holds_tuple_part, HoldsAll, holds_none, holds_and}
-use Rattle.model.specs.rules.Picks.{Pick, place_of, picked, field_of_variant, field_of_struct, part_of_some, call_answer, site_content, site_values}
+use Rattle.model.specs.rules.Picks.{Pick, picked, field_of_variant, field_of_struct, part_of_some, call_answer, site_content, site_values}
 use Rattle.model.specs.trees.Collects.{calls_in, calls_in_all}
 use Rattle.model.proofs.Members.{member_from_get}
 use Rattle.model.proofs.Options.{then_some}
@@ -16,54 +16,25 @@ use Rattle.laws_trees.specs.PickLaws.{ContentsAreHeld, HeldAreContents}
 
 -- 1. where one after another gives something
 from_one : (o : Option Value) (c : Content) → from_value o ≡ Some c → (w : Value) × (o ≡ Some w) × (one w ≡ c)
-from_one None c e = absurd (none-some c e)
-from_one (Some w) c e = (w, refl, same_Some (one w) c e)
+from_one o c e = grind (arith, common_steps, none-some, same_Some)
 
 is_one : (c : Content) (w : Value) → as_value c ≡ Some w → c ≡ one w
-is_one (one x) w e = ap one (same_Some x w e)
-is_one (parts vs) w e = absurd (none-some w e)
-is_one nothing w e = absurd (none-some w e)
-is_one (just c) w e = absurd (none-some w e)
-is_one (many cs) w e = absurd (none-some w e)
+is_one c w e = grind (arith, common_steps, same_Some, none-some)
 
 is_picked : (k : Pick) (s : SiteTerm) (c d : Content) → picked k s c ≡ Some d → (cs : Contents) × (c ≡ many cs) × Contains (contents cs) d
-is_picked k s (many cs) d e = let a = then_some (place_of k s) (slice_get (contents cs)) d e in (cs, refl, member_from_get (contents cs) a.0 d a.2)
-is_picked k s (one w) d e = absurd (none-some d e)
-is_picked k s (parts vs) d e = absurd (none-some d e)
-is_picked k s nothing d e = absurd (none-some d e)
-is_picked k s (just c) d e = absurd (none-some d e)
+is_picked k s c d e = grind (arith, common_steps, then_some, member_from_get, none-some)
 
 pub is_just : (c d : Content) → part_of_some c ≡ Some d → c ≡ just d
-is_just (just c) d e = ap just (same_Some c d e)
-is_just (one w) d e = absurd (none-some d e)
-is_just (parts vs) d e = absurd (none-some d e)
-is_just nothing d e = absurd (none-some d e)
-is_just (many cs) d e = absurd (none-some d e)
+is_just c d e = grind (arith, common_steps, same_Some, none-some)
 
 is_part : (c : Content) (i : ℕ) (d : Content) → part_at c i ≡ Some d → (vs : Values) × (w : Value) × (c ≡ parts vs) × (slice_get (listed vs) i ≡ Some w) × (one w ≡ d)
-is_part (parts vs) i d e = let a = from_one (slice_get (listed vs) i) d e in (vs, a.0, refl, a.1, a.2)
-is_part (one w) i d e = absurd (none-some d e)
-is_part nothing i d e = absurd (none-some d e)
-is_part (just c) i d e = absurd (none-some d e)
-is_part (many cs) i d e = absurd (none-some d e)
+is_part c i d e = grind (arith, common_steps, from_one, none-some)
 
 is_struct_field : (i : ℕ) (u : Value) (d : Content) → field_of_struct i u ≡ Some d → (ty : ℕ) × (vs : Values) × (w : Value) × (u ≡ of_struct ty vs) × (slice_get (listed vs) i ≡ Some w) × (one w ≡ d)
-is_struct_field i (of_struct ty vs) d e = let a = from_one (slice_get (listed vs) i) d e in (ty, vs, a.0, refl, a.1, a.2)
-is_struct_field i (truth b) d e = absurd (none-some d e)
-is_struct_field i (atom ty n) d e = absurd (none-some d e)
-is_struct_field i (of_variant ty j vs) d e = absurd (none-some d e)
+is_struct_field i u d e = grind (arith, common_steps, from_one, none-some)
 
 is_variant_field : (variant i : ℕ) (u : Value) (d : Content) → field_of_variant variant i u ≡ Some d → (ty : ℕ) × (vs : Values) × (w : Value) × (u ≡ of_variant ty variant vs) × (slice_get (listed vs) i ≡ Some w) × (one w ≡ d)
-is_variant_field variant i (of_variant ty j vs) d e =
-    elim (cases_Bool (j == variant)) [
-      | inl t ↦
-          let a = from_one (slice_get (listed vs) i) d (sym (cond-true (j == variant) (from_value (slice_get (listed vs) i)) None t) ∙ e) in
-          (ty, vs, a.0, ap (λ n. of_variant ty n vs) (eqb-true j variant t), a.1, a.2)
-      | inr f ↦ absurd (none-some d (sym (cond-false (j == variant) (from_value (slice_get (listed vs) i)) None f) ∙ e))
-    ]
-is_variant_field variant i (of_struct ty vs) d e = absurd (none-some d e)
-is_variant_field variant i (truth b) d e = absurd (none-some d e)
-is_variant_field variant i (atom ty n) d e = absurd (none-some d e)
+is_variant_field variant i u d e = grind (arith, common_steps, from_one, none-some)
 
 -- 2. sites
 module _ (m : Meaning) (args : List Value) (k : Pick) where
@@ -129,10 +100,7 @@ contents_are_held_lem m args k s c e = held m args k s c e
 -- 3. sites that take no answers
 both_empty : (xs ys : List SiteTerm) → xs ++ ys ≡ [] → (xs ≡ []) × (ys ≡ [])
 both_empty [] ys e = (refl, e)
-both_empty (x ∷ xs) ys e = absurd (none_left e)
-  where
-    none_left : x ∷ (xs ++ ys) ≡ [] → ⊥
-    none_left f = cc
+both_empty (x ∷ xs) ys e = grind (arith, common_steps)
 
 module _ (m : Meaning) (args : List Value) (k : Pick) where
   mutual
@@ -144,18 +112,11 @@ module _ (m : Meaning) (args : List Value) (k : Pick) where
     had (extractor_call t s) c n (holds_extractor {v = w} h e) = ap (λ o. then_option (then_option o as_value) (extractor_answer m t)) (had s (one w) n h) ∙ e
     had (constructor_call t ss zero) c n (holds_pure {vs = vs} h e) = ap (λ o. then_option o (call_answer m t 0)) (all_had ss vs n h) ∙ e
     had (constructor_call t ss (suc before)) c n (holds_impure {vs = vs} h e) = ap (λ o. then_option o (call_answer m t (suc before))) (all_had ss vs n h) ∙ e
-    had (pick_of s) c n h = absurd (not_none n)
-      where
-        not_none : s ∷ calls_in s ≡ [] → ⊥
-        not_none e = cc
+    had (pick_of s) c n h = grind (arith, common_steps)
     had (variant_made ty variant ss) _ n (holds_variant {vs = vs} h) = ap (λ o. then_option o (λ ws. Some (one (of_variant ty variant ws)))) (all_had ss vs n h)
-    had (variant_field s variant i) _ n (holds_variant_field {ty = ty} {vs = vs} {v = w} h e) =
-        ap (λ o. then_option (then_option o as_value) (field_of_variant variant i)) (had s (one (of_variant ty variant vs)) n h)
-        ∙ cond-true (variant == variant) (from_value (slice_get (listed vs) i)) None (eq-eqb variant variant refl)
-        ∙ ap from_value e
+    had (variant_field s variant i) _ n (holds_variant_field {ty = ty} {vs = vs} {v = w} h e) = grind (arith, common_steps, had s (one (of_variant ty variant vs)) n h)
     had (struct_made ty ss) _ n (holds_struct {vs = vs} h) = ap (λ o. then_option o (λ ws. Some (one (of_struct ty ws)))) (all_had ss vs n h)
-    had (struct_field s i) _ n (holds_struct_field {ty = ty} {vs = vs} h e) =
-        ap (λ o. then_option (then_option o as_value) (field_of_struct i)) (had s (one (of_struct ty vs)) n h) ∙ ap from_value e
+    had (struct_field s i) _ n (holds_struct_field {ty = ty} {vs = vs} h e) = grind (arith, common_steps, had s (one (of_struct ty vs)) n h)
     had (some_made s) _ n (holds_some {c = d} h) = ap (λ o. then_option o (λ u. Some (just u))) (had s d n h)
     had (some_part s) c n (holds_part h) = ap (λ o. then_option o part_of_some) (had s (just c) n h)
     had (tuple_part s i) _ n (holds_tuple_part {vs = vs} h e) = ap (λ o. then_option o (λ d. part_at d i)) (had s (parts vs) n h) ∙ ap from_value e
@@ -163,11 +124,7 @@ module _ (m : Meaning) (args : List Value) (k : Pick) where
 
     all_had : (ss : SiteTerms) (vs : Values) → calls_in_all ss ≡ [] → HoldsAll m args ss vs → site_values m args k ss ≡ Some vs
     all_had no_site_term _ n holds_none = refl
-    all_had (site_term_and s ss) _ n (holds_and {v = w} {vs = ws} h g) =
-        let b = both_empty (calls_in s) (calls_in_all ss) n in
-        let e = had s (one w) b.0 h in
-        let f = all_had ss ws b.1 g in
-        λ j. then_option (then_option (e j) as_value) (λ u. then_option (f j) (λ us. Some (value_and u us)))
+    all_had (site_term_and s ss) _ n (holds_and {v = w} {vs = ws} h g) = grind (arith, common_steps, had s (one w), all_had ss ws, both_empty)
 
 pub held_are_contents_lem : HeldAreContents
 held_are_contents_lem m args k s c n h = had m args k s c n h

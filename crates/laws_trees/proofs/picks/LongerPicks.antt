@@ -1,12 +1,13 @@
 -- A site's content under a pick: it is of the places of the calls that the site takes answers of, which all are the pick's
 -- own; so it stays under each longer pick.
-use Rattle.std.proofs.Common.{◌≡◌, ℕ, List, [], ◌∷◌, ◌++◌, map, Some, None, slice_get, Contains, refl, sym, ap, ap₂, ◌∙◌, subst, inl, inr}
+use Rattle.std.proofs.Common.{◌≡◌, ℕ, List, [], ◌∷◌, ◌++◌, map, Some, None, Contains, refl, sym, ap, ap₂, ◌∙◌, subst, inl, inr, arith}
 use Rattle.std.proofs.lemmas.Bool.{cases_Bool, cond-true, cond-false, both_ways}
 use Rattle.std.proofs.lemmas.Option.{none-some}
 use Rattle.std.proofs.lemmas.List.{map-append}
 use Rattle.std.proofs.lemmas.List.Elements.{Contains-append_left, Contains-append_right, Contains-append_cases}
+use Rattle.std.proofs.lemmas.Grind.{common_steps}
 use Rattle.model.specs.rules.Values.{Value, of_variant, of_struct, Values, value_and}
-use Rattle.model.specs.rules.Meaning.{Content, one, parts, nothing, just, many, contents, Meaning, extractor_answer}
+use Rattle.model.specs.rules.Meaning.{Content, one, just, Meaning, extractor_answer}
 use Rattle.model.specs.rules.Outcome.{then_option}
 use Rattle.model.specs.trees.Run.{as_value, part_at}
 use Rattle.model.specs.sites.Sites.{SiteTerm, bool_term, int_term, prim_term, argument, extractor_call, constructor_call, pick_of, variant_made, variant_field, struct_made, struct_field, some_made, some_part, tuple_part, no_site, SiteTerms, no_site_term, site_term_and}
@@ -36,17 +37,7 @@ place_named (e ∷ k) c n h =
 
 place_kept : (k rest : Pick) (c : SiteTerm) → Contains (keys k) c → place_of (k ++ rest) c ≡ place_of k c
 place_kept [] rest c h = absurd (nothing_in c h)
-place_kept (e ∷ k) rest c h =
-    elim (cases_Bool (site_term_eq e.0 c)) [
-      | inl t ↦ cond-true (site_term_eq e.0 c) (Some e.1) (place_of (k ++ rest) c) t ∙ sym (cond-true (site_term_eq e.0 c) (Some e.1) (place_of k c) t)
-      | inr f ↦
-          cond-false (site_term_eq e.0 c) (Some e.1) (place_of (k ++ rest) c) f
-          ∙ elim (in_cases e.0 c (keys k) h) [
-            | inl s ↦ absurd (both_ways (site_term_eq e.0 c) f (ap (site_term_eq e.0) (sym s) ∙ term_same e.0))
-            | inr n ↦ place_kept k rest c n
-          ]
-          ∙ sym (cond-false (site_term_eq e.0 c) (Some e.1) (place_of k c) f)
-    ]
+place_kept (e ∷ k) rest c h = grind (arith, common_steps, place_kept k rest c, in_cases e.0 c (keys k) h, both_ways (site_term_eq e.0 c), term_same e.0)
 
 -- the place of a call that the pick didn't name
 pub place_added : (k : Pick) (c : SiteTerm) (n : ℕ) → (Contains (keys k) c → ⊥) → place_of (k ++ (c, n) ∷ []) c ≡ Some n
@@ -58,22 +49,14 @@ place_added (e ∷ k) c n h =
     ]
 
 picked_named : (k : Pick) (s : SiteTerm) (c d : Content) → picked k s c ≡ Some d → Contains (keys k) s
-picked_named k s (many cs) d e = (let a = then_some (place_of k s) (slice_get (contents cs)) d e in place_named k s a.0 a.1)
-picked_named k s (one w) d e = absurd (none-some d e)
-picked_named k s (parts vs) d e = absurd (none-some d e)
-picked_named k s nothing d e = absurd (none-some d e)
-picked_named k s (just c) d e = absurd (none-some d e)
+picked_named k s c d e = grind (arith, common_steps, then_some, place_named, none-some)
 
 -- 2. contents under two picks that give these calls the same places
 abbrev pub SamePlacesOf : Pick → Pick → List SiteTerm → Type 0
 SamePlacesOf k l calls = (c : SiteTerm) → Contains calls c → place_of k c ≡ place_of l c
 
 pub picked_alike : (k l : Pick) (s : SiteTerm) (c : Content) → place_of k s ≡ place_of l s → picked k s c ≡ picked l s c
-picked_alike k l s (many cs) h = ap (λ o. then_option o (slice_get (contents cs))) h
-picked_alike k l s (one w) h = refl
-picked_alike k l s (parts vs) h = refl
-picked_alike k l s nothing h = refl
-picked_alike k l s (just c) h = refl
+picked_alike k l s c h = grind (arith, common_steps)
 
 module _ (m : Meaning) (args : List Value) (k l : Pick) where
   mutual
@@ -84,9 +67,7 @@ module _ (m : Meaning) (args : List Value) (k l : Pick) where
     content_alike (argument i) h = refl
     content_alike (extractor_call t s) h = ap (λ o. then_option (then_option o as_value) (extractor_answer m t)) (content_alike s h)
     content_alike (constructor_call t ss i) h = ap (λ o. then_option o (call_answer m t i)) (values_alike ss h)
-    content_alike (pick_of s) h =
-        then_same (site_content m args k s) (site_content m args l s) (picked k s) (picked l s)
-        (content_alike s (λ c n. h c (in_tail s c (calls_in s) n))) (λ c. picked_alike k l s c (h s (in_head s (calls_in s))))
+    content_alike (pick_of s) h = grind (arith, common_steps, content_alike s (λ c n. h c (in_tail s c (calls_in s) n)), then_same, in_tail, picked_alike, in_head)
     content_alike (variant_made ty variant ss) h = ap (λ o. then_option o (λ vs. Some (one (of_variant ty variant vs)))) (values_alike ss h)
     content_alike (variant_field s variant i) h = ap (λ o. then_option (then_option o as_value) (field_of_variant variant i)) (content_alike s h)
     content_alike (struct_made ty ss) h = ap (λ o. then_option o (λ vs. Some (one (of_struct ty vs)))) (values_alike ss h)

@@ -1,6 +1,7 @@
 -- The list of a rule's picks has its picks and no others, each once.
 use Rattle.std.proofs.Common.{◌≡◌, ℕ, ◌<◌, List, [], ◌∷◌, ◌++◌, length, Option, Some, None, Contains, refl, sym, ap, ◌∙◌, subst, inl, inr, arith}
 use Rattle.std.proofs.lemmas.List.{append_assoc, append-nil}
+use Rattle.std.proofs.lemmas.Grind.{common_steps}
 use Rattle.model.specs.rules.Values.{Value}
 use Rattle.model.specs.rules.Meaning.{Content, one, parts, nothing, just, many, Contents, contents, Meaning}
 use Rattle.model.specs.lists.Names.{IsDistinct}
@@ -32,12 +33,7 @@ to_places : (o : Option Content) (n : ℕ) → Answers o n → Contains (places_
 to_places o n a = subst (λ q. Contains (places_in q) n) (sym a.1) (subst (Contains (numbers_from 0 (contents a.0))) (omega arith) (numbers_all 0 (contents a.0) n a.2))
 
 places_distinct : (o : Option Content) → IsDistinct (places_in o)
-places_distinct (Some (many cs)) = numbers_distinct 0 (contents cs)
-places_distinct (Some (one w)) = distinct_nil
-places_distinct (Some (parts vs)) = distinct_nil
-places_distinct (Some nothing) = distinct_nil
-places_distinct (Some (just c)) = distinct_nil
-places_distinct None = distinct_nil
+places_distinct o = grind (arith, common_steps, numbers_distinct)
 
 same_next : {X : Type 0} (k : List X) (a b : X) (xs ys : List X) → k ++ a ∷ xs ≡ k ++ b ∷ ys → a ≡ b
 same_next [] a b xs ys e = cc

@@ -1,15 +1,15 @@
 -- Without multi calls the two families of matching agree, whatever the pick.
-use Rattle.std.proofs.Common.{◌≡◌, ◌==◌, arith, ℕ, zero, suc, Bool, true, false, cond, List, [], ◌∷◌, ◌++◌, length, Option, Some, None, refl, ap, ap₂, ◌∙◌}
-use Rattle.std.proofs.lemmas.Bool.{true≢false}
-use Rattle.model.specs.rules.Values.{Value, Values, no_value, value_and, value_eq}
-use Rattle.model.specs.rules.Meaning.{Content, Meaning, look, literal_value, bool_literal, int_literal, constant_value, extractor_answer, pure_answer, impure_answer, answered_outputs}
+use Rattle.std.proofs.Common.{◌≡◌, ◌==◌, arith, ℕ, zero, suc, Bool, false, cond, List, [], ◌∷◌, length, Option, Some, None, refl, ap, ◌∙◌}
+use Rattle.std.proofs.lemmas.Grind.{common_steps}
+use Rattle.model.specs.rules.Values.{Value, Values, no_value, value_and}
+use Rattle.model.specs.rules.Meaning.{Content, Meaning, look, literal_value, bool_literal, int_literal, constant_value}
 use Rattle.model.specs.rules.Outcome.{Call, then_option}
-use Rattle.model.specs.rules.Program.{Program, Kind, a_variant, a_struct, a_call, unknown, flags_of, kind, is_partial}
-use Rattle.model.specs.rules.Matching.{Vars, var_value, where_equal, parts_seen, holds, each_holds, all_hold, single, pure_term, pure_value, pure_values, pure_lets, args_hold, iflets_hold}
-use Rattle.model.specs.rules.RightSide.{Eval, gives, ends, EvalAll, gives_all, ends_all, EvalLets, gives_vars, ends_lets, or_end, apply, pair_up, then_rest, then_lets, then_body, eval, eval_all, eval_lets, outcome_of}
-use Rattle.model.specs.sites.Sites.{SiteTerm, argument, extractor_call, constructor_call, SiteTerms, fields_from}
+use Rattle.model.specs.rules.Program.{Program, Kind, flags_of, kind, is_partial}
+use Rattle.model.specs.rules.Matching.{Vars, var_value, where_equal, parts_seen, holds, each_holds, all_hold, pure_term, pure_value, pure_values, pure_lets, args_hold, iflets_hold}
+use Rattle.model.specs.rules.RightSide.{Eval, gives, EvalAll, EvalLets, gives_vars, ends_lets, apply, then_rest, then_lets, then_body, eval, eval_all, eval_lets, outcome_of}
+use Rattle.model.specs.sites.Sites.{SiteTerm, argument, SiteTerms, fields_from}
 use Rattle.model.specs.visits.Demands.{pattern_count, Opened, output_sites}
-use Rattle.model.specs.rules.Picks.{Pick, taken_answer, Sited, sited, SitedVars, sited_value, values_in, expr_site, expr_sites, input_sites, where_same, parts_under, holds_under, each_holds_under, all_hold_under, term_under, value_under, values_under, lets_under, args_hold_under, iflets_hold_under, apply_under, SitedLets, gives_sited, ends_sited, then_sited_lets, then_sited_body, eval_under, eval_all_under, eval_lets_under}
+use Rattle.model.specs.rules.Picks.{Pick, taken_answer, Sited, sited, SitedVars, sited_value, values_in, expr_site, input_sites, where_same, parts_under, holds_under, each_holds_under, all_hold_under, term_under, value_under, values_under, lets_under, args_hold_under, iflets_hold_under, apply_under, SitedLets, gives_sited, ends_sited, then_sited_lets, then_sited_body, eval_under, eval_all_under, eval_lets_under}
 use Rattle.model.specs.rules.Typed.{TypedPattern, match_bind, match_var, match_bool, match_int, match_prim, match_term, match_any, match_and, TypedPatterns, no_typed_pattern, typed_pattern_and, TypedExpr, make_term, make_var, make_bool, make_int, make_prim, make_let, TypedExprs, no_typed_expr, typed_expr_and, TypedLets, no_typed_let, typed_let_and, TypedIfLet}
 use Rattle.model.proofs.Options.{then_same}
 use Rattle.model.specs.rules.CallsNoMulti.{WhereKnown, PatternCallsNoMulti, PatternsCallNoMulti, ExprCallsNoMulti, ExprsCallNoMulti, LetsCallNoMulti, ArgsCallNoMulti, IfLetsCallNoMulti}
@@ -17,33 +17,22 @@ use Rattle.laws_trees.specs.WithoutMulti.{without_sites, MatchesAsPlain, EndsAsP
 
 -- 1. one after another
 then_without_sites : (o : Option SitedVars) (f : SitedVars → Option SitedVars) (g : Vars → Option Vars) → ((e : SitedVars) → without_sites (f e) ≡ g (values_in e)) → without_sites (then_option o f) ≡ then_option (without_sites o) g
-then_without_sites None f g h = refl
-then_without_sites (Some e) f g h = h e
+then_without_sites o f g h = grind (arith, common_steps)
 
 after_without_sites : {X : Type 0} (o q : Option X) (f : X → Option SitedVars) (g : X → Option Vars) → o ≡ q → ((x : X) → without_sites (f x) ≡ g x) → without_sites (then_option o f) ≡ then_option q g
-after_without_sites o q f g e h = ap (λ u. without_sites (then_option u f)) e ∙ each q
-  where
-    each : (u : Option _) → without_sites (then_option u f) ≡ then_option u g
-    each None = refl
-    each (Some x) = h x
+after_without_sites o q f g e h = grind (arith, common_steps)
 
 -- 2. variables
 found_same : (b : Bool) (s : Sited) (o : Option Sited) (q : Option (Option Value)) → then_option o (λ s. s.value) ≡ then_option q (λ o. o)
     → then_option (cond b (Some s) o) (λ s. s.value) ≡ then_option (cond b (Some s.value) q) (λ o. o)
-found_same true s o q h = refl
-found_same false s o q h = h
+found_same b s o q h = grind (arith, common_steps)
 
 var_same : (e : SitedVars) (x : ℕ) → sited_value e x ≡ var_value (values_in e) x
 var_same [] x = refl
 var_same (b ∷ e) x = found_same (b.0 == x) b.1 (look (λ k. k == x) e) (look (λ k. k == x) (values_in e)) (var_same e x)
 
-kept_same : (b : Bool) (e : SitedVars) → without_sites (cond b (Some e) None) ≡ cond b (Some (values_in e)) None
-kept_same true e = refl
-kept_same false e = refl
-
 same_same : (o : Option Value) (v : Value) (e : SitedVars) → without_sites (where_same o v e) ≡ where_equal o v (values_in e)
-same_same None v e = refl
-same_same (Some w) v e = kept_same (value_eq w v) e
+same_same o v e = grind (arith, common_steps)
 
 -- 3. the sites of a pattern's parts are as many as the parts
 pub fields_count : (f : ℕ → SiteTerm) (i n : ℕ) → length (fields_from f i n) ≡ n
@@ -56,45 +45,23 @@ output_count s (typed_pattern_and q no_typed_pattern) = refl
 output_count s (typed_pattern_and q (typed_pattern_and r rs)) = fields_count _ 0 (pattern_count (typed_pattern_and q (typed_pattern_and r rs)))
 
 pub either_count : (b : Bool) (x y : Opened) (n : ℕ) → length x.inputs ≡ n → length y.inputs ≡ n → length (cond b x y).inputs ≡ n
-either_count true x y n g h = g
-either_count false x y n g h = h
+either_count b x y n g h = grind (arith, common_steps)
 
 input_count : (kd : Kind) (t : ℕ) (s : SiteTerm) (qs : TypedPatterns) (v : Value) (m : Meaning) (vs : Values) → parts_seen kd m t v ≡ Some vs → length (input_sites kd t s qs) ≡ pattern_count qs
-input_count (a_variant ty variant) t s qs v m vs h = fields_count _ 0 (pattern_count qs)
-input_count (a_struct ty) t s qs v m vs h = fields_count _ 0 (pattern_count qs)
-input_count (a_call flags infallible) t s qs v m vs h =
-    either_count flags.multi _ _ (pattern_count qs) (output_count _ qs) (either_count infallible _ _ (pattern_count qs) (output_count _ qs) (output_count _ qs))
-input_count unknown t s qs v m vs h = absurd (none_some h)
-  where
-    none_some : None ≡ Some vs → ⊥
-    none_some e = cc
+input_count kd t s qs v m vs h = grind (arith, common_steps, fields_count, output_count, either_count)
 
 where_seen : (kd : Kind) (P : Type 0) (t : ℕ) (v : Value) (m : Meaning) (vs : Values) → WhereKnown kd P → parts_seen kd m t v ≡ Some vs → P
-where_seen (a_variant ty variant) P t v m vs c h = c
-where_seen (a_struct ty) P t v m vs c h = c
-where_seen (a_call flags infallible) P t v m vs c h = c
-where_seen unknown P t v m vs c h = absurd (none_some h)
-  where
-    none_some : None ≡ Some vs → ⊥
-    none_some e = cc
+where_seen kd P t v m vs c h = grind (arith, common_steps)
 
 -- 4. calls that are not multi
 answer_same : {Y : Type 0} (b : Bool) (k : Pick) (call : SiteTerm) (o : Option Content) (f : Content → Option Y) → b ≡ false → then_option (then_option o (taken_answer b k call)) f ≡ then_option o f
-answer_same true k call o f e = absurd (true≢false e)
-answer_same false k call None f e = refl
-answer_same false k call (Some c) f e = refl
+answer_same b k call o f e = grind (arith, common_steps)
 
 parts_same : (kd : Kind) (m : Meaning) (k : Pick) (t : ℕ) (s : SiteTerm) (v : Value) → (flags_of kd).multi ≡ false → parts_under kd m k t s v ≡ parts_seen kd m t v
-parts_same (a_variant ty variant) m k t s v h = refl
-parts_same (a_struct ty) m k t s v h = refl
-parts_same (a_call flags infallible) m k t s v h = answer_same flags.multi k (extractor_call t s) (extractor_answer m t v) answered_outputs h
-parts_same unknown m k t s v h = refl
+parts_same kd m k t s v h = grind (arith, common_steps)
 
 term_same : (kd : Kind) (m : Meaning) (k : Pick) (t : ℕ) (ss : SiteTerms) (vs : Values) → (flags_of kd).multi ≡ false → term_under kd m k t ss vs ≡ pure_term kd m t vs
-term_same (a_variant ty variant) m k t ss vs h = refl
-term_same (a_struct ty) m k t ss vs h = refl
-term_same (a_call flags infallible) m k t ss vs h = answer_same flags.multi k (constructor_call t ss 0) (pure_answer m t vs) single h
-term_same unknown m k t ss vs h = refl
+term_same kd m k t ss vs h = grind (arith, common_steps)
 
 abbrev lets_without_sites : SitedLets → EvalLets
 lets_without_sites (gives_sited e calls) = gives_vars (values_in e) calls
@@ -131,22 +98,16 @@ module _ (p : Program) (m : Meaning) (k : Pick) where
     each_same no_typed_pattern (s ∷ ss) vs e h n = absurd (omega (arith, n))
     each_same (typed_pattern_and q qs) [] vs e h n = absurd (omega (arith, n))
     each_same (typed_pattern_and q qs) (s ∷ ss) no_value e h n = refl
-    each_same (typed_pattern_and q qs) (s ∷ ss) (value_and v vs) e h n =
-        then_without_sites (holds_under p m k q s v e) (λ e'. each_holds_under p m k qs ss vs e') (λ e'. each_holds p m qs vs e') (λ e'. each_same qs ss vs e' h.1 (omega (arith, n)))
-        ∙ ap (λ o. then_option o (λ e'. each_holds p m qs vs e')) (holds_same q s v e h.0)
+    each_same (typed_pattern_and q qs) (s ∷ ss) (value_and v vs) e h n = grind (arith, common_steps, each_same qs ss vs, holds_same q s v e h.0, then_without_sites)
 
     all_same : (qs : TypedPatterns) (s : SiteTerm) (v : Value) (e : SitedVars) → PatternsCallNoMulti p qs → without_sites (all_hold_under p m k qs s v e) ≡ all_hold p m qs v (values_in e)
     all_same no_typed_pattern s v e h = refl
-    all_same (typed_pattern_and q qs) s v e h =
-        then_without_sites (holds_under p m k q s v e) (λ e'. all_hold_under p m k qs s v e') (λ e'. all_hold p m qs v e') (λ e'. all_same qs s v e' h.1)
-        ∙ ap (λ o. then_option o (λ e'. all_hold p m qs v e')) (holds_same q s v e h.0)
+    all_same (typed_pattern_and q qs) s v e h = grind (arith, common_steps, all_same qs s v, holds_same q s v e h.0, then_without_sites)
 
   -- 6. values
   mutual
     value_same : (x : TypedExpr) (e : SitedVars) → ExprCallsNoMulti p x → value_under p m k x e ≡ pure_value p m x (values_in e)
-    value_same (make_term ty t args) e h =
-        then_same (values_under p m k args e) (pure_values p m args (values_in e)) (λ vs. term_under (kind p t) m k t (expr_sites p args e 0) vs) (λ vs. pure_term (kind p t) m t vs)
-        (values_same args e h.1) (λ vs. term_same (kind p t) m k t (expr_sites p args e 0) vs h.0)
+    value_same (make_term ty t args) e h = grind (arith, common_steps, values_same args e h.1, then_same, term_same)
     value_same (make_var ty x) e h = var_same e x
     value_same (make_bool ty b) e h = refl
     value_same (make_int ty z) e h = refl
@@ -155,8 +116,7 @@ module _ (p : Program) (m : Meaning) (k : Pick) where
 
     values_same : (xs : TypedExprs) (e : SitedVars) → ExprsCallNoMulti p xs → values_under p m k xs e ≡ pure_values p m xs (values_in e)
     values_same no_typed_expr e h = refl
-    values_same (typed_expr_and x xs) e h =
-        ap₂ (λ o q. then_option o (λ v. then_option q (λ vs. Some (value_and v vs)))) (value_same x e h.0) (values_same xs e h.1)
+    values_same (typed_expr_and x xs) e h = grind (arith, common_steps, value_same x e h.0, values_same xs e h.1)
 
     lets_same : (xs : TypedLets) (e : SitedVars) → LetsCallNoMulti p xs → values_in (lets_under p m k xs e) ≡ pure_lets p m xs (values_in e)
     lets_same no_typed_let e h = refl
@@ -186,66 +146,35 @@ module _ (p : Program) (m : Meaning) (k : Pick) where
 
   -- 8. right sides
   applied_same : (kd : Kind) (t : ℕ) (ss : SiteTerms) (a : EvalAll) → (flags_of kd).multi ≡ false → apply_under kd m k t ss a ≡ apply kd m t a
-  applied_same kd t ss (ends_all calls) h = refl
-  applied_same (a_variant ty variant) t ss (gives_all vs calls) h = refl
-  applied_same (a_struct ty) t ss (gives_all vs calls) h = refl
-  applied_same unknown t ss (gives_all vs calls) h = refl
-  applied_same (a_call flags infallible) t ss (gives_all None calls) h = refl
-  applied_same (a_call flags infallible) t ss (gives_all (Some vs) calls) h =
-      ap₂ (λ x y. cond flags.pure (gives x calls) (or_end y (calls ++ record { term = t; args = vs } ∷ [])))
-      (answer_same flags.multi k (constructor_call t ss 0) (pure_answer m t vs) single h)
-      (answer_same flags.multi k (constructor_call t ss (suc (length calls))) (impure_answer m t (length calls)) single h)
+  applied_same kd t ss a h = grind (arith, common_steps, answer_same)
 
   rest_same : (x y : Eval) (f g : List Call → EvalAll) → x ≡ y → ((calls : List Call) → f calls ≡ g calls) → then_rest x f ≡ then_rest y g
-  rest_same x y f g e h = ap (λ u. then_rest u f) e ∙ each y
-    where
-      each : (u : Eval) → then_rest u f ≡ then_rest u g
-      each (gives o calls) = ap (pair_up o) (h calls)
-      each (ends calls) = refl
+  rest_same x y f g e h = grind (arith, common_steps)
 
   then_lets_same : (x y : Eval) (f : Option Value → List Call → SitedLets) (g : Option Value → List Call → EvalLets) → x ≡ y
       → ((o : Option Value) (calls : List Call) → lets_without_sites (f o calls) ≡ g o calls) → lets_without_sites (then_sited_lets x f) ≡ then_lets y g
-  then_lets_same x y f g e h = ap (λ u. lets_without_sites (then_sited_lets u f)) e ∙ each y
-    where
-      each : (u : Eval) → lets_without_sites (then_sited_lets u f) ≡ then_lets u g
-      each (gives o calls) = h o calls
-      each (ends calls) = refl
+  then_lets_same x y f g e h = grind (arith, common_steps)
 
   then_body_same : (x : SitedLets) (y : EvalLets) (f : SitedVars → List Call → Eval) (g : Vars → List Call → Eval) → lets_without_sites x ≡ y
       → ((e : SitedVars) (calls : List Call) → f e calls ≡ g (values_in e) calls) → then_sited_body x f ≡ then_body y g
-  then_body_same x y f g e h = each x ∙ ap (λ u. then_body u g) e
-    where
-      each : (u : SitedLets) → then_sited_body u f ≡ then_body (lets_without_sites u) g
-      each (gives_sited e calls) = h e calls
-      each (ends_sited calls) = refl
+  then_body_same x y f g e h = grind (arith, common_steps)
 
   mutual
     eval_same : (x : TypedExpr) (e : SitedVars) (calls : List Call) → ExprCallsNoMulti p x → eval_under p m k x e calls ≡ eval p m x (values_in e) calls
-    eval_same (make_term ty t args) e calls h =
-        applied_same (kind p t) t (expr_sites p args e (length calls)) (eval_all_under p m k args e calls) h.0
-        ∙ ap (apply (kind p t) m t) (eval_all_same args e calls h.1)
+    eval_same (make_term ty t args) e calls h = grind (arith, common_steps, eval_all_same args e calls h.1, applied_same)
     eval_same (make_var ty x) e calls h = ap (λ o. gives o calls) (var_same e x)
     eval_same (make_bool ty b) e calls h = refl
     eval_same (make_int ty z) e calls h = refl
     eval_same (make_prim ty name) e calls h = refl
-    eval_same (make_let ty defs body) e calls h =
-        then_body_same (eval_lets_under p m k defs e calls) (eval_lets p m defs (values_in e) calls) (λ e' calls'. eval_under p m k body e' calls') (λ e' calls'. eval p m body e' calls')
-        (eval_lets_same defs e calls h.0) (λ e' calls'. eval_same body e' calls' h.1)
+    eval_same (make_let ty defs body) e calls h = grind (arith, common_steps, eval_lets_same defs e calls h.0, eval_same body, then_body_same)
 
     eval_all_same : (xs : TypedExprs) (e : SitedVars) (calls : List Call) → ExprsCallNoMulti p xs → eval_all_under p m k xs e calls ≡ eval_all p m xs (values_in e) calls
     eval_all_same no_typed_expr e calls h = refl
-    eval_all_same (typed_expr_and x xs) e calls h =
-        rest_same (eval_under p m k x e calls) (eval p m x (values_in e) calls) (λ calls'. eval_all_under p m k xs e calls') (λ calls'. eval_all p m xs (values_in e) calls')
-        (eval_same x e calls h.0) (λ calls'. eval_all_same xs e calls' h.1)
+    eval_all_same (typed_expr_and x xs) e calls h = grind (arith, common_steps, eval_same x e calls h.0, eval_all_same xs e, rest_same)
 
     eval_lets_same : (xs : TypedLets) (e : SitedVars) (calls : List Call) → LetsCallNoMulti p xs → lets_without_sites (eval_lets_under p m k xs e calls) ≡ eval_lets p m xs (values_in e) calls
     eval_lets_same no_typed_let e calls h = refl
-    eval_lets_same (typed_let_and x ty value rest) e calls h =
-        then_lets_same (eval_under p m k value e calls) (eval p m value (values_in e) calls)
-        (λ o calls'. eval_lets_under p m k rest ((x, sited (expr_site p value e (length calls)) o) ∷ e) calls')
-        (λ o calls'. eval_lets p m rest ((x, o) ∷ values_in e) calls')
-        (eval_same value e calls h.0)
-        (λ o calls'. eval_lets_same rest ((x, sited (expr_site p value e (length calls)) o) ∷ e) calls' h.1)
+    eval_lets_same (typed_let_and x ty value rest) e calls h = grind (arith, common_steps, eval_same value e calls h.0, eval_lets_same rest, then_lets_same)
 
 pub matches_as_plain_lem : MatchesAsPlain
 matches_as_plain_lem p m k r args h =

@@ -1,13 +1,13 @@
 -- Picks that give each call the same place act alike.
-use Rattle.std.proofs.Common.{◌≡◌, ℕ, suc, Bool, true, false, cond, List, [], ◌∷◌, ◌++◌, length, Option, Some, None, refl, ap, ◌∙◌}
+use Rattle.std.proofs.Common.{◌≡◌, ℕ, suc, Bool, List, [], ◌∷◌, Option, Some, refl, ap, ◌∙◌, arith}
+use Rattle.std.proofs.lemmas.Grind.{common_steps}
 use Rattle.model.specs.rules.Values.{Value, Values, no_value, value_and}
-use Rattle.model.specs.rules.Meaning.{Content, Meaning, extractor_answer, pure_answer, impure_answer, answered_outputs}
+use Rattle.model.specs.rules.Meaning.{Content, Meaning}
 use Rattle.model.specs.rules.Outcome.{Call, then_option}
-use Rattle.model.specs.rules.Program.{Program, Kind, a_variant, a_struct, a_call, unknown, kind, is_partial}
-use Rattle.model.specs.rules.Matching.{single}
-use Rattle.model.specs.rules.RightSide.{gives, EvalAll, gives_all, ends_all, or_end, then_rest, outcome_of}
-use Rattle.model.specs.sites.Sites.{SiteTerm, argument, extractor_call, constructor_call, SiteTerms}
-use Rattle.model.specs.rules.Picks.{Pick, taken_answer, site_content, sited, SitedVars, expr_site, expr_sites, input_sites, parts_under, holds_under, each_holds_under, all_hold_under, term_under, value_under, values_under, lets_under, args_hold_under, iflets_hold_under, impure_under, apply_under, then_sited_lets, then_sited_body, eval_under, eval_all_under, eval_lets_under, matches_under, right_side_under}
+use Rattle.model.specs.rules.Program.{Program, Kind, kind, is_partial}
+use Rattle.model.specs.rules.RightSide.{EvalAll, then_rest, outcome_of}
+use Rattle.model.specs.sites.Sites.{SiteTerm, argument, SiteTerms}
+use Rattle.model.specs.rules.Picks.{Pick, taken_answer, site_content, sited, SitedVars, expr_site, expr_sites, input_sites, parts_under, holds_under, each_holds_under, all_hold_under, term_under, value_under, values_under, lets_under, args_hold_under, iflets_hold_under, impure_under, apply_under, then_sited_body, eval_under, eval_all_under, eval_lets_under, matches_under, right_side_under}
 use Rattle.model.specs.rules.Typed.{TypedPattern, match_bind, match_var, match_bool, match_int, match_prim, match_term, match_any, match_and, TypedPatterns, no_typed_pattern, typed_pattern_and, TypedExpr, make_term, make_var, make_bool, make_int, make_prim, make_let, TypedExprs, no_typed_expr, typed_expr_and, TypedLets, no_typed_let, typed_let_and, TypedIfLet, TypedRule}
 use Rattle.laws_trees.specs.PickLaws.{GiveSamePlaces, OnlyPlacesMatter}
 use Rattle.laws_trees.proofs.picks.LongerPicks.{picked_alike, content_alike}
@@ -15,8 +15,7 @@ use Rattle.laws_trees.proofs.picks.LongerPicks.{picked_alike, content_alike}
 module _ (m : Meaning) (k l : Pick) (g : GiveSamePlaces k l) where
   -- 1. answers
   taken_same : (multi : Bool) (call : SiteTerm) (c : Content) → taken_answer multi k call c ≡ taken_answer multi l call c
-  taken_same true call c = picked_alike k l call c (g call)
-  taken_same false call c = refl
+  taken_same multi call c = grind (arith, common_steps, picked_alike)
 
   -- 2. sites
   pub content_same : (args : List Value) (s : SiteTerm) → site_content m args k s ≡ site_content m args l s
@@ -31,10 +30,7 @@ pub record PicksAlike : Type 0 where
 module _ (p : Program) (m : Meaning) (picks : PicksAlike) where
   -- 3. patterns
   parts_same : (kd : Kind) (t : ℕ) (s : SiteTerm) (v : Value) → parts_under kd m picks.first t s v ≡ parts_under kd m picks.second t s v
-  parts_same (a_variant ty variant) t s v = refl
-  parts_same (a_struct ty) t s v = refl
-  parts_same (a_call flags infallible) t s v = λ j. then_option (then_option (extractor_answer m t v) (λ c. taken_same m picks.first picks.second picks.same flags.multi (extractor_call t s) c j)) answered_outputs
-  parts_same unknown t s v = refl
+  parts_same kd t s v = grind (arith, common_steps, taken_same)
 
   mutual
     holds_same : (q : TypedPattern) (s : SiteTerm) (v : Value) (e : SitedVars) → holds_under p m picks.first q s v e ≡ holds_under p m picks.second q s v e
@@ -61,10 +57,7 @@ module _ (p : Program) (m : Meaning) (picks : PicksAlike) where
 
   -- 4. values
   term_same : (kd : Kind) (t : ℕ) (ss : SiteTerms) (vs : Values) → term_under kd m picks.first t ss vs ≡ term_under kd m picks.second t ss vs
-  term_same (a_variant ty variant) t ss vs = refl
-  term_same (a_struct ty) t ss vs = refl
-  term_same (a_call flags infallible) t ss vs = λ j. then_option (then_option (pure_answer m t vs) (λ c. taken_same m picks.first picks.second picks.same flags.multi (constructor_call t ss 0) c j)) single
-  term_same unknown t ss vs = refl
+  term_same kd t ss vs = grind (arith, common_steps, taken_same)
 
   mutual
     value_same : (x : TypedExpr) (e : SitedVars) → value_under p m picks.first x e ≡ value_under p m picks.second x e
@@ -77,16 +70,11 @@ module _ (p : Program) (m : Meaning) (picks : PicksAlike) where
 
     values_same : (xs : TypedExprs) (e : SitedVars) → values_under p m picks.first xs e ≡ values_under p m picks.second xs e
     values_same no_typed_expr e = refl
-    values_same (typed_expr_and x xs) e =
-        let h = value_same x e in
-        let f = values_same xs e in
-        λ j. then_option (h j) (λ v. then_option (f j) (λ vs. Some (value_and v vs)))
+    values_same (typed_expr_and x xs) e = grind (arith, common_steps, value_same x e, values_same xs e)
 
     lets_same : (xs : TypedLets) (e : SitedVars) → lets_under p m picks.first xs e ≡ lets_under p m picks.second xs e
     lets_same no_typed_let e = refl
-    lets_same (typed_let_and x ty value rest) e =
-        lets_same rest ((x, sited (expr_site p value e 0) (value_under p m picks.first value e)) ∷ e)
-        ∙ ap (λ o. lets_under p m picks.second rest ((x, sited (expr_site p value e 0) o) ∷ e)) (value_same value e)
+    lets_same (typed_let_and x ty value rest) e = grind (arith, common_steps, lets_same rest, value_same value e)
 
   -- 5. left sides
   args_same : (i : ℕ) (qs : List TypedPattern) (vs : List Value) (e : SitedVars) → args_hold_under p m picks.first i qs vs e ≡ args_hold_under p m picks.second i qs vs e
@@ -102,23 +90,14 @@ module _ (p : Program) (m : Meaning) (picks : PicksAlike) where
 
   -- 6. right sides
   impure_same : (multi : Bool) (t : ℕ) (ss : SiteTerms) (vs : Option Values) (calls : List Call) → impure_under multi m picks.first t ss vs calls ≡ impure_under multi m picks.second t ss vs calls
-  impure_same multi t ss None calls = refl
-  impure_same multi t ss (Some vs) calls =
-      λ j. or_end (then_option (then_option (impure_answer m t (length calls)) (λ c. taken_same m picks.first picks.second picks.same multi (constructor_call t ss (suc (length calls))) c j)) single) (calls ++ record { term = t; args = vs } ∷ [])
+  impure_same multi t ss vs calls = grind (arith, common_steps, taken_same)
 
   apply_same : (kd : Kind) (t : ℕ) (ss : SiteTerms) (a : EvalAll) → apply_under kd m picks.first t ss a ≡ apply_under kd m picks.second t ss a
-  apply_same kd t ss (ends_all calls) = refl
-  apply_same (a_variant ty variant) t ss (gives_all vs calls) = refl
-  apply_same (a_struct ty) t ss (gives_all vs calls) = refl
-  apply_same (a_call flags infallible) t ss (gives_all vs calls) =
-      λ j. cond flags.pure (gives (then_option vs (λ ws. term_same (a_call flags infallible) t ss ws j)) calls) (impure_same flags.multi t ss vs calls j)
-  apply_same unknown t ss (gives_all vs calls) = refl
+  apply_same kd t ss a = grind (arith, common_steps, term_same, impure_same)
 
   mutual
     eval_same : (x : TypedExpr) (e : SitedVars) (calls : List Call) → eval_under p m picks.first x e calls ≡ eval_under p m picks.second x e calls
-    eval_same (make_term ty t args) e calls =
-        let ss = expr_sites p args e (length calls) in
-        ap (apply_under (kind p t) m picks.first t ss) (eval_all_same args e calls) ∙ apply_same (kind p t) t ss (eval_all_under p m picks.second args e calls)
+    eval_same (make_term ty t args) e calls = grind (arith, common_steps, eval_all_same args e calls, apply_same)
     eval_same (make_var ty x) e calls = refl
     eval_same (make_bool ty b) e calls = refl
     eval_same (make_int ty z) e calls = refl
@@ -131,8 +110,7 @@ module _ (p : Program) (m : Meaning) (picks : PicksAlike) where
 
     eval_lets_same : (xs : TypedLets) (e : SitedVars) (calls : List Call) → eval_lets_under p m picks.first xs e calls ≡ eval_lets_under p m picks.second xs e calls
     eval_lets_same no_typed_let e calls = refl
-    eval_lets_same (typed_let_and x ty value rest) e calls =
-        λ j. then_sited_lets (eval_same value e calls j) (λ o calls'. eval_lets_same rest ((x, sited (expr_site p value e (length calls)) o) ∷ e) calls' j)
+    eval_lets_same (typed_let_and x ty value rest) e calls = grind (arith, common_steps, eval_same value e calls, eval_lets_same rest)
 
   -- 7. rules
   pub matching_same : (r : TypedRule) (args : List Value) → matches_under p m picks.first r args ≡ matches_under p m picks.second r args

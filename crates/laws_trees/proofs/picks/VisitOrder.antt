@@ -1,8 +1,9 @@
 -- A rule meets each multi call after those that the call's arguments take answers of.
-use Rattle.std.proofs.Common.{◌≡◌, ◌==◌, ℕ, zero, suc, Bool, true, false, cond, List, [], ◌∷◌, ◌++◌, Option, Some, Contains, sym, subst, inl, inr}
+use Rattle.std.proofs.Common.{◌≡◌, ◌==◌, ℕ, zero, suc, Bool, true, false, cond, List, [], ◌∷◌, ◌++◌, Option, Some, Contains, sym, subst, inl, inr, arith}
 use Rattle.std.proofs.lemmas.Bool.{cases_Bool, cond-true, cond-false, or_cases, false≢true}
 use Rattle.std.proofs.lemmas.List.{append_assoc, append-nil}
 use Rattle.std.proofs.lemmas.List.Elements.{Contains-append_left, Contains-append_right, Contains-append_cases}
+use Rattle.std.proofs.lemmas.Grind.{common_steps}
 use Rattle.model.specs.lists.Tables.{Flags}
 use Rattle.model.specs.rules.Meaning.{look}
 use Rattle.model.specs.rules.Program.{Program, Kind, a_variant, a_struct, a_call, unknown, kind, is_partial}
@@ -32,11 +33,7 @@ push ls (x ∷ xs) c h k = (h.0, push (ls ++ x ∷ []) xs c h.1 (subst (λ l. Co
 
 has_contains : (ts : List SiteTerm) (s : SiteTerm) → has_site ts s ≡ true → Contains ts s
 has_contains [] s h = absurd (false≢true h)
-has_contains (t ∷ ts) s h =
-    elim (or_cases (site_term_eq t s) (has_site ts s) h) [
-      | inl e ↦ subst (Contains (t ∷ ts)) (term_means t s e) (in_head t ts)
-      | inr r ↦ in_tail t s ts (has_contains ts s r)
-    ]
+has_contains (t ∷ ts) s h = grind (arith, common_steps, has_contains ts s, or_cases (site_term_eq t s) (has_site ts s) h, term_means t s, in_head t ts, in_tail t s ts)
 
 -- each call once, by first meeting, keeps the order
 once_ordered : (ts ls rest : List SiteTerm) → Within ls ts → OrderedFrom [] ts → OrderedFrom ls rest → OrderedFrom [] (with_sites ts rest)
@@ -95,8 +92,7 @@ after_equating : (a b : SiteTerm) (v : Visit) → Fine v → Follows v (equating
 after_equating a b v f = either (λ w. Follows v w) (site_term_eq a b) v _ (stays v f) (record { fine = record { order = f.order; vars = f.vars }; kept = λ c h. h })
 
 found_covered : (ls : List SiteTerm) (b : Bool) (s : SiteTerm) (o : Option SiteTerm) → Covered ls s → Covered ls (or_no_site o) → Covered ls (or_no_site (cond b (Some s) o))
-found_covered ls true s o h g = h
-found_covered ls false s o h g = g
+found_covered ls b s o h g = grind (arith, common_steps)
 
 after_binding : (x : ℕ) (s : SiteTerm) (v : Visit) → Fine v → Covered (met v) s → Follows v (binding x s v)
 after_binding x s v f h = record {
@@ -128,8 +124,7 @@ pub record OpensWell (v : Visit) (o : Opened) : Type 0 where
 
 -- the answer of a call that was just met
 picked_covered : (ls : List SiteTerm) (call : SiteTerm) → Covered ls call → Covered (ls ++ call ∷ []) (pick_of call)
-picked_covered ls call h c k =
-    elim (in_cases call c (calls_in call) k) [ inl e ↦ subst (Contains (ls ++ call ∷ [])) e (last_in ls call) | inr n ↦ within_push ls call c (h c n) ]
+picked_covered ls call h c k = grind (arith, common_steps, in_cases call c (calls_in call) k, last_in ls call, within_push ls call c)
 
 call_opens : (flags : Flags) (infallible : Bool) (call : SiteTerm) (args : TypedPatterns) (v : Visit) → Fine v → Covered (met v) call → OpensWell v (open_call flags infallible call args v)
 call_opens flags infallible call args v f h =
@@ -148,14 +143,8 @@ call_opens flags infallible call args v f h =
     asked = record { follows = record { fine = record { order = f.order; vars = f.vars }; kept = λ c k. k }; inputs = outputs_covered (met v) (some_part call) args h }
 
 term_opens : (k : Kind) (t : ℕ) (s : SiteTerm) (args : TypedPatterns) (v : Visit) → Fine v → Covered (met v) s → OpensWell v (open_term k t s args v)
-term_opens (a_variant ty variant) t s args v f h = record {
-  follows = record { fine = record { order = f.order; vars = f.vars }; kept = λ c k. k };
-  inputs = fields_covered (met v) (variant_field s variant) 0 (pattern_count args) (λ j. h);
-}
-term_opens (a_struct ty) t s args v f h = record {
-  follows = record { fine = record { order = f.order; vars = f.vars }; kept = λ c k. k };
-  inputs = fields_covered (met v) (struct_field s) 0 (pattern_count args) (λ j. h);
-}
+term_opens (a_variant ty variant) t s args v f h = grind (arith, common_steps, fields_covered (met v) (variant_field s variant) 0 (pattern_count args) (λ j. h))
+term_opens (a_struct ty) t s args v f h = grind (arith, common_steps, fields_covered (met v) (struct_field s) 0 (pattern_count args) (λ j. h))
 term_opens (a_call flags infallible) t s args v f h = call_opens flags infallible (extractor_call t s) args v f h
 term_opens unknown t s args v f h = record { follows = stays v f; inputs = tt }
 
@@ -168,10 +157,7 @@ module _ (p : Program) where
     pattern_follows (match_bool ty b) s v f h = after_asking s _ v f
     pattern_follows (match_int ty z) s v f h = after_asking s _ v f
     pattern_follows (match_prim ty name) s v f h = after_asking s _ v f
-    pattern_follows (match_term ty t args) s v f h =
-        let o = term_opens (kind p t) t s args v f h in
-        let w = open_term (kind p t) t s args v in
-        then_follows v w.visit (visit_each p args w.inputs w.visit) o.follows (each_follows args w.inputs w.visit o.follows.fine o.inputs)
+    pattern_follows (match_term ty t args) s v f h = grind (arith, common_steps, each_follows args, term_opens (kind p t) t s args v f h, then_follows v)
     pattern_follows (match_any ty) s v f h = stays v f
     pattern_follows (match_and ty subs) s v f h = all_follow subs s v f h
 
@@ -268,8 +254,7 @@ module _ (p : Program) where
   -- 5. rules
   asking_follows : (ss : List SiteTerm) (v : Visit) → Fine v → Follows v (asking_all ss v)
   asking_follows [] v f = stays v f
-  asking_follows (s ∷ ss) v f =
-      let a = after_asking s is_present v f in then_follows v (asking s is_present v) (asking_all ss (asking s is_present v)) a (asking_follows ss (asking s is_present v) a.fine)
+  asking_follows (s ∷ ss) v f = grind (arith, common_steps, asking_follows ss (asking s is_present v), after_asking, then_follows)
 
   args_follow : (i : ℕ) (qs : List TypedPattern) (v : Visit) → Fine v → Fine (visit_args p i qs v)
   args_follow i [] v f = f
@@ -291,8 +276,7 @@ module _ (p : Program) where
   start_fine = record { order = tt; vars = λ x. none_within [] }
 
   finished_ordered : (b : Bool) (a : Valued) → OrderedFrom [] (met a.visit) → OrderedFrom [] (met (finished b a).visit)
-  finished_ordered true a h = h
-  finished_ordered false a h = h
+  finished_ordered b a h = grind (arith, common_steps)
 
   pub calls_ordered : (r : TypedRule) → OrderedFrom [] (multi_calls p r)
   calls_ordered r =

@@ -1,7 +1,8 @@
 -- The result of a rule that makes no impure call is what its site holds.
-use Rattle.std.proofs.Common.{◌≡◌, ℕ, Bool, true, false, [], map, Option, Some, None, refl, sym, ap, ◌∙◌}
+use Rattle.std.proofs.Common.{◌≡◌, ℕ, Bool, true, [], map, Option, Some, None, refl, sym, ap, ◌∙◌, arith}
+use Rattle.std.proofs.lemmas.Grind.{common_steps}
 use Rattle.model.specs.rules.Values.{Value, args_well_typed}
-use Rattle.model.specs.rules.Meaning.{Content, just}
+use Rattle.model.specs.rules.Meaning.{Content}
 use Rattle.model.specs.rules.Outcome.{then_option}
 use Rattle.model.specs.rules.Program.{arg_types, is_partial}
 use Rattle.model.specs.rules.RightSide.{gives, outcome_of}
@@ -43,10 +44,7 @@ valued_holds g own s o ty h = by (content_of g s) refl
 
 -- in a partial term, Some of it
 finished_holds : (g : Given) (partial : Bool) (a : Valued) (o : Option Value) → content_of g a.site ≡ from_value o → (outcome_of partial (gives o [])).results ≡ as_list (content_of g (finished partial a).site)
-finished_holds g false a None e = sym (ap as_list e)
-finished_holds g false a (Some v) e = sym (ap as_list e)
-finished_holds g true a None e = sym (ap (λ c. as_list (then_option c (λ x. Some (just x)))) e)
-finished_holds g true a (Some v) e = sym (ap (λ c. as_list (then_option c (λ x. Some (just x)))) e)
+finished_holds g partial a o e = grind (arith, common_steps)
 
 -- 2. rules
 pub result_held : (g : Given) (r : TypedRule) (e : SitedVars) → is_formed_rule g.program r ≡ true → ArePureIfLets g.program r.iflets → args_well_typed g.program.types (arg_types g.program r.root_term) g.args ≡ true

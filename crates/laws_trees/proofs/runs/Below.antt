@@ -1,6 +1,7 @@
 -- What stands below sites: themselves, their sources, and all below those; and what stands below calls without the calls.
-use Rattle.std.proofs.Common.{◌≡◌, ◌⊎◌, ℕ, zero, suc, ◌<◌, ◌≤◌, List, [], ◌∷◌, All, Contains, flat_map, sym, ap, ◌∙◌, subst, inl, inr, arith}
+use Rattle.std.proofs.Common.{◌≡◌, ◌⊎◌, ℕ, zero, suc, ◌<◌, ◌≤◌, List, [], ◌∷◌, All, Contains, flat_map, sym, ap, subst, inl, inr, arith}
 use Rattle.std.proofs.lemmas.Bool.{cases_lt}
+use Rattle.std.proofs.lemmas.Grind.{common_steps}
 use Rattle.model.specs.sites.Sites.{Site, sources_at}
 use Rattle.model.specs.trees.Places.{below, all_below}
 use Rattle.model.specs.trees.Collects.{IsPureAt}
@@ -41,11 +42,7 @@ module _ (sites : List Site) (before : SourcesBefore sites) where
 
   pub below_enough : (n u : ℕ) → u < n → below n sites u ≡ below (suc u) sites u
   below_enough zero u l = absurd (omega arith)
-  below_enough (suc n) u l =
-      elim (cases_lt u n) [
-        | inl m ↦ below_more n u m ∙ below_enough n u m
-        | inr m ↦ let e : n ≡ u = omega (arith, l, m) in ap (λ k. below (suc k) sites u) e
-      ]
+  below_enough (suc n) u l = grind (arith, common_steps, below_enough n u, cases_lt, below_more)
 
   pub below_within : (n s u : ℕ) → Contains (below n sites s) u → u ≤ s
   below_within zero s u c = absurd (nothing_in u c)

@@ -1,12 +1,13 @@
 -- Bind orders one after another, and the contents of available sites.
-use Rattle.std.proofs.Common.{◌≡◌, ℕ, zero, suc, true, false, not, ◌&&◌, List, [], ◌∷◌, ◌++◌, is_some, slice_get, All, IsTrue, filter, refl, ap, ◌∙◌, inl, inr, Contains, sym}
+use Rattle.std.proofs.Common.{◌≡◌, ℕ, zero, suc, true, false, not, ◌&&◌, List, [], ◌∷◌, ◌++◌, is_some, slice_get, All, IsTrue, filter, refl, inl, inr, Contains, arith}
 use Rattle.std.specs.List.{list_all}
 use Rattle.std.proofs.lemmas.Bool.{and_parts, or_cases, false≢true, not-true}
 use Rattle.std.proofs.lemmas.List.Elements.{filter-append}
+use Rattle.std.proofs.lemmas.Grind.{common_steps}
 use Rattle.model.specs.sites.Sites.{Site, sources_at}
 use Rattle.model.specs.trees.Places.{Around, is_in, waits, is_available, is_in_place}
 use Rattle.model.specs.rules.Outcome.{Call}
-use Rattle.model.specs.trees.Run.{World, Env, Bound, all_bound, unwrap_failed, no_content_there, bind_site, then_bind, bind_all}
+use Rattle.model.specs.trees.Run.{World, Env, Bound, all_bound, then_bind, bind_all}
 use Rattle.model.proofs.Members.{each_passes, all_members}
 use Rattle.model.specs.rules.Picks.{Pick}
 use Rattle.model.specs.trees.Collects.{content_at}
@@ -17,14 +18,11 @@ use Rattle.laws_trees.proofs.runs.Below.{IsPureBelow, pure_sources}
 after_bound : (w : World) (ss ts : List ℕ) (b : Bound) (go : Env → List Call → Bound)
     → ((env : Env) (calls : List Call) → go env calls ≡ then_bind (bind_all w env calls ss) (λ env' calls'. bind_all w env' calls' ts))
     → then_bind b go ≡ then_bind (then_bind b (λ env calls. bind_all w env calls ss)) (λ env' calls'. bind_all w env' calls' ts)
-after_bound w ss ts (all_bound env calls) go h = h env calls
-after_bound w ss ts (unwrap_failed calls) go h = refl
-after_bound w ss ts (no_content_there calls) go h = refl
+after_bound w ss ts b go h = grind (arith, common_steps)
 
 pub bind_append : (w : World) (ss ts : List ℕ) (env : Env) (calls : List Call) → bind_all w env calls (ss ++ ts) ≡ then_bind (bind_all w env calls ss) (λ env' calls'. bind_all w env' calls' ts)
 bind_append w [] ts env calls = refl
-bind_append w (s ∷ ss) ts env calls =
-    after_bound w ss ts (bind_site w env calls s (slice_get w.sites s)) (λ env' calls'. bind_all w env' calls' (ss ++ ts)) (λ env' calls'. bind_append w ss ts env' calls')
+bind_append w (s ∷ ss) ts env calls = grind (arith, common_steps, bind_append w ss ts, after_bound)
 
 -- what waits to be bound
 abbrev pub to_bind : List Site → List ℕ → List ℕ
@@ -32,11 +30,7 @@ to_bind sites ss = filter (λ s. not (is_in_place (slice_get sites s))) ss
 
 pub bind_last : (w : World) (env env' env'' : Env) (listed : List ℕ) (s : ℕ) → bind_all w env [] (to_bind w.sites listed) ≡ all_bound env' [] → bind_all w env' [] (to_bind w.sites (s ∷ [])) ≡ all_bound env'' []
     → bind_all w env [] (to_bind w.sites (listed ++ s ∷ [])) ≡ all_bound env'' []
-bind_last w env env' env'' listed s h k =
-    ap (bind_all w env []) (filter-append (λ t. not (is_in_place (slice_get w.sites t))) listed (s ∷ []))
-    ∙ bind_append w (to_bind w.sites listed) (to_bind w.sites (s ∷ [])) env []
-    ∙ ap (λ b. then_bind b (λ e calls. bind_all w e calls (to_bind w.sites (s ∷ [])))) h
-    ∙ k
+bind_last w env env' env'' listed s h k = grind (arith, common_steps, filter-append, bind_append)
 
 -- 2. under a pick, each site that waits for nothing, that no impure call stands at or below, and whose sources have contents
 -- has one
@@ -49,14 +43,7 @@ module _ (sites : List Site) (ar : Around) (more : (s : ℕ) → is_in s ar.brou
   pub opened : (n s : ℕ) → is_available n sites ar.brought s ≡ true → is_in s ar.emitted ≡ false
       → (waits (slice_get sites s) ≡ false) × ((a : ℕ) → Contains (sources_at sites s) a → (m : ℕ) × (is_available m sites ar.brought a ≡ true))
   opened zero s h out = absurd (false≢true h)
-  opened (suc n) s h out =
-      let sources = list_all (is_available n sites ar.brought) (sources_at sites s) in
-      elim (or_cases (is_in s ar.brought) (not (waits (slice_get sites s)) && sources) h) [
-        | inl i ↦ absurd (false≢true (sym out ∙ more s i))
-        | inr r ↦
-            let q = and_parts (not (waits (slice_get sites s))) sources r in
-            (not-true (waits (slice_get sites s)) q.0, λ a c. (n, each_passes (is_available n sites ar.brought) (sources_at sites s) q.1 a c))
-      ]
+  opened (suc n) s h out = grind (arith, common_steps, or_cases, and_parts, not-true, each_passes)
 
 -- an available site has a content
 pub available_found : (w : World) (pick : Pick) → SourcesBefore w.sites → Finds w pick → (ar : Around) → ((s : ℕ) → IsTrue (is_in s ar.brought) → IsTrue (is_some (content_at w pick s)))

@@ -1,13 +1,14 @@
 -- What a run has bound holds its content, and a bind order of available sites binds them all.
-use Rattle.std.proofs.Common.{◌≡◌, ◌⊎◌, ℕ, zero, suc, ◌==◌, true, false, List, [], ◌∷◌, Option, Some, None, is_some, slice_get, Contains, IsTrue, flat_map, refl, sym, ap, ◌∙◌, subst, inl, inr, eqb-true, eq-eqb}
+use Rattle.std.proofs.Common.{◌≡◌, ◌⊎◌, ℕ, zero, suc, ◌==◌, true, false, List, [], ◌∷◌, Option, Some, None, is_some, slice_get, Contains, IsTrue, flat_map, sym, ap, ◌∙◌, subst, inl, inr, eqb-true, eq-eqb, arith}
 use Rattle.std.proofs.lemmas.Bool.{cases_Bool, cond-true, cond-false, false≢true}
 use Rattle.std.proofs.lemmas.Option.{none-some, same_Some}
+use Rattle.std.proofs.lemmas.Grind.{common_steps}
 use Rattle.model.specs.rules.Values.{Value, Values}
 use Rattle.model.specs.rules.Meaning.{Content, parts}
 use Rattle.model.specs.rules.Outcome.{Call, then_option}
 use Rattle.model.specs.sites.Sites.{Site, int_site, prim_site, argument_site, make_variant_site, make_struct_site, match_tuple_site, sources_at}
 use Rattle.model.specs.trees.Places.{waits, is_in_place, below}
-use Rattle.model.specs.trees.Run.{World, Env, bound_to, from_value, part_at, in_place, or_else, used, all_bound, now_bound, bind_site}
+use Rattle.model.specs.trees.Run.{World, Env, bound_to, from_value, part_at, in_place, used, all_bound, now_bound, bind_site}
 use Rattle.model.specs.rules.Picks.{Pick}
 use Rattle.model.specs.trees.Collects.{content_at, IsPureSite, IsPureAt}
 use Rattle.model.proofs.Members.{nothing_in, in_head, in_cases, from_flat_map}
@@ -23,12 +24,7 @@ pub record Held (w : World) (pick : Pick) (env : Env) (Kept : ℕ → Type 0) : 
   pub closed : (t u : ℕ) → Kept t → Contains (sources_at w.sites t) u → Kept u
 
 pub held_as : (w : World) (pick : Pick) (env : Env) (P Q : ℕ → Type 0) → ((t : ℕ) → P t → Q t) → ((t : ℕ) → Q t → P t) → Held w pick env P → Held w pick env Q
-held_as w pick env P Q there back h = record {
-  there = λ t k. h.there t (back t k);
-  bound = λ t k n. h.bound t (back t k) n;
-  right = λ t c e. let r = h.right t c e in (there t r.0, r.1);
-  closed = λ t u k c. there u (h.closed t u (back t k) c);
-}
+held_as w pick env P Q there back h = grind (arith, common_steps)
 
 -- what is below a site of the kind
 pub kept_below : (w : World) (pick : Pick) (env : Env) (Kept : ℕ → Type 0) → Held w pick env Kept → (n s t : ℕ) → Kept s → Contains (below n w.sites s) t → Kept t
@@ -40,23 +36,17 @@ kept_below w pick env Kept h (suc n) s t k c =
     ]
 
 pub content_of : (o : Option Content) → IsTrue (is_some o) → (c : Content) × (o ≡ Some c)
-content_of None h = absurd (false≢true h)
-content_of (Some c) h = (c, refl)
+content_of o h = grind (arith, common_steps)
 
 single_value : (o : Option Value) (vs : Values) → from_value o ≡ Some (parts vs) → ⊥
-single_value None vs e = none-some (parts vs) e
-single_value (Some v) vs e = cc
+single_value o vs e = grind (arith, common_steps, none-some)
 
 single_part : (o : Option Content) (i : ℕ) (vs : Values) → then_option o (λ c. part_at c i) ≡ Some (parts vs) → ⊥
-single_part None i vs e = none-some (parts vs) e
-single_part (Some (parts ws)) i vs e = single_value _ vs e
-single_part (Some _) i vs e = none-some (parts vs) e
+single_part o i vs e = grind (arith, common_steps, none-some)
 
 -- a tuple part is of parts
 of_parts : (o : Option Content) (i : ℕ) (c : Content) → then_option o (λ x. part_at x i) ≡ Some c → (vs : Values) × (o ≡ Some (parts vs))
-of_parts None i c e = absurd (none-some c e)
-of_parts (Some (parts vs)) i c e = (vs, refl)
-of_parts (Some _) i c e = absurd (none-some c e)
+of_parts o i c e = grind (arith, common_steps, none-some)
 
 module _ (w : World) (pick : Pick) (before : SourcesBefore w.sites) where
   -- the content of each site that is written in place can be read from what its source is bound to
@@ -80,34 +70,10 @@ module _ (w : World) (pick : Pick) (before : SourcesBefore w.sites) where
   -- 2. what is kept can be read
   module _ (env : Env) (Kept : ℕ → Type 0) (held : Held w pick env Kept) where
     parts_kept : (s : ℕ) → Kept s → PartsBound env (slice_get w.sites s)
-    parts_kept s k source vs c e =
-        elim (cases_Bool (is_in_place (slice_get w.sites source))) [
-          | inl t ↦ absurd (alone (slice_get w.sites source) t refl)
-          | inr f ↦ held.bound source (held.closed s source k c) f
-        ]
-      where
-        alone : (o : Option Site) → is_in_place o ≡ true → slice_get w.sites source ≡ o → ⊥
-        alone None h at = false≢true h
-        alone (Some (int_site z ty)) h at = single_value _ vs (sym (content_layer w pick before source (int_site z ty) at) ∙ e)
-        alone (Some (prim_site name)) h at = single_value _ vs (sym (content_layer w pick before source (prim_site name) at) ∙ e)
-        alone (Some (argument_site i)) h at = single_value _ vs (sym (content_layer w pick before source (argument_site i) at) ∙ e)
-        alone (Some (make_variant_site ty variant [])) h at = (let l = sym (content_layer w pick before source (make_variant_site ty variant []) at) ∙ e in cc)
-        alone (Some (make_struct_site ty [])) h at = (let l = sym (content_layer w pick before source (make_struct_site ty []) at) ∙ e in cc)
-        alone (Some (match_tuple_site x field)) h at = single_part (content_at w pick x) field vs (sym (content_layer w pick before source (match_tuple_site x field) at) ∙ e)
-        alone (Some _) h at = false≢true h
+    parts_kept s k source vs c e = grind (arith, common_steps, single_value, content_layer, single_part)
 
     pub reads : (s : ℕ) → Kept s → used w env s ≡ content_at w pick s
-    reads s k = by (bound_to env s) refl (cases_Bool (is_in_place (slice_get w.sites s)))
-      where
-        by : (o : Option Content) → bound_to env s ≡ o → (is_in_place (slice_get w.sites s) ≡ true) ⊎ (is_in_place (slice_get w.sites s) ≡ false) → used w env s ≡ content_at w pick s
-        by (Some c) x p = ap (λ o. or_else o (then_option (slice_get w.sites s) (in_place w env))) x ∙ sym (held.right s c x).1
-        by None x (inl t) =
-            let h = held.there s k in
-            ap (λ o. or_else o (then_option (slice_get w.sites s) (in_place w env))) x
-            ∙ read_in_place env s (slice_get w.sites s) h.0 refl t (parts_kept s k) h.1
-        by None x (inr f) =
-            let h = held.there s k in
-            absurd (none-some h.0 (sym x ∙ held.bound s k f ∙ h.1))
+    reads s k = grind (arith, common_steps, read_in_place env s (slice_get w.sites s), parts_kept s k, none-some)
 
     -- 3. and what is made of it can be bound
     pub binds_now : (calls : List Call) (s : ℕ) (o : Option Site) (c : Content) → slice_get w.sites s ≡ o → waits o ≡ false → IsPureAt w.sites s

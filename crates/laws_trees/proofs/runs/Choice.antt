@@ -1,8 +1,9 @@
 -- The run of a sound tree of a set of rules that go over no calls chooses by priority.
-use Rattle.std.proofs.Common.{◌≡◌, ℕ, suc, true, false, List, [], Some, slice_get, Contains, IsTrue, refl, sym, subst, inl, inr}
+use Rattle.std.proofs.Common.{◌≡◌, ℕ, suc, true, false, List, [], Some, slice_get, Contains, IsTrue, refl, sym, subst, inl, inr, arith}
 use Rattle.std.proofs.lemmas.Bool.{cases_Bool}
 use Rattle.std.proofs.lemmas.Option.{slice_get_within}
 use Rattle.std.proofs.lemmas.List.Elements.{All-contains}
+use Rattle.std.proofs.lemmas.Grind.{common_steps}
 use Rattle.model.specs.rules.Outcome.{Outcome}
 use Rattle.model.specs.rules.Picks.{Pick}
 use Rattle.model.specs.sites.Sites.{SetRule}
@@ -92,8 +93,4 @@ module _ (w : World) (rules : List SetRule) (built : IsTestedSet (set_of w rules
       (says_of_run clear (λ s g. absurd (no_calls s g)) Says (found_kept single) tree sound serves refl)
 
 pub sound_trees_choose_lem : SoundTreesChoose
-sound_trees_choose_lem set tree w built served single sound =
-    subst (λ sites. IsTestedSet (record { rules = set.rules; sites = sites }) → ServesTests (record { rules = set.rules; sites = sites }) w → IsSound (record { rules = set.rules; sites = sites }) w.multi tree → ChoosesFrom (record { rules = set.rules; sites = sites }) w (run tree w))
-    served.sites
-    (λ built' served' sound'. chooses w set.rules built' served' single tree sound')
-    built served (subst (λ b. IsSound set b tree) (sym single) sound)
+sound_trees_choose_lem set tree w built served single sound = grind (arith, common_steps, chooses w set.rules)

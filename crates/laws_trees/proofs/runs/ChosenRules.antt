@@ -1,9 +1,9 @@
 -- The chosen rule is a matching one that no matching one is above.
-use Rattle.std.proofs.Common.{◌≡◌, ℕ, ℤ, suc, true, false, List, [], ◌∷◌, Some, None, is_some, slice_get, IsTrue, refl, sym, ap, ◌∙◌, subst, inl, inr, arith, int_cmp, is_lt, Ordering, Less, Equal, Greater, ◌≤ℤ◌, ◌<ℤ◌}
+use Rattle.std.proofs.Common.{◌≡◌, ℕ, ℤ, suc, true, false, List, [], ◌∷◌, Some, None, is_some, slice_get, IsTrue, refl, sym, ap, ◌∙◌, subst, inl, inr, arith, int_cmp, is_lt, ◌≤ℤ◌}
 use Rattle.std.proofs.lemmas.Bool.{cases_Bool, cond-true, cond-false, both_ways}
 use Rattle.std.proofs.lemmas.Int.{ints}
 use Rattle.std.specs.Cmp.{int_ranks}
-use Rattle.std.specs.Ordering.{MatchOrdering}
+use Rattle.std.proofs.lemmas.Grind.{common_steps}
 use Rattle.model.specs.rules.Values.{Value}
 use Rattle.model.specs.rules.Meaning.{Meaning}
 use Rattle.model.specs.rules.Program.{Program}
@@ -14,12 +14,7 @@ use Rattle.model.proofs.Elements.{In}
 use Rattle.model.proofs.Priorities.{at_most, at_least}
 
 pub one_number : (x y : ℤ) → x ≤ℤ y → y ≤ℤ x → x ≡ y
-one_number x y a b = by (int_cmp x y) (int_ranks x y)
-  where
-    by : (o : Ordering) → MatchOrdering o (x <ℤ y) (x ≡ y) (y <ℤ x) → x ≡ y
-    by Less h = absurd (omega (arith, ints))
-    by Equal h = h
-    by Greater h = absurd (omega (arith, ints))
+one_number x y a b = grind (arith, common_steps, ints)
 
 pub through : (x y z : ℤ) → x ≤ℤ y → y ≤ℤ z → x ≤ℤ z
 through x y z a b = omega (arith, ints)

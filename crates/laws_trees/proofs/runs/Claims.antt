@@ -1,9 +1,10 @@
 -- Claims on runs that hold of the run of every sound tree, since they are kept from step to step.
-use Rattle.std.proofs.Common.{◌≡◌, ◌≢◌, ℕ, ◌<◌, ◌||◌, true, false, List, [], ◌∷◌, ◌++◌, length, Option, Some, None, is_some, slice_get, Contains, IsTrue, refl, sym, ap, ◌∙◌, subst, inl, inr}
+use Rattle.std.proofs.Common.{◌≡◌, ◌≢◌, ℕ, ◌<◌, ◌||◌, true, false, List, [], ◌∷◌, ◌++◌, length, Option, Some, None, is_some, slice_get, Contains, IsTrue, refl, sym, ap, ◌∙◌, subst, inl, inr, arith}
 use Rattle.std.proofs.lemmas.Bool.{both_ways, false≢true}
 use Rattle.std.proofs.lemmas.Option.{none-some, same_Some}
 use Rattle.std.proofs.lemmas.List.Elements.{Contains-append_left, Contains-append_right, All-contains}
 use Rattle.std.proofs.Math.Bool.{or-true}
+use Rattle.std.proofs.lemmas.Grind.{common_steps}
 use Rattle.model.specs.rules.Values.{Value}
 use Rattle.model.specs.rules.Meaning.{Content, one, contents}
 use Rattle.model.specs.rules.Outcome.{Outcome, ran_through, then_option}
@@ -44,9 +45,7 @@ some_rule rules ids some known =
     (m.0, g.0, m.1, g.1)
 
 asker : (rules : List SetRule) (ids : List ℕ) (s : ℕ) (c : Constraint) → ids ≢ [] → Known rules ids → AllAsk rules ids s c → (r : SetRule) × Contains rules r × Contains r.constraints (s, c)
-asker rules ids s c some known ask =
-    let m = some_rule rules ids some known in
-    (m.1, member_from_get rules m.0 m.1 m.3, constraint_in m.1.constraints s c (ask m.0 m.1 m.2 m.3))
+asker rules ids s c some known ask = grind (arith, common_steps, some_rule, member_from_get, constraint_in)
 
 -- under the pick, and under each longer one that the world serves, the demands of none of these rules hold
 abbrev pub NeverHold : ClearWorld → Pick → List ℕ → Type 0

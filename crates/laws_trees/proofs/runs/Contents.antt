@@ -1,7 +1,8 @@
 -- The content of a site under a pick, from the contents of its sources.
-use Rattle.std.proofs.Common.{◌≡◌, ℕ, zero, suc, ◌<◌, List, [], ◌∷◌, length, Option, Some, None, slice_get, Contains, refl, ap, ◌∙◌, subst, inl, inr, arith}
+use Rattle.std.proofs.Common.{◌≡◌, ℕ, zero, suc, ◌<◌, List, [], ◌∷◌, length, Option, Some, None, slice_get, Contains, refl, ap, ◌∙◌, arith}
 use Rattle.std.proofs.lemmas.Bool.{cases_lt}
-use Rattle.model.specs.sites.Sites.{Site, bool_site, int_site, prim_site, argument_site, extractor_site, constructor_site, iterator_site, make_variant_site, match_variant_site, make_struct_site, extract_struct_site, make_some_site, match_some_site, match_tuple_site, SiteTerm, extractor_call, constructor_call, pick_of, variant_made, variant_field, struct_made, struct_field, some_made, some_part, tuple_part, site_term_and, each_term, layer, layer_at, unfolded, unfold_site, sources_of, sources_at}
+use Rattle.std.proofs.lemmas.Grind.{common_steps}
+use Rattle.model.specs.sites.Sites.{Site, bool_site, int_site, prim_site, argument_site, extractor_site, constructor_site, iterator_site, make_variant_site, match_variant_site, make_struct_site, extract_struct_site, make_some_site, match_some_site, match_tuple_site, SiteTerm, extractor_call, constructor_call, pick_of, variant_made, variant_field, struct_made, struct_field, some_made, some_part, tuple_part, each_term, layer, layer_at, unfolded, unfold_site, sources_of, sources_at}
 use Rattle.model.specs.trees.Run.{World}
 use Rattle.model.specs.rules.Picks.{Pick, site_content}
 use Rattle.model.specs.trees.Collects.{content_at}
@@ -20,10 +21,7 @@ sources_in o = elim o as (λ _. List ℕ) [ None ↦ [] | Some b ↦ sources_of 
 -- 1. a layer is made of what the sources stand for
 same_terms : (f g : ℕ → SiteTerm) (ss : List ℕ) → ((u : ℕ) → Contains ss u → f u ≡ g u) → each_term f ss ≡ each_term g ss
 same_terms f g [] h = refl
-same_terms f g (s ∷ ss) h =
-    let e = h s (in_head s ss) in
-    let k = same_terms f g ss (λ u c. h u (in_tail s u ss c)) in
-    λ i. site_term_and (e i) (k i)
+same_terms f g (s ∷ ss) h = grind (arith, common_steps, same_terms f g ss (λ u c. h u (in_tail s u ss c)), in_head, in_tail)
 
 same_layer : (f g : ℕ → SiteTerm) (b : Site) → ((u : ℕ) → Contains (sources_of b) u → f u ≡ g u) → layer f b ≡ layer g b
 same_layer f g (bool_site b ty) h = refl
@@ -55,11 +53,7 @@ module _ (sites : List Site) (before : SourcesBefore sites) where
 
   pub unfolded_enough : (n u : ℕ) → u < n → unfolded n sites u ≡ unfold_site sites u
   unfolded_enough zero u l = absurd (omega arith)
-  unfolded_enough (suc n) u l =
-      elim (cases_lt u n) [
-        | inl m ↦ unfolded_more n u m ∙ unfolded_enough n u m
-        | inr m ↦ let e : u ≡ n = omega arith in subst (λ k. unfolded (suc k) sites u ≡ unfold_site sites u) e refl
-      ]
+  unfolded_enough (suc n) u l = grind (arith, common_steps, unfolded_enough n u, cases_lt, unfolded_more)
 
   pub unfolded_layer : (s : ℕ) (b : Site) → slice_get sites s ≡ Some b → unfold_site sites s ≡ layer (unfold_site sites) b
   unfolded_layer s b e =

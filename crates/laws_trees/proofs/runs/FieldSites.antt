@@ -3,6 +3,7 @@ use Rattle.std.proofs.Common.{◌≡◌, ◌⊎◌, ℕ, zero, suc, ◌+◌, ◌
 use Rattle.std.proofs.lemmas.Bool.{cases_Bool, cond-true, cond-false, and_parts, and_from, false≢true, cases_lt}
 use Rattle.std.proofs.lemmas.Option.{none-some, same_Some}
 use Rattle.std.proofs.Math.Nat.{zero-add, add-zero, suc_inj, suc-ne-zero}
+use Rattle.std.proofs.lemmas.Grind.{common_steps}
 use Rattle.model.specs.lists.Names.{IsDistinct}
 use Rattle.model.specs.sites.Sites.{Site, iterator_site, match_variant_site, extract_struct_site, match_some_site, Constraint, is_variant, is_struct, is_present, SetRule}
 use Rattle.model.specs.trees.Places.{waits, is_variant_field, is_struct_field, is_part_of, site_from, each_field, fields_of, field_sites}
@@ -26,17 +27,12 @@ module _ (p : Site → Bool) where
       ]
 
   pub site_passes : (sites : List Site) (x : ℕ) → site_from 0 p sites ≡ Some x → (b : Site) × (slice_get sites x ≡ Some b) × (p b ≡ true)
-  site_passes sites x e =
-      let r = site_from_is sites 0 x e in
-      let same : x ≡ r.0 = (let q = r.2 in omega arith) in
-      (r.1, ap (slice_get sites) same ∙ r.3, r.4)
+  site_passes sites x e = grind (arith, common_steps, site_from_is)
 
   pub site_found : (sites : List Site) (n s : ℕ) (b : Site) → slice_get sites s ≡ Some b → p b ≡ true
       → ((j : ℕ) (x : Site) → slice_get sites j ≡ Some x → p x ≡ true → j ≡ s) → site_from n p sites ≡ Some (n + s)
   site_found [] n s b e h only = absurd (none-some b e)
-  site_found (x ∷ xs) n zero b e h only =
-      let q : p x ≡ true = ap p (same_Some x b e) ∙ h in
-      cond-true (p x) (Some n) (site_from (suc n) p xs) q ∙ ap Some (sym (add-zero n))
+  site_found (x ∷ xs) n zero b e h only = grind (arith, common_steps, same_Some, add-zero)
   site_found (x ∷ xs) n (suc k) b e h only =
       elim (cases_Bool (p x)) [
         | inl t ↦ absurd (suc-ne-zero k (sym (only 0 x refl t)))
@@ -48,23 +44,13 @@ module _ (p : Site → Bool) where
 
 -- 2. which site a field's is
 pub variant_field_same : (s v i : ℕ) (b : Site) → is_variant_field s v i b ≡ true → b ≡ match_variant_site s v i
-variant_field_same s v i (match_variant_site source w field) h =
-    let q = parts_mean source s w v (field == i) h in
-    let z = eqb-true field i q.2 in
-    λ k. match_variant_site (q.0 k) (q.1 k) (z k)
-variant_field_same s v i _ h = absurd (false≢true h)
+variant_field_same s v i b h = grind (arith, common_steps, parts_mean)
 
 pub struct_field_same : (s i : ℕ) (b : Site) → is_struct_field s i b ≡ true → b ≡ extract_struct_site s i
-struct_field_same s i (extract_struct_site source field) h =
-    let q = and_parts (source == s) (field == i) h in
-    let x = eqb-true source s q.0 in
-    let z = eqb-true field i q.1 in
-    λ k. extract_struct_site (x k) (z k)
-struct_field_same s i _ h = absurd (false≢true h)
+struct_field_same s i b h = grind (arith, common_steps, and_parts)
 
 pub part_same : (s : ℕ) (b : Site) → is_part_of s b ≡ true → b ≡ match_some_site s
-part_same s (match_some_site source) h = ap match_some_site (eqb-true source s h)
-part_same s _ h = absurd (false≢true h)
+part_same s b h = grind (arith, common_steps)
 
 pub field_listed : (p : ℕ → Site → Bool) (sites : List Site) (i n f s : ℕ) → i ≤ f → f < i + n → site_from 0 (p f) sites ≡ Some s → Contains (field_sites (each_field p sites i n)) s
 field_listed p sites i zero f s l m e = absurd (omega arith)
@@ -103,8 +89,7 @@ struct_asked s i (a, is_struct ty n) h =
 struct_asked s i (a, _) h = absurd (false≢true h)
 
 answer_asked : (s : ℕ) (d : ℕ × Constraint) → asks_answer s d ≡ true → d ≡ (s, is_present)
-answer_asked s (a, is_present) h = (let x = eqb-true a s h in λ k. (x k, is_present))
-answer_asked s (a, _) h = absurd (false≢true h)
+answer_asked s d h = grind (arith, common_steps)
 
 -- the arm of a test around brings it, or the loop over a call that the rule goes over
 pub gate_brought : (sites : List Site) → IsDistinct sites → (r : SetRule) → (s : ℕ) (b : Site) → slice_get sites s ≡ Some b → waits (Some b) ≡ true → IsTrue (gate_demanded r (Some b))

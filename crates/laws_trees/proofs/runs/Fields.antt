@@ -1,7 +1,8 @@
 -- What the sites of fields hold under a pick, where a content meets a constraint; and that an arm binds them.
-use Rattle.std.proofs.Common.{◌≡◌, ◌⊎◌, ℕ, zero, suc, ◌+◌, ◌==◌, Bool, ◌&&◌, List, [], ◌∷◌, length, Option, Some, None, slice_get, Contains, refl, sym, ap, ◌∙◌, subst, inl, inr, arith, eqb-true, eq-eqb}
-use Rattle.std.proofs.lemmas.Bool.{cases_Bool, cond-true, cond-false, and_parts}
+use Rattle.std.proofs.Common.{◌≡◌, ◌⊎◌, ℕ, zero, suc, ◌+◌, ◌==◌, Bool, List, [], ◌∷◌, length, Option, Some, None, slice_get, Contains, refl, sym, ap, ◌∙◌, subst, inl, inr, arith, eq-eqb}
+use Rattle.std.proofs.lemmas.Bool.{cond-true, and_parts}
 use Rattle.std.proofs.lemmas.Option.{none-some, same_Some}
+use Rattle.std.proofs.lemmas.Grind.{common_steps}
 use Rattle.model.specs.rules.Values.{Value, Values, of_variant, of_struct, listed}
 use Rattle.model.specs.rules.Meaning.{Content, one, just, Meaning}
 use Rattle.model.specs.rules.Outcome.{then_option}
@@ -17,29 +18,13 @@ use Rattle.laws_trees.proofs.runs.FieldSites.{site_passes, variant_field_same, s
 
 -- 1. what a content that meets a constraint is made of
 variant_met : (m : Meaning) (ty v n : ℕ) (x : Content) (cs : List Content) → content_fields m (is_variant ty v n) x ≡ Some cs → (t : ℕ) × (vs : Values) × (x ≡ one (of_variant t v vs)) × (cs ≡ all_one (listed vs))
-variant_met m ty v n (one (of_variant t i vs)) cs e =
-    elim (cases_Bool ((t == ty) && (i == v))) [
-      | inl h ↦
-          let y = eqb-true i v (and_parts (t == ty) (i == v) h).1 in
-          (t, vs, ap (λ k. one (of_variant t k vs)) y, same_Some cs (all_one (listed vs)) (sym e ∙ cond-true ((t == ty) && (i == v)) (Some (all_one (listed vs))) None h))
-      | inr h ↦ absurd (none-some cs (sym (cond-false ((t == ty) && (i == v)) (Some (all_one (listed vs))) None h) ∙ e))
-    ]
-variant_met m ty v n (one _) cs e = absurd (none-some cs e)
-variant_met m ty v n _ cs e = absurd (none-some cs e)
+variant_met m ty v n x cs e = grind (arith, common_steps, and_parts, same_Some, none-some)
 
 struct_met : (m : Meaning) (ty n : ℕ) (x : Content) (cs : List Content) → content_fields m (is_struct ty n) x ≡ Some cs → (t : ℕ) × (vs : Values) × (x ≡ one (of_struct t vs)) × (cs ≡ all_one (listed vs))
-struct_met m ty n (one (of_struct t vs)) cs e =
-    elim (cases_Bool (t == ty)) [
-      | inl h ↦ (t, vs, refl, same_Some cs (all_one (listed vs)) (sym e ∙ cond-true (t == ty) (Some (all_one (listed vs))) None h))
-      | inr h ↦ absurd (none-some cs (sym (cond-false (t == ty) (Some (all_one (listed vs))) None h) ∙ e))
-    ]
-struct_met m ty n (one _) cs e = absurd (none-some cs e)
-struct_met m ty n _ cs e = absurd (none-some cs e)
+struct_met m ty n x cs e = grind (arith, common_steps, same_Some, none-some)
 
 pub present_met : (m : Meaning) (x : Content) (cs : List Content) → content_fields m is_present x ≡ Some cs → (c : Content) × (x ≡ just c) × (cs ≡ c ∷ [])
-present_met m (just c) cs e = (c, refl, same_Some cs (c ∷ []) (sym e))
-present_met m (one v) cs e = absurd (none-some cs e)
-present_met m _ cs e = absurd (none-some cs e)
+present_met m x cs e = grind (arith, common_steps, same_Some, none-some)
 
 -- 2. the sites of fields hold them
 module _ (w : World) (pick : Pick) (before : SourcesBefore w.sites) where
@@ -67,8 +52,7 @@ module _ (w : World) (pick : Pick) (before : SourcesBefore w.sites) where
   site_is s x b e q = ap sources_in e ∙ q
 
   no_fields : (s : ℕ) (cs : List Content) → length cs ≡ 0 → FieldsHold s [] cs
-  no_fields s [] l = tt
-  no_fields s (c ∷ cs) l = absurd (omega arith)
+  no_fields s cs l = grind (arith, common_steps)
 
   pub fields_hold : (s : ℕ) (c : Constraint) (x : Content) (cs : List Content) → content_at w pick s ≡ Some x → content_fields w.meaning c x ≡ Some cs → length cs ≡ length (fields_of w.sites s c) → FieldsHold s (fields_of w.sites s c) cs
   fields_hold s (is_variant ty v n) x cs e met l =
@@ -138,17 +122,12 @@ module _ (w : World) (pick : Pick) (before : SourcesBefore w.sites) where
       from t (inl a) = inl (inl a)
       from t (inr m) = elim (in_cases x t (field_sites rest) m) [ inl e ↦ inl (inr e) | inr c ↦ inr c ]
   fields_bound s [] (c ∷ cs) env Kept held k h = absurd h
-  fields_bound s (o ∷ rest) [] env Kept held k h = absurd (none_hold o rest h)
-    where
-      none_hold : (o : Option ℕ) (rest : List (Option ℕ)) → FieldsHold s (o ∷ rest) [] → ⊥
-      none_hold None rest h = h
-      none_hold (Some x) rest h = h
+  fields_bound s (o ∷ rest) [] env Kept held k h = grind (arith, common_steps)
 
   -- and make no impure call
   pub fields_pure : (s : ℕ) (fields : List (Option ℕ)) (cs : List Content) → FieldsHold s fields cs → (t : ℕ) → Contains (field_sites fields) t → IsPureAt w.sites t
   fields_pure s [] cs h t m = absurd (nothing_in t m)
   fields_pure s (None ∷ rest) (c ∷ cs) h t m = fields_pure s rest cs h t m
-  fields_pure s (Some x ∷ rest) (c ∷ cs) h t m =
-      elim (in_cases x t (field_sites rest) m) [ inl e ↦ subst (IsPureAt w.sites) e h.2 | inr d ↦ fields_pure s rest cs h.3 t d ]
+  fields_pure s (Some x ∷ rest) (c ∷ cs) h t m = grind (arith, common_steps, fields_pure s rest cs h.3 t, in_cases)
   fields_pure s (None ∷ rest) [] h t m = absurd h
   fields_pure s (Some x ∷ rest) [] h t m = absurd h

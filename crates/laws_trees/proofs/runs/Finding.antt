@@ -1,8 +1,9 @@
 -- Choosing from lists of rules, one after another: a rule of greatest priority is taken, or none holds.
-use Rattle.std.proofs.Common.{◌≡◌, ◌⊎◌, ℕ, List, [], ◌∷◌, ◌++◌, Some, slice_get, Contains, ◌≤ℤ◌, sym, ap, ◌∙◌, subst, inl, inr}
+use Rattle.std.proofs.Common.{◌≡◌, ◌⊎◌, ℕ, List, [], ◌∷◌, ◌++◌, Some, slice_get, Contains, ◌≤ℤ◌, sym, ap, ◌∙◌, subst, inl, inr, arith}
 use Rattle.std.proofs.lemmas.Option.{same_Some}
 use Rattle.std.proofs.lemmas.List.Elements.{Contains-append_left, Contains-append_right, Contains-append_cases}
 use Rattle.std.specs.Int.Signed.{≤ℤ_refl}
+use Rattle.std.proofs.lemmas.Grind.{common_steps}
 use Rattle.model.specs.rules.Outcome.{Outcome, no_rule}
 use Rattle.model.specs.sites.Sites.{SetRule}
 use Rattle.model.specs.trees.Run.{Trace, at_start, or_next}
@@ -29,14 +30,12 @@ module _ (rules : List SetRule) (Holds : SetRule → Type 0) (Takes : SetRule �
 
   pub found_left : (here later : List ℕ) (o : Outcome) → Found here o → NoneHolds later → Found (here ++ later) o
   found_left here later o (inl t) none = inl (first_stays here later o t (λ j q l at m. absurd (none j q l at m)))
-  found_left here later o (inr (n, e)) none =
-      inr (λ j q l at m. elim (Contains-append_cases here later j l) [ inl a ↦ n j q a at m | inr b ↦ none j q b at m ], e)
+  found_left here later o (inr (n, e)) none = grind (arith, common_steps)
 
   pub found_right : (here later : List ℕ) (o : Outcome) → NoneHolds here → Found later o → Found (here ++ later) o
   found_right here later o none (inl (i, r, k, get, holds, most, e)) =
       inl (i, r, Contains-append_right here later i k, get, holds, λ j q l at m. elim (Contains-append_cases here later j l) [ inl a ↦ absurd (none j q a at m) | inr b ↦ most j q b at m ], e)
-  found_right here later o none (inr (n, e)) =
-      inr (λ j q l at m. elim (Contains-append_cases here later j l) [ inl a ↦ none j q a at m | inr b ↦ n j q b at m ], e)
+  found_right here later o none (inr (n, e)) = grind (arith, common_steps)
 
   -- a step, then the steps after it, where a rule that was taken ended the run
   pub next_found : (here later : List ℕ) (o : Outcome) (go : Trace → Outcome) → ((i : ℕ) (r : SetRule) → slice_get rules i ≡ Some r → Takes r o → or_next o go ≡ o)

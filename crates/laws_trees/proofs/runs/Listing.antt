@@ -2,7 +2,8 @@
 -- more is listed.
 use Rattle.std.proofs.Common.{◌≡◌, ◌⊎◌, ℕ, zero, suc, ◌<◌, true, false, ◌||◌, List, [], ◌∷◌, ◌++◌, Contains, sym, ◌∙◌, subst, inl, inr, arith}
 use Rattle.std.proofs.lemmas.Bool.{cases_Bool, cond-true, cond-false, or_cases, or_parts, false≢true, false_from_ne_true}
-use Rattle.std.proofs.lemmas.List.Elements.{Contains-append_left, Contains-append_right, Contains-append_cases}
+use Rattle.std.proofs.lemmas.List.Elements.{Contains-append_right, Contains-append_cases}
+use Rattle.std.proofs.lemmas.Grind.{common_steps}
 use Rattle.model.specs.sites.Sites.{Site, sources_at}
 use Rattle.model.specs.trees.Places.{is_in, each_after, listed_below}
 use Rattle.model.proofs.Members.{nothing_in, in_head, in_tail, in_cases, in_alone, member_found, member_is_in}
@@ -17,23 +18,20 @@ module _ (Base : ℕ → Type 0) where
   IsHere done t = Base t ⊎ Contains done t
 
   pub stays_here : (done : List ℕ) (s t : ℕ) → IsHere done t → IsHere (done ++ s ∷ []) t
-  stays_here done s t (inl a) = inl a
-  stays_here done s t (inr c) = inr (Contains-append_left done (s ∷ []) t c)
+  stays_here done s t h = grind (arith, common_steps)
 
   pub last_here : (done : List ℕ) (s t : ℕ) → s ≡ t → IsHere (done ++ s ∷ []) t
   last_here done s t e = inr (Contains-append_right done (s ∷ []) t (subst (Contains (s ∷ [])) e (in_head s [])))
 
   pub here_or_last : (done : List ℕ) (s t : ℕ) → IsHere (done ++ s ∷ []) t → IsHere done t ⊎ (s ≡ t)
-  here_or_last done s t (inl a) = inl (inl a)
-  here_or_last done s t (inr c) = elim (listed_last done s t c) [ inl d ↦ inl (inr d) | inr e ↦ inr e ]
+  here_or_last done s t h = grind (arith, common_steps, listed_last)
 
   -- what the tests of a listing say
   pub met_here : (emitted : List ℕ) → ((t : ℕ) → is_in t emitted ≡ true → Base t) → (done : List ℕ) (s : ℕ) → (is_in s emitted || is_in s done) ≡ true → IsHere done s
   met_here emitted base done s h = elim (or_cases (is_in s emitted) (is_in s done) h) [ inl a ↦ inl (base s a) | inr d ↦ inr (member_found s done d) ]
 
 pub not_here : (emitted done : List ℕ) (s : ℕ) → (is_in s emitted || is_in s done) ≡ false → IsHere (λ t. is_in t emitted ≡ true) done s → ⊥
-not_here emitted done s h (inl i) = false≢true (sym (or_parts (is_in s emitted) (is_in s done) h).0 ∙ i)
-not_here emitted done s h (inr c) = false≢true (sym (or_parts (is_in s emitted) (is_in s done) h).1 ∙ member_is_in s done c)
+not_here emitted done s h k = grind (arith, common_steps, or_parts, member_is_in)
 
 -- 2. what is listed below the sources of a site has smaller numbers
 each_within : (f : List ℕ → ℕ → List ℕ) (m : ℕ) (xs : List ℕ) → ((x : ℕ) → Contains xs x → (done : List ℕ) (u : ℕ) → Contains (f done x) u → Contains done u ⊎ (u < m))
@@ -43,8 +41,7 @@ each_within f m (x ∷ xs) h done u c =
     elim (each_within f m xs (λ y d. h y (in_tail x y xs d)) (f done x) u c) [ inl d ↦ h x (in_head x xs) done u d | inr l ↦ inr l ]
 
 smaller : (x y u : ℕ) (P : Type 0) → y < x → P ⊎ (u < suc y) → P ⊎ (u < x)
-smaller x y u P l (inl p) = inl p
-smaller x y u P l (inr k) = inr (omega (arith, l, k))
+smaller x y u P l h = grind (arith, common_steps)
 
 module _ (sites : List Site) (before : SourcesBefore sites) where
   listed_within : (emitted : List ℕ) (n x : ℕ) (done : List ℕ) (u : ℕ) → Contains (listed_below n sites emitted done x) u → Contains done u ⊎ (u < suc x)

@@ -1,7 +1,8 @@
 -- Where a run stands in the body of a loop over a call, under a pick that names one place more, and after the loop.
-use Rattle.std.proofs.Common.{◌≡◌, ◌⊎◌, ℕ, ◌==◌, true, List, [], ◌∷◌, ◌++◌, Option, Some, None, slice_get, Contains, IsTrue, refl, sym, ap, ◌∙◌, subst, inl, inr, eqb-true, eq-eqb}
+use Rattle.std.proofs.Common.{◌≡◌, ◌⊎◌, ℕ, ◌==◌, true, List, [], ◌∷◌, ◌++◌, Option, Some, None, slice_get, Contains, IsTrue, refl, sym, ap, ◌∙◌, subst, inl, inr, eqb-true, arith}
 use Rattle.std.proofs.lemmas.Bool.{or_cases, or_left, or_right, false≢true}
 use Rattle.std.proofs.lemmas.List.Elements.{Contains-append_left, Contains-append_right, Contains-append_cases}
+use Rattle.std.proofs.lemmas.Grind.{common_steps}
 use Rattle.model.specs.rules.Meaning.{Content, many, Contents, contents}
 use Rattle.model.specs.rules.Outcome.{then_option}
 use Rattle.model.specs.rules.Picks.{Pick, picked}
@@ -30,12 +31,7 @@ module _ (w : World) (pick rest : Pick) where
   grown s c e = content_grown w.meaning w.args pick rest (unfold_site w.sites s) c e
 
   held_grown : (env : Env) (P : ℕ → Type 0) → Held w pick env P → Held w (pick ++ rest) env P
-  held_grown env P h = record {
-    there = λ t k. let c = h.there t k in (c.0, grown t c.0 c.1);
-    bound = λ t k n. let c = h.there t k in h.bound t k n ∙ c.1 ∙ sym (grown t c.0 c.1);
-    right = λ t c e. let r = h.right t c e in (r.0, grown t c r.1);
-    closed = h.closed;
-  }
+  held_grown env P h = grind (arith, common_steps, grown)
 
   joined_grown : (ps : List (ℕ × ℕ)) → Joined w pick ps → Joined w (pick ++ rest) ps
   joined_grown [] h = tt
@@ -158,13 +154,10 @@ module _ (clear : ClearWorld) (loop : Loop clear) (n : ℕ) where
       ]
 
   to : (t : ℕ) → Kept After loop.at.calls t ⊎ (loop.result ≡ t) → Kept Body loop.at.calls t
-  to t (inl (inl e)) = inl (or_right (loop.result == t) (is_in t (under clear.world.sites (loop.source ∷ []) ++ loop.around.emitted)) e)
-  to t (inl (inr l)) = inr l
-  to t (inr e) = inl (or_left (loop.result == t) (is_in t (under clear.world.sites (loop.source ∷ []) ++ loop.around.emitted)) (eq-eqb loop.result t e))
+  to t h = grind (arith, common_steps, or_right, under, or_left)
 
   from : (t : ℕ) → Kept Body loop.at.calls t → Kept After loop.at.calls t ⊎ (loop.result ≡ t)
-  from t (inl i) = elim (or_cases (loop.result == t) (is_in t (under clear.world.sites (loop.source ∷ []) ++ loop.around.emitted)) i) [ inl q ↦ inr (eqb-true loop.result t q) | inr e ↦ inl (inl e) ]
-  from t (inr l) = inl (inr l)
+  from t h = grind (arith, common_steps, or_cases, under)
 
   pub at_loop : (c : Content) → slice_get (contents loop.answers) n ≡ Some c → ServesUnder clear.world clear.rules longer → At clear Body longer ((loop.result, c) ∷ loop.env)
   at_loop c answer served = record {

@@ -1,35 +1,21 @@
 -- The order of constraints is strict.
-use Rattle.std.proofs.Common.{◌≡◌, ◌⊎◌, ℕ, ◌==◌, Bool, true, ◌&&◌, refl, sym, ap, ◌∙◌, subst, inl, inr, arith, eqb-true, eq-eqb, ltb-true, lt-ltb, nat_lt, int_cmp, int_eq, is_lt, is_eq, IsTrue, ℤ, Ordering, Less, Equal, Greater}
+use Rattle.std.proofs.Common.{◌≡◌, ◌⊎◌, ℕ, ◌==◌, Bool, true, ◌&&◌, refl, sym, ap, ◌∙◌, subst, inl, inr, arith, eqb-true, eq-eqb, ltb-true, nat_lt, int_cmp, int_eq, is_lt, is_eq, IsTrue, ℤ, Ordering, Less}
 use Rattle.std.proofs.lemmas.Bool.{and_parts, and_from, or_cases, or_left, or_right, false≢true}
 use Rattle.std.proofs.lemmas.Bool.Decides.{Decides-int_eq}
 use Rattle.std.specs.Cmp.{int_cmp_total}
-use Rattle.model.specs.sites.Sites.{Constraint, is_variant, is_struct, is_bool, is_int, is_prim, is_present}
-use Rattle.model.specs.trees.Sound.{form, or_later, as_number, comes_before}
+use Rattle.std.proofs.lemmas.Grind.{common_steps}
+use Rattle.model.specs.sites.Sites.{Constraint, is_variant, is_struct, is_bool, is_int, is_prim}
+use Rattle.model.specs.trees.Sound.{form, or_later, comes_before}
 
 -- what a difference later on adds to an order by what stands first
 later_chain : (l s t l' s' t' l'' s'' t'' : Bool)
     → (l ≡ true → l' ≡ true → l'' ≡ true) → (l ≡ true → s' ≡ true → l'' ≡ true) → (s ≡ true → l' ≡ true → l'' ≡ true)
     → (s ≡ true → s' ≡ true → s'' ≡ true) → (t ≡ true → t' ≡ true → t'' ≡ true)
     → or_later l s t ≡ true → or_later l' s' t' ≡ true → or_later l'' s'' t'' ≡ true
-later_chain l s t l' s' t' l'' s'' t'' ll ls sl ss tt' h k =
-    elim (or_cases l (s && t) h) [
-      | inl a ↦
-          elim (or_cases l' (s' && t') k) [
-            | inl b ↦ or_left l'' (s'' && t'') (ll a b)
-            | inr b ↦ or_left l'' (s'' && t'') (ls a (and_parts s' t' b).0)
-          ]
-      | inr a ↦
-          elim (or_cases l' (s' && t') k) [
-            | inl b ↦ or_left l'' (s'' && t'') (sl (and_parts s t a).0 b)
-            | inr b ↦ or_right l'' (s'' && t'') (and_from s'' t'' (ss (and_parts s t a).0 (and_parts s' t' b).0) (tt' (and_parts s t a).1 (and_parts s' t' b).1))
-          ]
-    ]
+later_chain l s t l' s' t' l'' s'' t'' ll ls sl ss tt' h k = grind (arith, common_steps, or_cases, or_left, and_parts, or_right, and_from)
 
 pub below_chain : (a b c : ℕ) → nat_lt a b ≡ true → nat_lt b c ≡ true → nat_lt a c ≡ true
-below_chain a b c h k =
-    let p = ltb-true a b h in
-    let q = ltb-true b c k in
-    lt-ltb a c (omega arith)
+below_chain a b c h k = grind (arith, common_steps)
 
 below_same : (a b c : ℕ) → nat_lt a b ≡ true → (b == c) ≡ true → nat_lt a c ≡ true
 below_same a b c h k = subst (λ x. nat_lt a x ≡ true) (eqb-true b c k) h
@@ -41,9 +27,7 @@ same_chain : (a b c : ℕ) → (a == b) ≡ true → (b == c) ≡ true → (a ==
 same_chain a b c h k = eq-eqb a c (eqb-true a b h ∙ eqb-true b c k)
 
 is_less : (o : Ordering) → is_lt o ≡ true → o ≡ Less
-is_less Less h = refl
-is_less Equal h = absurd (false≢true h)
-is_less Greater h = absurd (false≢true h)
+is_less o h = grind (arith, common_steps)
 
 int_below_chain : (a b c : ℤ) → is_lt (int_cmp a b) ≡ true → is_lt (int_cmp b c) ≡ true → is_lt (int_cmp a c) ≡ true
 int_below_chain a b c h k = ap is_lt (int_cmp_total.trans a b c (is_less (int_cmp a b) h) (is_less (int_cmp b c) k))
@@ -62,21 +46,11 @@ int_not_below a h = false≢true (ap is_eq (sym (is_less (int_cmp a a) h)) ∙ (
 
 -- of different forms, the one of the lower form comes first
 form_first : (c d : Constraint) → nat_lt (form c) (form d) ≡ true → comes_before c d ≡ true
-form_first (is_variant s i n) (is_variant t j m) h = absurd (false≢true h)
-form_first (is_struct s n) (is_struct t m) h = absurd (false≢true h)
-form_first (is_bool a s) (is_bool b t) h = absurd (false≢true h)
-form_first (is_int y s) (is_int z t) h = absurd (false≢true h)
-form_first (is_prim a) (is_prim b) h = absurd (false≢true h)
-form_first c d h = h
+form_first c d h = grind (arith, common_steps)
 
 -- what comes first has no higher form
 form_within : (c d : Constraint) → comes_before c d ≡ true → (nat_lt (form c) (form d) ≡ true) ⊎ (form c ≡ form d)
-form_within (is_variant s i n) (is_variant t j m) h = inr refl
-form_within (is_struct s n) (is_struct t m) h = inr refl
-form_within (is_bool a s) (is_bool b t) h = inr refl
-form_within (is_int y s) (is_int z t) h = inr refl
-form_within (is_prim a) (is_prim b) h = inr refl
-form_within c d h = inl h
+form_within c d h = grind (arith, common_steps)
 
 -- the order of constraints of one form
 same_form_chain : (c d e : Constraint) → form c ≡ form d → form d ≡ form e → IsTrue (comes_before c d) → IsTrue (comes_before d e) → IsTrue (comes_before c e)
@@ -84,12 +58,8 @@ same_form_chain (is_variant s i n) (is_variant t j m) (is_variant u k l) x y h g
     later_chain (nat_lt s t) (s == t) (or_later (nat_lt i j) (i == j) (nat_lt n m)) (nat_lt t u) (t == u) (or_later (nat_lt j k) (j == k) (nat_lt m l)) (nat_lt s u) (s == u) (or_later (nat_lt i k) (i == k) (nat_lt n l))
     (below_chain s t u) (below_same s t u) (same_below s t u) (same_chain s t u)
     (later_chain (nat_lt i j) (i == j) (nat_lt n m) (nat_lt j k) (j == k) (nat_lt m l) (nat_lt i k) (i == k) (nat_lt n l) (below_chain i j k) (below_same i j k) (same_below i j k) (same_chain i j k) (below_chain n m l)) h g
-same_form_chain (is_struct s n) (is_struct t m) (is_struct u l) x y h g =
-    later_chain (nat_lt s t) (s == t) (nat_lt n m) (nat_lt t u) (t == u) (nat_lt m l) (nat_lt s u) (s == u) (nat_lt n l)
-    (below_chain s t u) (below_same s t u) (same_below s t u) (same_chain s t u) (below_chain n m l) h g
-same_form_chain (is_bool a s) (is_bool b t) (is_bool c u) x y h k =
-    later_chain (nat_lt (as_number a) (as_number b)) (as_number a == as_number b) (nat_lt s t) (nat_lt (as_number b) (as_number c)) (as_number b == as_number c) (nat_lt t u) (nat_lt (as_number a) (as_number c)) (as_number a == as_number c) (nat_lt s u)
-    (below_chain (as_number a) (as_number b) (as_number c)) (below_same (as_number a) (as_number b) (as_number c)) (same_below (as_number a) (as_number b) (as_number c)) (same_chain (as_number a) (as_number b) (as_number c)) (below_chain s t u) h k
+same_form_chain (is_struct s n) (is_struct t m) (is_struct u l) x y h g = grind (arith, common_steps, later_chain, below_chain, below_same, same_below, same_chain)
+same_form_chain (is_bool a s) (is_bool b t) (is_bool c u) x y h k = grind (arith, common_steps, later_chain, below_chain, below_same, same_below, same_chain)
 same_form_chain (is_int a s) (is_int b t) (is_int c u) x y h k =
     later_chain (is_lt (int_cmp a b)) (int_eq a b) (nat_lt s t) (is_lt (int_cmp b c)) (int_eq b c) (nat_lt t u) (is_lt (int_cmp a c)) (int_eq a c) (nat_lt s u)
     (int_below_chain a b c) (int_below_same a b c) (int_same_below a b c) (int_same_chain a b c) (below_chain s t u) h k
@@ -112,10 +82,4 @@ not_later : (l s t : Bool) → (l ≡ true → ⊥) → (t ≡ true → ⊥) →
 not_later l s t f g h = elim (or_cases l (s && t) h) [ inl a ↦ f a | inr b ↦ g (and_parts s t b).1 ]
 
 pub before_itself : (c : Constraint) → IsTrue (comes_before c c) → ⊥
-before_itself (is_variant s i n) h =
-    not_later (nat_lt s s) (s == s) (or_later (nat_lt i i) (i == i) (nat_lt n n)) (not_below s) (not_later (nat_lt i i) (i == i) (nat_lt n n) (not_below i) (not_below n)) h
-before_itself (is_struct s n) h = not_later (nat_lt s s) (s == s) (nat_lt n n) (not_below s) (not_below n) h
-before_itself (is_bool a s) h = not_later (nat_lt (as_number a) (as_number a)) (as_number a == as_number a) (nat_lt s s) (not_below (as_number a)) (not_below s) h
-before_itself (is_int a s) h = not_later (is_lt (int_cmp a a)) (int_eq a a) (nat_lt s s) (int_not_below a) (not_below s) h
-before_itself (is_prim a) h = not_below a h
-before_itself is_present h = false≢true h
+before_itself c h = grind (arith, common_steps, not_later, not_below, int_not_below)

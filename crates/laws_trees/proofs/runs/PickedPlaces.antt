@@ -4,6 +4,7 @@ use Rattle.std.proofs.Common.{◌≡◌, ◌⊎◌, ℕ, zero, suc, ◌<◌, tru
 use Rattle.std.specs.List.{list_all}
 use Rattle.std.proofs.lemmas.Bool.{cases_Bool, or_left, or_right, and_from}
 use Rattle.std.proofs.lemmas.List.Elements.{Contains-append_left, Contains-append_right}
+use Rattle.std.proofs.lemmas.Grind.{common_steps}
 use Rattle.model.specs.rules.Meaning.{Content}
 use Rattle.model.specs.sites.Sites.{Site, Constraint, SetRule, sources_at}
 use Rattle.model.specs.sites.Gates.{gate_demanded}
@@ -63,17 +64,7 @@ module _ (clear : ClearWorld) where
   -- 2. in the body of an equality, and in that of an arm
   pub at_equal : (ar : Around) (a b : ℕ) (pick : Pick) (env : Env) (c : Content) → At clear (wider clear.world.sites ar (a ∷ (b ∷ []))) pick env → content_at clear.world pick a ≡ Some c
       → content_at clear.world pick b ≡ Some c → At clear (in_equal (set_in clear) ar a b) pick env
-  at_equal ar a b pick env c at x y = record {
-    calls = at.calls;
-    picked = at.picked;
-    held = at.held;
-    pure = at.pure;
-    brought = at.brought;
-    brings = at.brings;
-    loops = at.loops;
-    tested = at.tested;
-    joined = ((c, x, y), at.joined);
-  }
+  at_equal ar a b pick env c at x y = grind (arith, common_steps)
 
   pub at_arm : (ar : Around) (s : ℕ) (c : Constraint) (fields : List (Option ℕ)) (pick : Pick) (env env' : Env) → (at : At clear (wider clear.world.sites ar (s ∷ [])) pick env) → fields ≡ fields_of clear.world.sites s c
       → meets clear.world.meaning c (content_at clear.world pick s) ≡ true → ((t : ℕ) → Contains (field_sites fields) t → IsPureAt clear.world.sites t)

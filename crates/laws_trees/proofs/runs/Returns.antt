@@ -1,14 +1,14 @@
 -- A return, in a term that isn't multi: it ends the run, and takes its rule.
-use Rattle.std.proofs.Common.{◌≡◌, ◌⊎◌, ℕ, suc, ◌<◌, false, List, [], ◌∷◌, ◌++◌, length, Option, Some, None, is_some, slice_get, Contains, IsTrue, refl, sym, ap, ◌∙◌, subst, inl, inr, arith}
-use Rattle.std.proofs.lemmas.Bool.{cases_Bool}
+use Rattle.std.proofs.Common.{◌≡◌, ◌⊎◌, ℕ, suc, ◌<◌, false, List, [], ◌∷◌, ◌++◌, length, Option, Some, is_some, slice_get, Contains, IsTrue, refl, sym, ap, ◌∙◌, subst, inl, inr, arith}
 use Rattle.std.proofs.lemmas.List.Elements.{Contains-append_right, All-contains}
+use Rattle.std.proofs.lemmas.Grind.{common_steps}
 use Rattle.model.specs.rules.Meaning.{Content}
 use Rattle.model.specs.rules.Outcome.{Outcome}
 use Rattle.model.specs.sites.Sites.{match_some_site, SetRule}
 use Rattle.model.specs.sites.Gates.{gate_demanded}
 use Rattle.model.specs.trees.Trees.{Tree, no_step, step, return_at}
 use Rattle.model.specs.trees.Places.{is_in, waits, below, all_below, bind_order, return_uses}
-use Rattle.model.specs.trees.Run.{World, Env, used, Bound, all_bound, unwrap_failed, no_content_there, bind_all, Trace, at_start, on_bound, or_next, with_content, returned, run_tree, run_check}
+use Rattle.model.specs.trees.Run.{World, Env, Bound, bind_all, Trace, at_start, on_bound, or_next, with_content, returned, run_tree, run_check}
 use Rattle.model.specs.trees.Sound.{IsTested}
 use Rattle.model.specs.trees.Collects.{IsPureAt}
 use Rattle.model.specs.trees.SetRuns.{tested_sites, IsUnwrap, IsTestedRule, IsReachedUnder, IsTaken, IsTakenUnder}
@@ -21,30 +21,22 @@ use Rattle.laws_trees.proofs.runs.PickedPlaces.{gate_kept}
 -- 1. a return ends a run
 module _ (w : World) (single : w.multi ≡ false) where
   last_here : (o : Option Content) (t : Trace) (go : Trace → Outcome) → or_next (with_content o t (returned w.multi t)) go ≡ with_content o t (returned w.multi t)
-  last_here None t go = refl
-  last_here (Some c) t go = ap (λ m. or_next (returned m t c) go) single ∙ sym (ap (λ m. returned m t c) single)
+  last_here o t go = grind (arith, common_steps)
 
   abbrev Returns : SetRule → Bound → Outcome
   Returns r b = on_bound b at_start (λ env t. run_check (return_at r.at r.result) w env t)
 
   return_last : (r : SetRule) (rest : Tree) (b : Bound) → on_bound b at_start (λ env t. or_next (run_check (return_at r.at r.result) w env t) (run_tree rest w env)) ≡ Returns r b
-  return_last r rest (all_bound env calls) = last_here (used w env r.result) _ (run_tree rest w env)
-  return_last r rest (unwrap_failed calls) = refl
-  return_last r rest (no_content_there calls) = refl
+  return_last r rest b = grind (arith, common_steps, last_here)
 
   returns_end : (r : SetRule) (go : Trace → Outcome) (b : Bound) → or_next (Returns r b) go ≡ Returns r b
-  returns_end r go (all_bound env calls) = last_here (used w env r.result) _ go
-  returns_end r go (unwrap_failed calls) = refl
-  returns_end r go (no_content_there calls) = refl
+  returns_end r go b = grind (arith, common_steps, last_here)
 
   pub return_alone : (r : SetRule) (rest : Tree) (binds : List ℕ) (env : Env) → run_tree (step binds (return_at r.at r.result) rest) w env at_start ≡ run_tree (step binds (return_at r.at r.result) no_step) w env at_start
   return_alone r rest binds env = return_last r rest (bind_all w env [] binds) ∙ sym (return_last r no_step (bind_all w env [] binds))
 
   pub taken_ends : (r : SetRule) (o : Outcome) (go : Trace → Outcome) → IsTaken w r o → or_next o go ≡ o
-  taken_ends r o go t =
-      let b = bind_all w t.env [] (bind_order w.sites t.around (return_uses (Some r))) in
-      let e : o ≡ Returns r b = t.outcome ∙ return_last r no_step b in
-      ap (λ x. or_next x go) e ∙ returns_end r go b ∙ sym e
+  taken_ends r o go t = grind (arith, common_steps, return_last, returns_end)
 
 -- 2. where no rule goes over a call and all that a rule demands was tested, the rule is taken
 module _ (clear : ClearWorld) (no_calls : (s : ℕ) → IsGoneOver clear.rules s → ⊥) (place : Place clear) where
@@ -71,16 +63,7 @@ module _ (clear : ClearWorld) (no_calls : (s : ℕ) → IsGoneOver clear.rules s
         omega (arith, l, k)
 
     gates_here : (s : ℕ) → Contains (all_below clear.world.sites (return_uses (Some r))) s → (waits (slice_get clear.world.sites s) ≡ false) ⊎ (IsUnwrap (slice_get clear.world.sites s) ⊎ IsTrue (is_in s place.around.emitted))
-    gates_here s c =
-        let b = get_within clear.world.sites s (result_site s c) in
-        let g = All-contains (λ x. IsTrue (gate_demanded r (slice_get clear.world.sites x)) ⊎ IsUnwrap (slice_get clear.world.sites x)) (all_below clear.world.sites (return_uses (Some r))) s rule.gates_of_result c in
-        elim (cases_Bool (waits (slice_get clear.world.sites s))) [
-          | inl t ↦ elim g [
-            | inl d ↦ inr (inr (place.at.brought s (gate_kept clear place r known all s b.0 b.1 (sym (ap waits b.1) ∙ t) (sym (ap (gate_demanded r) b.1) ∙ d))))
-            | inr u ↦ inr (inl u)
-          ]
-          | inr f ↦ inl f
-        ]
+    gates_here s c = grind (arith, common_steps, get_within, result_site, gate_kept)
 
     pub taken_here : clear.world.multi ≡ false → (rest : Tree)
         → IsTakenUnder clear.world place.pick r (run_tree (step (bind_order clear.world.sites place.around (return_uses (Some r))) (return_at r.at r.result) rest) clear.world place.env at_start)

@@ -1,7 +1,8 @@
 -- What it takes that a rule's demands hold under a pick.
-use Rattle.std.proofs.Common.{◌≡◌, ℕ, true, ◌&&◌, List, [], ◌∷◌, Option, Some, None, Contains, refl, sym, ap, ◌∙◌, inl, inr}
+use Rattle.std.proofs.Common.{◌≡◌, ℕ, true, ◌&&◌, List, [], ◌∷◌, Option, Some, None, Contains, refl, sym, ap, ◌∙◌, arith}
 use Rattle.std.specs.List.{list_all}
 use Rattle.std.proofs.lemmas.Bool.{and_parts, and_from, false≢true}
+use Rattle.std.proofs.lemmas.Grind.{common_steps}
 use Rattle.model.specs.rules.Values.{Value}
 use Rattle.model.specs.rules.Meaning.{Content, one}
 use Rattle.model.specs.rules.Outcome.{then_option}
@@ -18,10 +19,7 @@ pub joined_from : (classes : List (List ℕ)) (c : List ℕ) (a b : ℕ) → Con
 joined_from classes c a b k x y = passes_any (λ c. is_in a c && is_in b c) classes c k (and_from (is_in a c) (is_in b c) (member_is_in a c x) (member_is_in b c y))
 
 pub joined_in : (classes : List (List ℕ)) (a b : ℕ) → joins_in classes a b ≡ true → (c : List ℕ) × Contains classes c × Contains c a × Contains c b
-joined_in classes a b j =
-    let r = one_passes (λ c. is_in a c && is_in b c) classes j in
-    let p = and_parts (is_in a r.0) (is_in b r.0) r.2 in
-    (r.0, r.1, member_found a r.0 p.0, member_found b r.0 p.1)
+joined_in classes a b j = grind (arith, common_steps, one_passes, and_parts, member_found)
 
 pub joined_back : (classes : List (List ℕ)) (a b : ℕ) → joins_in classes a b ≡ true → joins_in classes b a ≡ true
 joined_back classes a b j = (let r = joined_in classes a b j in joined_from classes r.0 b a r.1 r.3 r.2)
@@ -37,16 +35,10 @@ same_means (Some v) (Some u) h = ap Some (eq_means v u h)
 module _ (w : World) (pick : Pick) where
   -- what rules whose demands hold have
   pub demand_met : (q : SetRule) (s : ℕ) (c : Constraint) → demands_hold w pick q ≡ true → Contains q.constraints (s, c) → meets w.meaning c (content_at w pick s) ≡ true
-  demand_met q s c h k =
-      each_passes (λ d. meets w.meaning d.1 (content_at w pick d.0)) q.constraints
-      (and_parts (list_all (λ d. meets w.meaning d.1 (content_at w pick d.0)) q.constraints) (list_all (all_same w pick) q.classes) h).0 (s, c) k
+  demand_met q s c h k = grind (arith, common_steps, each_passes, and_parts)
 
   to_head : (x : ℕ) (xs : List ℕ) → all_same w pick (x ∷ xs) ≡ true → (t : ℕ) → Contains (x ∷ xs) t → value_at w pick x ≡ value_at w pick t
-  to_head x xs h t c =
-      elim (in_cases x t xs c) [
-        | inl e ↦ ap (value_at w pick) e
-        | inr d ↦ same_means (value_at w pick x) (value_at w pick t) (each_passes (λ u. same_value (value_at w pick x) (value_at w pick u)) xs h t d)
-      ]
+  to_head x xs h t c = grind (arith, common_steps, in_cases, same_means, each_passes)
 
   class_same : (c : List ℕ) → all_same w pick c ≡ true → (a b : ℕ) → Contains c a → Contains c b → value_at w pick a ≡ value_at w pick b
   class_same [] h a b x y = absurd (nothing_in a x)
@@ -61,8 +53,7 @@ module _ (w : World) (pick : Pick) where
 
   -- and what makes them hold
   same_from : (o p : Option Content) (v : Value) → o ≡ Some (one v) → p ≡ Some (one v) → same_value (then_option o as_value) (then_option p as_value) ≡ true
-  same_from o p v e f =
-      ap (λ x. same_value (then_option x as_value) (then_option p as_value)) e ∙ ap (λ x. same_value (Some v) (then_option x as_value)) f ∙ eq_same v
+  same_from o p v e f = grind (arith, common_steps, eq_same)
 
   all_same_from : (c : List ℕ) → ((a b : ℕ) → Contains c a → Contains c b → (v : Value) × (content_at w pick a ≡ Some (one v)) × (content_at w pick b ≡ Some (one v))) → all_same w pick c ≡ true
   all_same_from [] h = refl

@@ -1,6 +1,7 @@
 -- One step of a run at a place of a sound tree: what it comes to, and where the run stands then.
-use Rattle.std.proofs.Common.{◌≡◌, ◌⊎◌, ℕ, List, [], ◌∷◌, Option, Some, None, is_some, slice_get, Contains, IsTrue, refl, sym, ap, ap₂, ◌∙◌, subst, inl, inr, true}
-use Rattle.std.proofs.lemmas.Bool.{cases_Bool, cond-true, cond-false, both_ways}
+use Rattle.std.proofs.Common.{◌≡◌, ◌⊎◌, ℕ, List, [], ◌∷◌, Option, Some, None, is_some, slice_get, Contains, IsTrue, refl, sym, ap, ap₂, ◌∙◌, subst, inl, inr, true, arith}
+use Rattle.std.proofs.lemmas.Bool.{both_ways}
+use Rattle.std.proofs.lemmas.Grind.{common_steps}
 use Rattle.model.specs.rules.Values.{Value, value_eq}
 use Rattle.model.specs.rules.Meaning.{Content, one, many, Contents, contents}
 use Rattle.model.specs.rules.Outcome.{Outcome, ran_through, then_option}
@@ -32,11 +33,7 @@ step_runs w binds check rest env env' done h = ap (λ b. on_bound b (trace done)
 -- two values are one, or an equality goes on without its body
 pub values_cases : (u v : Value)
     → (((o : Option Content) → o ≡ Some (one v) → o ≡ Some (one u)) × ((t : Trace) (body : Outcome) → on_equal (Some u) (Some v) t body ≡ body)) ⊎ ((u ≡ v → ⊥) × ((t : Trace) (body : Outcome) → on_equal (Some u) (Some v) t body ≡ ending_at ran_through t))
-values_cases u v =
-    elim (cases_Bool (value_eq u v)) [
-      | inl y ↦ inl (λ o e. e ∙ ap (λ x. Some (one x)) (sym (eq_means u v y)), λ t body. cond-true (value_eq u v) body (ending_at ran_through t) y)
-      | inr n ↦ inr (λ e. both_ways (value_eq u v) n (ap (value_eq u) (sym e) ∙ eq_same u), λ t body. cond-false (value_eq u v) body (ending_at ran_through t) n)
-    ]
+values_cases u v = grind (arith, common_steps, eq_means u v, both_ways (value_eq u v), eq_same u)
 
 pub fields_cases : (o : Option (List Content)) → ((cs : List Content) × (o ≡ Some cs)) ⊎ (o ≡ None)
 fields_cases None = inr refl
@@ -131,5 +128,4 @@ module _ (clear : ClearWorld) where
 
   pub arm_unmet : (env : Env) (c : Constraint) (fields : List (Option ℕ)) (body : Tree) (rest : Arms) (x : Content) → content_fields clear.world.meaning c x ≡ None
       → RunsAs (run_arms (arm c fields body rest) clear.world x env) (run_arms rest clear.world x env)
-  arm_unmet env c fields body rest x unmet done =
-      ap (λ o. on_met o fields env (trace done) (λ e. run_tree body clear.world e (trace done)) (run_arms rest clear.world x env (trace done))) unmet
+  arm_unmet env c fields body rest x unmet done = grind (arith, common_steps)

@@ -1,5 +1,6 @@
 -- The sites of a set that is built of a well-typed program have forms.
-use Rattle.std.proofs.Common.{ℕ, ◌<◌, List, [], length, ap}
+use Rattle.std.proofs.Common.{ℕ, ◌<◌, List, [], length, arith}
+use Rattle.std.proofs.lemmas.Grind.{common_steps}
 use Rattle.model.specs.rules.Program.{Program, rules_of, arg_types}
 use Rattle.model.specs.rules.Typed.{TypedRule}
 use Rattle.model.specs.sites.Sites.{unfold_site}
@@ -22,8 +23,7 @@ module _ (s : BuiltSet) (h : IsWellTypedProgram s.program) where
   rs = rules_of p s.term
 
   pub rules_known : (r : TypedRule) → In rs r → AreKnown p n (demands_of p r)
-  rules_known r i =
-      let o = of_term p s.term r (contains_from_in rs r i) in rule_known p n h r (h.rules r o.0).formed (ap (λ x. length (arg_types p x)) o.1)
+  rules_known r i = grind (arith, common_steps, of_term p s.term r (contains_from_in rs r i), contains_from_in rs r i, rule_known p n h r)
 
   pub sites_stand : (k : ℕ) → k < length s.set.sites → Stands p n rs (unfold_site s.set.sites k)
   sites_stand k l =

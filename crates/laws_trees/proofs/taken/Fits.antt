@@ -1,18 +1,19 @@
 -- Under a meaning that serves a term's rules, what a site holds at or below which no impure call stands fits the site's form; and
 -- such a site holds something where it waits for nothing and its sources hold something.
-use Rattle.std.proofs.Common.{◌≡◌, ◌≢◌, ◌⊎◌, ℕ, zero, suc, ◌==◌, ◌<◌, Bool, true, false, not, List, [], ◌∷◌, length, Option, Some, None, is_some, slice_get, IsSomeAnd, Contains, IsTrue, refl, sym, ap, subst, ◌∙◌, inl, inr, arith, eqb-true}
+use Rattle.std.proofs.Common.{◌≡◌, ◌≢◌, ◌⊎◌, ℕ, zero, suc, ◌<◌, Bool, true, false, not, List, [], ◌∷◌, length, Option, Some, None, is_some, slice_get, IsSomeAnd, Contains, IsTrue, refl, sym, ap, subst, ◌∙◌, inl, inr, arith}
 use Rattle.std.specs.List.{list_all}
-use Rattle.std.proofs.lemmas.Bool.{and_parts, cases_Bool, cond-true, cond-false, false≢true}
+use Rattle.std.proofs.lemmas.Bool.{and_parts, false≢true}
 use Rattle.std.proofs.lemmas.Option.{slice_get_within}
+use Rattle.std.proofs.lemmas.Grind.{common_steps}
 use Rattle.model.specs.lists.Tables.{TypeEntry}
 use Rattle.model.specs.rules.Values.{Value, truth, atom, of_variant, of_struct, Values, no_value, value_and, listed, variant_types, struct_types, well_typed, all_well_typed}
 use Rattle.model.specs.rules.Meaning.{Content, one, parts, nothing, just, many, contents, bool_literal, int_literal, literal_value, constant_value, extractor_answer, pure_answer, impure_answer}
 use Rattle.model.specs.rules.Outcome.{then_option}
-use Rattle.model.specs.rules.Program.{Program, a_call, kind}
-use Rattle.model.specs.rules.Picks.{Pick, picked, place_of, part_of_some, field_of_variant, field_of_struct, site_content, site_values, call_answer}
+use Rattle.model.specs.rules.Program.{Program, kind}
+use Rattle.model.specs.rules.Picks.{Pick, picked, part_of_some, field_of_variant, field_of_struct, site_content, site_values, call_answer}
 use Rattle.model.specs.rules.Typed.{TypedRule}
 use Rattle.model.specs.sites.Sites.{Site, bool_site, int_site, prim_site, argument_site, extractor_site, constructor_site, iterator_site, make_variant_site, match_variant_site, make_struct_site, extract_struct_site, make_some_site, match_some_site, match_tuple_site, SiteTerm, variant_field, struct_field, each_term, layer, unfold_site, sources_of, sources_at}
-use Rattle.model.specs.sites.Serves.{Serves, asked, fits_one, fits_answer, fits_extractor, fits_constructor, constant_type, typed_as, term_args, term_results}
+use Rattle.model.specs.sites.Serves.{Serves, asked, fits_one, fits_answer, fits_extractor, fits_constructor, typed_as, term_results}
 use Rattle.model.specs.trees.Places.{waits, below}
 use Rattle.model.specs.trees.Run.{World, as_value, from_value, part_at}
 use Rattle.model.specs.trees.Collects.{content_at, IsPureSite}
@@ -41,29 +42,20 @@ abbrev mutual
   AreWhole types (value_and v vs) = IsWhole types v × AreWhole types vs
 
 typed_fields : (types : List TypeEntry) (o : Option (List ℕ)) (vs : Values) → all_well_typed types o vs ≡ true → AsManyFields o vs
-typed_fields types None no_value h = absurd (false≢true h)
-typed_fields types None (value_and v vs) h = absurd (false≢true h)
-typed_fields types (Some tys) vs h = (tys, refl, as_many_values types tys vs h)
+typed_fields types o vs h = grind (arith, common_steps, as_many_values)
 
 mutual
   pub typed_whole : (types : List TypeEntry) (ty : ℕ) (v : Value) → well_typed types ty v ≡ true → IsWhole types v
   typed_whole types ty (truth b) h = tt
   typed_whole types ty (atom s n) h = tt
-  typed_whole types ty (of_variant s i vs) h =
-      let a = and_parts (s == ty) (all_well_typed types (variant_types (slice_get types ty) i) vs) h in
-      let e : ty ≡ s = sym (eqb-true s ty a.0) in
-      (subst (λ t. AsManyFields (variant_types (slice_get types t) i) vs) e (typed_fields types (variant_types (slice_get types ty) i) vs a.1), all_typed_whole types (variant_types (slice_get types ty) i) vs a.1)
-  typed_whole types ty (of_struct s vs) h =
-      let a = and_parts (s == ty) (all_well_typed types (struct_types (slice_get types ty)) vs) h in
-      let e : ty ≡ s = sym (eqb-true s ty a.0) in
-      (subst (λ t. AsManyFields (struct_types (slice_get types t)) vs) e (typed_fields types (struct_types (slice_get types ty)) vs a.1), all_typed_whole types (struct_types (slice_get types ty)) vs a.1)
+  typed_whole types ty (of_variant s i vs) h = grind (arith, common_steps, all_typed_whole types (variant_types (slice_get types ty) i) vs, and_parts, typed_fields)
+  typed_whole types ty (of_struct s vs) h = grind (arith, common_steps, all_typed_whole types (struct_types (slice_get types ty)) vs, and_parts, typed_fields)
 
   all_typed_whole : (types : List TypeEntry) (o : Option (List ℕ)) (vs : Values) → all_well_typed types o vs ≡ true → AreWhole types vs
   all_typed_whole types o no_value h = tt
   all_typed_whole types None (value_and v vs) h = absurd (false≢true h)
   all_typed_whole types (Some []) (value_and v vs) h = absurd (false≢true h)
-  all_typed_whole types (Some (ty ∷ tys)) (value_and v vs) h =
-      let a = and_parts (well_typed types ty v) (all_well_typed types (Some tys) vs) h in (typed_whole types ty v a.0, all_typed_whole types (Some tys) vs a.1)
+  all_typed_whole types (Some (ty ∷ tys)) (value_and v vs) h = grind (arith, common_steps, typed_whole types ty v, all_typed_whole types (Some tys) vs, and_parts)
 
 part_whole : (types : List TypeEntry) (vs : Values) (i : ℕ) (v : Value) → AreWhole types vs → slice_get (listed vs) i ≡ Some v → IsWhole types v
 part_whole types no_value i v h e = absurd (none_some v e)
@@ -97,10 +89,7 @@ one_outputs p (ty ∷ []) (parts vs) h = absurd (false≢true h)
 one_outputs p (ty ∷ []) nothing h = absurd (false≢true h)
 one_outputs p (ty ∷ []) (just c) h = absurd (false≢true h)
 one_outputs p (ty ∷ []) (many cs) h = absurd (false≢true h)
-one_outputs p [] (parts vs) h = ((λ e. zero_one e), as_many_values p.types [] vs h, all_typed_whole p.types (Some []) vs h)
-  where
-    zero_one : zero ≡ 1 → ⊥
-    zero_one e = omega (arith, e)
+one_outputs p [] (parts vs) h = grind (arith, common_steps, as_many_values, all_typed_whole)
 one_outputs p [] (one v) h = absurd (false≢true h)
 one_outputs p [] nothing h = absurd (false≢true h)
 one_outputs p [] (just c) h = absurd (false≢true h)
@@ -132,60 +121,37 @@ answer_fits p false true tys (many cs) h = absurd (false≢true h)
 answer_fits p false false tys c h = one_outputs p tys c h
 
 extractor_fits : (p : Program) (t : ℕ) (x : IsCall p t) (c : Content) → fits_extractor p t (kind p t) c ≡ true → FitsForm p.types (form x.flags.multi (not x.infallible) (length x.entry.arg_tys)) c
-extractor_fits p t x c h = by x.infallible x.flags.multi (subst (λ k. fits_extractor p t k c ≡ true) x.call h)
-  where
-    by : (i multi : Bool) → fits_extractor p t (a_call (record { pure = x.flags.pure; multi = multi; partial = x.flags.partial; rec = x.flags.rec }) i) c ≡ true → FitsAs p.types multi (not i) (length x.entry.arg_tys) c
-    by true multi f = subst (λ o. FitsAs p.types multi false (length (term_args o)) c) x.there (answer_fits p multi false (term_args (slice_get p.terms t)) c f)
-    by false multi f = subst (λ o. FitsAs p.types multi true (length (term_args o)) c) x.there (answer_fits p multi true (term_args (slice_get p.terms t)) c f)
+extractor_fits p t x c h = grind (arith, common_steps, answer_fits)
 
 constructor_fits : (p : Program) (t : ℕ) (x : IsCall p t) (c : Content) → fits_constructor p t (kind p t) c ≡ true → FitsForm p.types (form x.flags.multi x.flags.partial 1) c
-constructor_fits p t x c h =
-    let f = subst (λ k. fits_constructor p t k c ≡ true) x.call h in
-    subst (λ o. FitsAs p.types x.flags.multi x.flags.partial (length (term_results o)) c) x.there (answer_fits p x.flags.multi x.flags.partial (term_results (slice_get p.terms t)) c f)
+constructor_fits p t x c h = grind (arith, common_steps, answer_fits p x.flags.multi x.flags.partial (term_results (slice_get p.terms t)) c)
 
 -- a value
 pub the_value : (types : List TypeEntry) (c : Content) → FitsForm types a_value c → (v : Value) × (c ≡ one v) × IsWhole types v
-the_value types (one v) h = (v, refl, h.1)
-the_value types (parts vs) h = absurd (h.0 refl)
-the_value types nothing h = absurd h
-the_value types (just c) h = absurd h
-the_value types (many cs) h = absurd h
+the_value types c h = grind (arith, common_steps)
 
 there_is : {X : Type 0} (o : Option X) → IsTrue (is_some o) → (x : X) × (o ≡ Some x)
-there_is None h = absurd (false≢true h)
-there_is (Some x) h = (x, refl)
+there_is o h = grind (arith, common_steps)
 
 some_and : {X : Type 0} (o : Option X) (P : X → Type 0) → IsSomeAnd o P → (x : X) × (o ≡ Some x) × P x
-some_and None P h = absurd h
-some_and (Some x) P h = (x, refl, h)
+some_and o P h = grind (arith, common_steps)
 
 from_value_is : (o : Option Value) (c : Content) → from_value o ≡ Some c → (v : Value) × (o ≡ Some v) × (c ≡ one v)
-from_value_is None c e = absurd (none_some c e)
-from_value_is (Some v) c e = (v, refl, sym (some_is (one v) c e))
+from_value_is o c e = grind (arith, common_steps, none_some, some_is)
 
 -- parts of values and of contents
 value_fits : (types : List TypeEntry) (o : Option Value) (f : Value → Bool) → ((v : Value) → f v ≡ true → IsWhole types v) → IsSomeAnd o (λ v. IsTrue (f v)) → (c : Content) → from_value o ≡ Some c → FitsForm types a_value c
-value_fits types o f whole h c e =
-    let a = from_value_is o c e in
-    subst (FitsForm types a_value) (sym a.2) (refl, whole a.0 (subst (λ x. IsSomeAnd x (λ v. IsTrue (f v))) a.1 h))
+value_fits types o f whole h c e = grind (arith, common_steps, from_value_is)
 
 constant_whole : (p : Program) (t : Option ℕ) (v : Value) → typed_as p t v ≡ true → IsWhole p.types v
 constant_whole p None v h = absurd (false≢true h)
 constant_whole p (Some ty) v h = typed_whole p.types ty v h
 
 slice_fits : (types : List TypeEntry) (vs : Values) (i : ℕ) (c : Content) → AreWhole types vs → from_value (slice_get (listed vs) i) ≡ Some c → FitsForm types a_value c
-slice_fits types vs i c h e =
-    let a = from_value_is (slice_get (listed vs) i) c e in subst (FitsForm types a_value) (sym a.2) (refl, part_whole types vs i a.0 h a.1)
+slice_fits types vs i c h e = grind (arith, common_steps, from_value_is, part_whole)
 
 variant_field_fits : (types : List TypeEntry) (variant i : ℕ) (v : Value) (c : Content) → IsWhole types v → field_of_variant variant i v ≡ Some c → FitsForm types a_value c
-variant_field_fits types variant i (truth b) c h e = absurd (none_some c e)
-variant_field_fits types variant i (atom ty n) c h e = absurd (none_some c e)
-variant_field_fits types variant i (of_struct ty vs) c h e = absurd (none_some c e)
-variant_field_fits types variant i (of_variant ty j vs) c h e =
-    elim (cases_Bool (j == variant)) [
-      | inl t ↦ slice_fits types vs i c h.1 (sym (cond-true (j == variant) (from_value (slice_get (listed vs) i)) None t) ∙ e)
-      | inr f ↦ absurd (none_some c (sym (cond-false (j == variant) (from_value (slice_get (listed vs) i)) None f) ∙ e))
-    ]
+variant_field_fits types variant i v c h e = grind (arith, common_steps, none_some, slice_fits)
 
 struct_field_fits : (types : List TypeEntry) (i : ℕ) (v : Value) (c : Content) → IsWhole types v → field_of_struct i v ≡ Some c → FitsForm types a_value c
 struct_field_fits types i (truth b) c h e = absurd (none_some c e)
@@ -194,18 +160,10 @@ struct_field_fits types i (of_variant ty j vs) c h e = absurd (none_some c e)
 struct_field_fits types i (of_struct ty vs) c h e = slice_fits types vs i c h.1 e
 
 some_part_fits : (types : List TypeEntry) (n : ℕ) (x c : Content) → FitsAs types false true n x → part_of_some x ≡ Some c → FitsAs types false false n c
-some_part_fits types n (just d) c h e = subst (AreOutputs types n) (some_is d c e) h
-some_part_fits types n nothing c h e = absurd (none_some c e)
-some_part_fits types n (one v) c h e = absurd h
-some_part_fits types n (parts vs) c h e = absurd h
-some_part_fits types n (many cs) c h e = absurd h
+some_part_fits types n x c h e = grind (arith, common_steps, some_is, none_some)
 
 tuple_part_fits : (types : List TypeEntry) (n i : ℕ) (x c : Content) → FitsAs types false false (suc (suc n)) x → part_at x i ≡ Some c → FitsForm types a_value c
-tuple_part_fits types n i (parts vs) c h e = slice_fits types vs i c h.2 e
-tuple_part_fits types n i (one v) c h e = absurd (none_some c e)
-tuple_part_fits types n i nothing c h e = absurd h
-tuple_part_fits types n i (just d) c h e = absurd h
-tuple_part_fits types n i (many cs) c h e = absurd h
+tuple_part_fits types n i x c h e = grind (arith, common_steps, slice_fits, none_some)
 
 element_fits : (types : List TypeEntry) (n : ℕ) (cs : List Content) (o : Option ℕ) (c : Content) → EachOutputs types n cs → then_option o (slice_get cs) ≡ Some c → AreOutputs types n c
 element_fits types n cs None c h e = absurd (none_some c e)
@@ -214,11 +172,7 @@ element_fits types n (d ∷ cs) (Some zero) c h e = subst (AreOutputs types n) (
 element_fits types n (d ∷ cs) (Some (suc i)) c h e = element_fits types n cs (Some i) c h.1 e
 
 picked_fits_as : (types : List TypeEntry) (o : Bool) (n : ℕ) (k : Pick) (call : SiteTerm) (x c : Content) → FitsAs types true o n x → picked k call x ≡ Some c → FitsAs types false false n c
-picked_fits_as types o n k call (many cs) c h e = element_fits types n (contents cs) (place_of k call) c h e
-picked_fits_as types o n k call (one v) c h e = absurd h
-picked_fits_as types o n k call (parts vs) c h e = absurd h
-picked_fits_as types o n k call nothing c h e = absurd h
-picked_fits_as types o n k call (just d) c h e = absurd h
+picked_fits_as types o n k call x c h e = grind (arith, common_steps, element_fits)
 
 element_there : (vs : List Value) (i : ℕ) → i < length vs → IsTrue (is_some (slice_get vs i))
 element_there [] i l = absurd (omega (arith, l))
@@ -226,18 +180,10 @@ element_there (v ∷ vs) zero l = refl
 element_there (v ∷ vs) (suc i) l = element_there vs i (omega (arith, l))
 
 value_made_there : (o : Option Value) → IsTrue (is_some o) → IsTrue (is_some (from_value o))
-value_made_there None h = h
-value_made_there (Some v) h = refl
+value_made_there o h = grind (arith, common_steps)
 
 tuple_part_there : (types : List TypeEntry) (n i : ℕ) (x : Content) → FitsAs types false false (suc (suc n)) x → i < suc (suc n) → IsTrue (is_some (part_at x i))
-tuple_part_there types n i (parts vs) h l = (let e = h.1 in value_made_there (slice_get (listed vs) i) (element_there (listed vs) i (omega (arith, l, e))))
-tuple_part_there types n i (one v) h l = absurd (two_one n h.0)
-  where
-    two_one : (n : ℕ) → suc (suc n) ≡ 1 → ⊥
-    two_one n e = omega (arith, e)
-tuple_part_there types n i nothing h l = absurd h
-tuple_part_there types n i (just d) h l = absurd h
-tuple_part_there types n i (many cs) h l = absurd h
+tuple_part_there types n i x h l = grind (arith, common_steps, value_made_there, element_there)
 
 -- a field of a value
 abbrev pub IsField : SiteTerm → Type 0
@@ -246,8 +192,7 @@ IsField (struct_field s i) = Unit {0}
 IsField _ = ⊥
 
 only_asked : {P : Type 0} → P ⊎ ⊥ → P
-only_asked (inl a) = a
-only_asked (inr n) = absurd n
+only_asked h = grind (arith, common_steps)
 
 -- 3. sites
 -- a world whose sites stand after their sources, have forms, and are asked by rules that the meaning serves or are fields, and
@@ -299,9 +244,7 @@ module _ (stage : ServedWorld) (k : Pick) where
   IsAnsweredBelow s = (u : ℕ) → Contains (below (suc s) w.sites s) u → (b : Site) × (slice_get w.sites u ≡ Some b) × IsAnsweredSite b
 
   pure_answered : (b : Site) → IsPureSite b → IsAnsweredSite b
-  pure_answered (constructor_site t ss zero) h = tt
-  pure_answered (constructor_site t ss (suc i)) h = absurd h
-  pure_answered _ h = tt
+  pure_answered b h = grind (arith, common_steps)
 
   pure_below_answered : (s : ℕ) → IsPureBelow w.sites s → IsAnsweredBelow s
   pure_below_answered s pure u c = let a = pure u c in (a.0, a.1, pure_answered a.0 a.2)
@@ -333,12 +276,9 @@ module _ (stage : ServedWorld) (k : Pick) where
 
   site_fits : (b : Site) → IsAnsweredSite b → Contains (asked p rs) (layer U b) ⊎ IsField (layer U b) → ((a : ℕ) → Contains (sources_of b) a → Fit a)
       → (q : Form) → IsOfForm p n (layer U b) q → (c : Content) → site_content w.meaning w.args k (layer U b) ≡ Some c → FitsForm p.types q c
-  site_fits (bool_site x ty) pure ask fit q f c e =
-      subst (λ y. FitsForm p.types y c) (sym f) (value_fits p.types (literal_value w.meaning (bool_literal x ty)) (well_typed p.types ty) (typed_whole p.types ty) (h.serves.bools x ty (only_asked ask)) c e)
-  site_fits (int_site z ty) pure ask fit q f c e =
-      subst (λ y. FitsForm p.types y c) (sym f.1) (value_fits p.types (literal_value w.meaning (int_literal z ty)) (well_typed p.types ty) (typed_whole p.types ty) (h.serves.ints z ty (only_asked ask)) c e)
-  site_fits (prim_site name) pure ask fit q f c e =
-      subst (λ y. FitsForm p.types y c) (sym f) (value_fits p.types (constant_value w.meaning name) (typed_as p (constant_type p name)) (constant_whole p (constant_type p name)) (h.serves.prims name (only_asked ask)) c e)
+  site_fits (bool_site x ty) pure ask fit q f c e = grind (arith, common_steps, value_fits, typed_whole, only_asked)
+  site_fits (int_site z ty) pure ask fit q f c e = grind (arith, common_steps, value_fits, typed_whole, only_asked)
+  site_fits (prim_site name) pure ask fit q f c e = grind (arith, common_steps, value_fits, constant_whole, only_asked)
   site_fits (argument_site i) pure ask fit q f c e =
       let a = h.args i f.0 in
       let b = from_value_is (slice_get w.args i) c e in
@@ -423,10 +363,7 @@ module _ (stage : ServedWorld) (k : Pick) where
       let a = values_there ss fit f.1 t in
       let s = some_and (pure_answer w.meaning x a.0) _ (h.serves.pures k x (each_term U ss) a.0 (only_asked ask) a.1) in
       ap (λ o. is_some (then_option o (call_answer w.meaning x 0))) a.1 ∙ ap is_some s.1
-  site_there (constructor_site x ss (suc i)) pure wait ask fit t q f =
-      let a = values_there ss fit f.1 t in
-      let s = some_and (impure_answer w.meaning x i) _ (pure a.0 a.1) in
-      ap (λ o. is_some (then_option o (call_answer w.meaning x (suc i)))) a.1 ∙ ap is_some s.1
+  site_there (constructor_site x ss (suc i)) pure wait ask fit t q f = grind (arith, common_steps, values_there, some_and)
   site_there (make_variant_site ty i ss) pure wait ask fit t q f = (let a = values_there ss fit f.3 t in ap (λ o. is_some (then_option o (λ vs. Some (one (of_variant ty i vs))))) a.1)
   site_there (make_struct_site ty ss) pure wait ask fit t q f = (let a = values_there ss fit f.3 t in ap (λ o. is_some (then_option o (λ vs. Some (one (of_struct ty vs))))) a.1)
   site_there (make_some_site source) pure wait ask fit t q f = (let a = there_is (content_at w k source) (t source (in_head source [])) in ap (λ o. is_some (then_option o (λ c. Some (just c)))) a.1)

@@ -1,9 +1,10 @@
 -- The integer literals of a set that is built of a well-typed program lie in the ranges of their types.
-use Rattle.std.proofs.Common.{◌≡◌, ℕ, ℤ, true, length, Some, slice_get, Contains, subst}
+use Rattle.std.proofs.Common.{◌≡◌, ℕ, ℤ, true, Some, slice_get, Contains, arith}
 use Rattle.std.proofs.lemmas.Option.{slice_get_within}
+use Rattle.std.proofs.lemmas.Grind.{common_steps}
 use Rattle.model.specs.lists.Ranges.{is_literal_of}
-use Rattle.model.specs.rules.Program.{Program, arg_types}
-use Rattle.model.specs.sites.Sites.{SiteSet, is_int, SiteTerm, int_site, int_term, unfold_site}
+use Rattle.model.specs.rules.Program.{Program}
+use Rattle.model.specs.sites.Sites.{SiteSet, is_int, SiteTerm, int_site, unfold_site}
 use Rattle.model.specs.visits.Demands.{demands_of}
 use Rattle.model.specs.sites.Overlap.{built_rules}
 use Rattle.model.specs.claims.SetMeanings.{LiesInRange, HasNumbersInRange}
@@ -15,7 +16,6 @@ use Rattle.laws_trees.proofs.runs.Contents.{unfolded_layer}
 use Rattle.laws_trees.proofs.FormedDemands.{rule_formed}
 use Rattle.laws_trees.proofs.DisjointRules.{built_follows}
 use Rattle.laws_trees.proofs.taken.BuiltSites.{sites_stand}
-use Rattle.laws_trees.proofs.taken.Forms.{HasSomeForm}
 use Rattle.laws_sites.proofs.built.BuiltGates.{typed_built}
 use Rattle.laws_sites.proofs.built.BuiltSets.{BuiltSet, RuleOfSet}
 use Rattle.laws_sites.proofs.built.WellBuiltSets.{each_of_set}
@@ -28,10 +28,7 @@ module _ (s : BuiltSet) (h : IsWellTypedProgram s.program) where
   set = s.set
 
   literal_site : (k ty : ℕ) (z : ℤ) → slice_get set.sites k ≡ Some (int_site z ty) → is_literal_of (slice_get p.types ty) z ≡ true
-  literal_site k ty z there =
-      let stands = sites_stand s h k (slice_get_within set.sites k (int_site z ty) there) in
-      let formed : HasSomeForm p (length (arg_types p s.term)) (int_term z ty) = subst (HasSomeForm p (length (arg_types p s.term))) (unfolded_layer set.sites s.built.sources k (int_site z ty) there) stands.form in
-      formed.1.0
+  literal_site k ty z there = grind (arith, common_steps, sites_stand, slice_get_within, unfolded_layer)
 
   literal_asked : (x : RuleOfSet s) (u : SiteTerm) (ty : ℕ) (z : ℤ) → Contains x.typed.demands.constraints (u, is_int z ty) → is_literal_of (slice_get p.types ty) z ≡ true
   literal_asked x u ty z c =

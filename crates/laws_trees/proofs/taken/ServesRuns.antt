@@ -1,10 +1,11 @@
 -- A meaning that serves the rules of a term has what the runs of trees of the built set rest on.
-use Rattle.std.proofs.Common.{◌≡◌, ℕ, zero, suc, ◌<◌, ◌==◌, Bool, true, false, ◌&&◌, List, [], ◌∷◌, length, Option, Some, None, is_some, slice_get, IsSomeAnd, Contains, All, IsTrue, flat_map, refl, sym, ap, subst, ◌∙◌, inl, inr, arith, eq-eqb}
-use Rattle.std.proofs.lemmas.Bool.{and_parts, and_from, cases_Bool, cond-true, cond-false, false≢true}
+use Rattle.std.proofs.Common.{◌≡◌, ℕ, zero, suc, ◌<◌, ◌==◌, Bool, true, false, ◌&&◌, List, [], ◌∷◌, length, Option, Some, None, is_some, slice_get, IsSomeAnd, Contains, All, IsTrue, flat_map, refl, sym, ap, subst, ◌∙◌, inl, arith, eq-eqb}
+use Rattle.std.proofs.lemmas.Bool.{and_parts, and_from, cond-true, false≢true}
 use Rattle.std.proofs.lemmas.List.Elements.{All-contains}
+use Rattle.std.proofs.lemmas.Grind.{common_steps}
 use Rattle.model.specs.lists.Tables.{TypeEntry}
-use Rattle.model.specs.rules.Values.{Value, truth, atom, value_eq, of_variant, of_struct, Values, listed, of_list, well_typed, all_well_typed, variant_types, struct_types}
-use Rattle.model.specs.rules.Meaning.{Content, one, Meaning, bool_literal, int_literal, literal_value, constant_value}
+use Rattle.model.specs.rules.Values.{Value, truth, atom, of_variant, of_struct, Values, listed, of_list, well_typed, all_well_typed, variant_types, struct_types}
+use Rattle.model.specs.rules.Meaning.{Content, one, Meaning, constant_value}
 use Rattle.model.specs.rules.Program.{Program, rules_of, arg_types}
 use Rattle.model.specs.rules.Picks.{Pick}
 use Rattle.model.specs.rules.Typed.{TypedRule}
@@ -31,7 +32,7 @@ use Rattle.laws_trees.proofs.Shapes.{has_form, literal_without_parts, holds_ther
 use Rattle.laws_trees.proofs.Unreachable.{IsConstant, MustBe, Shape, same_shape}
 use Rattle.laws_trees.proofs.Visits.{given}
 use Rattle.laws_trees.proofs.taken.BuiltSites.{rules_known, sites_stand}
-use Rattle.laws_trees.proofs.taken.Fits.{IsWhole, AsManyFields, typed_whole, FitsAs, FitsForm, the_value, IsServed, ServedWorld, fits, found}
+use Rattle.laws_trees.proofs.taken.Fits.{IsWhole, AsManyFields, typed_whole, FitsForm, the_value, IsServed, ServedWorld, fits, found}
 use Rattle.laws_trees.proofs.taken.Forms.{Form, a_value}
 use Rattle.laws_trees.proofs.taken.SitesKnown.{Stands, made_stands, closed_known, before_stands}
 use Rattle.laws_trees.proofs.runs.RuleDemands.{joined_itself}
@@ -53,26 +54,15 @@ each_counted f sites i zero = refl
 each_counted f sites i (suc n) = ap suc (each_counted f sites (suc i) n)
 
 value_whole : (types : List TypeEntry) (q : Form) (v : Value) → FitsForm types q (one v) → IsWhole types v
-value_whole types q v h = by q.multi q.optional h
-  where
-    by : (a b : Bool) → FitsAs types a b q.count (one v) → IsWhole types v
-    by true b h = absurd h
-    by false true h = absurd h
-    by false false h = h.1
+value_whole types q v h = grind (arith, common_steps)
 
 -- a content that meets it
 meets_some : (m : Meaning) (c : Constraint) (o : Option Content) → IsTrue (meets m c o) → (x : Content) × (o ≡ Some x) × (is_some (content_fields m c x) ≡ true)
-meets_some m c None h = absurd (false≢true h)
-meets_some m c (Some x) h = (x, refl, h)
+meets_some m c o h = grind (arith, common_steps)
 
 -- a constant has no fields
 pub constant_count : (o : Option Value) (v : Value) (cs : List Content) → where_constant o v ≡ Some cs → length cs ≡ 0
-constant_count None v cs e = absurd (none_some cs e)
-constant_count (Some u) v cs e =
-    elim (cases_Bool (value_eq u v)) [
-      | inl t ↦ ap length (some_is cs [] (sym e ∙ cond-true (value_eq u v) (Some []) None t))
-      | inr f ↦ absurd (none_some cs (sym (cond-false (value_eq u v) (Some []) None f) ∙ e))
-    ]
+constant_count o v cs e = grind (arith, common_steps, none_some, some_is)
 
 module _ (b : BuiltSet) (h : IsWellTypedProgram b.program) (serving : ServingMeaning b.program b.term) (k : Pick) where
   abbrev p : Program
@@ -177,14 +167,10 @@ module _ (b : BuiltSet) (h : IsWellTypedProgram b.program) (serving : ServingMea
       struct_count ty f vs c cs e q =
           let here : content_fields m (is_struct ty f) (one (of_struct ty vs)) ≡ Some (all_one (listed vs)) = cond-true (ty == ty) (Some (all_one (listed vs))) None (eq-eqb ty ty refl) in
           ap length (some_is cs (all_one (listed vs)) (sym q ∙ ap (content_fields m (is_struct ty f)) e ∙ here)) ∙ one_each (listed vs)
-  fields_counted s (is_bool v ty) a c cs x y =
-      let g = has_form m (is_bool v ty) c (ap is_some y) in constant_count (literal_value m (bool_literal v ty)) g.0 cs (sym (ap (content_fields m (is_bool v ty)) g.1) ∙ y)
-  fields_counted s (is_int z ty) a c cs x y =
-      let g = has_form m (is_int z ty) c (ap is_some y) in constant_count (literal_value m (int_literal z ty)) g.0 cs (sym (ap (content_fields m (is_int z ty)) g.1) ∙ y)
-  fields_counted s (is_prim name) a c cs x y =
-      let g = has_form m (is_prim name) c (ap is_some y) in constant_count (constant_value m name) g.0 cs (sym (ap (content_fields m (is_prim name)) g.1) ∙ y)
-  fields_counted s is_present a c cs x y =
-      let g = has_form m is_present c (ap is_some y) in ap length (some_is cs (g.0 ∷ []) (sym y ∙ ap (content_fields m is_present) g.1))
+  fields_counted s (is_bool v ty) a c cs x y = grind (arith, common_steps, has_form, constant_count)
+  fields_counted s (is_int z ty) a c cs x y = grind (arith, common_steps, has_form, constant_count)
+  fields_counted s (is_prim name) a c cs x y = grind (arith, common_steps, has_form, constant_count)
+  fields_counted s is_present a c cs x y = grind (arith, common_steps, has_form, some_is)
 
   -- 4. what a constraint's content is
   constant_asked : (s : ℕ) (c : Constraint) (a : IsAsked s c) (u : SiteTerm) → In (constant_site c) u → Contains (asked p rs) u

@@ -1,18 +1,18 @@
 -- A meaning that serves the rules of a term has what collecting from the built set rests on, where no rule of the set makes an
 -- impure call.
-use Rattle.std.proofs.Common.{◌≡◌, ◌⊎◌, ℕ, zero, suc, Bool, true, false, List, [], map, Some, slice_get, Contains, refl, sym, ap, ◌∙◌, inl, inr}
-use Rattle.std.proofs.lemmas.Bool.{false≢true}
+use Rattle.std.proofs.Common.{◌≡◌, ◌⊎◌, ℕ, zero, suc, Bool, true, List, [], map, Some, Contains, refl, sym, ap, ◌∙◌, inl, inr, arith}
 use Rattle.std.proofs.lemmas.List.Elements.{All-contains}
+use Rattle.std.proofs.lemmas.Grind.{common_steps}
 use Rattle.model.specs.rules.Values.{Value}
 use Rattle.model.specs.rules.Meaning.{Content, many, Contents, Meaning, extractor_answer, pure_answer}
 use Rattle.model.specs.rules.Outcome.{then_option}
-use Rattle.model.specs.rules.Program.{Program, Kind, a_call, kind, flags_of, rules_of}
+use Rattle.model.specs.rules.Program.{Program, Kind, kind, flags_of, rules_of}
 use Rattle.model.specs.rules.Picks.{Pick, call_answer, site_content, site_values}
 use Rattle.model.specs.rules.Typed.{TypedRule}
 use Rattle.model.specs.sites.Sites.{SetRule, SiteSet, SiteTerm, extractor_call, constructor_call, unfold_site}
 use Rattle.model.specs.visits.Demands.{demands_of}
 use Rattle.model.specs.sites.DemandedGates.{IsMultiCall}
-use Rattle.model.specs.sites.Serves.{asked, fits_answer, fits_extractor, fits_constructor, term_args, term_results, Serves}
+use Rattle.model.specs.sites.Serves.{asked, fits_answer, fits_extractor, fits_constructor, Serves}
 use Rattle.model.specs.trees.Run.{as_value, world_of}
 use Rattle.model.specs.trees.Collects.{content_at}
 use Rattle.model.proofs.Elements.{in_from_contains}
@@ -31,18 +31,13 @@ use Rattle.laws_trees.proofs.Shapes.{holds_there}
 
 -- 1. multi calls
 many_fit : (p : Program) (multi optional : Bool) (tys : List ℕ) (c : Content) → multi ≡ true → fits_answer p multi optional tys c ≡ true → (cs : Contents) × (c ≡ many cs)
-many_fit p false optional tys c e h = absurd (false≢true e)
-many_fit p true optional tys (many cs) e h = (cs, refl)
-many_fit p true optional tys _ e h = absurd (false≢true h)
+many_fit p multi optional tys c e h = grind (arith, common_steps)
 
 extractor_lists : (p : Program) (t : ℕ) (k : Kind) (c : Content) → (flags_of k).multi ≡ true → fits_extractor p t k c ≡ true → (cs : Contents) × (c ≡ many cs)
-extractor_lists p t (a_call flags true) c e h = many_fit p flags.multi false (term_args (slice_get p.terms t)) c e h
-extractor_lists p t (a_call flags false) c e h = many_fit p flags.multi true (term_args (slice_get p.terms t)) c e h
-extractor_lists p t _ c e h = absurd (false≢true h)
+extractor_lists p t k c e h = grind (arith, common_steps, many_fit)
 
 constructor_lists : (p : Program) (t : ℕ) (k : Kind) (c : Content) → (flags_of k).multi ≡ true → fits_constructor p t k c ≡ true → (cs : Contents) × (c ≡ many cs)
-constructor_lists p t (a_call flags infallible) c e h = many_fit p flags.multi flags.partial (term_results (slice_get p.terms t)) c e h
-constructor_lists p t _ c e h = absurd (false≢true h)
+constructor_lists p t k c e h = grind (arith, common_steps, many_fit)
 
 -- 2. built sets
 module _ (b : BuiltSet) (h : IsWellTypedProgram b.program) (serving : ServingMeaning b.program b.term) (k : Pick) where

@@ -1,15 +1,16 @@
 -- The sites of a built set have forms, and those of classes are values: what visits make, and what closing adds to it.
-use Rattle.std.proofs.Common.{◌≡◌, ◌⊎◌, ℕ, zero, suc, Bool, true, false, cond, List, [], ◌∷◌, map, take, Option, Some, None, Contains, filter, flat_map, refl, sym, subst, ◌∙◌, inl, inr}
+use Rattle.std.proofs.Common.{◌≡◌, ◌⊎◌, ℕ, zero, suc, Bool, true, false, cond, List, [], ◌∷◌, map, take, Option, Some, None, Contains, filter, flat_map, refl, sym, subst, inl, inr, arith}
 use Rattle.std.proofs.lemmas.Bool.{cases_Bool, cond-true, cond-false}
 use Rattle.std.specs.List.{zip}
+use Rattle.std.proofs.lemmas.Grind.{common_steps}
 use Rattle.model.specs.rules.Program.{Program}
 use Rattle.model.specs.rules.Typed.{TypedRule}
 use Rattle.model.specs.sites.Sites.{Constraint, SiteTerm, field_terms}
 use Rattle.model.specs.visits.Demands.{Demands, demands_of, has_site, with_sites}
-use Rattle.model.specs.sites.Closure.{constraint_of, Closed, class_at, is_in_class, next_constrained, ascending, field_equalities, taken, closing, before_closing, begins_with, in_order, most_closing_steps, closed, is_unreachable}
+use Rattle.model.specs.sites.Closure.{Closed, class_at, is_in_class, next_constrained, ascending, field_equalities, taken, closing, before_closing, begins_with, in_order, most_closing_steps, closed, is_unreachable}
 use Rattle.model.specs.sites.Limits.{RuleLimit, most_sites, passed_in_visit, sites_until, sites_reached, sites_after_rule, sites_after_rules}
 use Rattle.model.specs.sites.Overlap.{BuiltRule, is_built, built_rule, built_from}
-use Rattle.model.specs.sites.Serves.{asked_by, asked, constant_site}
+use Rattle.model.specs.sites.Serves.{asked}
 use Rattle.model.proofs.Elements.{In, contains_from_in, in_left, in_either, in_slice, in_any, in_map, in_flat_map, from_flat_map, in_zip, in_filter, passed_filter, none_some, some_is}
 use Rattle.model.proofs.SitesMade.{has_in}
 use Rattle.laws_sites.proofs.Classes.{with_sites_in}
@@ -36,18 +37,7 @@ module _ (p : Program) (n : ℕ) (rs : List TypedRule) where
 
   next_in_class : (ks : List (List SiteTerm)) (cs : List (SiteTerm × Constraint)) (ss : List SiteTerm) (c : SiteTerm × Constraint) → next_constrained ks cs ss ≡ Some c → is_in_class ks c.0 ≡ true
   next_in_class ks cs [] c e = absurd (none_some c e)
-  next_in_class ks cs (s ∷ ss) c e = by (constraint_of cs s) e (next_in_class ks cs ss c)
-    where
-      by : (o : Option Constraint) → elim o as (λ _. Option (SiteTerm × Constraint)) [
-        | None ↦ next_constrained ks cs ss
-        | Some d ↦ cond (is_in_class ks s) (Some (s, d)) (next_constrained ks cs ss)
-      ] ≡ Some c → (next_constrained ks cs ss ≡ Some c → is_in_class ks c.0 ≡ true) → is_in_class ks c.0 ≡ true
-      by None q later = later q
-      by (Some d) q later =
-          elim (cases_Bool (is_in_class ks s)) [
-            | inl t ↦ subst (λ (x : SiteTerm × Constraint). is_in_class ks x.0 ≡ true) (some_is (s, d) c (sym (cond-true (is_in_class ks s) (Some (s, d)) (next_constrained ks cs ss) t) ∙ q)) t
-            | inr f ↦ later (sym (cond-false (is_in_class ks s) (Some (s, d)) (next_constrained ks cs ss) f) ∙ q)
-          ]
+  next_in_class ks cs (s ∷ ss) c e = grind (arith, common_steps, next_in_class ks cs ss c, some_is)
 
   constrained_value : (ks : List (List SiteTerm)) → Members (IsValue p n) ks → (s : SiteTerm) → is_in_class ks s ≡ true → IsValue p n s
   constrained_value ks h s i = let k = in_any (λ l. has_site l s) ks i in h k.0 s k.1 (has_in k.0 s k.2)
@@ -105,10 +95,7 @@ module _ (p : Program) (n : ℕ) (rs : List TypedRule) where
   from_take (suc k) (x ∷ us) u (inr i) = inr (from_take k us u i)
 
   pub made_stands : (r : TypedRule) → In rs r → AreKnown p n (demands_of p r) → (u : SiteTerm) → In (demands_of p r).made u → Stands u
-  made_stands r i h u j = record {
-    form = h.made u j;
-    asks = inl (contains_from_in (asked p rs) u (in_flat_map (λ (q : TypedRule). asked_by (demands_of p q)) rs r u i (in_left (demands_of p r).made (flat_map (λ (x : SiteTerm × Constraint). constant_site x.1) (demands_of p r).constraints) u j)));
-  }
+  made_stands r i h u j = grind (arith, common_steps, contains_from_in, in_flat_map, in_left)
 
   with_both : (ts us : List SiteTerm) → ((u : SiteTerm) → In ts u → Stands u) → ((u : SiteTerm) → In us u → Stands u) → (u : SiteTerm) → In (with_sites ts us) u → Stands u
   with_both ts us f g u i = elim (with_sites_in ts us u i) [ inl j ↦ f u j | inr j ↦ g u j ]

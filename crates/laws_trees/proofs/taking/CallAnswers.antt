@@ -2,6 +2,7 @@
 use Rattle.std.proofs.Common.{◌≡◌, ◌⊎◌, ℕ, suc, ◌<◌, false, ◌||◌, List, [], ◌∷◌, ◌++◌, length, take, Option, Some, None, is_some, slice_get, All, Contains, IsTrue, refl, sym, ap, ◌∙◌, subst, inl, inr, arith}
 use Rattle.std.proofs.lemmas.Bool.{cond-false}
 use Rattle.std.proofs.Math.Seq.{take-append_seam}
+use Rattle.std.proofs.lemmas.Grind.{common_steps}
 use Rattle.model.specs.rules.Values.{Values}
 use Rattle.model.specs.rules.Meaning.{Content}
 use Rattle.model.specs.rules.Outcome.{Call}
@@ -93,15 +94,10 @@ module _ (taking : Taking) (uses : ReturnSites taking) where
 
     followed_made : (args : List ℕ) → each_term U args ≡ n.next.args → (vs : Values) (o : Option Content) → values_of taking uses args ≡ Some vs → content taking n.site ≡ o
         → follow_one (U n.site) s.calls ≡ follow_with n.next.term (Some vs) o s.calls
-    followed_made args same vs o v c =
-        followed_with (U n.site) n.next.term (suc (length earlier)) n.next.args s.calls n.next.call
-        ∙ ap (λ y. follow_with n.next.term y (content taking n.site) s.calls) (ap (site_values taking.world.meaning taking.world.args taking.pick) (sym same) ∙ v)
-        ∙ ap (λ y. follow_with n.next.term (Some vs) y s.calls) c
+    followed_made args same vs o v c = grind (arith, common_steps, followed_with, follow_with, content)
 
     followed_gone : (args : List ℕ) → each_term U args ≡ n.next.args → values_of taking uses args ≡ None → follow_one (U n.site) s.calls ≡ stops s.calls
-    followed_gone args same v =
-        followed_with (U n.site) n.next.term (suc (length earlier)) n.next.args s.calls n.next.call
-        ∙ ap (λ y. follow_with n.next.term y (content taking n.site) s.calls) (ap (site_values taking.world.meaning taking.world.args taking.pick) (sym same) ∙ v)
+    followed_gone args same v = grind (arith, common_steps, followed_with, follow_with, content)
 
     abbrev now_listed : List ℕ
     now_listed = listed_below (suc n.site) taking.world.sites taking.place.around.emitted s.done n.site

@@ -1,5 +1,6 @@
 -- The impure calls that stand in sites: in trees, and by the numbers of sites.
-use Rattle.std.proofs.Common.{◌≡◌, ◌⊎◌, ℕ, zero, suc, List, [], ◌∷◌, ◌++◌, length, Option, Some, None, slice_get, Contains, flat_map, refl, sym, ◌∙◌, subst, inl, inr, append_assoc}
+use Rattle.std.proofs.Common.{◌≡◌, ◌⊎◌, ℕ, zero, suc, List, [], ◌∷◌, ◌++◌, length, Option, Some, None, slice_get, Contains, flat_map, refl, sym, ◌∙◌, subst, inl, inr, arith}
+use Rattle.std.proofs.lemmas.Grind.{common_steps}
 use Rattle.model.specs.sites.Sites.{Site, bool_site, int_site, prim_site, argument_site, extractor_site, constructor_site, iterator_site, make_variant_site, match_variant_site, make_struct_site, extract_struct_site, make_some_site, match_some_site, match_tuple_site, SiteTerm, bool_term, int_term, prim_term, argument, extractor_call, constructor_call, pick_of, variant_made, variant_field, struct_made, struct_field, some_made, some_part, tuple_part, no_site, SiteTerms, no_site_term, site_term_and, each_term, layer, unfold_site, sources_of, sources_at}
 use Rattle.model.specs.trees.Places.{below}
 use Rattle.model.proofs.Elements.{In, in_left, in_right}
@@ -36,8 +37,7 @@ abbrev mutual
   CallOnly P (site_term_and a rest) = CallsOnly P a × CallOnly P rest
 
 where_more : (n : ℕ) (P Q : Type 0) → (P → Q) → WhereImpure n P → WhereImpure n Q
-where_more zero P Q f h = tt
-where_more (suc n) P Q f h = f h
+where_more n P Q f h = grind (arith, common_steps)
 
 module _ (P Q : SiteTerm → Type 0) (f : (u : SiteTerm) → P u → Q u) where
   mutual
@@ -67,8 +67,7 @@ abbrev pub Known : List SiteTerm → SiteTerm → Type 0
 Known us c = In us c ⊎ In us (some_part c)
 
 pub known_more : (us vs : List SiteTerm) (c : SiteTerm) → Known us c → Known (us ++ vs) c
-known_more us vs c (inl i) = inl (in_left us vs c i)
-known_more us vs c (inr i) = inr (in_left us vs (some_part c) i)
+known_more us vs c h = grind (arith, common_steps, in_left)
 
 -- an impure call's answer that comes after these: the call's number is its place, from 1, and the impure calls in its
 -- arguments are among those before. It is one of the sites made
@@ -88,26 +87,11 @@ InOrder made before (u ∷ us) = IsNext made before u × InOrder made (before ++
 -- each of them is one of the sites made, and the impure calls at or in it are among all
 pub order_listed : (made before us : List SiteTerm) → InOrder made before us → (u : SiteTerm) → In us u → In made (answered_call u) × CallsOnly (Known (before ++ us)) u
 order_listed made before [] h u i = absurd i
-order_listed made before (x ∷ us) h u (inl e) = subst (λ y. In made (answered_call y) × CallsOnly (Known (before ++ x ∷ us)) y) e (h.0.listed, all_known h.0.answer)
-  where
-    here : In (before ++ x ∷ us) x
-    here = in_right before (x ∷ us) x (inl refl)
-
-    args_known : CallOnly (Known (before ++ x ∷ us)) h.0.args
-    args_known = call_more (Known before) (Known (before ++ x ∷ us)) (λ y k. known_more before (x ∷ us) y k) h.0.args h.0.earlier
-
-    call_known : Known (before ++ x ∷ us) (answered_call x) → CallsOnly (Known (before ++ x ∷ us)) (answered_call x)
-    call_known k = subst (CallsOnly (Known (before ++ x ∷ us))) (sym h.0.call) (subst (Known (before ++ x ∷ us)) h.0.call k, args_known)
-
-    all_known : (x ≡ answered_call x) ⊎ (x ≡ some_part (answered_call x)) → CallsOnly (Known (before ++ x ∷ us)) x
-    all_known (inl e) = subst (CallsOnly (Known (before ++ x ∷ us))) (sym e) (call_known (inl (subst (In (before ++ x ∷ us)) e here)))
-    all_known (inr e) = subst (CallsOnly (Known (before ++ x ∷ us))) (sym e) (call_known (inr (subst (In (before ++ x ∷ us)) e here)))
-order_listed made before (x ∷ us) h u (inr i) =
-    let r = order_listed made (before ++ x ∷ []) us h.1 u i in (r.0, subst (λ l. CallsOnly (Known l) u) (append_assoc before (x ∷ []) us) r.1)
+order_listed made before (x ∷ us) h u (inl e) = grind (arith, common_steps, answered_call, in_right, call_more, known_more)
+order_listed made before (x ∷ us) h u (inr i) = grind (arith, common_steps, order_listed made (before ++ x ∷ []) us h.1 u i)
 
 pub known_made : (made us : List SiteTerm) → InOrder made [] us → (t : ℕ) (args : SiteTerms) (n : ℕ) → Known us (constructor_call t args n) → In made (constructor_call t args n)
-known_made made us h t args n (inl i) = (order_listed made [] us h (constructor_call t args n) i).0
-known_made made us h t args n (inr i) = (order_listed made [] us h (some_part (constructor_call t args n)) i).0
+known_made made us h t args n k = grind (arith, common_steps, order_listed)
 
 module _ (sites : List Site) (sources_before : SourcesBefore sites) where
   abbrev U : ℕ → SiteTerm

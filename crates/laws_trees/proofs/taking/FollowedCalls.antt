@@ -1,7 +1,8 @@
 -- What taking a rule comes to by the contents of its sites: its impure calls in order, then its result.
 use Rattle.std.proofs.Common.{◌≡◌, ℕ, suc, ◌+◌, List, [], ◌∷◌, ◌++◌, length, Option, Some, None, is_some, All, IsTrue, refl, sym, ap, arith}
 use Rattle.std.proofs.lemmas.List.{length_push}
-use Rattle.std.proofs.lemmas.List.Elements.{All-nil, All-cons}
+use Rattle.std.proofs.lemmas.List.Elements.{All-nil}
+use Rattle.std.proofs.lemmas.Grind.{common_steps}
 use Rattle.model.specs.rules.Values.{Value, Values}
 use Rattle.model.specs.rules.Meaning.{Content, Meaning}
 use Rattle.model.specs.rules.Outcome.{Call, ended, failed, Outcome}
@@ -50,28 +51,18 @@ never_stops : {a b : List Call} → stops a ≡ goes_on b → ⊥
 never_stops e = cc
 
 with_there : (t : ℕ) (o : Option Values) (c : Option Content) (calls after : List Call) → follow_with t o c calls ≡ goes_on after → IsTrue (is_some c) × (length after ≡ suc (length calls))
-with_there t None c calls after h = absurd (never_stops h)
-with_there t (Some vs) None calls after h = absurd (never_stops h)
-with_there t (Some vs) (Some c) calls after h = (refl, (let same = ap length (same_calls h) in let more = length_push calls (record { term = t; args = vs }) in omega (arith, same, more)))
+with_there t o c calls after h = grind (arith, common_steps, never_stops, same_calls, length_push)
 
 one_there : (m : Meaning) (args : List Value) (k : Pick) (u call : SiteTerm) (calls after : List Call) → follow_call m args k u call calls ≡ goes_on after → HasContent m args k u × (length after ≡ suc (length calls))
-one_there m args k u (constructor_call t ss i) calls after h = with_there t (site_values m args k ss) (site_content m args k u) calls after h
-one_there m args k u _ calls after h = absurd (never_stops h)
+one_there m args k u call calls after h = grind (arith, common_steps, with_there, never_stops)
 
 follow_next : (f : Followed) (go on : List Call → Followed) (h : List Call → Followed) → ((calls : List Call) → go calls ≡ then_follow (h calls) on) → then_follow f go ≡ then_follow (then_follow f h) on
-follow_next (goes_on calls) go on h e = e calls
-follow_next (stops calls) go on h e = refl
+follow_next f go on h e = grind (arith, common_steps)
 
 -- where all can be followed, each answer has a content, and a call more was made for each
 then_there : (m : Meaning) (args : List Value) (k : Pick) (u : SiteTerm) (us : List SiteTerm) (calls after : List Call) (f : Followed) → follow_call m args k u (answered_call u) calls ≡ f → then_follow f (follow m args k us) ≡ goes_on after
     → ((c : List Call) → follow m args k us c ≡ goes_on after → All (HasContent m args k) us × (length after ≡ length us + length c)) → All (HasContent m args k) (u ∷ us) × (length after ≡ suc (length us) + length calls)
-then_there m args k u us calls after (stops c) e h rest = absurd (never_stops h)
-then_there m args k u us calls after (goes_on c) e h rest =
-    let a = one_there m args k u (answered_call u) calls c e in
-    let r = rest c h in
-    let here = a.1 in
-    let later = r.1 in
-    (All-cons (HasContent m args k) u us a.0 r.0, omega (arith, here, later))
+then_there m args k u us calls after f e h rest = grind (arith, common_steps, never_stops, one_there)
 
 pub follow_there : (m : Meaning) (args : List Value) (k : Pick) (us : List SiteTerm) (calls after : List Call) → follow m args k us calls ≡ goes_on after
     → All (HasContent m args k) us × (length after ≡ length us + length calls)
@@ -81,5 +72,4 @@ follow_there m args k (u ∷ us) calls after h =
 
 pub follow_append : (m : Meaning) (args : List Value) (k : Pick) (us vs : List SiteTerm) (calls : List Call) → follow m args k (us ++ vs) calls ≡ then_follow (follow m args k us calls) (follow m args k vs)
 follow_append m args k [] vs calls = refl
-follow_append m args k (u ∷ us) vs calls =
-    follow_next (follow_call m args k u (answered_call u) calls) (follow m args k (us ++ vs)) (follow m args k vs) (follow m args k us) (λ c. follow_append m args k us vs c)
+follow_append m args k (u ∷ us) vs calls = grind (arith, common_steps, follow_append m args k us vs, follow_next)

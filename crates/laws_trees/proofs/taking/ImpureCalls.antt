@@ -2,6 +2,7 @@
 use Rattle.std.proofs.Common.{◌≡◌, ◌⊎◌, ℕ, zero, suc, ◌<◌, false, ◌||◌, List, [], ◌∷◌, ◌++◌, length, Option, Some, None, is_some, slice_get, Contains, refl, sym, ap, ◌∙◌, subst, inl, inr, arith}
 use Rattle.std.proofs.lemmas.Bool.{cond-false, or_from, false_from_ne_true, false≢true}
 use Rattle.std.proofs.lemmas.List.{length_push}
+use Rattle.std.proofs.lemmas.Grind.{common_steps}
 use Rattle.model.specs.rules.Values.{Values}
 use Rattle.model.specs.rules.Meaning.{Content, impure_answer}
 use Rattle.model.specs.rules.Outcome.{Call}
@@ -56,8 +57,7 @@ module _ (taking : Taking) (uses : ReturnSites taking) where
   call_fresh c done calls l q (inr d) = (let k = (l.counted c.site c.term c.args c.earlier d c.at).0 in omega (arith, k, q))
 
   pub not_listed : (done : List ℕ) (s : ℕ) → (Here taking done s → ⊥) → (is_in s taking.place.around.emitted || is_in s done) ≡ false
-  not_listed done s n =
-      or_from (is_in s taking.place.around.emitted) (is_in s done) (false_from_ne_true (is_in s taking.place.around.emitted) (λ t. n (inl t))) (false_from_ne_true (is_in s done) (λ t. n (inr (member_found s done t))))
+  not_listed done s n = grind (arith, common_steps, or_from, false_from_ne_true, member_found)
 
   pub call_goes : (n : ℕ) (c : ImpureCall taking.world.sites) → c.site < n → Below taking uses c.site → (done : List ℕ) (calls : List Call) → BoundSites taking done calls → length calls ≡ c.earlier
       → GaveValues taking c.earlier

@@ -1,16 +1,17 @@
 -- Taking a rule comes to one outcome from every place that a run reaches: only critical sites are bound anew, the same ones in
 -- the same order, and each of them alike.
-use Rattle.std.proofs.Common.{◌≡◌, ◌⊎◌, ℕ, suc, true, false, not, cond, List, [], ◌∷◌, ◌++◌, Option, Some, None, slice_get, Contains, IsTrue, filter, refl, sym, ap, ◌∙◌, subst, inl, inr}
+use Rattle.std.proofs.Common.{◌≡◌, ◌⊎◌, ℕ, suc, true, false, not, cond, List, [], ◌∷◌, ◌++◌, Option, Some, None, slice_get, Contains, IsTrue, filter, refl, sym, ap, ◌∙◌, subst, inl, inr, arith}
 use Rattle.std.proofs.lemmas.Bool.{cases_Bool, cases_eq, or_parts, false≢true}
 use Rattle.std.proofs.lemmas.Option.{none-some, same_Some}
 use Rattle.std.proofs.lemmas.List.Elements.{Contains-append_left, Contains-append_right, filter-append}
-use Rattle.model.specs.rules.Meaning.{Content, one, parts, nothing, just, many}
+use Rattle.std.proofs.lemmas.Grind.{common_steps}
+use Rattle.model.specs.rules.Meaning.{Content, just}
 use Rattle.model.specs.rules.Outcome.{Call, Outcome, then_option}
 use Rattle.model.specs.rules.Picks.{part_of_some}
 use Rattle.model.specs.sites.Sites.{Site, match_some_site, SetRule, sources_at}
 use Rattle.model.specs.trees.Places.{is_in, waits, is_in_place, all_below, each_after, listed_below, return_uses}
 use Rattle.model.specs.trees.Trees.{no_step, return_at}
-use Rattle.model.specs.trees.Run.{World, Env, bound_to, used, Bound, all_bound, unwrap_failed, no_content_there, unwrapped, bind_site, then_bind, bind_all, at_start, on_bound, or_next, with_content, returned, run_tree, run_check}
+use Rattle.model.specs.trees.Run.{World, Env, bound_to, used, Bound, all_bound, unwrapped, bind_site, then_bind, bind_all, at_start, on_bound, or_next, run_tree, run_check}
 use Rattle.model.specs.trees.Collects.{content_at}
 use Rattle.model.specs.trees.SetRuns.{IsUnwrap, IsTaken, TakenOnce}
 use Rattle.model.proofs.Members.{nothing_in, in_head}
@@ -20,21 +21,15 @@ use Rattle.laws_trees.proofs.runs.Contents.{SourcesBefore, sources_in, content_l
 use Rattle.laws_trees.proofs.runs.Below.{all_below_itself, all_below_source}
 use Rattle.laws_trees.proofs.taking.SettledSites.{settled, critical, Stock, settled_content, settled_pure, settled_source, emitted_settled, settled_stock, critical_below, critical_order}
 use Rattle.laws_trees.proofs.taking.Taking.{ReachedPlace}
-use Rattle.laws_trees.proofs.taking.UsedSites.{used_placed, placed_same, content_placed, bound_elsewhere, used_here, used_elsewhere, used_stays, AreAlike, bind_alike, alike_bound, AreAlikeBy, then_alike, WithOneContent}
+use Rattle.laws_trees.proofs.taking.UsedSites.{used_placed, placed_same, content_placed, bound_elsewhere, used_here, used_elsewhere, used_stays, AreAlike, bind_alike, alike_bound, AreAlikeBy, then_alike}
 use Rattle.laws_trees.proofs.runs.Listing.{IsHere, stays_here, last_here, here_or_last, listed_last, not_here, NextSite, AreClosed, closed_next, Walk, WalkedTo, order_listed}
 
 -- an unwrap of what has a part is bound to it
 just_there : (o : Option Content) (c : Content) → then_option o part_of_some ≡ Some c → o ≡ Some (just c)
-just_there None c e = absurd (none-some c e)
-just_there (Some (just d)) c e = ap (λ x. Some (just x)) (same_Some d c e)
-just_there (Some nothing) c e = absurd (none-some c e)
-just_there (Some (one v)) c e = absurd (none-some c e)
-just_there (Some (parts vs)) c e = absurd (none-some c e)
-just_there (Some (many cs)) c e = absurd (none-some c e)
+just_there o c e = grind (arith, common_steps, none-some, same_Some)
 
 none_from : (o : Option Content) → ((c : Content) → o ≡ Some c → ⊥) → o ≡ None
-none_from None h = refl
-none_from (Some c) h = absurd (h c refl)
+none_from o h = grind (arith, common_steps)
 
 module _ (w : World) (before : SourcesBefore w.sites) where
   abbrev Settled : ℕ → Type 0
@@ -196,9 +191,7 @@ module _ (w : World) (before : SourcesBefore w.sites) where
         bound_list p = ap (λ t. cond (not t) (n.site ∷ []) []) p
 
         both_bound : settled w n.site ≡ false → (b b' : Bound) → AreAlike n.site e e' b b' → Alike more (then_bind b (λ x k. bind_all w x k [])) (then_bind b' (λ x k. bind_all w x k []))
-        both_bound h =
-            then_alike (WithOneContent n.site e e') (Agree more) (λ x k. bind_all w x k []) (λ x k. bind_all w x k [])
-            (λ x x' k r. (subst (λ y. Agree more y x') (sym r.1) (subst (Agree more ((n.site, r.0) ∷ e)) (sym r.2) (bound_critical h r.0)), refl))
+        both_bound h = grind (arith, common_steps, then_alike, bound_critical)
 
         next_critical : (calls : List Call) → settled w n.site ≡ false → Next calls calls (n.site ∷ []) (n.site ∷ [])
         next_critical calls h =
@@ -294,17 +287,7 @@ module _ (w : World) (before : SourcesBefore w.sites) where
 
   ends_alike : (stock : Stock w) (place : ReachedPlace w []) (r : SetRule) (done : List ℕ) (b b' : Bound) → In stock place done r.result
       → Alike stock place done b b' → ends r b ≡ ends r b'
-  ends_alike stock place r done (all_bound e k) (all_bound e' k') i (a, q) =
-      ap (λ c. ends r (all_bound e c)) q
-      ∙ ap (λ o. or_next (with_content o (record { calls = k'; results = [] }) (returned w.multi (record { calls = k'; results = [] }))) (run_tree no_step w e)) (agree_on stock place done e e' a r.result i)
-  ends_alike stock place r done (unwrap_failed k) (unwrap_failed k') i q = ap (λ c. ends r (unwrap_failed c)) q
-  ends_alike stock place r done (no_content_there k) (no_content_there k') i q = ap (λ c. ends r (no_content_there c)) q
-  ends_alike stock place r done (all_bound x k) (unwrap_failed k') i q = absurd q
-  ends_alike stock place r done (all_bound x k) (no_content_there k') i q = absurd q
-  ends_alike stock place r done (unwrap_failed k) (all_bound x' k') i q = absurd q
-  ends_alike stock place r done (unwrap_failed k) (no_content_there k') i q = absurd q
-  ends_alike stock place r done (no_content_there k) (all_bound x' k') i q = absurd q
-  ends_alike stock place r done (no_content_there k) (unwrap_failed k') i q = absurd q
+  ends_alike stock place r done b b' i q = grind (arith, common_steps, agree_on)
 
   pub taken_as : (r : SetRule) (o : Outcome) → IsTaken w r o → o ≡ ends r (bind_all w (settled_stock w before).env [] (to_bind w.sites (order (return_uses (Some r)))))
   taken_as r o t =

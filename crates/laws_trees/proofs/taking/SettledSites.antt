@@ -5,11 +5,11 @@ use Rattle.std.specs.List.{list_all}
 use Rattle.std.proofs.lemmas.Bool.{cases_Bool, cases_lt, cond-true, cond-false, and_parts, and_from, or_left, or_right, or_from, false_from_ne_true, false≢true}
 use Rattle.std.proofs.lemmas.Option.{none-some, slice_get_within}
 use Rattle.std.proofs.lemmas.List.Elements.{filter-append, All-contains}
-use Rattle.model.specs.rules.Values.{Value, Values, value_and}
+use Rattle.std.proofs.lemmas.Grind.{common_steps}
 use Rattle.model.specs.rules.Meaning.{Content}
 use Rattle.model.specs.rules.Outcome.{then_option}
 use Rattle.model.specs.rules.Picks.{Pick, site_content, site_values}
-use Rattle.model.specs.sites.Sites.{Site, bool_site, int_site, prim_site, argument_site, extractor_site, constructor_site, iterator_site, make_variant_site, match_variant_site, make_struct_site, extract_struct_site, make_some_site, match_some_site, match_tuple_site, sources_of, sources_at, each_term, layer, layer_at, unfolded, unfold_site}
+use Rattle.model.specs.sites.Sites.{Site, bool_site, int_site, prim_site, argument_site, extractor_site, constructor_site, iterator_site, make_variant_site, match_variant_site, make_struct_site, extract_struct_site, make_some_site, match_some_site, match_tuple_site, sources_of, sources_at, each_term, layer, unfold_site}
 use Rattle.model.specs.trees.Places.{is_in, is_in_place, below, all_below, each_after, listed_below}
 use Rattle.model.specs.trees.Run.{World, Env, as_value}
 use Rattle.model.specs.trees.Collects.{content_at, IsPureAt}
@@ -38,22 +38,11 @@ pub record Stock (w : World) : Type 0 where
 
 -- a content is made of the contents of the sources
 first_there : {X Y : Type 0} → (o : Option X) (f : X → Option Y) → IsTrue (is_some (then_option o f)) → IsTrue (is_some o)
-first_there None f h = h
-first_there (Some x) f h = refl
+first_there o f h = grind (arith, common_steps)
 
 pub values_there : (w : World) (pick : Pick) (ss : List ℕ) → IsTrue (is_some (site_values w.meaning w.args pick (each_term (unfold_site w.sites) ss))) → (u : ℕ) → Contains ss u → IsTrue (is_some (content_at w pick u))
 values_there w pick [] h u c = absurd (nothing_in u c)
-values_there w pick (s ∷ ss) h u c =
-    let v = then_option (content_at w pick s) as_value in
-    let rest = site_values w.meaning w.args pick (each_term (unfold_site w.sites) ss) in
-    elim (in_cases s u ss c) [
-      | inl e ↦ subst (λ x. IsTrue (is_some (content_at w pick x))) e (first_there (content_at w pick s) as_value (first_there v _ h))
-      | inr d ↦ values_there w pick ss (second v rest h) u d
-    ]
-  where
-    second : (v : Option Value) (rest : Option Values) → IsTrue (is_some (then_option v (λ x. then_option rest (λ vs. Some (value_and x vs))))) → IsTrue (is_some rest)
-    second None rest h = absurd (false≢true h)
-    second (Some x) rest h = first_there rest _ h
+values_there w pick (s ∷ ss) h u c = grind (arith, common_steps, values_there w pick ss, in_cases s u ss c, first_there (content_at w pick s) as_value)
 
 source_there : (w : World) (pick : Pick) (ss : ℕ) (u : ℕ) → IsTrue (is_some (content_at w pick ss)) → Contains (ss ∷ []) u → IsTrue (is_some (content_at w pick u))
 source_there w pick s u h c = subst (λ x. IsTrue (is_some (content_at w pick x))) (in_alone s u c) h
@@ -101,14 +90,7 @@ module _ (w : World) (before : SourcesBefore w.sites) where
   settled_content s h = content_of (content_at w [] s) (and_parts (calls_nothing (slice_get w.sites s)) (is_some (content_at w [] s)) (fixed_here s h)).1
 
   pub settled_pure : (s : ℕ) → settled w s ≡ true → IsPureAt w.sites s
-  settled_pure s h = by (slice_get w.sites s) refl
-    where
-      both : (calls_nothing (slice_get w.sites s) ≡ true) × (is_some (content_at w [] s) ≡ true)
-      both = and_parts (calls_nothing (slice_get w.sites s)) (is_some (content_at w [] s)) (fixed_here s h)
-
-      by : (o : Option Site) → slice_get w.sites s ≡ o → IsPureAt w.sites s
-      by None at = absurd (false≢true (sym (ap (λ o. is_some (site_content w.meaning w.args [] (layer_at (unfolded s w.sites) o))) at) ∙ both.1))
-      by (Some b) at = (b, at, pure_site b (sym (ap calls_nothing at) ∙ both.0))
+  settled_pure s h = grind (arith, common_steps, calls_nothing, and_parts, fixed_here, pure_site)
 
   pub settled_source : (s a : ℕ) → settled w s ≡ true → Contains (sources_at w.sites s) a → settled w a ≡ true
   settled_source s a h c =
@@ -124,10 +106,7 @@ module _ (w : World) (before : SourcesBefore w.sites) where
 
   -- 3. all of them bound
   stocked : (n : ℕ) → (env : Env) × Held w [] env (λ t. (t < n) × (settled w t ≡ true))
-  stocked zero = ([], record { there = λ t k. absurd (none t k.0); bound = λ t k n. absurd (none t k.0); right = λ t c e. absurd (none-some c e); closed = λ t u k c. absurd (none t k.0) })
-    where
-      none : (t : ℕ) → t < 0 → ⊥
-      none t l = omega (arith, l)
+  stocked zero = grind (arith, common_steps, none-some)
   stocked (suc n) =
       let rest = stocked n in
       elim (cases_Bool (settled w n)) [

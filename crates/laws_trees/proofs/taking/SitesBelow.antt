@@ -1,6 +1,7 @@
 -- Sites that a rule which is taken uses, and all below them: what is bound of those without new impure calls.
-use Rattle.std.proofs.Common.{◌≡◌, ◌⊎◌, ℕ, zero, suc, ◌<◌, true, false, List, [], ◌∷◌, ◌++◌, length, Option, Some, None, is_some, slice_get, Contains, IsTrue, refl, sym, ap, ◌∙◌, subst, inl, inr, arith}
+use Rattle.std.proofs.Common.{◌≡◌, ◌⊎◌, ℕ, suc, ◌<◌, true, false, List, [], ◌∷◌, ◌++◌, length, Option, Some, None, is_some, slice_get, Contains, IsTrue, refl, sym, ap, ◌∙◌, subst, inl, inr, arith}
 use Rattle.std.proofs.lemmas.Bool.{cases_Bool, false≢true}
+use Rattle.std.proofs.lemmas.Grind.{common_steps}
 use Rattle.model.specs.rules.Meaning.{Content, nothing, just}
 use Rattle.model.specs.rules.Outcome.{Call, then_option}
 use Rattle.model.specs.rules.Picks.{part_of_some}
@@ -32,14 +33,10 @@ pub record ReturnSites (taking : Taking) : Type 0 where
       → (c : Content) → content taking source ≡ Some c → (c ≡ nothing) ⊎ ((d : Content) × (c ≡ just d))
 
 pub is_none : {X : Type 0} (o : Option X) → (IsTrue (is_some o) → ⊥) → o ≡ None
-is_none None h = refl
-is_none (Some x) h = absurd (h refl)
+is_none o h = grind (arith, common_steps)
 
 impure_form : (o : Option Site) → calls_nothing o ≡ false → (t : ℕ) × (ss : List ℕ) × (n : ℕ) × (o ≡ Some (constructor_site t ss (suc n)))
-impure_form None h = absurd (false≢true (sym h))
-impure_form (Some (constructor_site t ss zero)) h = absurd (false≢true (sym h))
-impure_form (Some (constructor_site t ss (suc n))) h = (t, ss, n, refl)
-impure_form (Some _) h = absurd (false≢true (sym h))
+impure_form o h = grind (arith, common_steps)
 
 module _ (taking : Taking) (uses : ReturnSites taking) where
   -- at or below a site that the rule uses

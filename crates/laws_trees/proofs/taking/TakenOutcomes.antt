@@ -3,12 +3,13 @@
 use Rattle.std.proofs.Common.{◌≡◌, ◌⊎◌, ℕ, suc, ◌<◌, false, List, [], ◌∷◌, ◌++◌, map, length, Option, Some, is_some, slice_get, Contains, IsTrue, refl, sym, ap, ◌∙◌, subst, inl, inr, arith, append-nil, append_assoc}
 use Rattle.std.proofs.lemmas.Option.{slice_get_within}
 use Rattle.std.proofs.lemmas.List.Elements.{All-nil, All-cons, All-append}
+use Rattle.std.proofs.lemmas.Grind.{common_steps}
 use Rattle.model.specs.rules.Meaning.{Content, nothing, just}
 use Rattle.model.specs.rules.Outcome.{Call, Outcome}
 use Rattle.model.specs.rules.Picks.{Pick, HasContent}
 use Rattle.model.specs.sites.Sites.{constructor_site, match_some_site, SiteTerm, some_part, unfold_site, SetRule, sources_at}
 use Rattle.model.specs.trees.Places.{waits, below, all_below, each_after, listed_below, return_uses}
-use Rattle.model.specs.trees.Run.{World, Env, used, Bound, all_bound, unwrap_failed, at_start, on_bound, or_next, with_content, returned, run_tree, run_check}
+use Rattle.model.specs.trees.Run.{World, Env, used, Bound, all_bound, unwrap_failed, at_start, on_bound, or_next, run_tree, run_check}
 use Rattle.model.specs.trees.Trees.{no_step, return_at}
 use Rattle.model.specs.trees.Collects.{content_at}
 use Rattle.model.specs.trees.SetRuns.{IsTakenUnder}
@@ -41,9 +42,7 @@ module _ (taking : Taking) (uses : ReturnSites taking) (r : SetRule) (multi : ta
   list_extends done s = listed_extends taking.world.sites taking.place.around.emitted (suc s) done s
 
   ends_there : (e : Env) (calls : List Call) (c : Content) → used taking.world e r.result ≡ Some c → ends (all_bound e calls) ≡ result_after (Some c) (goes_on calls)
-  ends_there e calls c h =
-      ap (λ o. or_next (with_content o (record { calls = calls; results = [] }) (returned taking.world.multi (record { calls = calls; results = [] }))) (run_tree no_step taking.world e)) h
-      ∙ ap (λ b. or_next (returned b (record { calls = calls; results = [] }) c) (run_tree no_step taking.world e)) multi
+  ends_there e calls c h = grind (arith, common_steps)
 
   result_goes : (earlier later : List SiteTerm) (s : AnswersBound taking uses earlier later) → Below taking uses r.result → CallsOnly (Known earlier) (U taking uses r.result)
       → ends (bound_so_far taking (list_one s.done r.result)) ≡ result_after (content taking r.result) (goes_on s.calls)

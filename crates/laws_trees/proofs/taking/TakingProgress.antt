@@ -1,8 +1,9 @@
 -- What is bound so far while a rule is taken: the sites listed, the calls made, and one site more.
-use Rattle.std.proofs.Common.{◌≡◌, ℕ, zero, suc, ◌<◌, ◌≤◌, true, false, not, cond, List, [], ◌∷◌, ◌++◌, length, take, Option, Some, None, slice_get, All, Contains, flat_map, refl, sym, ap, ◌∙◌, subst, inl, inr, arith}
+use Rattle.std.proofs.Common.{◌≡◌, ℕ, zero, suc, ◌<◌, ◌≤◌, true, false, List, [], ◌∷◌, ◌++◌, length, take, Option, Some, None, slice_get, All, Contains, flat_map, refl, sym, ap, ◌∙◌, subst, inl, inr, arith}
 use Rattle.std.proofs.lemmas.Bool.{cases_eq, false≢true}
 use Rattle.std.proofs.lemmas.Option.{same_Some}
 use Rattle.std.proofs.lemmas.List.Elements.{filter-append, All-contains}
+use Rattle.std.proofs.lemmas.Grind.{common_steps}
 use Rattle.model.specs.rules.Meaning.{Content}
 use Rattle.model.specs.rules.Outcome.{Call}
 use Rattle.model.specs.rules.Picks.{HasContent}
@@ -57,23 +58,10 @@ module _ (taking : Taking) where
     pub counted : (u t : ℕ) (ss : List ℕ) (n : ℕ) → Contains done u → slice_get taking.world.sites u ≡ Some (constructor_site t ss (suc n)) → (n < length calls) × GaveValues n
 
   pub nothing_listed : BoundSites [] []
-  nothing_listed = record {
-    env = taking.place.env;
-    bound = refl;
-    reads = λ u i. emitted_reads u i;
-    only = λ u c b. inl (taking.place.reached.bound u c b).0;
-    closed = λ u a c i. absurd (nothing_in u c);
-    counted = λ u t ss n c e. absurd (nothing_in u c);
-  }
-    where
-      emitted_reads : (u : ℕ) → Here [] u → (c : Content) × (content u ≡ Some c) × (used taking.world taking.place.env u ≡ Some c)
-      emitted_reads u (inl i) = (let a = taking.place.reached.emitted u i in let c = content_of (content u) a.0 in (c.0, c.1, a.1 ∙ c.1))
-      emitted_reads u (inr c) = absurd (nothing_in u c)
+  nothing_listed = grind (arith, common_steps, nothing_in, content_of)
 
   bind_more : (done new : List ℕ) → bound_so_far (done ++ new) ≡ then_bind (bound_so_far done) (λ e calls. bind_all taking.world e calls (to_bind taking.world.sites new))
-  bind_more done new =
-      ap (bind_all taking.world taking.place.env []) (filter-append (λ t. not (is_in_place (slice_get taking.world.sites t))) done new)
-      ∙ bind_append taking.world (to_bind taking.world.sites done) (to_bind taking.world.sites new) taking.place.env []
+  bind_more done new = grind (arith, common_steps, filter-append, bind_append, to_bind)
 
   -- a failure stays
   pub fails_on : (done more : List ℕ) (calls : List Call) → Extends done more → bound_so_far done ≡ unwrap_failed calls → bound_so_far more ≡ unwrap_failed calls
@@ -82,17 +70,10 @@ module _ (taking : Taking) where
   pub bind_next : (done : List ℕ) (calls : List Call) (l : BoundSites done calls) (s : ℕ) (b : Bound) → is_in_place (slice_get taking.world.sites s) ≡ false
       → bind_site taking.world l.env calls s (slice_get taking.world.sites s) ≡ b
       → bound_so_far (done ++ s ∷ []) ≡ then_bind b (λ e' calls'. all_bound e' calls')
-  bind_next done calls l s b p q =
-      bind_more done (s ∷ [])
-      ∙ ap (λ x. then_bind x (λ e' calls'. bind_all taking.world e' calls' (to_bind taking.world.sites (s ∷ [])))) l.bound
-      ∙ ap (bind_all taking.world l.env calls) (ap (λ t. cond (not t) (s ∷ []) []) p)
-      ∙ ap (λ x. then_bind x (λ e' calls'. all_bound e' calls')) q
+  bind_next done calls l s b p q = grind (arith, common_steps, bind_more, to_bind)
 
   bind_none : (done : List ℕ) (calls : List Call) (l : BoundSites done calls) (s : ℕ) → is_in_place (slice_get taking.world.sites s) ≡ true → bound_so_far (done ++ s ∷ []) ≡ all_bound l.env calls
-  bind_none done calls l s p =
-      bind_more done (s ∷ [])
-      ∙ ap (λ x. then_bind x (λ e' calls'. bind_all taking.world e' calls' (to_bind taking.world.sites (s ∷ [])))) l.bound
-      ∙ ap (bind_all taking.world l.env calls) (ap (λ t. cond (not t) (s ∷ []) []) p)
+  bind_none done calls l s p = grind (arith, common_steps, bind_more, to_bind)
 
   -- no impure call is emitted, nor is one below what is emitted
   pub not_emitted : (s x : ℕ) → Contains (below (suc s) taking.world.sites s) x → IsImpureAt taking.world.sites taking.before x → is_in s taking.place.around.emitted ≡ true → ⊥
@@ -104,8 +85,7 @@ module _ (taking : Taking) where
   below_here : (done : List ℕ) (calls : List Call) → BoundSites done calls → (n x : ℕ) → x < n → Here done x
       → (u t : ℕ) (ss : List ℕ) (m : ℕ) → Contains (below n taking.world.sites x) u → slice_get taking.world.sites u ≡ Some (constructor_site t ss (suc m)) → GaveValues m
   below_here done calls l zero x lt h u t ss m c at = absurd (omega (arith, lt))
-  below_here done calls l (suc n) x lt (inl i) u t ss m c at =
-      absurd (not_emitted x u (subst (λ y. Contains y u) (below_enough taking.world.sites taking.before (suc n) x lt) c) (t, ss, m, at) i)
+  below_here done calls l (suc n) x lt (inl i) u t ss m c at = grind (arith, common_steps, not_emitted x u, below_enough taking.world.sites taking.before (suc n) x lt)
   below_here done calls l (suc n) x lt (inr i) u t ss m c at =
       elim (in_cases x u (flat_map (below n taking.world.sites) (sources_at taking.world.sites x)) c) [
         | inl q ↦ (l.counted x t ss m i (ap (slice_get taking.world.sites) q ∙ at)).1
@@ -134,11 +114,7 @@ module _ (taking : Taking) where
     other t i e = fresh (subst (Here done) (sym e) i)
 
     unbound : bound_to l.env n.site ≡ None
-    unbound = by (bound_to l.env n.site) refl
-      where
-        by : (o : Option Content) → bound_to l.env n.site ≡ o → bound_to l.env n.site ≡ None
-        by None q = q
-        by (Some c) q = absurd (fresh (l.only n.site c q))
+    unbound = grind (arith, common_steps, fresh)
 
     pub read_sources : (u : ℕ) → Contains (sources_at taking.world.sites n.site) u → used taking.world l.env u ≡ content u
     read_sources u c = (let x = l.reads u (n.sources u c) in x.2 ∙ sym x.1)

@@ -1,14 +1,15 @@
 -- The shapes of sites: how many values of which types a site holds, whatever the meaning is. What a site of a shape holds under a
 -- well-typed total meaning fits it.
-use Rattle.std.proofs.Common.{int_eq, length, ◌≡◌, ◌==◌, ℕ, ℤ, zero, suc, Bool, true, false, not, List, [], ◌∷◌, ◌++◌, Some, slice_get, Contains, refl, sym, ap, ◌∙◌, subst, eq-eqb}
-use Rattle.std.proofs.lemmas.Bool.{and_parts, and_from, false≢true}
+use Rattle.std.proofs.Common.{int_eq, length, ◌≡◌, ◌==◌, ℕ, ℤ, zero, suc, Bool, true, false, not, List, [], ◌∷◌, ◌++◌, Some, slice_get, Contains, refl, ap, ◌∙◌, subst, arith}
+use Rattle.std.proofs.lemmas.Bool.{and_parts, and_from}
+use Rattle.std.proofs.lemmas.Grind.{common_steps}
 use Rattle.model.specs.lists.Tables.{Flags, TermEntry}
 use Rattle.model.specs.lists.Ranges.{is_literal_of, reduced}
 use Rattle.model.specs.rules.Values.{Value, of_variant, of_struct, Values, no_value, value_and, listed, of_list, is_truth_type, is_atom_type, variant_types, struct_types, well_typed, all_well_typed}
 use Rattle.model.specs.rules.Meaning.{Content, one, parts, just, many, contents, Meaning, bool_literal, int_literal, TotalMeaning, total}
 use Rattle.model.specs.rules.Program.{Program, a_call, kind, flags_of}
 use Rattle.model.specs.sites.Sites.{SiteTerm, bool_term, int_term, prim_term, argument, extractor_call, constructor_call, pick_of, variant_made, variant_field, struct_made, struct_field, some_made, some_part, tuple_part, no_site, SiteTerms, no_site_term, site_term_and}
-use Rattle.model.specs.sites.Serves.{Holds, holds_bool, holds_int, holds_prim, holds_argument, holds_extractor, holds_pure, holds_impure, holds_pick, holds_variant, holds_variant_field, holds_struct, holds_struct_field, holds_some, holds_part, holds_tuple_part, HoldsAll, holds_none, holds_and, fits_one, fits_answer, term_args, term_results, fits_extractor, fits_constructor, constant_type}
+use Rattle.model.specs.sites.Serves.{Holds, holds_bool, holds_int, holds_prim, holds_argument, holds_extractor, holds_pure, holds_impure, holds_pick, holds_variant, holds_variant_field, holds_struct, holds_struct_field, holds_some, holds_part, holds_tuple_part, HoldsAll, holds_none, holds_and, fits_one, fits_answer, fits_extractor, fits_constructor, constant_type}
 use Rattle.model.proofs.Elements.{in_from_contains, all_in, some_is, none_some}
 use Rattle.laws_sites.specs.RuleUses.{Use, a_term, a_constant}
 use Rattle.laws_trees.specs.TotalLaws.{IsWellTyped, can_be_matched, can_be_called}
@@ -65,11 +66,7 @@ module _ (p : Program) where
   pub part_typed : (tys : List ℕ) (vs : Values) (i ty : ℕ) (v : Value) → all_well_typed p.types (Some tys) vs ≡ true → slice_get tys i ≡ Some ty → slice_get (listed vs) i ≡ Some v → well_typed p.types ty v ≡ true
   part_typed [] vs i ty v h a b = absurd (none_some ty a)
   part_typed (u ∷ tys) no_value i ty v h a b = absurd (none_some v b)
-  part_typed (u ∷ tys) (value_and w vs) zero ty v h a b =
-      let t = (and_parts (well_typed p.types u w) (all_well_typed p.types (Some tys) vs) h).0 in
-      let x = some_is u ty a in
-      let y = some_is w v b in
-      (λ j. well_typed p.types (sym x j) (sym y j)) ∙ t
+  part_typed (u ∷ tys) (value_and w vs) zero ty v h a b = grind (arith, common_steps, and_parts, some_is)
   part_typed (u ∷ tys) (value_and w vs) (suc i) ty v h a b = part_typed tys vs i ty v (and_parts (well_typed p.types u w) (all_well_typed p.types (Some tys) vs) h).1 a b
 
   listed_back : (vs : List Value) → listed (of_list vs) ≡ vs
@@ -80,13 +77,10 @@ module _ (p : Program) where
   arg_typed tys args i ty v h a b = part_typed tys (of_list args) i ty v h a (ap (λ l. slice_get l i) (listed_back args) ∙ b)
 
   parts_typed : (tys : List ℕ) (vs : Values) → fits_one p tys (parts vs) ≡ true → all_well_typed p.types (Some tys) vs ≡ true
-  parts_typed [] vs h = h
-  parts_typed (ty ∷ []) vs h = absurd (false≢true h)
-  parts_typed (ty ∷ (u ∷ tys)) vs h = h
+  parts_typed tys vs h = grind (arith, common_steps)
 
   extractor_fits : (t : ℕ) (e : TermEntry) (flags : Flags) (infallible : Bool) (c : Content) → slice_get p.terms t ≡ Some e → fits_extractor p t (a_call flags infallible) c ≡ true → fits_answer p flags.multi (not infallible) e.arg_tys c ≡ true
-  extractor_fits t e flags true c there h = subst (λ o. fits_answer p flags.multi false (term_args o) c ≡ true) there h
-  extractor_fits t e flags false c there h = subst (λ o. fits_answer p flags.multi true (term_args o) c ≡ true) there h
+  extractor_fits t e flags infallible c there h = grind (arith, common_steps)
 
 -- 2. what is held fits
 -- total functions that are well typed for what is used, and well-typed arguments
@@ -114,8 +108,7 @@ module _ (p : Program) (uses : Uses) (of : TypedFunctions p uses) where
 
   constructor_fits : (t : ℕ) (e : TermEntry) (flags : Flags) (infallible : Bool) (c : Content) → slice_get p.terms t ≡ Some e → kind p t ≡ a_call flags infallible → fits_constructor p t (kind p t) c ≡ true
       → fits_answer p flags.multi flags.partial (e.ret_ty ∷ []) c ≡ true
-  constructor_fits t e flags infallible c there k h =
-      subst (λ o. fits_answer p flags.multi flags.partial (term_results o) c ≡ true) there (subst (λ x. fits_constructor p t x c ≡ true) k h)
+  constructor_fits t e flags infallible c there k h = grind (arith, common_steps)
 
   mutual
     pub held_fits : {multi optional : Bool} {tys : List ℕ} (s : SiteTerm) → Shaped p uses s multi optional tys → (c : Content) → Holds m args s c → fits_answer p multi optional tys c ≡ true
@@ -134,16 +127,12 @@ module _ (p : Program) (uses : Uses) (of : TypedFunctions p uses) where
         (subst (λ d. fits_constructor p t (kind p t) d ≡ true) (some_is (f.impures t before) c q) (typed.impures t before e vs used there can (ap (λ x. (flags_of x).pure) k ∙ pure) (all_held_fit ss h vs g)))
     held_fits (pick_of s) (shaped_pick {optional = optional} {tys = tys} h) c (holds_pick {cs = cs} g i) =
         all_in (fits_one p tys) (contents cs) c (held_fits {multi = true} {optional = optional} s h (many cs) g) (in_from_contains (contents cs) c i)
-    held_fits (variant_made ty variant ss) (shaped_variant {tys = tys} t h) _ (holds_variant {vs = vs} g) =
-        and_from (ty == ty) (all_well_typed p.types (variant_types (slice_get p.types ty) variant) vs) (eq-eqb ty ty refl)
-        (subst (λ o. all_well_typed p.types o vs ≡ true) (sym t) (all_held_fit ss h vs g))
+    held_fits (variant_made ty variant ss) (shaped_variant {tys = tys} t h) _ (holds_variant {vs = vs} g) = grind (arith, common_steps, all_held_fit ss h vs g, and_from)
     held_fits (variant_field s variant i) (shaped_variant_field {ty = ty} {u = u} {tys = tys} h t a) _ (holds_variant_field {ty = w} {vs = vs} {v = v} g e) =
         part_typed p tys vs i u v
         (subst (λ o. all_well_typed p.types o vs ≡ true) t
         (and_parts (w == ty) (all_well_typed p.types (variant_types (slice_get p.types ty) variant) vs) (held_fits s h (one (of_variant w variant vs)) g)).1) a e
-    held_fits (struct_made ty ss) (shaped_struct {tys = tys} t h) _ (holds_struct {vs = vs} g) =
-        and_from (ty == ty) (all_well_typed p.types (struct_types (slice_get p.types ty)) vs) (eq-eqb ty ty refl)
-        (subst (λ o. all_well_typed p.types o vs ≡ true) (sym t) (all_held_fit ss h vs g))
+    held_fits (struct_made ty ss) (shaped_struct {tys = tys} t h) _ (holds_struct {vs = vs} g) = grind (arith, common_steps, all_held_fit ss h vs g, and_from)
     held_fits (struct_field s i) (shaped_struct_field {ty = ty} {u = u} {tys = tys} h t a) _ (holds_struct_field {ty = w} {vs = vs} {v = v} g e) =
         part_typed p tys vs i u v
         (subst (λ o. all_well_typed p.types o vs ≡ true) t

@@ -1,10 +1,11 @@
 -- Each site that a rule makes, and each constant that its patterns name, has a shape, where the rule hangs together; what it
 -- equates is of one type.
 use Rattle.std.proofs.Common.{length, ◌≡◌, ◌==◌, ◌+◌, ℕ, suc, Bool, true, false, not, List, [], ◌∷◌, ◌++◌, Some, None, slice_get, Contains, refl, sym, ap, ◌∙◌, subst, inl, inr, arith, eqb-true}
-use Rattle.model.specs.lists.Tables.{Flags, TermEntry, TermKindEntry, variant_term, struct_term, declared_term}
+use Rattle.std.proofs.lemmas.Grind.{common_steps}
+use Rattle.model.specs.lists.Tables.{Flags, TermEntry}
 use Rattle.model.specs.rules.Values.{is_truth_type}
-use Rattle.model.specs.rules.Program.{Program, Kind, a_variant, a_struct, a_call, unknown, kind, kind_of, flags_of, always_answers, arg_types}
-use Rattle.model.specs.rules.Typed.{TypedPatterns, no_typed_pattern, typed_pattern_and, TypedRule}
+use Rattle.model.specs.rules.Program.{Program, Kind, a_variant, a_struct, a_call, unknown, kind, kind_of, flags_of, arg_types}
+use Rattle.model.specs.rules.Typed.{TypedPatterns, TypedRule}
 use Rattle.model.specs.sites.Sites.{Constraint, is_variant, is_struct, is_bool, is_int, is_prim, is_present, SiteTerm, bool_term, int_term, prim_term, argument, extractor_call, constructor_call, pick_of, variant_made, variant_field, struct_made, struct_field, some_made, some_part, SiteTerms, no_site_term, site_term_and, fields_from}
 use Rattle.model.specs.visits.Demands.{Demands, demands_of, Visit, making, asking, iterating, pattern_count, Opened, output_sites, part_sites, open_call, open_term, valued, ValuedAll, call_result, call_sites, where_multi, visit_call, visit_term, asking_all}
 use Rattle.model.specs.sites.Serves.{constant_site}
@@ -25,28 +26,10 @@ use Rattle.laws_trees.proofs.total.Shaped.{Uses, Shaped, shaped_bool, shaped_int
 
 -- a declared term with an extractor, or a constructor
 call_matched : (e : TermEntry) (flags : Flags) (infallible : Bool) → kind_of e ≡ a_call flags infallible → has_extractor e.kind ≡ true → can_be_matched e.kind ≡ true
-call_matched e flags infallible q h = by e.kind q h
-  where
-    by : (k : TermKindEntry) → (elim k as (λ _. Kind) [
-      | variant_term variant ↦ a_variant e.ret_ty variant
-      | struct_term ↦ a_struct e.ret_ty
-      | declared_term own c x ↦ a_call own (always_answers own x)
-    ]) ≡ a_call flags infallible → has_extractor k ≡ true → can_be_matched k ≡ true
-    by (variant_term i) q h = absurd (cc)
-    by struct_term q h = absurd (cc)
-    by (declared_term own c x) q h = h
+call_matched e flags infallible q h = grind (arith, common_steps)
 
 call_called : (e : TermEntry) (flags : Flags) (infallible : Bool) → kind_of e ≡ a_call flags infallible → has_constructor e.kind ≡ true → can_be_called e.kind ≡ true
-call_called e flags infallible q h = by e.kind q h
-  where
-    by : (k : TermKindEntry) → (elim k as (λ _. Kind) [
-      | variant_term variant ↦ a_variant e.ret_ty variant
-      | struct_term ↦ a_struct e.ret_ty
-      | declared_term own c x ↦ a_call own (always_answers own x)
-    ]) ≡ a_call flags infallible → has_constructor k ≡ true → can_be_called k ≡ true
-    by (variant_term i) q h = absurd (cc)
-    by struct_term q h = absurd (cc)
-    by (declared_term own c x) q h = h
+call_called e flags infallible q h = grind (arith, common_steps)
 
 module _ (p : Program) (uses : Uses) where
   -- a site of one value
@@ -74,8 +57,7 @@ module _ (p : Program) (uses : Uses) where
   none_shaped u i = absurd i
 
   and_shaped : (s : SiteTerm) (ss : List SiteTerm) → HasShape p uses s → AllShaped ss → AllShaped (s ∷ ss)
-  and_shaped s ss h hs u (inl e) = subst (HasShape p uses) e h
-  and_shaped s ss h hs u (inr i) = hs u i
+  and_shaped s ss h hs u k = grind (arith, common_steps)
 
   each_shaped : (ss : List SiteTerm) (tys : List ℕ) → AtEachTyped shapes ss tys → AllShaped ss
   each_shaped [] tys h = none_shaped
@@ -87,28 +69,14 @@ module _ (p : Program) (uses : Uses) where
   made_shaped ts v t h = ((λ u i. elim (in_either v.demands.made ts u i) [ inl j ↦ h.0 u j | inr j ↦ t u j ]), h.1, h.2)
 
   asked_shaped : (s : SiteTerm) (c : Constraint) (v : Visit) → AllShaped (constant_site c) → AreShaped v.demands → AreShaped (asking s c v).demands
-  asked_shaped s c v t h = (
-    h.0,
-    λ x i. elim (in_either v.demands.constraints ((s, c) ∷ []) x i) [
-      | inl j ↦ h.1 x j
-      | inr j ↦ elim j [ inl e ↦ subst (λ (y : SiteTerm × Constraint). AllShaped (constant_site y.1)) e t | inr n ↦ absurd n ]
-    ],
-    h.2,
-  )
+  asked_shaped s c v t h = grind (arith, common_steps, in_either)
 
   all_asked_shaped : (ss : List SiteTerm) (v : Visit) → AreShaped v.demands → AreShaped (asking_all ss v).demands
   all_asked_shaped [] v h = h
   all_asked_shaped (s ∷ ss) v h = all_asked_shaped ss (asking s is_present v) (asked_shaped s is_present v none_shaped h)
 
   equated_shaped : (a b : SiteTerm) (ty : ℕ) (v : Visit) → IsOf a ty → IsOf b ty → AreShaped v.demands → AreShaped (equated a b v).demands
-  equated_shaped a b ty v m n h = (
-    h.0,
-    h.1,
-    λ e i. elim (in_either v.demands.equalities ((a, b) ∷ []) e i) [
-      | inl j ↦ h.2 e j
-      | inr j ↦ elim j [ inl q ↦ subst (λ (y : SiteTerm × SiteTerm). (t : ℕ) × IsOf y.0 t × IsOf y.1 t) q (ty, m, n) | inr x ↦ absurd x ]
-    ],
-  )
+  equated_shaped a b ty v m n h = grind (arith, common_steps, in_either)
 
   -- one site more
   one_made : (s : SiteTerm) (ty : ℕ) (v : Visit) → IsOf s ty → AreShaped v.demands → IsGiven shapes (valued s (making (s ∷ []) v)) ty
@@ -119,10 +87,7 @@ module _ (p : Program) (uses : Uses) where
   outputs_shaped s qs tys n h = outputs_each shapes s qs tys n (λ ty e. subst (Shaped p uses s false false) e h) (λ a b rest e j ty x. shaped_tuple (length rest) (ap length e) h x)
 
   parts_shaped : (s : SiteTerm) (qs : TypedPatterns) (tys : List ℕ) → AsMany qs tys → Shaped p uses s false false tys → AllShaped (part_sites s qs)
-  parts_shaped s no_typed_pattern tys n h = none_shaped
-  parts_shaped s (typed_pattern_and q no_typed_pattern) tys n h = none_shaped
-  parts_shaped s (typed_pattern_and q (typed_pattern_and r rs)) tys n h =
-      let args = typed_pattern_and q (typed_pattern_and r rs) in each_shaped (output_sites s args) tys (outputs_shaped s args tys n h)
+  parts_shaped s qs tys n h = grind (arith, common_steps, none_shaped, each_shaped, outputs_shaped)
 
   -- what opens is shaped, and its parts are of these types
   abbrev Opens : Opened → List ℕ → Type 0

@@ -1,8 +1,8 @@
 -- Every total meaning that is well typed for what rules use serves them, and so trees run by total functions as rules choose.
-use Rattle.std.proofs.Common.{◌≡◌, ℕ, suc, true, false, List, ◌++◌, Option, Some, Contains, flat_map, refl, sym, ap, subst, inl, inr}
+use Rattle.std.proofs.Common.{◌≡◌, ℕ, suc, true, false, List, ◌++◌, Some, Contains, flat_map, refl, sym, ap, subst, inl, inr, arith}
+use Rattle.std.proofs.lemmas.Grind.{common_steps}
 use Rattle.model.specs.rules.Values.{Value, of_variant, Values, of_list, all_well_typed}
 use Rattle.model.specs.rules.Meaning.{one, Meaning, TotalMeaning, total}
-use Rattle.model.specs.rules.Outcome.{then_option}
 use Rattle.model.specs.rules.Program.{Program, kind, arg_types, rules_of}
 use Rattle.model.specs.rules.Picks.{Pick, site_values}
 use Rattle.model.specs.rules.Typed.{TypedRule}
@@ -25,8 +25,7 @@ made_held : {m : Meaning} {args : List Value} {ss : SiteTerms} {vs : Values} →
 made_held (holds_variant h) = h
 
 values_held : (m : Meaning) (args : List Value) (k : Pick) (ss : SiteTerms) (vs : Values) → site_values m args k ss ≡ Some vs → HoldsAll m args ss vs
-values_held m args k ss vs e =
-    made_held (contents_are_held_lem m args k (variant_made 0 0 ss) (one (of_variant 0 0 vs)) (ap (λ (o : Option Values). then_option o (λ ws. Some (one (of_variant 0 0 ws)))) e))
+values_held m args k ss vs e = grind (arith, common_steps, made_held, contents_are_held_lem m args k (variant_made 0 0 ss) (one (of_variant 0 0 vs)))
 
 -- 2. the functions serve
 module _ (p : Program) (h : IsWellTypedProgram p) (t : ℕ) where
