@@ -186,11 +186,7 @@ module _ (p : Notation) (many_of composed_of : ℕ → Bool) (list_of : ℕ → 
   -- 3. tests
   seen_same : (c : Constraint) → is_seen_through q (shown_constraint p c) ≡ is_seen_through p c
   seen_same (is_prim name) = refl
-  seen_same (is_variant ty variant n) = refl
-  seen_same (is_struct ty n) = refl
-  seen_same (is_bool b ty) = refl
-  seen_same (is_int z ty) = refl
-  seen_same is_present = refl
+  seen_same _ = refl
 
   comparison_same : (u : PlaceUse) (sign : Word) (c : Constraint) (r s : List CodePiece) → Same r s → Same (comparison_before p u sign c r) (comparison_before q (shown_use p u) sign (shown_constraint p c) s)
   comparison_same u sign c r s e =
@@ -206,11 +202,7 @@ module _ (p : Notation) (many_of composed_of : ℕ → Bool) (list_of : ℕ → 
 
   constant_is : (c : Constraint) → is_constant (shown_constraint p c) ≡ is_constant c
   constant_is (is_prim name) = refl
-  constant_is (is_variant ty variant n) = refl
-  constant_is (is_struct ty n) = refl
-  constant_is (is_bool b ty) = refl
-  constant_is (is_int z ty) = refl
-  constant_is is_present = refl
+  constant_is _ = refl
 
   condition_same : (constant : Bool) (u : PlaceUse) (c : Constraint) (fields : List (Option ℕ)) (r s : List CodePiece) → Same r s → Same (condition_before constant p u c fields r) (condition_before constant q (shown_use p u) (shown_constraint p c) fields s)
   condition_same true u c fields r s e = comparison_same u equal_to c r s e
@@ -372,13 +364,7 @@ module _ (p : Notation) (many_of composed_of : ℕ → Bool) (list_of : ℕ → 
   end_is (if_equal a b body) = end_of_either (test_of a b) (shown_use p a) (shown_use p b) (shown p body)
   end_is (unless_equal a b) = end_of_unless (test_of a b) (shown_use p a) (shown_use p b)
   end_is (bind v x) = refl
-  end_is (bind_some v u) = refl
-  end_is no_way = refl
-  end_is (match_on u arms) = refl
-  end_is (for_each_of v from body) = refl
-  end_is (give place u) = refl
-  end_is (labelled body) = refl
-  end_is (unless_let u c fields) = refl
+  end_is _ = refl
 
   left_of_either : (t : Option (PlaceUse × Constraint)) (a b : PlaceUse) (body : Block) → leaves_at (result_ends q) (equal_or_match t a b body) ≡ is_left (result_ends q) body
   left_of_either None a b body = refl
@@ -407,11 +393,7 @@ module _ (p : Notation) (many_of composed_of : ℕ → Bool) (list_of : ℕ → 
     leaves_is (for_each_of v from body) = left_is body
     leaves_is (unless_equal a b) = left_of_unless (test_of a b) (shown_use p a) (shown_use p b)
     leaves_is (unless_let u c fields) = refl
-    leaves_is (bind v x) = refl
-    leaves_is (bind_some v u) = refl
-    leaves_is no_way = refl
-    leaves_is (give place u) = refl
-    leaves_is (labelled body) = refl
+    leaves_is _ = refl
 
     arms_left : (arms : CodeArms) → leaves_arms (result_ends q) (shown_arms p arms) ≡ leaves_arms (result_ends p) arms
     arms_left no_code_arm = refl

@@ -144,8 +144,7 @@ module _ (w : World) (env : Env) (p : Passes) (clean : Clean w.sites env) where
 -- 4. sites are bound in order, and what follows
 calls_over : (b : Bound) (t : Trace) (calls : List Call) (k : Env → Trace → Outcome) → on_bound b (with_calls t calls) k ≡ on_bound b t k
 calls_over (all_bound env c) t calls k = refl
-calls_over (unwrap_failed c) t calls k = refl
-calls_over (no_content_there c) t calls k = refl
+calls_over _ t calls k = refl
 
 module _ (w : World) (p : Passes) where
   binds_run : (ss : List ℕ) (rest : Block) (k : Env → Trace → Outcome)
@@ -167,25 +166,17 @@ module _ (w : World) (p : Passes) where
 -- 5. flows
 braces_twice : (env : Env) (f : Flow) → in_braces env (in_braces env f) ≡ in_braces env f
 braces_twice env (goes_on env' t) = refl
-braces_twice env (leaves t) = refl
-braces_twice env (returns t) = refl
-braces_twice env (fails t) = refl
-braces_twice env (sticks t) = refl
+braces_twice env _ = refl
 
 braces_same : (env : Env) (f : Flow) → outcome_of (in_braces env f) ≡ outcome_of f
 braces_same env (goes_on env' t) = refl
-braces_same env (leaves t) = refl
-braces_same env (returns t) = refl
-braces_same env (fails t) = refl
-braces_same env (sticks t) = refl
+braces_same env _ = refl
 
 next_step : (f : Flow) (env : Env) (go : Env → Trace → Flow) (ho : Trace → Outcome) → ((t : Trace) → outcome_of (go env t) ≡ ho t)
     → outcome_of (then_flow (in_braces env f) go) ≡ or_next (outcome_of f) ho
 next_step (goes_on env' t) env go ho h = h t
 next_step (leaves t) env go ho h = refl
-next_step (returns t) env go ho h = refl
-next_step (fails t) env go ho h = refl
-next_step (sticks t) env go ho h = refl
+next_step _ env go ho h = refl
 
 content_step : (o : Option Content) (t : Trace) (go : Content → Flow) (ho : Content → Outcome) → ((c : Content) → outcome_of (go c) ≡ ho c)
     → outcome_of (on_content o t go) ≡ with_content o t ho
@@ -215,9 +206,7 @@ each_braced (c ∷ cs) go env t = on (go c t) (each_braced cs go env)
         → in_braces env (then_flow (in_braces env f) (λ env' t'. each_flow cs go env t')) ≡ then_flow (in_braces env f) (λ env' t'. each_flow cs go env t')
     on (goes_on env' t') below = below t'
     on (leaves t') below = refl
-    on (returns t') below = refl
-    on (fails t') below = refl
-    on (sticks t') below = refl
+    on _ below = refl
 
 answers_braced : (o : Option Content) (go : Content → Trace → Flow) (env : Env) (t : Trace) → in_braces env (on_answers o go env t) ≡ on_answers o go env t
 answers_braced None go env t = refl
@@ -246,8 +235,7 @@ part_is_none None i ho t = refl
 part_is_none (Some (one v)) i ho t = refl
 part_is_none (Some (parts vs)) i ho t = one_is_none (slice_get (listed vs) i) ho t
 part_is_none (Some nothing) i ho t = refl
-part_is_none (Some (just c)) i ho t = refl
-part_is_none (Some (many cs)) i ho t = refl
+part_is_none _ i ho t = refl
 
 written_is_none : (w : World) (env : Env) (o : Option Site) (ho : Content → Trace → Outcome) (t : Trace) → on_many None ho t ≡ on_many (then_option o (in_place w env)) ho t
 written_is_none w env None ho t = refl
@@ -319,12 +307,7 @@ module _ (w : World) (p : Passes) where
   loop_braced (Some (constructor_site term sources instance)) s body env t = refl
   loop_braced (Some (iterator_site source)) s body env t = answers_braced (bound_to env source) (λ c t'. run_block body w None ((s, c) ∷ env) t') env t
   loop_braced (Some (make_variant_site ty variant fields)) s body env t = refl
-  loop_braced (Some (match_variant_site source variant field)) s body env t = refl
-  loop_braced (Some (make_struct_site ty fields)) s body env t = refl
-  loop_braced (Some (extract_struct_site source field)) s body env t = refl
-  loop_braced (Some (make_some_site source)) s body env t = refl
-  loop_braced (Some (match_some_site source)) s body env t = refl
-  loop_braced (Some (match_tuple_site source field)) s body env t = refl
+  loop_braced _ s body env t = refl
 
   loop_step : (o : Option Site) (s : ℕ) (body : Block) (env : Env) (t : Trace) (ho : Content → Trace → Outcome)
       → ((c : Content) (t' : Trace) → outcome_of (run_block body w None ((s, c) ∷ env) t') ≡ ho c t')
@@ -339,12 +322,7 @@ module _ (w : World) (p : Passes) where
   loop_step (Some (iterator_site source)) s body env t ho h =
       answers_step (bound_to env source) (λ c t'. run_block body w None ((s, c) ∷ env) t') ho env t h ∙ bound_is_used (bound_to env source) w env (slice_get w.sites source) ho t
   loop_step (Some (make_variant_site ty variant fields)) s body env t ho h = refl
-  loop_step (Some (match_variant_site source variant field)) s body env t ho h = refl
-  loop_step (Some (make_struct_site ty fields)) s body env t ho h = refl
-  loop_step (Some (extract_struct_site source field)) s body env t ho h = refl
-  loop_step (Some (make_some_site source)) s body env t ho h = refl
-  loop_step (Some (match_some_site source)) s body env t ho h = refl
-  loop_step (Some (match_tuple_site source field)) s body env t ho h = refl
+  loop_step _ s body env t ho h = refl
 
   check_braced : (check : Check) (env : Env) (t : Trace)
       → in_braces env (run_statement (check_code check w.sites p) w None env t) ≡ run_statement (check_code check w.sites p) w None env t

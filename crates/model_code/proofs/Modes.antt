@@ -262,12 +262,7 @@ module _ (types : Types) (multi : Bool) (sites : List Site) where
   loop_fits result (Some (constructor_site term sources instance)) body h k = refl
   loop_fits result (Some (iterator_site source)) body h k = and_from _ _ h k
   loop_fits result (Some (make_variant_site ty variant fields)) body h k = refl
-  loop_fits result (Some (match_variant_site source variant field)) body h k = refl
-  loop_fits result (Some (make_struct_site ty fields)) body h k = refl
-  loop_fits result (Some (extract_struct_site source field)) body h k = refl
-  loop_fits result (Some (make_some_site source)) body h k = refl
-  loop_fits result (Some (match_some_site source)) body h k = refl
-  loop_fits result (Some (match_tuple_site source field)) body h k = refl
+  loop_fits result _ body h k = refl
 
   mutual
     tree_fits : (tree : Tree) → tree_typed types sites tree ≡ true → block_fits types multi false (tree_code tree sites p) ≡ true

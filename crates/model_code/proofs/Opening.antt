@@ -14,10 +14,7 @@ past_braces e env f = refl
 -- a statement alone in a block
 pub alone : (f : Flow) → then_flow f goes_on ≡ f
 alone (goes_on env t) = refl
-alone (leaves t) = refl
-alone (returns t) = refl
-alone (fails t) = refl
-alone (sticks t) = refl
+alone _ = refl
 
 pub past_then : (e : Env) (f : Flow) (go ho : Env → Trace → Flow) → ((env : Env) (t : Trace) → in_label e (go env t) ≡ in_label e (ho env t)) → in_label e (then_flow f go) ≡ in_label e (then_flow f ho)
 past_then e (goes_on env t) go ho h = h env t

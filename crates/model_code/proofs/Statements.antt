@@ -21,10 +21,7 @@ use Rattle.model_code.proofs.Tests.{seen, match_plain, plain_or_lent, plain_wher
 not_named : (c : Constraint) → is_constant c ≡ false → is_named c ≡ false
 not_named (is_prim name) h = h
 not_named (is_variant ty variant n) h = refl
-not_named (is_struct ty n) h = refl
-not_named (is_bool b ty) h = refl
-not_named (is_int z ty) h = refl
-not_named is_present h = refl
+not_named _ h = refl
 
 -- what ends a block begins no statement
 pub nothing_more : (p : Notation) (n : ℕ) (inner : Inner) (label : Option ℕ) (tokens : List Token) → ends_block tokens ≡ true → read_statement p n inner label tokens ≡ None
@@ -77,8 +74,7 @@ module _ (p : Notation) (n : ℕ) where
   failure_back : (kind : ReturnForm) (label : Option ℕ) (v : ℕ) (u : PlaceUse) (rest : List CodePiece)
       → read_else kind label (record { constraint = is_present; fields = Some v ∷ [] }) u (tokens_of (put opening_brace (failure_before kind (space ∷ put closing_brace (end_line rest))))) ≡ Some (bind_some v u, tokens_of rest)
   failure_back gives_one label v u rest = refl
-  failure_back gives_option label v u rest = refl
-  failure_back gives_many label v u rest = refl
+  failure_back _ label v u rest = refl
 
   abbrev then_else : Option ℕ → Pattern → PlaceUse → List Token → TokenReading Statement
   then_else label pattern u tokens = then_option (expect else_word tokens) (read_else p.kind label pattern u)
@@ -293,12 +289,7 @@ module _ (p : Notation) (n : ℕ) where
   -- 7. matches
   not_last : (u : PlaceUse) (c : Constraint) (fields : List (Option ℕ)) (rest : List CodePiece) → expect_all last_arm (tokens_of (arm_pattern p u c fields rest)) ≡ None
   not_last u (is_bool true ty) fields rest = refl
-  not_last u (is_bool false ty) fields rest = refl
-  not_last u (is_prim name) fields rest = refl
-  not_last u (is_variant ty variant m) fields rest = refl
-  not_last u (is_struct ty m) fields rest = refl
-  not_last u (is_int z ty) fields rest = refl
-  not_last u is_present fields rest = refl
+  not_last u _ fields rest = refl
 
   abbrev with_arm : Option ℕ → PlaceUse → ℕ → Pattern → List Token → TokenReading CodeArms
   with_arm label u k pattern tokens = then_option (expect arrow tokens) (λ behind. then_read (read_body inner label behind) (λ body later. then_read (read_arms p inner label u k later) (λ arms end. Some (code_arm pattern.constraint pattern.fields body arms, end))))

@@ -141,12 +141,7 @@ constants_bind_nothing p is_present fields h w = absurd (false≢true h)
 starred_if : (p : Notation) (inner : Inner) (label : Option ℕ) (place : Place) (rest : List CodePiece)
     → read_if p inner label (word star ∷ tokens_of (place_before p place rest)) ≡ then_read (read_use (word star ∷ tokens_of (place_before p place rest))) (read_sign p inner label)
 starred_if p inner label (variable v) rest = refl
-starred_if p inner label (parameter i) rest = refl
-starred_if p inner label (part_of v i) rest = refl
-starred_if p inner label (int_written z ty) rest = refl
-starred_if p inner label (name_written name) rest = refl
-starred_if p inner label (variant_written ty variant) rest = refl
-starred_if p inner label (struct_written ty) rest = refl
+starred_if p inner label _ rest = refl
 
 bare_if : (p : Notation) (inner : Inner) (label : Option ℕ) (place : Place) (pass : Pass) (rest : List CodePiece)
     → read_if p inner label (tokens_of (passed_before p place pass rest)) ≡ then_read (read_use (tokens_of (passed_before p place pass rest))) (read_sign p inner label)
@@ -181,9 +176,7 @@ same_place-refl (struct_written ty) = number_same ty
 
 same_pass-refl : (pass : Pass) → same_pass pass pass ≡ true
 same_pass-refl as_it_is = refl
-same_pass-refl lent = refl
-same_pass-refl cloned = refl
-same_pass-refl seen_through = refl
+same_pass-refl _ = refl
 
 same_use-refl : (u : PlaceUse) → same_use u u ≡ true
 same_use-refl u = and_from (same_place u.place u.place) (same_pass u.pass u.pass) (same_place-refl u.place) (same_pass-refl u.pass)
@@ -196,12 +189,7 @@ guard_back p u name rest h = rw (named_back (p.is_constant_composed name) u name
 starred_guard : (p : Notation) (u : PlaceUse) (place : Place) (rest : List CodePiece)
     → read_compared_guard p u (word star ∷ tokens_of (place_before p place rest)) ≡ then_read (read_use (word star ∷ tokens_of (place_before p place rest))) (guard_by u (test_at p))
 starred_guard p u (variable v) rest = refl
-starred_guard p u (parameter i) rest = refl
-starred_guard p u (part_of v i) rest = refl
-starred_guard p u (int_written z ty) rest = refl
-starred_guard p u (name_written name) rest = refl
-starred_guard p u (variant_written ty variant) rest = refl
-starred_guard p u (struct_written ty) rest = refl
+starred_guard p u _ rest = refl
 
 bare_guard : (p : Notation) (u : PlaceUse) (place : Place) (pass : Pass) (rest : List CodePiece)
     → read_compared_guard p u (tokens_of (passed_before p place pass rest)) ≡ then_read (read_use (tokens_of (passed_before p place pass rest))) (guard_by u (test_at p))

@@ -47,12 +47,7 @@ module _ (p : Notation) where
   -- 1. places, uses, and what is bound
   place_quiet : (place : Place) (rest : List CodePiece) → AsQuiet (place_before p place rest) rest
   place_quiet (variable v) rest = refl
-  place_quiet (parameter i) rest = refl
-  place_quiet (part_of v i) rest = refl
-  place_quiet (int_written z ty) rest = refl
-  place_quiet (name_written name) rest = refl
-  place_quiet (variant_written ty variant) rest = refl
-  place_quiet (struct_written ty) rest = refl
+  place_quiet _ rest = refl
 
   pass_quiet : (place : Place) (pass : Pass) (rest : List CodePiece) → AsQuiet (passed_before p place pass rest) rest
   pass_quiet place as_it_is rest = place_quiet place rest
@@ -135,19 +130,14 @@ module _ (p : Notation) where
 
   constant_quiet : (c : Constraint) (rest : List CodePiece) → AsQuiet (constant_before p c rest) rest
   constant_quiet (is_bool b ty) rest = refl
-  constant_quiet (is_int z ty) rest = refl
-  constant_quiet (is_prim name) rest = refl
-  constant_quiet (is_variant ty variant n) rest = refl
-  constant_quiet (is_struct ty n) rest = refl
-  constant_quiet is_present rest = refl
+  constant_quiet _ rest = refl
 
   pattern_quiet : (c : Constraint) (fields : List (Option ℕ)) (rest : List CodePiece) → AsQuiet (pattern_before p c fields rest) rest
   pattern_quiet (is_variant ty variant n) fields rest = bindings_quiet (variant_owner ty variant) (p.shape (variant_owner ty variant)) fields rest
   pattern_quiet (is_struct ty n) fields rest = bindings_quiet (struct_owner ty) (p.shape (struct_owner ty)) fields rest
   pattern_quiet is_present fields rest = inner_quiet fields (put closing rest)
   pattern_quiet (is_bool b ty) fields rest = refl
-  pattern_quiet (is_int z ty) fields rest = refl
-  pattern_quiet (is_prim name) fields rest = refl
+  pattern_quiet _ fields rest = refl
 
   -- 3. tests
   comparison_quiet : (u : PlaceUse) (sign : Word) (c : Constraint) (rest : List CodePiece) → AsQuiet (comparison_before p u sign c rest) rest
@@ -192,8 +182,7 @@ module _ (p : Notation) where
 
   failure_quiet : (kind : ReturnForm) (rest : List CodePiece) → AsQuiet (failure_before kind rest) rest
   failure_quiet gives_one rest = refl
-  failure_quiet gives_option rest = refl
-  failure_quiet gives_many rest = refl
+  failure_quiet _ rest = refl
 
   bind_some_quiet : (at : Margin) (v : ℕ) (u : PlaceUse) (rest : List CodePiece) → AsQuiet (bind_some_line p at v u rest) rest
   bind_some_quiet at v u rest =
