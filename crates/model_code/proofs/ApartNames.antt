@@ -1,5 +1,5 @@
 -- Where names are apart, so are all tokens that stand in order.
-use Rattle.std.proofs.Common.{◌≡◌, ◌≢◌, ◌⊎◌, ◌<◌, ◌^◌, ◌++◌, ◌&&◌, ◌==◌, ◌∷◌, [], ℕ, Bool, true, false, not, List, Option, Some, None, get_or, drop, slice_get, refl, ap, sym, subst, ◌∙◌, inl, inr, ⊎_elim, eqb-true, codes, decimal, arith}
+use Rattle.std.proofs.Common.{◌≡◌, ◌≢◌, ◌⊎◌, ◌<◌, ◌^◌, ◌++◌, ◌∷◌, [], ℕ, Bool, true, false, List, Option, Some, None, get_or, slice_get, refl, ap, sym, subst, ◌∙◌, inl, inr, ⊎_elim, codes, decimal, arith}
 use Rattle.std.specs.Prelude.{find}
 use Rattle.std.specs.Str.{bytes_eq}
 use Rattle.std.specs.Str.Parse.{AllDigits}
@@ -7,13 +7,14 @@ use Rattle.std.proofs.lemmas.Bool.{and_parts, false≢true, not-true}
 use Rattle.std.proofs.lemmas.Fmt.{decimal_injective, decimal_is_IsNumeral}
 use Rattle.std.proofs.lemmas.List.{append_cancel_left, append-nil}
 use Rattle.std.proofs.lemmas.Str.Parse.{digit_from_value}
+use Rattle.std.proofs.lemmas.Grind.{common_steps}
 use Rattle.model.specs.lists.Syntax.{Position}
-use Rattle.model_code.specs.Tokens.{Word, let_word, mut_word, ref_word, if_word, else_word, match_word, while_word, return_word, break_word, some_word, none_word, true_word, false_word, ctx_word, returns_word, extend_word, len_word, most_word, clone_word, iter_word, next_word, unreachable_word, opening, closing, opening_brace, closing_brace, comma, colon, semicolon, dot, two_dots, underscore, arrow, equals, equal_to, unlike, at_least, ampersand, star, Owner, variant_owner, struct_owner, Token, word, variable_name, parameter_name, part_name, number, constant_name, owner_name, field_name, function_name, list_name, label_name, no_match}
+use Rattle.model_code.specs.Tokens.{Word, let_word, mut_word, ref_word, if_word, else_word, match_word, while_word, return_word, break_word, some_word, none_word, true_word, false_word, ctx_word, returns_word, extend_word, len_word, most_word, clone_word, iter_word, next_word, unreachable_word, opening, closing, opening_brace, closing_brace, comma, colon, semicolon, dot, two_dots, underscore, arrow, equals, equal_to, unlike, at_least, ampersand, star, Owner, Token, word, variable_name, parameter_name, part_name, number, constant_name, owner_name, field_name, function_name, list_name, label_name, no_match}
 use Rattle.model_code.specs.Notation.{Notation}
 use Rattle.model_code.specs.Spelling.{Names, word_text, token_text}
-use Rattle.model_code.specs.Lexing.{lexed, OwnTokensAreWords}
-use Rattle.model_code.specs.Reading.{order_of, same_word, same_owner}
-use Rattle.model_code.specs.OneReading.{Sign, a_token, a_log, told, sign_words, signs_words, Next, anything, is_free, a_method, a_brace, a_field, an_opening, a_closing, is_method, is_word, is_name_of_method, is_field_or_end, may_stand, may_be, behind_told, is_known_sign, stands, follow, AreApart}
+use Rattle.model_code.specs.Lexing.{lexed}
+use Rattle.model_code.specs.Reading.{order_of, same_owner}
+use Rattle.model_code.specs.OneReading.{Sign, a_token, a_log, told, sign_words, signs_words, Next, anything, is_free, a_method, a_brace, a_field, an_opening, a_closing, is_method, is_word, is_name_of_method, is_field_or_end, may_be, behind_told, is_known_sign, stands, follow}
 use Rattle.model_code.specs.ApartNames.{OwnToken, an_own_word, a_variable, a_parameter, a_label, own_text, is_own_method, IsSmallToken, IsOfNames, is_named, AreNamesApart, NamesApartMakeTokensApart}
 use Rattle.model_code.proofs.Lexing.{own_tokens_are_words_lem}
 
@@ -33,72 +34,16 @@ abbrev pub IsFound : Word → Type 0
 IsFound w = (word_of (word_text w) ≡ Some w) × (slice_get all_words (order_of w) ≡ Some w)
 
 pub found : (w : Word) → IsFound w
-found let_word = (refl, refl)
-found mut_word = (refl, refl)
-found ref_word = (refl, refl)
-found if_word = (refl, refl)
-found else_word = (refl, refl)
-found match_word = (refl, refl)
-found while_word = (refl, refl)
-found return_word = (refl, refl)
-found break_word = (refl, refl)
-found some_word = (refl, refl)
-found none_word = (refl, refl)
-found true_word = (refl, refl)
-found false_word = (refl, refl)
-found ctx_word = (refl, refl)
-found returns_word = (refl, refl)
-found extend_word = (refl, refl)
-found len_word = (refl, refl)
-found most_word = (refl, refl)
-found clone_word = (refl, refl)
-found iter_word = (refl, refl)
-found next_word = (refl, refl)
-found unreachable_word = (refl, refl)
-found opening = (refl, refl)
-found closing = (refl, refl)
-found opening_brace = (refl, refl)
-found closing_brace = (refl, refl)
-found comma = (refl, refl)
-found colon = (refl, refl)
-found semicolon = (refl, refl)
-found dot = (refl, refl)
-found two_dots = (refl, refl)
-found underscore = (refl, refl)
-found arrow = (refl, refl)
-found equals = (refl, refl)
-found equal_to = (refl, refl)
-found unlike = (refl, refl)
-found at_least = (refl, refl)
-found ampersand = (refl, refl)
-found star = (refl, refl)
+found w = grind (arith, common_steps)
 
 same_text : (v w : Word) → word_text v ≡ word_text w → v ≡ w
 same_text v w e = let s : Some v ≡ Some w = sym (found v).0 ∙ ap word_of e ∙ (found w).0 in cc
 
-same_number : (v w : Word) → same_word v w ≡ true → v ≡ w
-same_number v w e = let s : Some v ≡ Some w = sym (found v).1 ∙ ap (slice_get all_words) (eqb-true (order_of v) (order_of w) e) ∙ (found w).1 in cc
-
 only_word : (w : Word) (t : Token) → is_word w t ≡ true → t ≡ word w
-only_word w (word v) e = ap word (sym (same_number w v e))
-only_word w (variable_name v) e = absurd (false≢true e)
-only_word w (parameter_name i) e = absurd (false≢true e)
-only_word w (part_name i) e = absurd (false≢true e)
-only_word w (number z ending) e = absurd (false≢true e)
-only_word w (constant_name name) e = absurd (false≢true e)
-only_word w (owner_name o) e = absurd (false≢true e)
-only_word w (field_name o i) e = absurd (false≢true e)
-only_word w (function_name f) e = absurd (false≢true e)
-only_word w (list_name l) e = absurd (false≢true e)
-only_word w (label_name n) e = absurd (false≢true e)
-only_word w no_match e = absurd (false≢true e)
+only_word w t e = grind (arith, common_steps)
 
 that_owner : (o q : Owner) → same_owner o q ≡ true → o ≡ q
-that_owner (variant_owner ty i) (variant_owner uy j) e =
-    let es = and_parts (ty == uy) (i == j) e in ap (λ t. variant_owner t i) (eqb-true ty uy es.0) ∙ ap (variant_owner uy) (eqb-true i j es.1)
-that_owner (variant_owner ty i) (struct_owner uy) e = absurd (false≢true e)
-that_owner (struct_owner ty) (variant_owner uy j) e = absurd (false≢true e)
-that_owner (struct_owner ty) (struct_owner uy) e = ap struct_owner (eqb-true ty uy e)
+that_owner o q e = grind (arith, common_steps, and_parts)
 
 -- 2. the code's own tokens, told by their texts
 abbrev first_letter : List ℕ → ℕ
@@ -106,19 +51,7 @@ first_letter xs = get_or xs 0 0
 
 -- a text that is none of them
 pub not_own : (t : OwnToken) (c : ℕ) (cs : List ℕ) → word_of (c ∷ cs) ≡ None → c ≢ 118 → c ≢ 97 → c ≢ 39 → own_text t ≢ c ∷ cs
-not_own (an_own_word w) c cs n v a l e = (let s : Some w ≡ None = sym (found w).0 ∙ ap word_of e ∙ n in cc)
-not_own (a_variable k) c cs n v a l e = v (ap first_letter (sym e))
-not_own (a_parameter k) c cs n v a l e = a (ap first_letter (sym e))
-not_own (a_label k) c cs n v a l e = l (ap first_letter (sym e))
-
-not_unreachable : (t : OwnToken) → own_text t ≢ codes "unreachable"
-not_unreachable t = not_own t 117 (codes "nreachable") refl (λ e. omega (arith, e)) (λ e. omega (arith, e)) (λ e. omega (arith, e))
-
-not_log : (t : OwnToken) → own_text t ≢ codes "log"
-not_log t = not_own t 108 (codes "og") refl (λ e. omega (arith, e)) (λ e. omega (arith, e)) (λ e. omega (arith, e))
-
-not_path : (t : OwnToken) → own_text t ≢ codes "::"
-not_path t = not_own t 58 (codes ":") refl (λ e. omega (arith, e)) (λ e. omega (arith, e)) (λ e. omega (arith, e))
+not_own t c cs n v a l e = grind (arith, found)
 
 abbrev own_token : OwnToken → Token
 own_token (an_own_word w) = word w
@@ -126,42 +59,16 @@ own_token (a_variable n) = variable_name n
 own_token (a_parameter n) = parameter_name n
 own_token (a_label n) = label_name n
 
-own_apart : (t u : OwnToken) → IsSmallToken t → IsSmallToken u → own_text t ≡ own_text u → t ≡ u
-own_apart (an_own_word w) (an_own_word v) h k e = ap an_own_word (same_text w v e)
-own_apart (an_own_word w) (a_variable n) h k e = absurd (let s : Some w ≡ None = sym (found w).0 ∙ ap word_of e in cc)
-own_apart (an_own_word w) (a_parameter n) h k e = absurd (let s : Some w ≡ None = sym (found w).0 ∙ ap word_of e in cc)
-own_apart (an_own_word w) (a_label n) h k e = absurd (let s : Some w ≡ None = sym (found w).0 ∙ ap word_of e in cc)
-own_apart (a_variable m) (an_own_word w) h k e = absurd (let s : Some w ≡ None = sym (found w).0 ∙ ap word_of (sym e) in cc)
-own_apart (a_parameter m) (an_own_word w) h k e = absurd (let s : Some w ≡ None = sym (found w).0 ∙ ap word_of (sym e) in cc)
-own_apart (a_label m) (an_own_word w) h k e = absurd (let s : Some w ≡ None = sym (found w).0 ∙ ap word_of (sym e) in cc)
-own_apart (a_variable m) (a_variable n) h k e = ap a_variable (decimal_injective m n h k (ap (drop 1) e))
-own_apart (a_variable m) (a_parameter n) h k e = absurd (let d : 118 ≡ 97 = ap first_letter e in omega (arith, d))
-own_apart (a_variable m) (a_label n) h k e = absurd (let d : 118 ≡ 39 = ap first_letter e in omega (arith, d))
-own_apart (a_parameter m) (a_variable n) h k e = absurd (let d : 97 ≡ 118 = ap first_letter e in omega (arith, d))
-own_apart (a_parameter m) (a_parameter n) h k e = ap a_parameter (decimal_injective m n h k (ap (drop 3) e))
-own_apart (a_parameter m) (a_label n) h k e = absurd (let d : 97 ≡ 39 = ap first_letter e in omega (arith, d))
-own_apart (a_label m) (a_variable n) h k e = absurd (let d : 39 ≡ 118 = ap first_letter e in omega (arith, d))
-own_apart (a_label m) (a_parameter n) h k e = absurd (let d : 39 ≡ 97 = ap first_letter e in omega (arith, d))
-own_apart (a_label m) (a_label n) h k e = ap a_label (decimal_injective m n h k (ap (drop 3) e))
-
 -- only the dot has its text
 only_dot : (t : OwnToken) → own_text t ≡ codes "." → t ≡ an_own_word dot
-only_dot (an_own_word w) e = ap an_own_word (same_text w dot e)
-only_dot (a_variable n) e = absurd (let d : 118 ≡ 46 = ap first_letter e in omega (arith, d))
-only_dot (a_parameter n) e = absurd (let d : 97 ≡ 46 = ap first_letter e in omega (arith, d))
-only_dot (a_label n) e = absurd (let d : 39 ≡ 46 = ap first_letter e in omega (arith, d))
+only_dot t e = grind (arith, common_steps, same_text)
 
 -- no digits are the name of a method
 no_digits : (n : ℕ) → n < 2 ^ 64 → (c : ℕ) (cs : List ℕ) → 57 < c → decimal n ≢ c ∷ cs
 no_digits n h c cs g e = omega (arith, g, digit_from_value c (subst (AllDigits 10) e (decimal_is_IsNumeral n h).0.1).0)
 
 no_method : (n : ℕ) → n < 2 ^ 64 → (w : Word) → is_method w ≡ true → word_text w ≢ decimal n
-no_method n h extend_word m e = no_digits n h 101 (codes "xtend") (omega arith) (sym e)
-no_method n h len_word m e = no_digits n h 108 (codes "en") (omega arith) (sym e)
-no_method n h clone_word m e = no_digits n h 99 (codes "lone") (omega arith) (sym e)
-no_method n h iter_word m e = no_digits n h 105 (codes "nto_context_iter") (omega arith) (sym e)
-no_method n h next_word m e = no_digits n h 110 (codes "ext") (omega arith) (sym e)
-no_method n h w m e = false≢true m
+no_method n h w m e = grind (arith, common_steps, no_digits)
 
 -- 3. lists
 pub first_words : {X : Type 0} (x y : X) (xs ys : List X) → x ∷ xs ≡ y ∷ ys → x ≡ y
@@ -169,13 +76,6 @@ first_words x y xs ys e = cc
 
 pub more_words : {X : Type 0} (x y : X) (xs ys : List X) → x ∷ xs ≡ y ∷ ys → xs ≡ ys
 more_words x y xs ys e = cc
-
--- where one list begins another, their first parts are the same, and the rests go on so
-heads : {X : Type 0} (ws vs rest : List X) (c d : X) (cs ds : List X) → ws ≡ c ∷ cs → vs ≡ d ∷ ds → vs ≡ ws ++ rest → c ≡ d
-heads ws vs rest c d cs ds h k e = first_words c d (cs ++ rest) ds (ap (λ z. z ++ rest) (sym h) ∙ sym e ∙ k)
-
-tails : {X : Type 0} (ws vs rest : List X) (c d : X) (cs ds : List X) → ws ≡ c ∷ cs → vs ≡ d ∷ ds → vs ≡ ws ++ rest → ds ≡ cs ++ rest
-tails ws vs rest c d cs ds h k e = sym (more_words c d (cs ++ rest) ds (ap (λ z. z ++ rest) (sym h) ∙ sym e ∙ k))
 
 pub nothing_more : {X : Type 0} (xs rest : List X) → xs ≡ xs ++ rest → rest ≡ []
 nothing_more xs rest e = sym (append_cancel_left xs [] rest (append-nil xs ∙ e))
@@ -219,16 +119,11 @@ module _ (names : Names) (p : Notation) (known : Token → Bool) (a : AreNamesAp
   Begins ws = (w : List ℕ) × (vs : List (List ℕ)) × (ws ≡ w ∷ vs) × (w ≢ codes "::")
 
   begun_so : (o : Option Token) (ws : List (List ℕ)) → Look names known o ws → Begins ws
-  begun_so o ws (an_own t h m e f) = (own_text t, [], f, not_path t)
-  begun_so o ws (a_break e f) = (codes "unreachable", codes "!" ∷ [], f, λ g. (let d : 117 ≡ 58 = ap first_letter g in omega (arith, d)))
-  begun_so o ws (a_part i h e f) = (codes ".", decimal i ∷ [], f, λ g. (let d : [] ≡ codes ":" = ap (drop 1) g in cc))
-  begun_so o ws (a_panic w vs e g f n) = (codes "unreachable", _, f, λ g. (let d : 117 ≡ 58 = ap first_letter g in omega (arith, d)))
-  begun_so o ws (a_name t w vs e n k g f h) = (w, vs, f, h.path)
-  begun_so o ws (a_told at vs e g f) = (codes "log", vs, f, λ g. (let d : 108 ≡ 58 = ap first_letter g in omega (arith, d)))
+  begun_so o ws j = grind (arith, common_steps)
 
   word_begins : (w : Word) → Begins (lexed (word_text w))
   word_begins unreachable_word = (codes "unreachable", codes "!" ∷ [], own_tokens_are_words_lem.words unreachable_word, λ g. (let d : 117 ≡ 58 = ap first_letter g in omega (arith, d)))
-  word_begins w = (word_text w, [], own_tokens_are_words_lem.words w, not_path (an_own_word w))
+  word_begins w = grind (arith, not_own)
 
   begun : (x : Sign) → is_known_sign known x ≡ true → Begins (sign_words names x)
   begun (a_log at) k = let w = a.log at in begun_so None (lexed (names.log at)) (a_told at w.0 refl refl w.1)
@@ -243,50 +138,28 @@ module _ (names : Names) (p : Notation) (known : Token → Bool) (a : AreNamesAp
   -- 5. nothing that may stand behind the first goes on so
   no_path : (s : Next) (xs : List Sign) (more : List (List ℕ)) → follow p known s xs ≡ true → signs_words names xs ≡ codes "::" ∷ more → ⊥
   no_path s [] more f e = (cc)
-  no_path s (x ∷ xs) more f e =
-      let b = begun x (and_parts (is_known_sign known x) (may_be s x) (and_parts (stands known s x) (follow p known (behind_told p s (told x)) xs) f).0).0 in
-      b.3 (first_words b.0 (codes "::") (b.1 ++ signs_words names xs) more (ap (λ z. z ++ signs_words names xs) (sym b.2) ∙ e))
+  no_path s (x ∷ xs) more f e = grind (arith, common_steps, begun, and_parts, first_words)
 
   method_word : (t : Token) → is_name_of_method t ≡ true → (w : Word) × (t ≡ word w) × (is_method w ≡ true)
-  method_word (word w) h = (w, refl, h)
-  method_word (variable_name v) h = absurd (false≢true h)
-  method_word (parameter_name i) h = absurd (false≢true h)
-  method_word (part_name i) h = absurd (false≢true h)
-  method_word (number z ending) h = absurd (false≢true h)
-  method_word (constant_name c) h = absurd (false≢true h)
-  method_word (owner_name o) h = absurd (false≢true h)
-  method_word (field_name o i) h = absurd (false≢true h)
-  method_word (function_name f) h = absurd (false≢true h)
-  method_word (list_name l) h = absurd (false≢true h)
-  method_word (label_name n) h = absurd (false≢true h)
-  method_word no_match h = absurd (false≢true h)
+  method_word t h = grind (arith, common_steps)
 
   method_text : (w : Word) → is_method w ≡ true → lexed (word_text w) ≡ word_text w ∷ []
-  method_text unreachable_word h = absurd (false≢true h)
-  method_text w h = own_tokens_are_words_lem.words w
+  method_text w h = grind (arith, common_steps)
 
   behind_dot : (inside : Option Owner) (i : ℕ) → i < 2 ^ 64 → (xs : List Sign) (more : List (List ℕ)) → follow p known (a_method inside) xs ≡ true → signs_words names xs ≡ decimal i ∷ more → ⊥
   behind_dot inside i h [] more f e = (cc)
   behind_dot inside i h (a_log at ∷ xs) more f e = false≢true f
-  behind_dot inside i h (a_token t ∷ xs) more f e =
-      let m = method_word t (and_parts (known t) (is_name_of_method t) (and_parts (stands known (a_method inside) (a_token t)) (follow p known (anything inside) xs) f).0).1 in
-      let words : lexed (token_text names t) ≡ word_text m.0 ∷ [] = ap (λ u. lexed (token_text names u)) m.1 ∙ method_text m.0 m.2 in
-      no_method i h m.0 m.2 (first_words (word_text m.0) (decimal i) (signs_words names xs) more (ap (λ z. z ++ signs_words names xs) (sym words) ∙ e))
+  behind_dot inside i h (a_token t ∷ xs) more f e = grind (arith, common_steps, method_word, and_parts, method_text, no_method, first_words)
 
   behind_opening : (w : List ℕ) → w ≢ codes ")" → (xs : List Sign) (more : List (List ℕ)) → follow p known a_closing xs ≡ true → signs_words names xs ≡ w ∷ more → ⊥
   behind_opening w n [] more f e = (cc)
   behind_opening w n (a_log at ∷ xs) more f e = false≢true f
-  behind_opening w n (a_token t ∷ xs) more f e =
-      let m : t ≡ word closing = only_word closing t (and_parts (known t) (is_word closing t) (and_parts (stands known a_closing (a_token t)) (follow p known (anything None) xs) f).0).1 in
-      n (sym (first_words (codes ")") w (signs_words names xs) more (ap (λ u. lexed (token_text names u) ++ signs_words names xs) (sym m) ∙ e)))
+  behind_opening w n (a_token t ∷ xs) more f e = grind (arith, common_steps, only_word, and_parts, first_words)
 
   behind_unreachable : (w : List ℕ) → w ≢ codes ")" → (xs : List Sign) (vs more : List (List ℕ)) → follow p known an_opening xs ≡ true → signs_words names xs ≡ codes "(" ∷ (w ∷ (vs ++ more)) → ⊥
   behind_unreachable w n [] vs more f e = (cc)
   behind_unreachable w n (a_log at ∷ xs) vs more f e = false≢true f
-  behind_unreachable w n (a_token t ∷ xs) vs more f e =
-      let fs = and_parts (stands known an_opening (a_token t)) (follow p known a_closing xs) f in
-      let m : t ≡ word opening = only_word opening t (and_parts (known t) (is_word opening t) fs.0).1 in
-      behind_opening w n xs (vs ++ more) fs.1 (more_words (codes "(") (codes "(") (signs_words names xs) (w ∷ (vs ++ more)) (ap (λ u. lexed (token_text names u) ++ signs_words names xs) (sym m) ∙ e))
+  behind_unreachable w n (a_token t ∷ xs) vs more f e = grind (arith, common_steps, and_parts, only_word, behind_opening, more_words)
 
   -- 6. two signs that may stand at one place
   abbrev IsTold : Next → Option Token → Option Token → List (List ℕ) → Type 0
@@ -297,50 +170,39 @@ module _ (names : Names) (p : Notation) (known : Token → Bool) (a : AreNamesAp
 
   module _ (inside : Option Owner) (o q : Option Token) (ws vs rest : List (List ℕ)) (e : vs ≡ ws ++ rest) where
     same : {c d : List ℕ} {cs ds : List (List ℕ)} → ws ≡ c ∷ cs → vs ≡ d ∷ ds → c ≡ d
-    same h k = heads ws vs rest _ _ _ _ h k e
+    same h k = grind (arith, first_words)
 
     on : {c d : List ℕ} {cs ds : List (List ℕ)} → ws ≡ c ∷ cs → vs ≡ d ∷ ds → ds ≡ cs ++ rest
-    on h k = tails ws vs rest _ _ _ _ h k e
+    on h k = grind (arith, more_words)
 
     pair : Look names known o ws → Look names known q vs → IsTold (anything inside) o q rest
-    pair (an_own t h m x f) (an_own u k r y g) =
-        inl (sym (on f g), x ∙ ap (λ z. Some (own_token z)) (own_apart t u h k (same f g)) ∙ sym y)
-    pair (an_own t h m x f) (a_break y g) = absurd (not_unreachable t (same f g))
+    pair (an_own t h m x f) (an_own u k r y g) = grind (arith, common_steps, on f g, same f g, same_text, found, decimal_injective)
+    pair (an_own t h m x f) (a_break y g) = grind (arith, same, not_own)
     pair (an_own t h m x f) (a_part i k y g) =
-        inr (λ xs more w s. behind_dot inside i k xs more
-        (subst (λ z. follow p known (behind_told p (anything inside) z) xs ≡ true) (x ∙ ap (λ z. Some (own_token z)) (only_dot t (same f g))) w)
-        (s ∙ ap (λ z. z ++ more) (sym (on f g))))
-    pair (an_own t h m x f) (a_panic w us y k g n) = absurd (not_unreachable t (same f g))
+        inr (λ xs more w s. grind (arith, common_steps, behind_dot, only_dot, same, on))
+    pair (an_own t h m x f) (a_panic w us y k g n) = grind (arith, same, not_own)
     pair (an_own t h m x f) (a_name u w us y n k l g i) =
         let r = i.own t h m (same f g) in inr (λ xs more c s. no_path (behind_told p (anything inside) o) xs (r.0 ++ more) c (s ∙ ap (λ b. b ++ more) (sym (on f g) ∙ r.1)))
-    pair (an_own t h m x f) (a_told at us y l g) = absurd (not_log t (same f g))
-    pair (a_break x f) (an_own u k m y g) = absurd (not_unreachable u (sym (same f g)))
+    pair (an_own t h m x f) (a_told at us y l g) = grind (arith, same, not_own)
+    pair (a_break x f) (an_own u k m y g) = grind (arith, same, not_own)
     pair (a_break x f) (a_break y g) = inl (nothing_more ws rest (f ∙ sym g ∙ e), x ∙ sym y)
     pair (a_break x f) (a_part i k y g) = absurd (other_letters 117 46 _ _ (λ z. omega (arith, z)) (same f g))
-    pair (a_break x f) (a_panic w us y k g n) =
-        inr (λ xs more v s. behind_unreachable w n xs us more
-        (subst (λ z. follow p known (behind_told p (anything inside) z) xs ≡ true) x v)
-        (s ∙ ap (λ z. z ++ more) (sym (more_words (codes "!") (codes "!") (codes "(" ∷ (w ∷ us)) rest (on f g)))))
+    pair (a_break x f) (a_panic w us y k g n) = grind (arith, common_steps, behind_unreachable w n, more_words, on f g)
     pair (a_break x f) (a_name u w us y n k l g i) = absurd (i.unreachable (sym (same f g)))
     pair (a_break x f) (a_told at us y l g) = absurd (other_letters 117 108 _ _ (λ z. omega (arith, z)) (same f g))
     pair (a_part i h x f) (an_own u k m y g) = absurd (let z : [] ≡ decimal i ∷ rest = on f g in cc)
     pair (a_part i h x f) (a_break y g) = absurd (other_letters 46 117 _ _ (λ z. omega (arith, z)) (same f g))
-    pair (a_part i h x f) (a_part j k y g) =
-        let z : decimal j ∷ [] ≡ decimal i ∷ rest = on f g in
-        inl (sym (more_words (decimal j) (decimal i) [] rest z), x ∙ ap (λ n. Some (part_name n)) (sym (decimal_injective j i k h (first_words (decimal j) (decimal i) [] rest z))) ∙ sym y)
+    pair (a_part i h x f) (a_part j k y g) = grind (arith, common_steps, on, more_words, decimal_injective, first_words)
     pair (a_part i h x f) (a_panic w us y k g n) = absurd (other_letters 46 117 _ _ (λ z. omega (arith, z)) (same f g))
-    pair (a_part i h x f) (a_name u w us y n k l g m) =
-        let r = m.own (an_own_word dot) tt refl (same f g) in
-        absurd (no_digits i h 58 (codes ":") (omega arith) (sym (first_words (codes "::") (decimal i) r.0 rest (sym r.1 ∙ on f g))))
+    pair (a_part i h x f) (a_name u w us y n k l g m) = grind (arith, common_steps, same f g, no_digits i h 58, first_words, on f g, m.own (an_own_word dot))
     pair (a_part i h x f) (a_told at us y l g) = absurd (other_letters 46 108 _ _ (λ z. omega (arith, z)) (same f g))
-    pair (a_panic w us x h f n) (an_own u k m y g) = absurd (not_unreachable u (sym (same f g)))
+    pair (a_panic w us x h f n) (an_own u k m y g) = grind (arith, same, not_own)
     pair (a_panic w us x h f n) (a_break y g) = absurd (let z : codes "!" ∷ [] ≡ codes "!" ∷ (codes "(" ∷ (w ∷ us ++ rest)) = on f g in cc)
     pair (a_panic w us x h f n) (a_part i k y g) = absurd (other_letters 117 46 _ _ (λ z. omega (arith, z)) (same f g))
     pair (a_panic w us x h f n) (a_panic v ys y k g m) = inl (nothing_more ws rest (h ∙ sym k ∙ e), x ∙ sym y)
     pair (a_panic w us x h f n) (a_name u v ys y m k l g i) = absurd (i.unreachable (sym (same f g)))
     pair (a_panic w us x h f n) (a_told at ys y l g) = absurd (other_letters 117 108 _ _ (λ z. omega (arith, z)) (same f g))
-    pair (a_name t w us x n h l f i) (an_own u k m y g) =
-        let r = i.own u k m (sym (same f g)) in absurd (let z : [] ≡ codes "::" ∷ (r.0 ++ rest) = on f g ∙ ap (λ b. b ++ rest) r.1 in cc)
+    pair (a_name t w us x n h l f i) (an_own u k m y g) = grind (arith, common_steps, same, on)
     pair (a_name t w us x n h l f i) (a_break y g) = absurd (i.unreachable (same f g))
     pair (a_name t w us x n h l f i) (a_part j k y g) =
         let r = i.own (an_own_word dot) tt refl (sym (same f g)) in
@@ -350,7 +212,7 @@ module _ (names : Names) (p : Notation) (known : Token → Bool) (a : AreNamesAp
         ⊎_elim (λ z. inl (z.0, x ∙ ap Some z.1 ∙ sym y)) (λ z. inr (λ xs more c s. no_path (behind_told p (anything inside) o) xs (z.0 ++ more) c (s ∙ ap (λ b. b ++ more) z.1)))
         (a.apart t u rest n h m k (sym r ∙ e ∙ ap (λ z. z ++ rest) l))
     pair (a_name t w us x n h l f i) (a_told at ys y r g) = absurd (i.log (same f g))
-    pair (a_told at us x l f) (an_own u k m y g) = absurd (not_log u (sym (same f g)))
+    pair (a_told at us x l f) (an_own u k m y g) = grind (arith, same, not_own)
     pair (a_told at us x l f) (a_break y g) = absurd (other_letters 108 117 _ _ (λ z. omega (arith, z)) (same f g))
     pair (a_told at us x l f) (a_part i k y g) = absurd (other_letters 108 46 _ _ (λ z. omega (arith, z)) (same f g))
     pair (a_told at us x l f) (a_panic w ys y k g n) = absurd (other_letters 108 117 _ _ (λ z. omega (arith, z)) (same f g))
@@ -359,16 +221,10 @@ module _ (names : Names) (p : Notation) (known : Token → Bool) (a : AreNamesAp
 
   -- where a token is told by its place
   one_token : (s : Next) (t u v : Token) (rest : List (List ℕ)) → t ≡ v → u ≡ v → lexed (token_text names u) ≡ lexed (token_text names t) ++ rest → IsTold s (Some t) (Some u) rest
-  one_token s t u v rest h k e =
-      let same : t ≡ u = h ∙ sym k in inl (nothing_more (lexed (token_text names u)) rest (e ∙ ap (λ z. lexed (token_text names z) ++ rest) same), ap Some same)
+  one_token s t u v rest h k e = grind (arith, common_steps, same, nothing_more)
 
   methods : (s : Next) (t u : Token) (rest : List (List ℕ)) → is_name_of_method t ≡ true → is_name_of_method u ≡ true → lexed (token_text names u) ≡ lexed (token_text names t) ++ rest → IsTold s (Some t) (Some u) rest
-  methods s t u rest h k e =
-      let m = method_word t h in
-      let n = method_word u k in
-      let f : lexed (token_text names t) ≡ word_text m.0 ∷ [] = ap (λ z. lexed (token_text names z)) m.1 ∙ method_text m.0 m.2 in
-      let g : lexed (token_text names u) ≡ word_text n.0 ∷ [] = ap (λ z. lexed (token_text names z)) n.1 ∙ method_text n.0 n.2 in
-      one_token s t u (word n.0) rest (m.1 ∙ ap word (same_text m.0 n.0 (heads _ _ rest _ _ _ _ f g e))) n.1 e
+  methods s t u rest h k e = grind (arith, common_steps, method_word, method_text, one_token, same_text)
 
   -- a field, or the end of fields
   data FieldLook (o : Owner) (t : Token) : Type 0 where
@@ -379,22 +235,12 @@ module _ (names : Names) (p : Notation) (known : Token → Bool) (a : AreNamesAp
   field_look : (o : Owner) (t : Token) → known t ≡ true → is_field_or_end o t ≡ true → FieldLook o t
   field_look o (word two_dots) k h = dots refl
   field_look o (word closing_brace) k h = end refl
-  field_look o (word w) k h = absurd (false≢true h)
   field_look o (field_name q i) k h = let s : o ≡ q = that_owner o q h in that i (ap (λ z. known (field_name z i)) s ∙ k) (ap (λ z. field_name z i) (sym s))
-  field_look o (variable_name v) k h = absurd (false≢true h)
-  field_look o (parameter_name i) k h = absurd (false≢true h)
-  field_look o (part_name i) k h = absurd (false≢true h)
-  field_look o (number z ending) k h = absurd (false≢true h)
-  field_look o (constant_name c) k h = absurd (false≢true h)
-  field_look o (owner_name q) k h = absurd (false≢true h)
-  field_look o (function_name f) k h = absurd (false≢true h)
-  field_look o (list_name l) k h = absurd (false≢true h)
-  field_look o (label_name n) k h = absurd (false≢true h)
-  field_look o no_match k h = absurd (false≢true h)
+  field_look o _ k h = absurd (false≢true h)
 
   module _ (o : Owner) (t u : Token) (rest : List (List ℕ)) (e : lexed (token_text names u) ≡ lexed (token_text names t) ++ rest) where
     first_same : {c d : List ℕ} (v w : Token) → t ≡ v → u ≡ w → lexed (token_text names v) ≡ c ∷ [] → lexed (token_text names w) ≡ d ∷ [] → c ≡ d
-    first_same v w h k f g = heads _ _ rest _ _ _ _ (ap (λ z. lexed (token_text names z)) h ∙ f) (ap (λ z. lexed (token_text names z)) k ∙ g) e
+    first_same v w h k f g = grind (arith, first_words)
 
     fields : FieldLook o t → FieldLook o u → IsTold (a_field o) (Some t) (Some u) rest
     fields (dots h) (dots k) = one_token (a_field o) t u (word two_dots) rest h k e
@@ -405,11 +251,7 @@ module _ (names : Names) (p : Notation) (known : Token → Bool) (a : AreNamesAp
     fields (end h) (that j l k) = let w = a.field o j l in absurd (w.3 (sym (first_same (word closing_brace) (field_name o j) h k refl w.1)))
     fields (that i m h) (dots k) = let w = a.field o i m in absurd (w.2 (first_same (field_name o i) (word two_dots) h k w.1 refl))
     fields (that i m h) (end k) = let w = a.field o i m in absurd (w.3 (first_same (field_name o i) (word closing_brace) h k w.1 refl))
-    fields (that i m h) (that j l k) =
-        let v = a.field o i m in
-        let w = a.field o j l in
-        let s : i ≡ j = a.fields o i j m l (v.1 ∙ ap (λ z. z ∷ []) (first_same (field_name o i) (field_name o j) h k v.1 w.1) ∙ sym w.1) in
-        one_token (a_field o) t u (field_name o j) rest (h ∙ ap (field_name o) s) k e
+    fields (that i m h) (that j l k) = grind (arith, common_steps, first_same, one_token)
 
   -- 7. at whatever place
   by_place : (s : Next) (x y : Sign) (rest : List (List ℕ)) → stands known s x ≡ true → stands known s y ≡ true → sign_words names y ≡ sign_words names x ++ rest → IsTold s (told x) (told y) rest
@@ -431,11 +273,7 @@ module _ (names : Names) (p : Notation) (known : Token → Bool) (a : AreNamesAp
   by_place (a_field o) (a_log at) y rest h k e = absurd (false≢true h)
   by_place an_opening (a_log at) y rest h k e = absurd (false≢true h)
   by_place a_closing (a_log at) y rest h k e = absurd (false≢true h)
-  by_place (a_method inside) (a_token t) (a_log at) rest h k e = absurd (false≢true k)
-  by_place (a_brace o) (a_token t) (a_log at) rest h k e = absurd (false≢true k)
-  by_place (a_field o) (a_token t) (a_log at) rest h k e = absurd (false≢true k)
-  by_place an_opening (a_token t) (a_log at) rest h k e = absurd (false≢true k)
-  by_place a_closing (a_token t) (a_log at) rest h k e = absurd (false≢true k)
+  by_place _ _ _ rest h k e = absurd (false≢true k)
 
   has_words : (s : Next) (x : Sign) → stands known s x ≡ true → (w : List ℕ) × (ws : List (List ℕ)) × (sign_words names x ≡ w ∷ ws)
   has_words s x h = let b = begun x (and_parts (is_known_sign known x) (may_be s x) h).0 in (b.0, b.1, b.2)

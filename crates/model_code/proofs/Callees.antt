@@ -1,5 +1,5 @@
 -- The functions of terms, listed, and the first of a list that passes a test.
-use Rattle.std.proofs.Common.{◌≡◌, ℕ, zero, suc, ◌+◌, Bool, true, false, not, cond, List, [], ◌∷◌, Option, Some, None, slice_get, refl, sym, ap, ◌∙◌, ◌⊎◌, inl, inr, arith}
+use Rattle.std.proofs.Common.{◌≡◌, ℕ, zero, suc, ◌+◌, Bool, true, false, not, cond, List, [], ◌∷◌, Option, Some, None, slice_get, refl, ap, ◌⊎◌, inr, arith}
 use Rattle.std.proofs.lemmas.Grind.{common_steps}
 use Rattle.std.specs.List.{position_or_len}
 use Rattle.std.proofs.lemmas.Bool.{eqb-true, eq-eqb}
@@ -13,10 +13,6 @@ module _ {X : Type 0} (q : X → Bool) where
   abbrev pub First : List X → Type 0
   First xs = ((x : X) × (slice_get xs (position_or_len q xs) ≡ Some x) × (q x ≡ true)) ⊎ ((slice_get xs (position_or_len q xs) ≡ None) × ((i : ℕ) (x : X) → slice_get xs i ≡ Some x → q x ≡ false))
 
-  none_at : (x : X) (xs : List X) → q x ≡ false → ((i : ℕ) (y : X) → slice_get xs i ≡ Some y → q y ≡ false) → (i : ℕ) (y : X) → slice_get (x ∷ xs) i ≡ Some y → q y ≡ false
-  none_at x xs e h zero y s = let z : x ≡ y = cc in ap q (sym z) ∙ e
-  none_at x xs e h (suc i) y s = h i y s
-
   here : (x : X) (xs : List X) (b : Bool) → q x ≡ b → slice_get (x ∷ xs) (position_or_len q (x ∷ xs)) ≡ slice_get (x ∷ xs) (cond (not b) (1 + position_or_len q xs) 0)
   here x xs b e = ap (λ c. slice_get (x ∷ xs) (cond (not c) (1 + position_or_len q xs) 0)) e
 
@@ -24,9 +20,7 @@ module _ {X : Type 0} (q : X → Bool) where
   later x xs n = let e : 1 + n ≡ suc n = omega arith in ap (slice_get (x ∷ xs)) e
 
   first_step : (x : X) (xs : List X) (b : Bool) → q x ≡ b → First xs → First (x ∷ xs)
-  first_step x xs true e f = inl (x, here x xs true e, e)
-  first_step x xs false e (inl w) = inl (w.0, here x xs false e ∙ later x xs (position_or_len q xs) ∙ w.1, w.2)
-  first_step x xs false e (inr w) = inr (here x xs false e ∙ later x xs (position_or_len q xs) ∙ w.0, none_at x xs e w.1)
+  first_step x xs b e f = grind (arith, common_steps, here, later)
 
   pub first : (xs : List X) → First xs
   first [] = inr (refl, λ i x e. absurd (cc))
@@ -39,15 +33,8 @@ listed t zero (x ∷ ts) e (extractor_of a) s h = let z : t ≡ a = omega arith 
 listed t zero (x ∷ ts) e (constructor_of a) s h = let z : t ≡ a = omega arith in (1, ap (λ n. Some (constructor_of n)) z)
 listed t (suc k) (x ∷ ts) e f s h = let w = listed (suc t) k ts e f s (omega arith) in (suc (suc w.0), w.1)
 
-callee_self : (f : Callee) → is_same_callee f f ≡ true
-callee_self (extractor_of t) = eq-eqb t t refl
-callee_self (constructor_of t) = eq-eqb t t refl
-
 pub callee_same : (f g : Callee) → is_same_callee f g ≡ true → f ≡ g
-callee_same (extractor_of t) (extractor_of u) e = ap extractor_of (eqb-true t u e)
-callee_same (constructor_of t) (constructor_of u) e = ap constructor_of (eqb-true t u e)
-callee_same f g e = grind (arith, common_steps)
+callee_same f g e = grind (arith, common_steps, eqb-true)
 
 pub same_self : (o : Option ℕ) (f : Callee) → same_names o o (is_same_callee f f) ≡ true
-same_self (Some m) f = eq-eqb m m refl
-same_self None f = callee_self f
+same_self o f = grind (arith, common_steps, eq-eqb)

@@ -1,12 +1,12 @@
 -- Code that stops where its list of results is full does the beginning of what it does without a bound.
-use Rattle.std.proofs.Common.{◌≡◌, ◌⊎◌, inl, inr, ℕ, zero, suc, ◌<◌, ◌≤◌, Bool, true, false, if◌then◌else◌, List, [], ◌∷◌, ◌++◌, length, take, Option, Some, None, refl, sym, ap, subst, ◌∙◌, arith}
-use Rattle.std.proofs.lemmas.Bool.{false≢true, true≢false, cases_Bool}
+use Rattle.std.proofs.Common.{◌≡◌, ◌⊎◌, inl, ℕ, zero, suc, ◌<◌, ◌≤◌, Bool, true, false, if◌then◌else◌, List, [], ◌∷◌, ◌++◌, length, take, Option, Some, None, refl, sym, ap, ◌∙◌, arith}
 use Rattle.std.proofs.lemmas.List.{append_assoc, append-nil, length_push, length-append, take_at}
+use Rattle.std.proofs.lemmas.Grind.{common_steps}
 use Rattle.model.specs.rules.Values.{Value, Values, value_eq}
-use Rattle.model.specs.rules.Meaning.{Content, one, parts, nothing, just, many, contents, pure_answer, impure_answer}
+use Rattle.model.specs.rules.Meaning.{Content, many, contents, pure_answer, impure_answer}
 use Rattle.model.specs.rules.Outcome.{Call, ended}
 use Rattle.model.specs.trees.Run.{World, Env, bound_to, Bound, all_bound, unwrap_failed, no_content_there, now_bound, unwrapped, constructed, Trace, content_fields, bind_fields, at_start}
-use Rattle.model_code.specs.Code.{Expr, truth_written, read, extraction, call, variant_of, struct_of, some_of, Block, no_statement, statement, Statement, bind, bind_some, no_way, match_on, if_equal, for_each_of, give, labelled, unless_let, unless_equal, CodeArms, no_code_arm, code_arm}
+use Rattle.model_code.specs.Code.{Expr, call, Block, no_statement, statement, Statement, bind, bind_some, no_way, match_on, if_equal, for_each_of, give, labelled, unless_let, unless_equal, CodeArms, no_code_arm, code_arm}
 use Rattle.model_code.specs.CodeRuns.{held, held_value, held_values, bind_expr, Flow, goes_on, leaves, returns, fails, sticks, then_flow, in_braces, in_label, flow_of_bound, at_least, with_result, after_result, give_content, with_bindings, where_met, on_content, where_equal, each_flow, on_answers, run_block, run_statement, run_code_arms, outcome_of}
 use Rattle.model_code.specs.CodeLaws.{IsBeginning, IsCut, CodeStopsAtBound}
 
@@ -34,9 +34,6 @@ begins_self t = record { results = beginning_self t.results; calls = beginning_s
 begins_over : (t u v : Trace) → Begins t u → Begins u v → Begins t v
 begins_over t u v b c = record { results = beginning_over t.results u.results v.results b.results c.results; calls = beginning_over t.calls u.calls v.calls b.calls c.calls }
 
-begins_result : (t : Trace) (c : Content) → Begins t (with_result t c)
-begins_result t c = record { results = (c ∷ [], refl); calls = beginning_self t.calls }
-
 then_begins : (f : Flow) (go : Env → Trace → Flow) → ((env : Env) (t : Trace) → Begins t (trace_of (go env t))) → Begins (trace_of f) (trace_of (then_flow f go))
 then_begins (goes_on env t) go h = h env t
 then_begins (leaves t) go h = begins_self t
@@ -45,18 +42,7 @@ then_begins (fails t) go h = begins_self t
 then_begins (sticks t) go h = begins_self t
 
 braces_begin : (t : Trace) (env : Env) (f : Flow) → Begins t (trace_of f) → Begins t (trace_of (in_braces env f))
-braces_begin t env (goes_on env' u) b = b
-braces_begin t env (leaves u) b = b
-braces_begin t env (returns u) b = b
-braces_begin t env (fails u) b = b
-braces_begin t env (sticks u) b = b
-
-label_begin : (t : Trace) (env : Env) (f : Flow) → Begins t (trace_of f) → Begins t (trace_of (in_label env f))
-label_begin t env (goes_on env' u) b = b
-label_begin t env (leaves u) b = b
-label_begin t env (returns u) b = b
-label_begin t env (fails u) b = b
-label_begin t env (sticks u) b = b
+braces_begin t env f b = grind (arith, common_steps)
 
 abbrev pub calls_of : Bound → List Call
 calls_of (all_bound env calls) = calls
@@ -64,16 +50,10 @@ calls_of (unwrap_failed calls) = calls
 calls_of (no_content_there calls) = calls
 
 pub now_calls : (env : Env) (calls : List Call) (s : ℕ) (o : Option Content) → IsBeginning calls (calls_of (now_bound env calls s o))
-now_calls env calls s None = beginning_self calls
-now_calls env calls s (Some c) = beginning_self calls
+now_calls env calls s o = grind (arith, common_steps, beginning_self)
 
 pub unwrapped_calls : (env : Env) (calls : List Call) (s : ℕ) (o : Option Content) → IsBeginning calls (calls_of (unwrapped env calls s o))
-unwrapped_calls env calls s None = beginning_self calls
-unwrapped_calls env calls s (Some (one v)) = beginning_self calls
-unwrapped_calls env calls s (Some (parts vs)) = beginning_self calls
-unwrapped_calls env calls s (Some nothing) = beginning_self calls
-unwrapped_calls env calls s (Some (just c)) = beginning_self calls
-unwrapped_calls env calls s (Some (many cs)) = beginning_self calls
+unwrapped_calls env calls s o = grind (arith, common_steps, beginning_self)
 
 constructed_calls : (w : World) (env : Env) (calls : List Call) (s term instance : ℕ) (o : Option Values) → IsBeginning calls (calls_of (constructed w env calls s term instance o))
 constructed_calls w env calls s term instance None = beginning_self calls
@@ -83,18 +63,11 @@ constructed_calls w env calls s term (suc n) (Some vs) =
     beginning_over calls made (calls_of (now_bound env made s (impure_answer w.meaning term (length calls)))) (record { term = term; args = vs } ∷ [], refl) (now_calls env made s (impure_answer w.meaning term (length calls)))
 
 pub expr_calls : (w : World) (env : Env) (calls : List Call) (s : ℕ) (e : Expr) → IsBeginning calls (calls_of (bind_expr w env calls s e))
-expr_calls w env calls s (truth_written b ty) = now_calls env calls s _
-expr_calls w env calls s (read u) = now_calls env calls s _
-expr_calls w env calls s (extraction term u) = now_calls env calls s _
 expr_calls w env calls s (call term us instance) = constructed_calls w env calls s term instance (held_values w env us)
-expr_calls w env calls s (variant_of ty variant us) = now_calls env calls s _
-expr_calls w env calls s (struct_of ty us) = now_calls env calls s _
-expr_calls w env calls s (some_of u) = now_calls env calls s _
+expr_calls w env calls s _ = now_calls env calls s _
 
 bound_begins : (b : Bound) (t : Trace) → IsBeginning t.calls (calls_of b) → Begins t (trace_of (flow_of_bound b t))
-bound_begins (all_bound env calls) t h = record { results = beginning_self t.results; calls = h }
-bound_begins (unwrap_failed calls) t h = record { results = beginning_self t.results; calls = h }
-bound_begins (no_content_there calls) t h = record { results = beginning_self t.results; calls = h }
+bound_begins b t h = grind (arith, common_steps, beginning_self)
 
 content_begins : (o : Option Content) (t : Trace) (go : Content → Flow) → ((c : Content) → Begins t (trace_of (go c))) → Begins t (trace_of (on_content o t go))
 content_begins None t go h = begins_self t
@@ -110,13 +83,11 @@ met_begins None fields env t go other h k = k
 met_begins (Some cs) fields env t go other h k = bindings_begin (bind_fields fields cs env) t go h
 
 if_begins : (b : Bool) (t : Trace) (f g : Flow) → Begins t (trace_of f) → Begins t (trace_of g) → Begins t (trace_of (if b then f else g))
-if_begins true t f g h k = h
-if_begins false t f g h k = k
+if_begins b t f g h k = grind (arith, common_steps)
 
 equal_begins : (a b : Option Value) (t : Trace) (f g : Flow) → Begins t (trace_of f) → Begins t (trace_of g) → Begins t (trace_of (where_equal a b t f g))
-equal_begins None b t f g h k = begins_self t
-equal_begins (Some v) None t f g h k = begins_self t
 equal_begins (Some v) (Some u) t f g h k = if_begins (value_eq v u) t f g h k
+equal_begins _ _ t f g h k = begins_self t
 
 each_begins : (cs : List Content) (go : Content → Trace → Flow) (env : Env) → ((c : Content) (t : Trace) → Begins t (trace_of (go c t))) → (t : Trace) → Begins t (trace_of (each_flow cs go env t))
 each_begins [] go env h t = begins_self t
@@ -125,17 +96,13 @@ each_begins (c ∷ cs) go env h t =
     (braces_begin t env (go c t) (h c t)) (then_begins (in_braces env (go c t)) (λ env' t'. each_flow cs go env t') (λ env' t'. each_begins cs go env h t'))
 
 answers_begin : (o : Option Content) (go : Content → Trace → Flow) (env : Env) (t : Trace) → ((c : Content) (t : Trace) → Begins t (trace_of (go c t))) → Begins t (trace_of (on_answers o go env t))
-answers_begin None go env t h = begins_self t
-answers_begin (Some (one v)) go env t h = begins_self t
-answers_begin (Some (parts vs)) go env t h = begins_self t
-answers_begin (Some nothing) go env t h = begins_self t
-answers_begin (Some (just c)) go env t h = begins_self t
 answers_begin (Some (many cs)) go env t h = each_begins (contents cs) go env h t
+answers_begin _ go env t h = begins_self t
 
 give_begins : (o : Option Content) (multi : Bool) (env : Env) (t : Trace) → Begins t (trace_of (give_content o multi None env t))
 give_begins None multi env t = begins_self t
-give_begins (Some c) true env t = begins_result t c
-give_begins (Some c) false env t = begins_result t c
+give_begins (Some c) true env t = grind (arith, beginning_self)
+give_begins (Some c) false env t = grind (arith, beginning_self)
 
 module _ (w : World) where
   mutual
@@ -155,9 +122,8 @@ module _ (w : World) where
         braces_begin t env (where_equal (held_value w env a) (held_value w env b) t (run_block body w None env t) (goes_on env t)) (equal_begins (held_value w env a) (held_value w env b) t (run_block body w None env t) (goes_on env t) (block_begins body env t) (begins_self t))
     statement_begins (for_each_of v from body) env t = answers_begin (bound_to env from) (λ c t'. run_block body w None ((v, c) ∷ env) t') env t (λ c t'. block_begins body ((v, c) ∷ env) t')
     statement_begins (give at u) env t = give_begins (held w env u.place) w.multi env t
-    statement_begins (labelled body) env t = label_begin t env (run_block body w None env t) (block_begins body env t)
-    statement_begins (unless_let u pattern fields) env t =
-        content_begins (held w env u.place) t (λ c. where_met (content_fields w.meaning pattern c) fields env t (λ env'. goes_on env' t) (leaves t)) (λ c. met_begins (content_fields w.meaning pattern c) fields env t (λ env'. goes_on env' t) (leaves t) (λ env'. begins_self t) (begins_self t))
+    statement_begins (labelled body) env t = grind (arith, block_begins body env t)
+    statement_begins (unless_let u pattern fields) env t = grind (arith, common_steps, content_begins (held w env u.place) t, met_begins, begins_self t)
     statement_begins (unless_equal a b) env t = equal_begins (held_value w env a) (held_value w env b) t (goes_on env t) (leaves t) (begins_self t) (begins_self t)
 
     arms_begin : (arms : CodeArms) (c : Content) (env : Env) (t : Trace) → Begins t (trace_of (run_code_arms arms w None c env t))
@@ -185,68 +151,20 @@ Cut n f g = ((g ≡ f) × Under n f) ⊎ Stopped n f g
 
 cut_then : (n : ℕ) (f g : Flow) (go ho : Env → Trace → Flow) → ((env : Env) (t : Trace) → length t.results < n → Cut n (go env t) (ho env t))
     → ((env : Env) (t : Trace) → Begins t (trace_of (go env t))) → Cut n f g → Cut n (then_flow f go) (then_flow g ho)
-cut_then n f g go ho h b (inl e) = subst (λ x. Cut n (then_flow f go) (then_flow x ho)) (sym e.0) (on f e.1)
-  where
-    on : (x : Flow) → Under n x → Cut n (then_flow x go) (then_flow x ho)
-    on (goes_on env t) u = h env t u
-    on (leaves t) u = inl (refl, u)
-    on (returns t) u = inl (refl, u)
-    on (fails t) u = inl (refl, u)
-    on (sticks t) u = inl (refl, u)
-cut_then n f g go ho h b (inr s) =
-    inr record { at = s.at; same = ap (λ x. then_flow x ho) s.same; full = s.full; begins = begins_over s.at (trace_of f) (trace_of (then_flow f go)) s.begins (then_begins f go b) }
+cut_then n f g go ho h b k = grind (arith, common_steps, begins_over, then_begins f go b)
 
 cut_braces : (n : ℕ) (env : Env) (f g : Flow) → Cut n f g → Cut n (in_braces env f) (in_braces env g)
-cut_braces n env f g (inl e) = inl (ap (in_braces env) e.0, on f e.1)
-  where
-    on : (x : Flow) → Under n x → Under n (in_braces env x)
-    on (goes_on env' t) u = u
-    on (leaves t) u = u
-    on (returns t) u = u
-    on (fails t) u = u
-    on (sticks t) u = u
-cut_braces n env f g (inr s) = inr record { at = s.at; same = ap (in_braces env) s.same; full = s.full; begins = braces_begin s.at env f s.begins }
+cut_braces n env f g h = grind (arith, common_steps, braces_begin)
 
 cut_label : (n : ℕ) (env : Env) (f g : Flow) → Cut n f g → Cut n (in_label env f) (in_label env g)
-cut_label n env f g (inl e) = inl (ap (in_label env) e.0, on f e.1)
-  where
-    on : (x : Flow) → Under n x → Under n (in_label env x)
-    on (goes_on env' t) u = u
-    on (leaves t) u = u
-    on (returns t) u = u
-    on (fails t) u = u
-    on (sticks t) u = u
-cut_label n env f g (inr s) = inr record { at = s.at; same = ap (in_label env) s.same; full = s.full; begins = label_begin s.at env f s.begins }
-
-below_at_most : (m n : ℕ) → m < n → m ≤ n
-below_at_most m n h = omega (arith, h)
-
-cut_bound : (n : ℕ) (b : Bound) (t : Trace) → length t.results < n → Cut n (flow_of_bound b t) (flow_of_bound b t)
-cut_bound n (all_bound env calls) t u = inl (refl, u)
-cut_bound n (unwrap_failed calls) t u = inl (refl, u)
-cut_bound n (no_content_there calls) t u = inl (refl, u)
-
-cut_content : (n : ℕ) (o : Option Content) (t : Trace) (go ho : Content → Flow) → length t.results < n → ((c : Content) → Cut n (go c) (ho c)) → Cut n (on_content o t go) (on_content o t ho)
-cut_content n None t go ho u h = inl (refl, u)
-cut_content n (Some c) t go ho u h = h c
-
-cut_bindings : (n : ℕ) (o : Option Env) (t : Trace) (go ho : Env → Flow) → length t.results < n → ((env : Env) → Cut n (go env) (ho env)) → Cut n (with_bindings o t go) (with_bindings o t ho)
-cut_bindings n None t go ho u h = inl (refl, u)
-cut_bindings n (Some env) t go ho u h = h env
+cut_label n env f g h = grind (arith, common_steps)
 
 cut_met : (n : ℕ) (o : Option (List Content)) (fields : List (Option ℕ)) (env : Env) (t : Trace) (go ho : Env → Flow) (f g : Flow)
     → length t.results < n → ((env' : Env) → Cut n (go env') (ho env')) → Cut n f g → Cut n (where_met o fields env t go f) (where_met o fields env t ho g)
-cut_met n None fields env t go ho f g u h k = k
-cut_met n (Some cs) fields env t go ho f g u h k = cut_bindings n (bind_fields fields cs env) t go ho u h
+cut_met n o fields env t go ho f g u h k = grind (arith, common_steps)
 
 cut_if : (n : ℕ) (b : Bool) (f g x y : Flow) → Cut n f x → Cut n g y → Cut n (if b then f else g) (if b then x else y)
-cut_if n true f g x y h k = h
-cut_if n false f g x y h k = k
-
-cut_equal : (n : ℕ) (a b : Option Value) (t : Trace) (f g x y : Flow) → length t.results < n → Cut n f x → Cut n g y → Cut n (where_equal a b t f g) (where_equal a b t x y)
-cut_equal n None b t f g x y u h k = inl (refl, u)
-cut_equal n (Some v) None t f g x y u h k = inl (refl, u)
-cut_equal n (Some v) (Some z) t f g x y u h k = cut_if n (value_eq v z) f g x y h k
+cut_if n b f g x y h k = grind (arith, common_steps)
 
 cut_each : (n : ℕ) (cs : List Content) (go ho : Content → Trace → Flow) (env : Env) → ((c : Content) (t : Trace) → length t.results < n → Cut n (go c t) (ho c t))
     → ((c : Content) (t : Trace) → Begins t (trace_of (go c t))) → (t : Trace) → length t.results < n → Cut n (each_flow cs go env t) (each_flow cs ho env t)
@@ -257,39 +175,20 @@ cut_each n (c ∷ cs) go ho env h b t u =
 
 cut_answers : (n : ℕ) (o : Option Content) (go ho : Content → Trace → Flow) (env : Env) (t : Trace) → length t.results < n → ((c : Content) (t : Trace) → length t.results < n → Cut n (go c t) (ho c t))
     → ((c : Content) (t : Trace) → Begins t (trace_of (go c t))) → Cut n (on_answers o go env t) (on_answers o ho env t)
-cut_answers n None go ho env t u h b = inl (refl, u)
-cut_answers n (Some (one v)) go ho env t u h b = inl (refl, u)
-cut_answers n (Some (parts vs)) go ho env t u h b = inl (refl, u)
-cut_answers n (Some nothing) go ho env t u h b = inl (refl, u)
-cut_answers n (Some (just c)) go ho env t u h b = inl (refl, u)
 cut_answers n (Some (many cs)) go ho env t u h b = cut_each n (contents cs) go ho env h b t u
+cut_answers n _ go ho env t u h b = inl (refl, u)
 
 -- a result
 reached : (m n : ℕ) → at_least m n ≡ true → m ≤ n
-reached zero n h = omega arith
-reached (suc m) zero h = absurd (false≢true h)
 reached (suc m) (suc n) h = let k = reached m n h in omega (arith, k)
+reached m n h = grind arith
 
 not_reached : (m n : ℕ) → at_least m n ≡ false → n < m
-not_reached zero n h = absurd (true≢false h)
-not_reached (suc m) zero h = omega arith
 not_reached (suc m) (suc n) h = let k = not_reached m n h in omega (arith, k)
+not_reached m n h = grind arith
 
 cut_result : (n : ℕ) (multi : Bool) (env : Env) (t : Trace) (c : Content) → length t.results < n → Cut n (after_result multi None env (with_result t c)) (after_result multi (Some n) env (with_result t c))
-cut_result n false env t c u = let l = length_push t.results c in inl (refl, omega (arith, l, u))
-cut_result n true env t c u = go (cases_Bool (at_least n (length (t.results ++ c ∷ []))))
-  where
-    go : (at_least n (length (t.results ++ c ∷ [])) ≡ true) ⊎ (at_least n (length (t.results ++ c ∷ [])) ≡ false)
-        → Cut n (goes_on env (with_result t c)) (if at_least n (length (t.results ++ c ∷ [])) then returns (with_result t c) else goes_on env (with_result t c))
-    go (inl e) =
-        let l = length_push t.results c in
-        let k = reached n (length (t.results ++ c ∷ [])) e in
-        inr record { at = with_result t c; same = ap (λ b. if b then returns (with_result t c) else goes_on env (with_result t c)) e; full = omega (arith, l, k, u); begins = begins_self (with_result t c) }
-    go (inr e) = inl (ap (λ b. if b then returns (with_result t c) else goes_on env (with_result t c)) e, not_reached n (length (t.results ++ c ∷ [])) e)
-
-cut_give : (n : ℕ) (o : Option Content) (multi : Bool) (env : Env) (t : Trace) → length t.results < n → Cut n (give_content o multi None env t) (give_content o multi (Some n) env t)
-cut_give n None multi env t u = inl (refl, u)
-cut_give n (Some c) multi env t u = cut_result n multi env t c u
+cut_result n multi env t c u = grind (arith, common_steps, length_push, reached, begins_self, not_reached)
 
 module _ (w : World) (n : ℕ) where
   mutual
@@ -299,74 +198,39 @@ module _ (w : World) (n : ℕ) where
         cut_then n (run_statement s w None env t) (run_statement s w (Some n) env t) (run_block rest w None) (run_block rest w (Some n)) (block_cut rest) (block_begins w rest) (statement_cut s env t u)
 
     statement_cut : (s : Statement) (env : Env) (t : Trace) → length t.results < n → Cut n (run_statement s w None env t) (run_statement s w (Some n) env t)
-    statement_cut (bind v e) env t u = cut_bound n (bind_expr w env t.calls v e) t u
-    statement_cut (bind_some v x) env t u = cut_bound n (unwrapped env t.calls v (held w env x.place)) t u
+    statement_cut (bind v e) env t u = grind arith
+    statement_cut (bind_some v x) env t u = grind arith
     statement_cut no_way env t u = inl (refl, u)
-    statement_cut (match_on x arms) env t u =
-        cut_braces n env (on_content (held w env x.place) t (λ c. run_code_arms arms w None c env t)) (on_content (held w env x.place) t (λ c. run_code_arms arms w (Some n) c env t))
-        (cut_content n (held w env x.place) t (λ c. run_code_arms arms w None c env t) (λ c. run_code_arms arms w (Some n) c env t) u (λ c. arms_cut arms c env t u))
-    statement_cut (if_equal a b body) env t u =
-        cut_braces n env (where_equal (held_value w env a) (held_value w env b) t (run_block body w None env t) (goes_on env t)) (where_equal (held_value w env a) (held_value w env b) t (run_block body w (Some n) env t) (goes_on env t))
-        (cut_equal n (held_value w env a) (held_value w env b) t (run_block body w None env t) (goes_on env t) (run_block body w (Some n) env t) (goes_on env t) u (block_cut body env t u) (inl (refl, u)))
+    statement_cut (match_on x arms) env t u = grind (arith, common_steps, arms_cut arms, cut_braces)
+    statement_cut (if_equal a b body) env t u = grind (arith, common_steps, block_cut body env t u, cut_braces)
     statement_cut (for_each_of v from body) env t u =
         cut_answers n (bound_to env from) (λ c t'. run_block body w None ((v, c) ∷ env) t') (λ c t'. run_block body w (Some n) ((v, c) ∷ env) t') env t u (λ c t' k. block_cut body ((v, c) ∷ env) t' k) (λ c t'. block_begins w body ((v, c) ∷ env) t')
-    statement_cut (give at x) env t u = cut_give n (held w env x.place) w.multi env t u
+    statement_cut (give at x) env t u = grind (arith, cut_result)
     statement_cut (labelled body) env t u = cut_label n env (run_block body w None env t) (run_block body w (Some n) env t) (block_cut body env t u)
-    statement_cut (unless_let x pattern fields) env t u =
-        cut_content n (held w env x.place) t (λ c. where_met (content_fields w.meaning pattern c) fields env t (λ env'. goes_on env' t) (leaves t)) (λ c. where_met (content_fields w.meaning pattern c) fields env t (λ env'. goes_on env' t) (leaves t)) u
-        (λ c. cut_met n (content_fields w.meaning pattern c) fields env t (λ env'. goes_on env' t) (λ env'. goes_on env' t) (leaves t) (leaves t) u (λ env'. inl (refl, u)) (inl (refl, u)))
-    statement_cut (unless_equal a b) env t u = cut_equal n (held_value w env a) (held_value w env b) t (goes_on env t) (leaves t) (goes_on env t) (leaves t) u (inl (refl, u)) (inl (refl, u))
+    statement_cut (unless_let x pattern fields) env t u = grind (arith, common_steps, cut_met)
+    statement_cut (unless_equal a b) env t u = grind (arith, cut_if)
 
     arms_cut : (arms : CodeArms) (c : Content) (env : Env) (t : Trace) → length t.results < n → Cut n (run_code_arms arms w None c env t) (run_code_arms arms w (Some n) c env t)
     arms_cut no_code_arm c env t u = inl (refl, u)
-    arms_cut (code_arm pattern fields body rest) c env t u =
-        cut_met n (content_fields w.meaning pattern c) fields env t (λ env'. run_block body w None env' t) (λ env'. run_block body w (Some n) env' t) (run_code_arms rest w None c env t) (run_code_arms rest w (Some n) c env t) u
-        (λ env'. block_cut body env' t u) (arms_cut rest c env t u)
+    arms_cut (code_arm pattern fields body rest) c env t u = grind (arith, common_steps, block_cut body, arms_cut rest c env t u, cut_met)
 
 -- 3. outcomes
-results_of : (f : Flow) → (outcome_of f).results ≡ (trace_of f).results
-results_of (goes_on env t) = refl
-results_of f = refl
-
 calls_made : (f : Flow) → (outcome_of f).calls ≡ (trace_of f).calls
-calls_made (goes_on env t) = refl
-calls_made f = refl
+calls_made f = grind (arith, common_steps)
 
 room : (n : ℕ) (f : Flow) → Under n f → length (trace_of f).results ≤ n
-room n (goes_on env t) u = below_at_most _ _ u
-room n (leaves t) u = below_at_most _ _ u
-room n (returns t) u = u
-room n (fails t) u = below_at_most _ _ u
-room n (sticks t) u = below_at_most _ _ u
+room n f u = grind (arith, common_steps)
 
 -- what has no room left returned
 full_returns : (n : ℕ) (f : Flow) → Under n f → n ≤ length (outcome_of f).results → (outcome_of f).ending ≡ ended
-full_returns n (goes_on env t) u h = absurd (omega (arith, u, h))
-full_returns n (leaves t) u h = absurd (omega (arith, u, h))
-full_returns n (returns t) u h = refl
-full_returns n (fails t) u h = absurd (omega (arith, u, h))
-full_returns n (sticks t) u h = absurd (omega (arith, u, h))
+full_returns n f u h = grind (arith, common_steps)
 
 all_taken : {X : Type 0} (n : ℕ) (xs : List X) → length xs ≤ n → xs ≡ take n xs
-all_taken zero (x ∷ xs) h = absurd (omega (arith, h))
 all_taken (suc n) (x ∷ xs) h = ap (λ l. x ∷ l) (all_taken n xs (omega (arith, h)))
-all_taken n xs h = refl
+all_taken n xs h = grind (arith, common_steps)
 
 outcomes_cut : (n : ℕ) (f g : Flow) → Cut n f g → IsCut n (outcome_of f) (outcome_of g)
-outcomes_cut n f g (inl e) =
-    record {
-      results = ap (λ x. (outcome_of x).results) e.0 ∙ results_of f ∙ all_taken n (trace_of f).results (room n f e.1) ∙ ap (take n) (sym (results_of f));
-      calls = subst (λ x. IsBeginning (outcome_of x).calls (outcome_of f).calls) (sym e.0) (beginning_self (outcome_of f).calls);
-      below = λ h. ap outcome_of e.0;
-      ending = λ h. ap (λ x. (outcome_of x).ending) e.0 ∙ full_returns n f e.1 h;
-    }
-outcomes_cut n f g (inr s) =
-    record {
-      results = ap (λ x. (outcome_of x).results) s.same ∙ sym (take_at s.at.results s.begins.results.0 n s.full) ∙ ap (take n) (sym s.begins.results.1) ∙ ap (take n) (sym (results_of f));
-      calls = (s.begins.calls.0, calls_made f ∙ s.begins.calls.1 ∙ ap (λ x. (outcome_of x).calls ++ s.begins.calls.0) (sym s.same));
-      below = λ h. let l = ap length (results_of f ∙ s.begins.results.1) ∙ length-append s.at.results s.begins.results.0 in let k = s.full in absurd (omega (arith, l, k, h));
-      ending = λ h. ap (λ x. (outcome_of x).ending) s.same;
-    }
+outcomes_cut n f g h = grind (arith, common_steps, all_taken, room, beginning_self, full_returns, take_at, calls_made, length-append)
 
 pub code_stops_at_bound_lem : CodeStopsAtBound
 code_stops_at_bound_lem body w n = outcomes_cut (suc n) (run_block body w None [] at_start) (run_block body w (Some (suc n)) [] at_start) (block_cut w (suc n) body [] at_start (omega arith))

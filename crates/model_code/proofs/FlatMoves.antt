@@ -1,21 +1,20 @@
 -- Labels, put at whatever depths, keep what loops take.
-use Rattle.std.proofs.Common.{◌≡◌, ◌&&◌, [], ℕ, suc, Bool, true, false, List, refl, ap, ◌∙◌, sym}
+use Rattle.std.proofs.Common.{◌≡◌, ◌&&◌, [], ℕ, suc, Bool, true, List, refl, arith}
 use Rattle.std.proofs.lemmas.Bool.{and_parts, and_from, false≢true}
+use Rattle.std.proofs.lemmas.Grind.{common_steps}
 use Rattle.model.specs.trees.Places.{is_in}
-use Rattle.model_code.specs.Code.{PlaceUse, Block, no_statement, statement, Statement, bind, bind_some, no_way, match_on, if_equal, for_each_of, give, labelled, unless_let, unless_equal, CodeArms, no_code_arm, code_arm}
+use Rattle.model_code.specs.Code.{PlaceUse, Block, no_statement, statement, Statement, bind, bind_some, no_way, match_on, if_equal, for_each_of, give, CodeArms, no_code_arm, code_arm}
 use Rattle.model_code.specs.Flat.{unlabelled, unlabelled_at, unlabelled_arms, within, flat, flat_at, flat_arms, leaving, leaving_last, leaving_match}
 use Rattle.model_code.specs.Scopes.{unless_ended}
 use Rattle.model_code.specs.Moves.{other, fresh_after, block_takes, statement_takes, arms_take, FlatKeepsMoves}
 use Rattle.model_code.proofs.FlatScopes.{later_flat}
 
 fresh_flat : (s : Statement) (deep : ℕ → Bool) (n : ℕ) (fresh : List ℕ) → fresh_after fresh s ≡ fresh_after fresh (flat_at s deep n)
-fresh_flat (unless_let u pattern fields) deep n fresh = refl
-fresh_flat s deep n fresh = refl
+fresh_flat s deep n fresh = grind (arith, common_steps)
 
 module _ (taken : ℕ → Bool) where
   within_takes : (deep : Bool) (inner plain : Block) → block_takes taken [] inner ≡ true → block_takes taken [] plain ≡ true → block_takes taken [] (within deep inner plain) ≡ true
-  within_takes true inner plain h k = and_from _ _ h refl
-  within_takes false inner plain h k = k
+  within_takes deep inner plain h k = grind (arith, common_steps, and_from)
 
   module _ (deep : ℕ → Bool) where
     mutual
@@ -25,8 +24,7 @@ module _ (taken : ℕ → Bool) where
           let us = and_parts (unlabelled_at s) (unlabelled rest) u in
           let hs = and_parts (statement_takes taken fresh s) (unless_ended s (block_takes taken (fresh_after fresh s) rest)) h in
           and_from (statement_takes taken fresh (flat_at s deep n)) _ (flat_takes_at s n fresh us.0 hs.0)
-          (later_flat s deep n (block_takes taken (fresh_after fresh s) rest) (block_takes taken (fresh_after fresh (flat_at s deep n)) (flat rest deep n))
-          (λ k. ap (λ f. block_takes taken f (flat rest deep n)) (sym (fresh_flat s deep n fresh)) ∙ flat_takes rest n (fresh_after fresh s) us.1 k) hs.1)
+          (grind (arith, common_steps, flat_takes rest n (fresh_after fresh s) us.1, later_flat, fresh_flat))
 
       flat_takes_at : (s : Statement) (n : ℕ) (fresh : List ℕ) → unlabelled_at s ≡ true → statement_takes taken fresh s ≡ true → statement_takes taken fresh (flat_at s deep n) ≡ true
       flat_takes_at (bind v e) n fresh u h = h
@@ -40,9 +38,7 @@ module _ (taken : ℕ → Bool) where
           let hs = and_parts (taken from && is_in from fresh) (block_takes taken [] body) h in
           and_from _ _ hs.0 (within_takes (deep n) (leaving body deep (suc n)) (flat body deep (suc n)) (leaving_takes body (suc n) [] u hs.1) (flat_takes body (suc n) [] u hs.1))
       flat_takes_at (give at x) n fresh u h = h
-      flat_takes_at (labelled body) n fresh u h = absurd (false≢true u)
-      flat_takes_at (unless_let x pattern fields) n fresh u h = absurd (false≢true u)
-      flat_takes_at (unless_equal a b) n fresh u h = absurd (false≢true u)
+      flat_takes_at _ n fresh u h = absurd (false≢true u)
 
       flat_takes_arms : (arms : CodeArms) (n : ℕ) → unlabelled_arms arms ≡ true → arms_take taken arms ≡ true → arms_take taken (flat_arms arms deep n) ≡ true
       flat_takes_arms no_code_arm n u h = refl
@@ -59,8 +55,7 @@ module _ (taken : ℕ → Bool) where
           let us = and_parts (unlabelled_at s) (unlabelled (statement next rest)) u in
           let hs = and_parts (statement_takes taken fresh s) (unless_ended s (block_takes taken (fresh_after fresh s) (statement next rest))) h in
           and_from (statement_takes taken fresh (flat_at s deep n)) _ (flat_takes_at s n fresh us.0 hs.0)
-          (later_flat s deep n (block_takes taken (fresh_after fresh s) (statement next rest)) (block_takes taken (fresh_after fresh (flat_at s deep n)) (leaving (statement next rest) deep n))
-          (λ k. ap (λ f. block_takes taken f (leaving (statement next rest) deep n)) (sym (fresh_flat s deep n fresh)) ∙ leaving_takes (statement next rest) n (fresh_after fresh s) us.1 k) hs.1)
+          (grind (arith, common_steps, leaving_takes (statement next rest) n (fresh_after fresh s) us.1, later_flat, fresh_flat))
 
       leaving_takes_last : (s : Statement) (n : ℕ) (fresh : List ℕ) → unlabelled_at s ≡ true → statement_takes taken fresh s ≡ true → block_takes taken fresh (leaving_last s deep n) ≡ true
       leaving_takes_last (bind v e) n fresh u h = and_from _ _ h refl
@@ -73,9 +68,7 @@ module _ (taken : ℕ → Bool) where
           let hs = and_parts (taken from && is_in from fresh) (block_takes taken [] body) h in
           and_from _ _ (and_from _ _ hs.0 (within_takes (deep n) (leaving body deep (suc n)) (flat body deep (suc n)) (leaving_takes body (suc n) [] u hs.1) (flat_takes body (suc n) [] u hs.1))) refl
       leaving_takes_last (give at x) n fresh u h = and_from _ _ h refl
-      leaving_takes_last (labelled body) n fresh u h = absurd (false≢true u)
-      leaving_takes_last (unless_let x pattern fields) n fresh u h = absurd (false≢true u)
-      leaving_takes_last (unless_equal a b) n fresh u h = absurd (false≢true u)
+      leaving_takes_last _ n fresh u h = absurd (false≢true u)
 
       leaving_takes_match : (x : PlaceUse) (arms : CodeArms) (n : ℕ) (fresh : List ℕ) → unlabelled_arms arms ≡ true → (other taken x.place && arms_take taken arms) ≡ true → block_takes taken fresh (leaving_match x arms deep n) ≡ true
       leaving_takes_match x no_code_arm n fresh u h = and_from _ _ h refl

@@ -1,6 +1,7 @@
 -- Labels, put at whatever depths, keep scopes.
-use Rattle.std.proofs.Common.{◌≡◌, ◌&&◌, ◌++◌, ◌∷◌, ℕ, suc, Bool, true, false, List, refl, ap, ◌∙◌, sym}
+use Rattle.std.proofs.Common.{◌≡◌, ◌&&◌, ◌++◌, ◌∷◌, ℕ, suc, Bool, true, false, List, refl, arith}
 use Rattle.std.proofs.lemmas.Bool.{and_parts, and_from, false≢true}
+use Rattle.std.proofs.lemmas.Grind.{common_steps}
 use Rattle.model.specs.trees.Places.{is_in, field_sites}
 use Rattle.model_code.specs.Code.{PlaceUse, Block, no_statement, statement, Statement, bind, bind_some, no_way, match_on, if_equal, for_each_of, give, labelled, unless_let, unless_equal, CodeArms, no_code_arm, code_arm}
 use Rattle.model_code.specs.Flat.{unlabelled, unlabelled_at, unlabelled_arms, within, flat, flat_at, flat_arms, leaving, leaving_last, leaving_match}
@@ -8,24 +9,13 @@ use Rattle.model_code.specs.Scopes.{knows, scope_after, unless_ended, block_scop
 
 -- what follows a statement, where it stays as it is but for labels within
 after_flat : (s : Statement) (deep : ℕ → Bool) (n : ℕ) (scope : List ℕ) → scope_after scope s ≡ scope_after scope (flat_at s deep n)
-after_flat (unless_let u pattern fields) deep n scope = refl
-after_flat s deep n scope = refl
+after_flat s deep n scope = grind (arith, common_steps)
 
 pub later_flat : (s : Statement) (deep : ℕ → Bool) (n : ℕ) (x y : Bool) → (x ≡ true → y ≡ true) → unless_ended s x ≡ true → unless_ended (flat_at s deep n) y ≡ true
-later_flat (bind v e) deep n x y h k = h k
-later_flat (bind_some v u) deep n x y h k = h k
-later_flat no_way deep n x y h k = refl
-later_flat (match_on u arms) deep n x y h k = h k
-later_flat (if_equal a b body) deep n x y h k = h k
-later_flat (for_each_of v from body) deep n x y h k = h k
-later_flat (give at u) deep n x y h k = h k
-later_flat (labelled body) deep n x y h k = h k
-later_flat (unless_let u pattern fields) deep n x y h k = h k
-later_flat (unless_equal a b) deep n x y h k = h k
+later_flat s deep n x y h k = grind (arith, common_steps)
 
 within_scoped : (deep : Bool) (l : Bool) (scope : List ℕ) (inner plain : Block) → block_scoped true scope inner ≡ true → block_scoped l scope plain ≡ true → block_scoped l scope (within deep inner plain) ≡ true
-within_scoped true l scope inner plain h k = and_from _ _ h refl
-within_scoped false l scope inner plain h k = k
+within_scoped deep l scope inner plain h k = grind (arith, common_steps, and_from)
 
 -- code without labels is in scope whether or not a label is around: l is before, m after
 module _ (deep : ℕ → Bool) (l : Bool) where
@@ -36,8 +26,7 @@ module _ (deep : ℕ → Bool) (l : Bool) where
         let us = and_parts (unlabelled_at s) (unlabelled rest) u in
         let hs = and_parts (statement_scoped l scope s) (unless_ended s (block_scoped l (scope_after scope s) rest)) h in
         and_from (statement_scoped m scope (flat_at s deep n)) _ (flat_scoped_at s n m scope us.0 hs.0)
-        (later_flat s deep n (block_scoped l (scope_after scope s) rest) (block_scoped m (scope_after scope (flat_at s deep n)) (flat rest deep n))
-        (λ k. ap (λ sc. block_scoped m sc (flat rest deep n)) (sym (after_flat s deep n scope)) ∙ flat_scoped rest n m (scope_after scope s) us.1 k) hs.1)
+        (grind (arith, common_steps, flat_scoped rest n m (scope_after scope s) us.1, later_flat, after_flat))
 
     flat_scoped_at : (s : Statement) (n : ℕ) (m : Bool) (scope : List ℕ) → unlabelled_at s ≡ true → statement_scoped l scope s ≡ true → statement_scoped m scope (flat_at s deep n) ≡ true
     flat_scoped_at (bind v e) n m scope u h = h
@@ -66,16 +55,14 @@ module _ (deep : ℕ → Bool) (l : Bool) where
         let us = and_parts (unlabelled_at s) (unlabelled (statement next rest)) u in
         let hs = and_parts (statement_scoped l scope s) (unless_ended s (block_scoped l (scope_after scope s) (statement next rest))) h in
         and_from (statement_scoped true scope (flat_at s deep n)) _ (flat_scoped_at s n true scope us.0 hs.0)
-        (later_flat s deep n (block_scoped l (scope_after scope s) (statement next rest)) (block_scoped true (scope_after scope (flat_at s deep n)) (leaving (statement next rest) deep n))
-        (λ k. ap (λ sc. block_scoped true sc (leaving (statement next rest) deep n)) (sym (after_flat s deep n scope)) ∙ leaving_scoped (statement next rest) n (scope_after scope s) us.1 k) hs.1)
+        (grind (arith, common_steps, leaving_scoped (statement next rest) n (scope_after scope s) us.1, later_flat, after_flat))
 
     leaving_scoped_last : (s : Statement) (n : ℕ) (scope : List ℕ) → unlabelled_at s ≡ true → statement_scoped l scope s ≡ true → block_scoped true scope (leaving_last s deep n) ≡ true
     leaving_scoped_last (bind v e) n scope u h = and_from _ _ h refl
     leaving_scoped_last (bind_some v x) n scope u h = and_from _ _ h refl
     leaving_scoped_last no_way n scope u h = refl
     leaving_scoped_last (match_on x arms) n scope u h = leaving_scoped_match x arms n scope u h
-    leaving_scoped_last (if_equal a b body) n scope u h =
-        let hs = and_parts (knows scope a.place && knows scope b.place) (block_scoped l scope body) h in and_from _ _ hs.0 (leaving_scoped body n scope u hs.1)
+    leaving_scoped_last (if_equal a b body) n scope u h = grind (arith, common_steps, leaving_scoped body n scope u, and_parts, and_from)
     leaving_scoped_last (for_each_of v from body) n scope u h =
         let hs = and_parts (is_in from scope) (block_scoped l (v ∷ scope) body) h in and_from _ _ (and_from _ _ hs.0 (within_scoped (deep n) true (v ∷ scope) (leaving body deep (suc n)) (flat body deep (suc n)) (leaving_scoped body (suc n) (v ∷ scope) u hs.1) (flat_scoped body (suc n) true (v ∷ scope) u hs.1))) refl
     leaving_scoped_last (give at x) n scope u h = and_from _ _ h refl

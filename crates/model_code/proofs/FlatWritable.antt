@@ -1,6 +1,7 @@
 -- Code with labels can be written where the code without can.
-use Rattle.std.proofs.Common.{◌≡◌, ◌&&◌, ℕ, suc, Bool, true, false, refl, sym}
+use Rattle.std.proofs.Common.{◌≡◌, ◌&&◌, ℕ, suc, Bool, true, false, refl, arith}
 use Rattle.std.proofs.lemmas.Bool.{and_parts, and_from, or_parts, false≢true}
+use Rattle.std.proofs.lemmas.Grind.{common_steps}
 use Rattle.model_code.specs.Code.{PlaceUse, Block, no_statement, statement, Statement, bind, match_on, if_equal, for_each_of, give, labelled, unless_let, unless_equal, CodeArms, no_code_arm, code_arm}
 use Rattle.model_code.specs.Flat.{unlabelled, unlabelled_at, unlabelled_arms, within, flat, flat_at, flat_arms, leaving, leaving_last, leaving_match}
 use Rattle.model_code.specs.Notation.{Notation}
@@ -10,36 +11,20 @@ use Rattle.model_code.proofs.Written.{with_label}
 
 module _ (p : Notation) where
   -- 1. where no test leaves a label, none has to be around
-  later_without : (ended : Bool) (later : Block) → unless_end ended false (is_left (result_ends p) later) ≡ false → unless_end ended true (writable p true later) ≡ true
-      → (is_left (result_ends p) later ≡ false → writable p true later ≡ true → writable p false later ≡ true) → unless_end ended true (writable p false later) ≡ true
-  later_without true later l h k = refl
-  later_without false later l h k = k l h
-
   mutual
     without_label : (b : Block) → is_left (result_ends p) b ≡ false → writable p true b ≡ true → writable p false b ≡ true
     without_label no_statement l h = refl
-    without_label (statement s later) l h =
-        let ls = or_parts (leaves_at (result_ends p) s) (unless_end (is_end (result_ends p) s) false (is_left (result_ends p) later)) l in
-        let hs = and_parts (writable_at p true s) (unless_end (is_end (result_ends p) s) true (writable p true later)) h in
-        and_from _ _ (without_label_at s ls.0 hs.0) (later_without (is_end (result_ends p) s) later ls.1 hs.1 (λ i k. without_label later i k))
+    without_label (statement s later) l h = grind (arith, common_steps, without_label_at s, without_label later, or_parts, and_parts, and_from)
 
     without_label_at : (s : Statement) → leaves_at (result_ends p) s ≡ false → writable_at p true s ≡ true → writable_at p false s ≡ true
     without_label_at (match_on u arms) l h = without_label_arms arms u l h
     without_label_at (if_equal a b body) l h = without_label body l h
     without_label_at (for_each_of v from body) l h = without_label body l h
-    without_label_at (labelled body) l h = h
-    without_label_at (unless_let u pattern fields) l h = absurd (false≢true (sym l))
-    without_label_at (unless_equal a b) l h = absurd (false≢true (sym l))
-    without_label_at (bind v e) l h = h
-    without_label_at s l h = refl
+    without_label_at s l h = grind (arith, common_steps)
 
     without_label_arms : (arms : CodeArms) (u : PlaceUse) → leaves_arms (result_ends p) arms ≡ false → writable_arms p true u arms ≡ true → writable_arms p false u arms ≡ true
     without_label_arms no_code_arm u l h = refl
-    without_label_arms (code_arm pattern fields body rest) u l h =
-        let ls = or_parts (is_left (result_ends p) body) (leaves_arms (result_ends p) rest) l in
-        let hs = and_parts (pattern_writable p pattern fields && match_writable p u pattern) (writable p true body && writable_arms p true u rest) h in
-        let ks = and_parts (writable p true body) (writable_arms p true u rest) hs.1 in
-        and_from _ _ hs.0 (and_from _ _ (without_label body ls.0 ks.0) (without_label_arms rest u ls.1 ks.1))
+    without_label_arms (code_arm pattern fields body rest) u l h = grind (arith, without_label body, without_label_arms rest u, or_parts, and_parts, and_from)
 
   label_writable : (left : Bool) (b : Block) → is_left (result_ends p) b ≡ left → writable p true b ≡ true → writable p left b ≡ true
   label_writable true b l h = h
@@ -50,30 +35,16 @@ module _ (p : Notation) where
   within_writable false label inner plain h k = with_label p plain label k
 
   unlabelled_end : (s : Statement) (deep : ℕ → Bool) (n : ℕ) → is_end (result_ends p) (flat_at s deep n) ≡ is_end (result_ends p) s
-  unlabelled_end (for_each_of v from body) deep n = refl
-  unlabelled_end s deep n = refl
+  unlabelled_end s deep n = grind (arith, common_steps)
 
   later_flat : (ended : Bool) (x y : Bool) → unless_end ended true x ≡ true → (x ≡ true → y ≡ true) → unless_end ended true y ≡ true
-  later_flat true x y h k = refl
-  later_flat false x y h k = k h
-
-  -- a return, and what else isn't a test, stands as it is behind all else
-  last_alone : (label : Bool) (s : Statement) → writable_at p label s ≡ true → writable p label (statement s no_statement) ≡ true
-  last_alone label s h = and_from _ _ h (ended_alone (is_end (result_ends p) s))
-    where
-      ended_alone : (ended : Bool) → unless_end ended true true ≡ true
-      ended_alone true = refl
-      ended_alone false = refl
+  later_flat ended x y h k = grind (arith, common_steps)
 
   module _ (deep : ℕ → Bool) where
     mutual
       flat_back : (b : Block) (n : ℕ) (label : Bool) → unlabelled b ≡ true → writable p false b ≡ true → writable p label (flat b deep n) ≡ true
       flat_back no_statement n label u h = refl
-      flat_back (statement s rest) n label u h =
-          let us = and_parts (unlabelled_at s) (unlabelled rest) u in
-          let hs = and_parts (writable_at p false s) (unless_end (is_end (result_ends p) s) true (writable p false rest)) h in
-          rw (unlabelled_end s deep n) (and_from _ _ (flat_back_at s n label us.0 hs.0)
-          (later_flat (is_end (result_ends p) s) (writable p false rest) (writable p label (flat rest deep n)) hs.1 (λ k. flat_back rest n label us.1 k)))
+      flat_back (statement s rest) n label u h = grind (arith, flat_back_at s n label, flat_back rest n label, and_parts, unlabelled_end, and_from, later_flat)
 
       flat_back_at : (s : Statement) (n : ℕ) (label : Bool) → unlabelled_at s ≡ true → writable_at p false s ≡ true → writable_at p label (flat_at s deep n) ≡ true
       flat_back_at (bind v e) n label u h = h
@@ -108,9 +79,8 @@ module _ (p : Notation) where
       leaving_last_back (bind v e) n u h = and_from _ _ h refl
       leaving_last_back (match_on x arms) n u h = leaving_match_back x arms n u h
       leaving_last_back (if_equal a b body) n u h = leaving_back body n u h
-      leaving_last_back (for_each_of v from body) n u h =
-          and_from _ _ (within_writable (deep n) true (leaving body deep (suc n)) (flat body deep (suc n)) (leaving_back body (suc n) u h) (flat_back body (suc n) false u h)) refl
-      leaving_last_back (give at x) n u h = last_alone true (give at x) refl
+      leaving_last_back (for_each_of v from body) n u h = grind (arith, leaving_back body (suc n) u h, flat_back body (suc n) false u h, and_from, within_writable)
+      leaving_last_back (give at x) n u h = grind (arith, and_from)
       leaving_last_back (labelled body) n u h = absurd (false≢true u)
       leaving_last_back (unless_let x pattern fields) n u h = absurd (false≢true u)
       leaving_last_back (unless_equal a b) n u h = absurd (false≢true u)

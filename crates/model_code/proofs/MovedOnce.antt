@@ -1,48 +1,27 @@
 -- Code whose uses fit and whose loops take what was bound right before moves once.
-use Rattle.std.proofs.Common.{◌≡◌, ◌&&◌, ◌||◌, ◌++◌, ◌∷◌, ◌==◌, [], ℕ, suc, Bool, true, false, not, if◌then◌else◌, List, refl, sym, ap, ◌∙◌, inl, inr, eqb-true, arith}
+use Rattle.std.proofs.Common.{◌≡◌, ◌&&◌, ◌||◌, ◌++◌, ◌∷◌, ◌==◌, [], ℕ, suc, Bool, true, false, not, List, refl, ap, arith}
 use Rattle.std.proofs.lemmas.Grind.{common_steps}
-use Rattle.std.proofs.lemmas.Bool.{and_parts, and_from, cases_Bool, false≢true, not-true, true≢false}
-use Rattle.model.specs.sites.Sites.{Constraint, is_variant, is_struct, is_bool, is_int, is_prim, is_present}
+use Rattle.std.proofs.lemmas.Bool.{and_parts, and_from, false≢true, not-true}
+use Rattle.model.specs.sites.Sites.{Constraint}
 use Rattle.model.specs.trees.Places.{is_in, field_sites}
-use Rattle.model_code.specs.Code.{Place, variable, parameter, part_of, int_written, name_written, variant_written, struct_written, PlaceUse, Expr, truth_written, read, extraction, call, variant_of, struct_of, some_of, Block, no_statement, statement, Statement, bind, bind_some, no_way, match_on, if_equal, for_each_of, give, labelled, unless_let, unless_equal, CodeArms, no_code_arm, code_arm}
+use Rattle.model_code.specs.Code.{Place, variable, PlaceUse, Expr, truth_written, read, extraction, call, variant_of, struct_of, some_of, Block, no_statement, statement, Statement, bind, bind_some, no_way, match_on, if_equal, for_each_of, give, labelled, unless_let, unless_equal, CodeArms, no_code_arm, code_arm}
 use Rattle.model_code.specs.Scopes.{unless_ended}
-use Rattle.model_code.specs.Modes.{Types, Given, gives_away, given, is_value, fits_value, fits_parameter, fits_result, fits_equal, fits_pattern, fits_inside, fits_fields, fits_parameters, fit_values, expr_fits, block_fits, statement_fits, arms_fit}
-use Rattle.model_code.specs.Moves.{other, others, reads_other, fresh_after, block_takes, statement_takes, arms_take}
-use Rattle.model_code.specs.MovedOnce.{touches, any_touch, expr_reads, is_of, read_behind, block_reads, statement_reads, arms_read, is_away, may_move, moves_well, beside, all_move_well, expr_moves, without, unlooked, movable_after, behind, around_arms, read_no_more, block_moves, statement_moves, arms_move, FittingCodeMovesOnce}
+use Rattle.model_code.specs.Modes.{Types, Given, given, is_value, fits_parameter, fits_equal, fits_pattern, fits_fields, fits_parameters, fit_values, expr_fits, block_fits, statement_fits, arms_fit}
+use Rattle.model_code.specs.Moves.{other, others, fresh_after, block_takes, statement_takes, arms_take}
+use Rattle.model_code.specs.MovedOnce.{touches, any_touch, is_of, block_reads, statement_reads, arms_read, is_away, may_move, moves_well, beside, all_move_well, expr_moves, without, unlooked, movable_after, behind, around_arms, read_no_more, block_moves, statement_moves, arms_move, FittingCodeMovesOnce}
 
 pub or_false : (a b : Bool) → a ≡ false → b ≡ false → (a || b) ≡ false
-or_false true b h k = h
-or_false false b h k = k
+or_false a b h k = grind (arith, common_steps)
 
 pub and_false : (a b : Bool) → b ≡ false → (a && b) ≡ false
-and_false true b h = h
-and_false false b h = refl
+and_false a b h = grind (arith, common_steps)
 
 -- 1. what fits isn't given away
-kept_stays : (g : Given) → fits_value false g ≡ true → is_away g ≡ false
-kept_stays gives_away h = absurd (false≢true h)
-kept_stays g h = refl
-
 parameter_stays : (takes : Bool) (g : Given) → fits_parameter takes g ≡ true → is_away g ≡ false
-parameter_stays false g h = kept_stays g h
 parameter_stays takes g h = grind (arith, common_steps)
 
-inside_stays : (types : Types) (g : Given) (v : ℕ) → fits_inside types g v ≡ true → is_away g ≡ false
-inside_stays types gives_away v h = absurd (false≢true h)
-inside_stays types g v h = refl
-
 pattern_stays : (c : Constraint) (g : Given) → fits_pattern c g ≡ true → is_away g ≡ false
-pattern_stays (is_variant ty variant fields) gives_away h = absurd (false≢true h)
-pattern_stays (is_struct ty fields) gives_away h = absurd (false≢true h)
-pattern_stays (is_bool b ty) gives_away h = absurd (false≢true h)
-pattern_stays (is_int z ty) gives_away h = absurd (false≢true h)
-pattern_stays (is_prim name) gives_away h = absurd (false≢true h)
-pattern_stays is_present gives_away h = absurd (false≢true h)
-pattern_stays c g h = refl
-
-result_stays : (g : Given) → fits_result true false g ≡ true → is_away g ≡ false
-result_stays gives_away h = absurd (false≢true h)
-result_stays g h = refl
+pattern_stays c g h = grind (arith, common_steps)
 
 module _ (types : Types) where
   stays_well : (inside : List ℕ) (later : Place → Bool) (u : PlaceUse) → is_away (given types u) ≡ false → moves_well types inside later u ≡ true
@@ -56,86 +35,38 @@ module _ (types : Types) where
 
   values_well : (inside : List ℕ) (later : Place → Bool) (before us : List PlaceUse) → fit_values types false us ≡ true → all_move_well types inside later before us ≡ true
   values_well inside later before [] h = refl
-  values_well inside later before (u ∷ us) h =
-      let hs = and_parts (fits_value false (given types u)) (fit_values types false us) h in
-      and_from _ _ (stays_well inside (beside before us later) u (kept_stays (given types u) hs.0)) (values_well inside later (u ∷ before) us hs.1)
+  values_well inside later before (u ∷ us) h = grind (arith, common_steps, values_well inside later (u ∷ before) us, and_parts, and_from, stays_well)
 
   expr_well : (inside : List ℕ) (later : Place → Bool) (v : ℕ) (e : Expr) → expr_fits types false v e ≡ true → expr_moves types inside later e ≡ true
   expr_well inside later v (truth_written b ty) h = refl
-  expr_well inside later v (read u) h = stays_well inside later u (kept_stays (given types u) (and_parts (is_value (types.variables v)) (fits_value false (given types u)) h).1)
+  expr_well inside later v (read u) h = grind (arith, stays_well, and_parts)
   expr_well inside later v (extraction term u) h = stays_well inside later u (parameter_stays (types.extracts_reference term) (given types u) h)
   expr_well inside later v (call term us instance) h = parameters_well inside later term 0 [] us h
   expr_well inside later v (variant_of ty variant us) h = values_well inside later [] us (and_parts (is_value (types.variables v)) (fit_values types false us) h).1
   expr_well inside later v (struct_of ty us) h = values_well inside later [] us (and_parts (is_value (types.variables v)) (fit_values types false us) h).1
-  expr_well inside later v (some_of u) h = stays_well inside later u (kept_stays (given types u) (and_parts (is_value (types.variables v)) (fits_value false (given types u)) h).1)
+  expr_well inside later v (some_of u) h = grind (arith, stays_well, and_parts)
 
 -- 2. what loops take is read by nothing else
 module _ (taken : ℕ → Bool) (c : ℕ) (takes : taken c ≡ true) where
-  apart : (v : ℕ) → taken v ≡ false → (c == v) ≡ false
-  apart v h = elim (cases_Bool (c == v)) [ inl t ↦ absurd (true≢false (sym takes ∙ ap taken (eqb-true c v t) ∙ h)) | inr f ↦ f ]
-
   untouched : (place : Place) → other taken place ≡ true → touches (variable c) place ≡ false
-  untouched (variable v) h = apart v (not-true (taken v) h)
-  untouched (part_of v i) h = apart v (not-true (taken v) h)
-  untouched place h = refl
+  untouched place h = grind (arith, common_steps, not-true)
 
   all_untouched : (us : List PlaceUse) → others taken us ≡ true → any_touch (variable c) us ≡ false
   all_untouched [] h = refl
   all_untouched (u ∷ us) h = let hs = and_parts (other taken u.place) (others taken us) h in or_false _ _ (untouched u.place hs.0) (all_untouched us hs.1)
 
-  unread : (e : Expr) → reads_other taken e ≡ true → expr_reads (variable c) e ≡ false
-  unread (truth_written b ty) h = refl
-  unread (read u) h = untouched u.place h
-  unread (extraction term u) h = untouched u.place h
-  unread (call term us instance) h = all_untouched us h
-  unread (variant_of ty variant us) h = all_untouched us h
-  unread (struct_of ty us) h = all_untouched us h
-  unread (some_of u) h = untouched u.place h
-
-  -- bound anew, or as little bound as before
-  renewed : (v : ℕ) (fresh : List ℕ) (later : Bool) → is_in c fresh ≡ false → (is_in c (v ∷ fresh) ≡ false → later ≡ false) → (not (is_of (v ∷ []) (variable c)) && later) ≡ false
-  renewed v fresh later f k = by (v == c) refl
-    where
-      by : (b : Bool) → (v == c) ≡ b → (not (is_of (v ∷ []) (variable c)) && later) ≡ false
-      by true e = ap (λ b. not (b || false) && later) e
-      by false e = ap (λ b. not (b || false) && later) e ∙ k (ap (λ b. b || is_in c fresh) e ∙ f)
-
-  other_variable : (from : ℕ) (fresh : List ℕ) → is_in c fresh ≡ false → is_in from fresh ≡ true → (c == from) ≡ false
-  other_variable from fresh f i = elim (cases_Bool (c == from)) [ inl t ↦ absurd (false≢true (sym f ∙ ap (λ x. is_in x fresh) (eqb-true c from t) ∙ i)) | inr g ↦ g ]
-
-  -- behind a statement, where the rest is quiet
-  quiet_behind : (s : Statement) (rest : Block) (fresh : List ℕ) → ((next : List ℕ) → is_in c next ≡ false → block_takes taken next rest ≡ true → block_reads (variable c) rest ≡ false)
-      → is_in c fresh ≡ false → unless_ended s (block_takes taken (fresh_after fresh s) rest) ≡ true → read_behind (variable c) s (block_reads (variable c) rest) ≡ false
-  quiet_behind (bind v e) rest fresh later f h = renewed v fresh (block_reads (variable c) rest) f (λ g. later (v ∷ fresh) g h)
-  quiet_behind (bind_some v u) rest fresh later f h = renewed v fresh (block_reads (variable c) rest) f (λ g. later (v ∷ fresh) g h)
-  quiet_behind no_way rest fresh later f h = refl
-  quiet_behind (match_on u arms) rest fresh later f h = later [] refl h
-  quiet_behind (if_equal a b body) rest fresh later f h = later [] refl h
-  quiet_behind (for_each_of v from body) rest fresh later f h = later [] refl h
-  quiet_behind (give at u) rest fresh later f h = later [] refl h
-  quiet_behind (labelled body) rest fresh later f h = later [] refl h
-  quiet_behind (unless_let u pattern fields) rest fresh later f h = and_false (not (is_of (field_sites fields) (variable c))) _ (later [] refl h)
-  quiet_behind (unless_equal a b) rest fresh later f h = later [] refl h
-
   mutual
     quiet : (b : Block) (fresh : List ℕ) → is_in c fresh ≡ false → block_takes taken fresh b ≡ true → block_reads (variable c) b ≡ false
     quiet no_statement fresh f h = refl
-    quiet (statement s rest) fresh f h =
-        let hs = and_parts (statement_takes taken fresh s) (unless_ended s (block_takes taken (fresh_after fresh s) rest)) h in
-        or_false _ _ (quiet_at s fresh f hs.0) (quiet_behind s rest fresh (λ next g k. quiet rest next g k) f hs.1)
+    quiet (statement s rest) fresh f h = grind (arith, common_steps, quiet_at s fresh f, quiet rest, and_parts, or_false)
 
     quiet_at : (s : Statement) (fresh : List ℕ) → is_in c fresh ≡ false → statement_takes taken fresh s ≡ true → statement_reads (variable c) s ≡ false
-    quiet_at (bind v e) fresh f h = unread e h
+    quiet_at (bind v e) fresh f h = grind (arith, untouched, all_untouched)
     quiet_at (bind_some v u) fresh f h = untouched u.place h
     quiet_at no_way fresh f h = refl
     quiet_at (match_on u arms) fresh f h = let hs = and_parts (other taken u.place) (arms_take taken arms) h in or_false _ _ (untouched u.place hs.0) (quiet_arms arms hs.1)
-    quiet_at (if_equal a b body) fresh f h =
-        let hs = and_parts (other taken a.place && other taken b.place) (block_takes taken [] body) h in
-        let os = and_parts (other taken a.place) (other taken b.place) hs.0 in
-        or_false _ _ (or_false _ _ (untouched a.place os.0) (untouched b.place os.1)) (quiet body [] refl hs.1)
-    quiet_at (for_each_of v from body) fresh f h =
-        let hs = and_parts (taken from && is_in from fresh) (block_takes taken [] body) h in
-        or_false _ _ (other_variable from fresh f (and_parts (taken from) (is_in from fresh) hs.0).1) (and_false (not (is_of (v ∷ []) (variable c))) _ (quiet body [] refl hs.1))
+    quiet_at (if_equal a b body) fresh f h = grind (arith, common_steps, quiet body [] refl, and_parts, or_false, untouched)
+    quiet_at (for_each_of v from body) fresh f h = grind (arith, common_steps, quiet body [] refl, and_parts, or_false, and_false)
     quiet_at (give at u) fresh f h = untouched u.place h
     quiet_at (labelled body) fresh f h = quiet body [] refl h
     quiet_at (unless_let u pattern fields) fresh f h = untouched u.place h
@@ -143,20 +74,12 @@ module _ (taken : ℕ → Bool) (c : ℕ) (takes : taken c ≡ true) where
 
     quiet_arms : (arms : CodeArms) → arms_take taken arms ≡ true → arms_read (variable c) arms ≡ false
     quiet_arms no_code_arm h = refl
-    quiet_arms (code_arm pattern fields body rest) h =
-        let hs = and_parts (block_takes taken [] body) (arms_take taken rest) h in
-        or_false _ _ (and_false (not (is_of (field_sites fields) (variable c))) _ (quiet body [] refl hs.0)) (quiet_arms rest hs.1)
+    quiet_arms (code_arm pattern fields body rest) h = grind (arith, common_steps, quiet body [] refl, quiet_arms rest, and_parts, or_false, and_false)
 
 -- another variable than the one that is looked into can still be moved
 kept_without : (v x : ℕ) → (v == x) ≡ false → (xs : List ℕ) → is_in x xs ≡ true → is_in x (without v xs) ≡ true
 kept_without v x n [] h = absurd (false≢true h)
-kept_without v x n (y ∷ xs) h = by (y == v) (y == x) refl refl h (kept_without v x n xs)
-  where
-    by : (a b : Bool) → (y == v) ≡ a → (y == x) ≡ b → (b || is_in x xs) ≡ true → (is_in x xs ≡ true → is_in x (without v xs) ≡ true) → is_in x (if a then without v xs else y ∷ without v xs) ≡ true
-    by true true e f k rest = absurd (false≢true (sym n ∙ ap (λ z. z == x) (sym (eqb-true y v e)) ∙ f))
-    by true false e f k rest = rest k
-    by false true e f k rest = ap (λ b. b || is_in x (without v xs)) f
-    by false false e f k rest = ap (λ b. b || is_in x (without v xs)) f ∙ rest k
+kept_without v x n (y ∷ xs) h = grind (arith, common_steps, kept_without v x n xs)
 
 -- 3. by induction on the code
 module _ (types : Types) (multi : Bool) (taken : ℕ → Bool) where
@@ -167,41 +90,16 @@ module _ (types : Types) (multi : Bool) (taken : ℕ → Bool) where
   abbrev Within : List ℕ → List ℕ → Type 0
   Within fresh inside = (x : ℕ) → taken x ≡ true → is_in x fresh ≡ true → is_in x inside ≡ true
 
-  parted : (v x : ℕ) → not (taken v) ≡ true → taken x ≡ true → (v == x) ≡ false
-  parted v x o t = elim (cases_Bool (v == x)) [ inl e ↦ absurd (false≢true (sym (not-true (taken v) o) ∙ ap taken (eqb-true v x e) ∙ t)) | inr f ↦ f ]
-
-  within_more : (v : ℕ) (fresh inside : List ℕ) → Within fresh inside → Within (v ∷ fresh) (v ∷ inside)
-  within_more v fresh inside w x t h = by (v == x) h
-    where
-      by : (b : Bool) → (b || is_in x fresh) ≡ true → (b || is_in x inside) ≡ true
-      by true k = refl
-      by false k = w x t k
-
   nothing_within : (inside : List ℕ) → Within [] inside
   nothing_within inside x t h = absurd (false≢true h)
 
   within_unlooked : (fresh inside : List ℕ) (place : Place) → other taken place ≡ true → Within fresh inside → Within fresh (unlooked inside place)
-  within_unlooked fresh inside (variable v) o w x t h = kept_without v x (parted v x o t) inside (w x t h)
-  within_unlooked fresh inside (part_of v i) o w x t h = kept_without v x (parted v x o t) inside (w x t h)
-  within_unlooked fresh inside (parameter i) o w x t h = w x t h
-  within_unlooked fresh inside (int_written z ty) o w x t h = w x t h
-  within_unlooked fresh inside (name_written name) o w x t h = w x t h
-  within_unlooked fresh inside (variant_written ty variant) o w x t h = w x t h
-  within_unlooked fresh inside (struct_written ty) o w x t h = w x t h
+  within_unlooked fresh inside place o w x t h = grind (arith, common_steps, kept_without)
 
   -- behind a statement, where the rest moves well
   rest_well : (s : Statement) (rest : Block) (fresh inside : List ℕ) (after : Place → Bool) → ((next movable : List ℕ) → Within next movable → block_takes taken next rest ≡ true → block_moves types multi movable after rest ≡ true)
       → Within fresh inside → statement_takes taken fresh s ≡ true → unless_ended s (block_takes taken (fresh_after fresh s) rest) ≡ true → unless_ended s (block_moves types multi (movable_after inside s) after rest) ≡ true
-  rest_well (bind v e) rest fresh inside after later w k h = later (v ∷ fresh) (v ∷ inside) (within_more v fresh inside w) h
-  rest_well (bind_some v u) rest fresh inside after later w k h = later (v ∷ fresh) (v ∷ unlooked inside u.place) (within_more v fresh (unlooked inside u.place) (within_unlooked fresh inside u.place k w)) h
-  rest_well no_way rest fresh inside after later w k h = refl
-  rest_well (match_on u arms) rest fresh inside after later w k h = later [] inside (nothing_within inside) h
-  rest_well (if_equal a b body) rest fresh inside after later w k h = later [] inside (nothing_within inside) h
-  rest_well (for_each_of v from body) rest fresh inside after later w k h = later [] inside (nothing_within inside) h
-  rest_well (give at u) rest fresh inside after later w k h = later [] inside (nothing_within inside) h
-  rest_well (labelled body) rest fresh inside after later w k h = later [] inside (nothing_within inside) h
-  rest_well (unless_let u pattern fields) rest fresh inside after later w k h = later [] (field_sites fields ++ unlooked inside u.place) (nothing_within (field_sites fields ++ unlooked inside u.place)) h
-  rest_well (unless_equal a b) rest fresh inside after later w k h = later [] inside (nothing_within inside) h
+  rest_well s rest fresh inside after later w k h = grind (arith, common_steps, within_unlooked, nothing_within)
 
   mutual
     block_well : (b : Block) (fresh inside : List ℕ) (after : Place → Bool) → Within fresh inside → Unread after → block_fits types multi false b ≡ true → block_takes taken fresh b ≡ true → block_moves types multi inside after b ≡ true
@@ -216,7 +114,7 @@ module _ (types : Types) (multi : Bool) (taken : ℕ → Bool) where
     statement_well : (s : Statement) (rest : Block) (fresh inside : List ℕ) (after : Place → Bool) → Within fresh inside → Unread after → statement_fits types multi false s ≡ true → statement_takes taken fresh s ≡ true
         → unless_ended s (block_takes taken (fresh_after fresh s) rest) ≡ true → statement_moves types multi inside (behind s rest after) s ≡ true
     statement_well (bind v e) rest fresh inside after w n f h k = expr_well types inside (behind (bind v e) rest after) v e f
-    statement_well (bind_some v u) rest fresh inside after w n f h k = stays_well types inside (behind (bind_some v u) rest after) u (inside_stays types (given types u) v f)
+    statement_well (bind_some v u) rest fresh inside after w n f h k = grind (arith, stays_well)
     statement_well (match_on u arms) rest fresh inside after w n f h k =
         arms_well arms (unlooked inside u.place) (behind (match_on u arms) rest after) (given types u) (moves_well types inside (around_arms arms (behind (match_on u arms) rest after)) u)
         (λ c t. or_false _ _ (quiet taken c t rest [] refl k) (n c t)) (stays_well types inside (around_arms arms (behind (match_on u arms) rest after)) u) f
@@ -232,16 +130,10 @@ module _ (types : Types) (multi : Bool) (taken : ℕ → Bool) where
         and_from _ _
         (and_from _ _ (w from os.0 os.1) (ap not unread_behind))
         (block_well body [] (v ∷ []) read_no_more (nothing_within (v ∷ [])) (λ c t. refl) (and_parts (is_value (types.variables v) && is_value (types.variables from)) (block_fits types multi false body) f).1 hs.1)
-    statement_well (give at u) rest fresh inside after w n f h k = given_well multi f
-      where
-        given_well : (several : Bool) → fits_result several false (given types u) ≡ true → (not several || moves_well types inside (behind (give at u) rest after) u) ≡ true
-        given_well true g = stays_well types inside (behind (give at u) rest after) u (result_stays (given types u) g)
-        given_well false g = refl
+    statement_well (give at u) rest fresh inside after w n f h k = grind (arith, common_steps, stays_well)
     statement_well (labelled body) rest fresh inside after w n f h k =
         block_well body [] inside (behind (labelled body) rest after) (nothing_within inside) (λ c t. or_false _ _ (quiet taken c t rest [] refl k) (n c t)) f h
-    statement_well (unless_let u pattern fields) rest fresh inside after w n f h k =
-        stays_well types inside (behind (unless_let u pattern fields) rest after) u
-        (pattern_stays pattern (given types u) (and_parts (fits_pattern pattern (given types u)) (fits_fields types pattern (given types u) fields) f).0)
+    statement_well (unless_let u pattern fields) rest fresh inside after w n f h k = grind (arith, common_steps, stays_well, pattern_stays, and_parts)
     statement_well s rest fresh inside after w n f h k = refl
 
     arms_well : (arms : CodeArms) (inside : List ℕ) (later : Place → Bool) (g : Given) (well : Bool) → Unread later → (is_away g ≡ false → well ≡ true) → arms_fit types multi false g arms ≡ true → arms_take taken arms ≡ true

@@ -1,14 +1,15 @@
 -- Code with moves in place of clones can be written where the code can: a move changes neither how many fields are made nor what is
 -- matched, and it ends no block.
-use Rattle.std.proofs.Common.{◌≡◌, ◌&&◌, ◌∷◌, ◌++◌, [], ℕ, suc, Bool, true, false, List, length, refl, ap, ◌∙◌}
+use Rattle.std.proofs.Common.{◌≡◌, ◌&&◌, ◌∷◌, ◌++◌, [], ℕ, suc, Bool, List, length, refl, ap, arith}
+use Rattle.std.proofs.lemmas.Grind.{common_steps}
 use Rattle.model.specs.trees.Places.{field_sites}
-use Rattle.model_code.specs.Code.{Place, PlaceUse, Expr, variant_of, struct_of, Block, no_statement, statement, Statement, bind, match_on, if_equal, for_each_of, give, labelled, CodeArms, no_code_arm, code_arm}
+use Rattle.model_code.specs.Code.{Place, PlaceUse, Block, no_statement, statement, Statement, bind, match_on, if_equal, for_each_of, labelled, CodeArms, no_code_arm, code_arm}
 use Rattle.model_code.specs.Modes.{Types}
 use Rattle.model_code.specs.MovedOnce.{unlooked, movable_after, behind, read_no_more}
-use Rattle.model_code.specs.Saving.{all_saved, saved_expr, saved, saved_at, saved_arms}
+use Rattle.model_code.specs.Saving.{all_saved, saved, saved_at, saved_arms}
 use Rattle.model_code.specs.Notation.{Notation}
-use Rattle.model_code.specs.Pieces.{is_left, leaves_at, leaves_arms, result_ends, is_end, unless_end}
-use Rattle.model_code.specs.ReadsBack.{takes, pattern_writable, match_writable, expr_writable, writable, writable_at, writable_arms, MovesKeepWritable}
+use Rattle.model_code.specs.Pieces.{is_left, leaves_at, leaves_arms, result_ends, is_end}
+use Rattle.model_code.specs.ReadsBack.{pattern_writable, match_writable, writable, writable_at, writable_arms, MovesKeepWritable}
 use Rattle.model_code.proofs.Written.{either}
 
 both : {a b x y : Bool} → a ≡ b → x ≡ y → (a && x) ≡ (b && y)
@@ -17,16 +18,12 @@ both e h = λ i. e i && h i
 module _ (types : Types) (p : Notation) where
   -- 1. statements end as before, and tests leave labels as before
   ends_same : (s : Statement) (ends : Bool) (inside : List ℕ) (later : Place → Bool) → is_end ends (saved_at types inside later s) ≡ is_end ends s
-  ends_same (give at u) ends inside later = refl
-  ends_same s ends inside later = refl
+  ends_same s ends inside later = grind (arith, common_steps)
 
   mutual
     left_same : (b : Block) (ends : Bool) (inside : List ℕ) (after : Place → Bool) → is_left ends (saved types inside after b) ≡ is_left ends b
     left_same no_statement ends inside after = refl
-    left_same (statement s rest) ends inside after =
-        let later = behind s rest after in
-        either (leaves_same s ends inside later)
-        (ap (λ e. unless_end e false (is_left ends (saved types (movable_after inside s) after rest))) (ends_same s ends inside later) ∙ ap (unless_end (is_end ends s) false) (left_same rest ends (movable_after inside s) after))
+    left_same (statement s rest) ends inside after = grind (arith, leaves_same s ends inside, left_same rest ends (movable_after inside s) after, either, ends_same)
 
     leaves_same : (s : Statement) (ends : Bool) (inside : List ℕ) (later : Place → Bool) → leaves_at ends (saved_at types inside later s) ≡ leaves_at ends s
     leaves_same (match_on u arms) ends inside later = arms_same arms ends (unlooked inside u.place) later
@@ -43,11 +40,6 @@ module _ (types : Types) (p : Notation) where
   as_many [] before inside later = refl
   as_many (u ∷ us) before inside later = ap suc (as_many us (u ∷ before) inside later)
 
-  made_same : (e : Expr) (inside : List ℕ) (later : Place → Bool) → expr_writable p (saved_expr types inside later e) ≡ expr_writable p e
-  made_same (variant_of ty variant us) inside later = ap (takes _) (as_many us [] inside later)
-  made_same (struct_of ty us) inside later = ap (takes _) (as_many us [] inside later)
-  made_same e inside later = refl
-
   -- 3. blocks
   mutual
     saved_writable : (b : Block) (label : Bool) (inside : List ℕ) (after : Place → Bool) → writable p label (saved types inside after b) ≡ writable p label b
@@ -55,16 +47,14 @@ module _ (types : Types) (p : Notation) where
     saved_writable (statement s rest) label inside after =
         let later = behind s rest after in
         both (saved_writable_at s label inside later)
-        (ap (λ e. unless_end e true (writable p label (saved types (movable_after inside s) after rest))) (ends_same s (result_ends p) inside later)
-        ∙ ap (unless_end (is_end (result_ends p) s) true) (saved_writable rest label (movable_after inside s) after))
+        (grind (arith, common_steps, saved_writable rest label (movable_after inside s) after, ends_same))
 
     saved_writable_at : (s : Statement) (label : Bool) (inside : List ℕ) (later : Place → Bool) → writable_at p label (saved_at types inside later s) ≡ writable_at p label s
-    saved_writable_at (bind v e) label inside later = made_same e inside later
+    saved_writable_at (bind v e) label inside later = grind (arith, as_many)
     saved_writable_at (match_on u arms) label inside later = saved_writable_arms arms u label (unlooked inside u.place) later
     saved_writable_at (if_equal a b body) label inside later = saved_writable body label inside later
     saved_writable_at (for_each_of v from body) label inside later = saved_writable body label (v ∷ []) read_no_more
-    saved_writable_at (labelled body) label inside later =
-        ap (λ l. writable p l (saved types inside later body)) (left_same body (result_ends p) inside later) ∙ saved_writable body (is_left (result_ends p) body) inside later
+    saved_writable_at (labelled body) label inside later = grind (arith, common_steps, saved_writable body (is_left (result_ends p) body) inside later, left_same)
     saved_writable_at s label inside later = refl
 
     saved_writable_arms : (arms : CodeArms) (u : PlaceUse) (label : Bool) (inside : List ℕ) (later : Place → Bool) → writable_arms p label u (saved_arms types inside later arms) ≡ writable_arms p label u arms

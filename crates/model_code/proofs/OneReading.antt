@@ -1,8 +1,8 @@
 -- Words tell the tokens that stand in order, so a text has one reading.
-use Rattle.std.proofs.Common.{◌≡◌, ◌⊎◌, ◌++◌, ◌&&◌, ◌∷◌, [], ℕ, Bool, true, List, Option, Some, None, map, refl, ap, sym, subst, ◌∙◌, inl, inr, ⊎_elim}
+use Rattle.std.proofs.Common.{◌≡◌, ◌⊎◌, ◌++◌, ◌∷◌, [], Bool, true, List, Option, Some, None, map, refl, ap, sym, subst, ◌∙◌, inl, inr, ⊎_elim, arith}
 use Rattle.std.specs.List.{list_all}
 use Rattle.std.proofs.lemmas.Bool.{and_parts, and_from}
-use Rattle.model_code.specs.Code.{Block}
+use Rattle.std.proofs.lemmas.Grind.{common_steps}
 use Rattle.model_code.specs.Tokens.{Token}
 use Rattle.model_code.specs.Notation.{Notation}
 use Rattle.model_code.specs.Pieces.{CodePiece, token, space, set_in, line_end, rule_comment, log_line, tokens_of}
@@ -11,7 +11,7 @@ use Rattle.model_code.specs.Spelling.{Names, token_text, spelled}
 use Rattle.model_code.specs.Lexing.{lexed, pieces_lexed}
 use Rattle.model_code.specs.ReadsBack.{read_function}
 use Rattle.model_code.specs.ReadTexts.{IsReadAsCode}
-use Rattle.model_code.specs.OneReading.{Sign, a_token, a_log, signs_of, told, sign_words, signs_words, Next, anything, may_be, may_stand, behind, behind_told, in_order, stands, follow, AreApart, WordsTellTokens, IsReadInOrder, OneReading, PrintedTextHasOneReading}
+use Rattle.model_code.specs.OneReading.{Sign, signs_of, told, sign_words, signs_words, Next, anything, behind, behind_told, in_order, stands, follow, AreApart, WordsTellTokens, IsReadInOrder, OneReading, PrintedTextHasOneReading}
 use Rattle.model_code.proofs.InOrder.{printed_tokens_are_in_order_lem}
 use Rattle.model_code.proofs.Lexing.{text_has_tokens_lem}
 use Rattle.model_code.proofs.ReadTexts.{function_is_read_lem}
@@ -21,15 +21,7 @@ cut : {X : Type 0} (xs ys us vs : List X) → xs ++ us ≡ ys ++ vs
     → ((rest : List X) × (ys ≡ xs ++ rest) × (us ≡ rest ++ vs)) ⊎ ((rest : List X) × (xs ≡ ys ++ rest) × (vs ≡ rest ++ us))
 cut [] ys us vs e = inl (ys, refl, e)
 cut (x ∷ xs) [] us vs e = inr (x ∷ xs, refl, sym e)
-cut (x ∷ xs) (y ∷ ys) us vs e =
-    let h : x ≡ y = cc in
-    let t : xs ++ us ≡ ys ++ vs = cc in
-    ⊎_elim
-    (λ r. inl (r.0, ap (λ z. z ∷ ys) (sym h) ∙ ap (λ zs. x ∷ zs) r.1, r.2))
-    (λ r. inr (r.0, ap (λ z. z ∷ xs) h ∙ ap (λ zs. y ∷ zs) r.1, r.2)) (cut xs ys us vs t)
-
-no_words : {X : Type 0} (ws vs us : List X) (w : X) → ws ≡ w ∷ us → [] ≡ ws ++ vs → ⊥
-no_words ws vs us w h e = (let k : [] ≡ w ∷ (us ++ vs) = e ∙ ap (λ z. z ++ vs) h in cc)
+cut (x ∷ xs) (y ∷ ys) us vs e = grind (arith, common_steps, cut xs ys us vs)
 
 module _ (names : Names) (p : Notation) (known : Token → Bool) (a : AreApart names p known) where
   first : (s : Next) (x : Sign) (xs : List Sign) → follow p known s (x ∷ xs) ≡ true → stands known s x ≡ true
@@ -40,8 +32,8 @@ module _ (names : Names) (p : Notation) (known : Token → Bool) (a : AreApart n
 
   told_alike : (xs ys : List Sign) (s : Next) → follow p known s xs ≡ true → follow p known s ys ≡ true → signs_words names xs ≡ signs_words names ys → map told xs ≡ map told ys
   told_alike [] [] s f g e = refl
-  told_alike [] (y ∷ ys) s f g e = let w = a.some s y (first s y ys g) in absurd (no_words (sign_words names y) (signs_words names ys) w.1 w.0 w.2 e)
-  told_alike (x ∷ xs) [] s f g e = let w = a.some s x (first s x xs f) in absurd (no_words (sign_words names x) (signs_words names xs) w.1 w.0 w.2 (sym e))
+  told_alike [] (y ∷ ys) s f g e = grind (arith, first)
+  told_alike (x ∷ xs) [] s f g e = grind (arith, first)
   told_alike (x ∷ xs) (y ∷ ys) s f g e =
       let go : told x ≡ told y → signs_words names xs ≡ signs_words names ys → told x ∷ map told xs ≡ told y ∷ map told ys
       = λ q t. ap (λ o. o ∷ map told xs) q
@@ -77,21 +69,15 @@ words_by names (log_line at ∷ rest) = ap (λ ws. lexed (names.log at) ++ ws) (
 
 followed : (p : Notation) (known : Token → Bool) (xs : List CodePiece) (s : Next) → list_all known (tokens_of xs) ≡ true → in_order p s (signs_of xs) ≡ true → follow p known s (signs_of xs) ≡ true
 followed p known [] s k h = refl
-followed p known (token t ∷ rest) s k h =
-    let hs = and_parts (may_stand s t) (in_order p (behind p s t) (signs_of rest)) h in
-    let ks = and_parts (known t) (list_all known (tokens_of rest)) k in
-    and_from _ _ (and_from _ _ ks.0 hs.0) (followed p known rest (behind p s t) ks.1 hs.1)
+followed p known (token t ∷ rest) s k h = grind (arith, common_steps, followed p known rest (behind p s t), and_parts, and_from)
 followed p known (space ∷ rest) s k h = followed p known rest s k h
 followed p known (set_in depth ∷ rest) s k h = followed p known rest s k h
 followed p known (line_end ∷ rest) s k h = followed p known rest s k h
 followed p known (rule_comment at ∷ rest) s k h = followed p known rest s k h
-followed p known (log_line at ∷ rest) s k h =
-    let hs = and_parts (may_be s (a_log at)) (in_order p s (signs_of rest)) h in
-    and_from _ _ hs.0 (followed p known rest s k hs.1)
+followed p known (log_line at ∷ rest) s k h = grind (arith, common_steps, followed p known rest s k, and_parts, and_from)
 
 pub words_tell_tokens_lem : WordsTellTokens
-words_tell_tokens_lem names p known a s xs ys f g e =
-    tokens_by xs ∙ ap tokens_told (told_alike names p known a (signs_of xs) (signs_of ys) s f g e) ∙ sym (tokens_by ys)
+words_tell_tokens_lem names p known a s xs ys f g e = grind (arith, common_steps, tokens_by, told_alike)
 
 pub one_reading_lem : OneReading
 one_reading_lem names p known apart text a b r q =

@@ -1,12 +1,12 @@
 -- The code that is printed: without labels where it is made, then flat; it runs as the tree.
-use Rattle.std.proofs.Common.{◌≡◌, ℕ, suc, true, List, [], ◌∷◌, Option, Some, None, slice_get, refl, ap, subst, ◌∙◌}
+use Rattle.std.proofs.Common.{◌≡◌, ℕ, suc, true, List, [], ◌∷◌, Some, None, refl, ap, subst, ◌∙◌, arith}
 use Rattle.std.proofs.lemmas.Bool.{and_from}
-use Rattle.model.specs.sites.Sites.{Site, iterator_site, match_variant_site}
+use Rattle.model.specs.sites.Sites.{Site}
 use Rattle.model.specs.trees.Trees.{Tree, no_step, step, Check, match_at, equal_at, loop_at, return_at, Arms, no_arm, arm}
 use Rattle.model.specs.trees.Run.{run, at_start}
 use Rattle.model_code.specs.Code.{Block}
 use Rattle.model_code.specs.CodeRuns.{outcome_of, code_run}
-use Rattle.model_code.specs.TreeCode.{Passes, bind_code, binds_code, loop_code, tree_code, check_code, arms_code}
+use Rattle.model_code.specs.TreeCode.{Passes, binds_code, tree_code, check_code, arms_code}
 use Rattle.model_code.specs.CodeLaws.{IsCut}
 use Rattle.model_code.specs.Flat.{unlabelled, unlabelled_at, unlabelled_arms, flat}
 use Rattle.model_code.specs.PrintedCode.{PrintedCodeRuns}
@@ -15,17 +15,9 @@ use Rattle.model_code.proofs.CodeCut.{code_stops_at_bound_lem}
 use Rattle.model_code.proofs.Flattening.{flat_runs_same_lem}
 
 module _ (sites : List Site) (p : Passes) where
-  bind_unlabelled : (s : ℕ) (o : Option Site) → unlabelled_at (bind_code sites p s o) ≡ true
-  bind_unlabelled s (Some (match_variant_site source variant field)) = refl
-  bind_unlabelled s o = refl
-
   binds_unlabelled : (ss : List ℕ) (rest : Block) → unlabelled rest ≡ true → unlabelled (binds_code sites p ss rest) ≡ true
   binds_unlabelled [] rest h = h
-  binds_unlabelled (s ∷ ss) rest h = and_from _ _ (bind_unlabelled s (slice_get sites s)) (binds_unlabelled ss rest h)
-
-  loop_unlabelled : (o : Option Site) (s : ℕ) (body : Block) → unlabelled body ≡ true → unlabelled_at (loop_code o s body) ≡ true
-  loop_unlabelled (Some (iterator_site source)) s body h = h
-  loop_unlabelled o s body h = refl
+  binds_unlabelled (s ∷ ss) rest h = grind (arith, binds_unlabelled ss rest h, and_from)
 
   mutual
     pub tree_unlabelled : (tree : Tree) → unlabelled (tree_code tree sites p) ≡ true
@@ -35,7 +27,7 @@ module _ (sites : List Site) (p : Passes) where
     check_unlabelled : (check : Check) → unlabelled_at (check_code check sites p) ≡ true
     check_unlabelled (match_at source arms) = arms_unlabelled arms
     check_unlabelled (equal_at a b body) = tree_unlabelled body
-    check_unlabelled (loop_at result body) = loop_unlabelled (slice_get sites result) result (tree_code body sites p) (tree_unlabelled body)
+    check_unlabelled (loop_at result body) = grind (arith, tree_unlabelled body)
     check_unlabelled (return_at at result) = refl
 
     arms_unlabelled : (arms : Arms) → unlabelled_arms (arms_code arms sites p) ≡ true

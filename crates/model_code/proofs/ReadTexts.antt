@@ -1,7 +1,8 @@
 -- Functions, and their texts, are read back.
-use Rattle.std.proofs.Common.{◌≡◌, ◌∷◌, [], suc, Bool, true, false, List, length, refl, ap, ◌∙◌}
+use Rattle.std.proofs.Common.{◌≡◌, ◌∷◌, [], suc, Bool, true, false, List, length, ap, ◌∙◌, arith}
+use Rattle.std.proofs.lemmas.Grind.{common_steps}
 use Rattle.model_code.specs.Tokens.{closing_brace}
-use Rattle.model_code.specs.Notation.{ReturnForm, gives_one, gives_option, gives_many}
+use Rattle.model_code.specs.Notation.{ReturnForm}
 use Rattle.model_code.specs.Pieces.{CodePiece, line_end, tokens_of, put}
 use Rattle.model_code.specs.Written.{no_margin, written, shown_code, has_end, end_before, function_body}
 use Rattle.model_code.specs.Reading.{only_if}
@@ -17,12 +18,7 @@ last_brace = put closing_brace (line_end ∷ [])
 
 -- what stands where a function's code has run through ends a block, and a function
 end_ends : (ended : Bool) (kind : ReturnForm) → (ends_block (tokens_of (end_before ended kind last_brace)) ≡ true) × (is_function_end kind (tokens_of (end_before ended kind last_brace)) ≡ true)
-end_ends true gives_one = (refl, refl)
-end_ends true gives_option = (refl, refl)
-end_ends true gives_many = (refl, refl)
-end_ends false gives_one = (refl, refl)
-end_ends false gives_option = (refl, refl)
-end_ends false gives_many = (refl, refl)
+end_ends ended kind = grind (arith, common_steps)
 
 pub function_is_read_lem : FunctionIsRead
 function_is_read_lem p code w =
@@ -32,9 +28,4 @@ function_is_read_lem p code w =
     ∙ ap (λ b. only_if b (shown_code p code)) ends.1
 
 pub text_is_read_back_lem : TextIsReadBack
-text_is_read_back_lem names p code whole w = record {
-  pieces = function_body p code;
-  of_pieces = refl;
-  words = text_has_tokens_lem names p code whole;
-  read = function_is_read_lem p code w;
-}
+text_is_read_back_lem names p code whole w = grind (arith, common_steps, text_has_tokens_lem, function_is_read_lem)

@@ -2,6 +2,7 @@
 use Rattle.std.proofs.Common.{◌≡◌, ◌≤◌, ◌&&◌, [], ℕ, zero, suc, Bool, true, false, List, length, Some, is_some, refl, ap, ◌∙◌, sym, arith}
 use Rattle.std.proofs.lemmas.Bool.{and_parts, false≢true}
 use Rattle.std.proofs.lemmas.Option.{same_Some}
+use Rattle.std.proofs.lemmas.Grind.{common_steps}
 use Rattle.model_code.specs.Code.{PlaceUse, Block, no_statement, statement, Statement, bind, bind_some, no_way, match_on, if_equal, for_each_of, give, labelled, unless_let, unless_equal, CodeArms, no_code_arm, code_arm}
 use Rattle.model_code.specs.Notation.{Notation}
 use Rattle.model_code.specs.Pieces.{CodePiece, tokens_of, Margin, inside, label_at, in_braces_at, close_body, is_alone, match_end, is_left, result_ends, is_end, unless_end, block_before, statement_before, arms_before}
@@ -14,20 +15,16 @@ use Rattle.model_code.proofs.Lengths.{size_within}
 use Rattle.model_code.proofs.Statements.{nothing_more, BlockBack, bind_back, bind_some_back, result_back, equal_back_at, alone_back, unless_let_back, unless_equal_back, loop_back, labelled_back, arm_then, match_back}
 
 label_there : (left : Bool) (n : ℕ) → is_some (label_at left n) ≡ left
-label_there true n = refl
-label_there false n = refl
+label_there left n = grind (arith, common_steps)
 
 -- where a block ends
 ended_back : (p : Notation) (n : ℕ) (at : Margin) (rest : List CodePiece) → 1 ≤ n → ends_block (tokens_of rest) ≡ true → read_block p n at.label (tokens_of rest) ≡ Some (no_statement, tokens_of rest)
-ended_back p zero at rest h e = absurd (omega arith)
-ended_back p (suc n) at rest h e =
-    ap (λ r. where_read r (λ s behind. then_read (read_block p n at.label behind) (λ later end. Some (statement s later, end))) (λ end. Some (no_statement, end)) (tokens_of rest)) (nothing_more p n (read_block p n) at.label (tokens_of rest) e)
+ended_back p n at rest h e = grind (arith, common_steps, nothing_more)
 
 later_back : (ended : Bool) (p : Notation) (n : ℕ) (at : Margin) (later : Block) (rest : List CodePiece) → unless_end ended 1 (size p later) ≤ n → unless_end ended true (writable p (is_some at.label) later) ≡ true → ends_block (tokens_of rest) ≡ true
     → (size p later ≤ n → writable p (is_some at.label) later ≡ true → BlockBack p n at later rest)
     → read_block p n at.label (tokens_of (unless_end ended rest (block_before p at later rest))) ≡ Some (unless_end ended no_statement (shown p later), tokens_of rest)
-later_back true p n at later rest h w e f = ended_back p n at rest h e
-later_back false p n at later rest h w e f = f h w
+later_back ended p n at later rest h w e f = grind (arith, common_steps, ended_back)
 
 mutual
   block_back : (code : Block) (p : Notation) (n : ℕ) (at : Margin) (rest : List CodePiece) → size p code ≤ n → writable p (is_some at.label) code ≡ true → ends_block (tokens_of rest) ≡ true → BlockBack p n at code rest
@@ -57,18 +54,15 @@ mutual
 
   alone_arm_back : (arms : CodeArms) (p : Notation) (n : ℕ) (at : Margin) (u : PlaceUse) (rest : List CodePiece) → size_of_arms p arms ≤ n → writable_arms p (is_some at.label) u arms ≡ true → is_alone arms ≡ true
       → read_statement p n (read_block p n) at.label (tokens_of (arms_before true p at u arms rest)) ≡ Some (match_on (shown_use p u) (shown_arms p arms), tokens_of rest)
-  alone_arm_back no_code_arm p n at u rest h w a = absurd (false≢true a)
   alone_arm_back (code_arm pattern fields body no_code_arm) p n at u rest h w a =
       let ws = and_parts (pattern_writable p pattern fields && match_writable p u pattern) (writable p (is_some at.label) body && true) w in
       let vs = and_parts (pattern_writable p pattern fields) (match_writable p u pattern) ws.0 in
       alone_back p n at u pattern fields body rest vs.0 vs.1 (block_back body p n (inside at) (close_body at rest) (omega arith) (and_parts (writable p (is_some at.label) body) true ws.1).0 refl)
-  alone_arm_back (code_arm pattern fields body (code_arm c f b more)) p n at u rest h w a = absurd (false≢true a)
+  alone_arm_back _ p n at u rest h w a = absurd (false≢true a)
 
   arms_back : (arms : CodeArms) (p : Notation) (n k : ℕ) (at : Margin) (u : PlaceUse) (rest : List CodePiece) → k ≤ n → size_of_arms p arms ≤ k → writable_arms p (is_some at.label) u arms ≡ true
       → read_arms p (read_block p n) at.label (shown_use p u) k (tokens_of (arms_before false p (inside at) u arms (match_end false at rest))) ≡ Some (shown_arms p arms, tokens_of rest)
-  arms_back no_code_arm p n zero at u rest l h w = absurd (omega arith)
   arms_back no_code_arm p n (suc k) at u rest l h w = refl
-  arms_back (code_arm pattern fields body more) p n zero at u rest l h w = absurd (omega arith)
   arms_back (code_arm pattern fields body more) p n (suc k) at u rest l h w =
       let behind : List CodePiece = arms_before false p (inside at) u more (match_end false at rest) in
       let ws = and_parts (pattern_writable p pattern fields && match_writable p u pattern) (writable p (is_some at.label) body && writable_arms p (is_some at.label) u more) w in
@@ -77,6 +71,7 @@ mutual
       arm_then p n k (inside at) u pattern fields body (shown_arms p more) behind rest vs.0 vs.1
       (block_back body p n (inside (inside at)) (close_body (inside at) behind) (omega arith) bs.0 refl)
       (arms_back more p n k at u rest (omega arith) (omega arith) bs.1)
+  arms_back _ p n _ at u rest l h w = absurd (omega arith)
 
 pub reads_back_lem : ReadsBack
 reads_back_lem p code n at rest h w e = block_back code p n at rest h w e

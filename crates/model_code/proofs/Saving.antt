@@ -1,19 +1,20 @@
 -- Moves in place of clones: the code says the same, and moves well.
-use Rattle.std.proofs.Common.{◌≡◌, ◌&&◌, ◌||◌, ◌++◌, ◌∷◌, [], ℕ, Bool, true, false, not, List, Option, Some, refl, sym, ap, ◌∙◌, subst}
+use Rattle.std.proofs.Common.{◌≡◌, ◌&&◌, ◌||◌, ◌++◌, ◌∷◌, [], ℕ, Bool, true, false, not, List, Option, Some, refl, sym, ap, ◌∙◌, subst, arith}
 use Rattle.std.proofs.lemmas.Bool.{and_parts, and_from}
-use Rattle.model.specs.rules.Values.{of_variant, of_struct, value_and}
-use Rattle.model.specs.rules.Meaning.{Content, one}
-use Rattle.model.specs.rules.Outcome.{Call, then_option}
+use Rattle.std.proofs.lemmas.Grind.{common_steps}
+use Rattle.model.specs.rules.Values.{value_and}
+use Rattle.model.specs.rules.Meaning.{Content}
+use Rattle.model.specs.rules.Outcome.{then_option}
 use Rattle.model.specs.trees.Places.{is_in, field_sites}
-use Rattle.model.specs.trees.Run.{World, Env, bound_to, now_bound, Trace, content_fields}
+use Rattle.model.specs.trees.Run.{World, Env, bound_to, Trace, content_fields}
 use Rattle.model.proofs.Elements.{or_right}
-use Rattle.model_code.specs.Code.{Place, variable, Pass, as_it_is, lent, cloned, seen_through, PlaceUse, Expr, truth_written, read, extraction, call, variant_of, struct_of, some_of, Block, no_statement, statement, Statement, bind, bind_some, no_way, match_on, if_equal, for_each_of, give, labelled, unless_let, unless_equal, CodeArms, no_code_arm, code_arm}
-use Rattle.model_code.specs.CodeRuns.{held, held_value, held_values, bind_expr, goes_on, then_flow, in_braces, in_label, flow_of_bound, on_content, where_met, where_equal, on_answers, run_block, run_statement, run_code_arms}
-use Rattle.model_code.specs.Scopes.{knows, knows_all, reads_known, scope_after, unless_ended, block_scoped, statement_scoped, arms_scoped}
-use Rattle.model_code.specs.Modes.{BindingMode, a_value, a_reference, Types, mode_at, is_new, is_value, is_owned, Given, gives_reference, gives_value, gives_away, gives_sight, gives_nothing, given, given_by, fits_value, fits_result, fits_equal, fits_pattern, fits_fields, fit_values, expr_fits, block_fits, statement_fits, arms_fit}
-use Rattle.model_code.specs.Moves.{other, others, reads_other, fresh_after, block_takes, statement_takes, arms_take}
-use Rattle.model_code.specs.MovedOnce.{touches, any_touch, expr_reads, is_of, read_behind, block_reads, statement_reads, arms_read, is_away, may_move, moves_well, beside, all_move_well, expr_moves, unlooked, movable_after, behind, around_loop, around_arms, read_no_more, block_moves, statement_moves, arms_move}
-use Rattle.model_code.specs.Saving.{may_save, saved_pass, saved_use, all_saved, saved_expr, saved, saved_at, saved_arms, WithMovesSaysSame, WithMovesIsMadeWell}
+use Rattle.model_code.specs.Code.{Place, variable, PlaceUse, Expr, Block, no_statement, statement, Statement, bind, bind_some, match_on, if_equal, for_each_of, give, labelled, unless_let, CodeArms, no_code_arm, code_arm}
+use Rattle.model_code.specs.CodeRuns.{held, held_value, held_values, goes_on, then_flow, in_braces, in_label, on_content, where_met, where_equal, on_answers, run_block, run_statement, run_code_arms}
+use Rattle.model_code.specs.Scopes.{knows, knows_all, scope_after, unless_ended, block_scoped, statement_scoped, arms_scoped}
+use Rattle.model_code.specs.Modes.{Types, is_value, Given, gives_value, gives_away, given, fits_value, fits_equal, fits_pattern, fits_fields, fit_values, expr_fits, block_fits, statement_fits, arms_fit}
+use Rattle.model_code.specs.Moves.{other, others, fresh_after, block_takes, statement_takes, arms_take}
+use Rattle.model_code.specs.MovedOnce.{touches, any_touch, is_of, read_behind, block_reads, statement_reads, arms_read, may_move, moves_well, beside, all_move_well, unlooked, movable_after, behind, around_loop, read_no_more, block_moves, statement_moves, arms_move}
+use Rattle.model_code.specs.Saving.{saved_use, all_saved, saved_expr, saved, saved_at, saved_arms, WithMovesSaysSame, WithMovesIsMadeWell}
 
 both : {a b x y : Bool} → a ≡ b → x ≡ y → (a && x) ≡ (b && y)
 both e f = λ i. e i && f i
@@ -24,24 +25,19 @@ one_of e f = λ i. e i || f i
 module _ (types : Types) where
   -- 1. statements bind and end as before
   ended_same : (s : Statement) (inside : List ℕ) (later : Place → Bool) (x : Bool) → unless_ended (saved_at types inside later s) x ≡ unless_ended s x
-  ended_same no_way inside later x = refl
-  ended_same s inside later x = refl
+  ended_same s inside later x = grind (arith, common_steps)
 
   after_same : (s : Statement) (inside : List ℕ) (later : Place → Bool) (scope : List ℕ) → scope_after scope (saved_at types inside later s) ≡ scope_after scope s
-  after_same no_way inside later scope = refl
-  after_same s inside later scope = refl
+  after_same s inside later scope = grind (arith, common_steps)
 
   movable_same : (s : Statement) (inside : List ℕ) (later : Place → Bool) (movable : List ℕ) → movable_after movable (saved_at types inside later s) ≡ movable_after movable s
-  movable_same no_way inside later movable = refl
-  movable_same s inside later movable = refl
+  movable_same s inside later movable = grind (arith, common_steps)
 
   fresh_same : (s : Statement) (inside : List ℕ) (later : Place → Bool) (fresh : List ℕ) → fresh_after fresh (saved_at types inside later s) ≡ fresh_after fresh s
-  fresh_same no_way inside later fresh = refl
-  fresh_same s inside later fresh = refl
+  fresh_same s inside later fresh = grind (arith, common_steps)
 
   behind_same : (q : Place) (s : Statement) (inside : List ℕ) (later : Place → Bool) (x : Bool) → read_behind q (saved_at types inside later s) x ≡ read_behind q s x
-  behind_same q no_way inside later x = refl
-  behind_same q s inside later x = refl
+  behind_same q s inside later x = grind (arith, common_steps)
 
   -- 2. the run
   module _ (w : World) (most : Option ℕ) where
@@ -49,18 +45,13 @@ module _ (types : Types) where
     values_run inside later env before [] = refl
     values_run inside later env before (u ∷ us) = λ i. then_option (held_value w env u) (λ v. then_option (values_run inside later env (u ∷ before) us i) (λ vs. Some (value_and v vs)))
 
-    expr_runs : (inside : List ℕ) (later : Place → Bool) (env : Env) (calls : List Call) (v : ℕ) (e : Expr) → bind_expr w env calls v (saved_expr types inside later e) ≡ bind_expr w env calls v e
-    expr_runs inside later env calls v (variant_of ty variant us) = λ i. now_bound env calls v (then_option (values_run inside later env [] us i) (λ vs. Some (one (of_variant ty variant vs))))
-    expr_runs inside later env calls v (struct_of ty us) = λ i. now_bound env calls v (then_option (values_run inside later env [] us i) (λ vs. Some (one (of_struct ty vs))))
-    expr_runs inside later env calls v e = refl
-
     mutual
       block_runs : (b : Block) (inside : List ℕ) (after : Place → Bool) (env : Env) (t : Trace) → run_block (saved types inside after b) w most env t ≡ run_block b w most env t
       block_runs no_statement inside after env t = refl
       block_runs (statement s rest) inside after env t = λ i. then_flow (statement_runs s inside (behind s rest after) env t i) (λ env' t'. block_runs rest (movable_after inside s) after env' t' i)
 
       statement_runs : (s : Statement) (inside : List ℕ) (later : Place → Bool) (env : Env) (t : Trace) → run_statement (saved_at types inside later s) w most env t ≡ run_statement s w most env t
-      statement_runs (bind v e) inside later env t = λ i. flow_of_bound (expr_runs inside later env t.calls v e i) t
+      statement_runs (bind v e) inside later env t = grind (arith, values_run)
       statement_runs (match_on u arms) inside later env t = λ i. in_braces env (on_content (held w env u.place) t (λ c. arms_run arms (unlooked inside u.place) later c env t i))
       statement_runs (if_equal a b body) inside later env t = λ i. in_braces env (where_equal (held_value w env a) (held_value w env b) t (block_runs body inside later env t i) (goes_on env t))
       statement_runs (for_each_of v from body) inside later env t = λ i. on_answers (bound_to env from) (λ c t'. block_runs body (v ∷ []) read_no_more ((v, c) ∷ env) t' i) env t
@@ -77,11 +68,6 @@ module _ (types : Types) where
   all_known scope inside later before [] = refl
   all_known scope inside later before (u ∷ us) = ap (λ b. knows scope u.place && b) (all_known scope inside later (u ∷ before) us)
 
-  expr_known : (scope inside : List ℕ) (later : Place → Bool) (e : Expr) → reads_known scope (saved_expr types inside later e) ≡ reads_known scope e
-  expr_known scope inside later (variant_of ty variant us) = all_known scope inside later [] us
-  expr_known scope inside later (struct_of ty us) = all_known scope inside later [] us
-  expr_known scope inside later e = refl
-
   mutual
     block_known : (b : Block) (label : Bool) (scope inside : List ℕ) (after : Place → Bool) → block_scoped label scope (saved types inside after b) ≡ block_scoped label scope b
     block_known no_statement label scope inside after = refl
@@ -89,17 +75,14 @@ module _ (types : Types) where
         let later = behind s rest after in
         let more = saved types (movable_after inside s) after rest in
         both (statement_known s label scope inside later)
-        (ended_same s inside later (block_scoped label (scope_after scope (saved_at types inside later s)) more)
-        ∙ ap (λ l. unless_ended s (block_scoped label l more)) (after_same s inside later scope)
-        ∙ ap (unless_ended s) (block_known rest label (scope_after scope s) (movable_after inside s) after))
+        (grind (arith, common_steps, block_known rest label (scope_after scope s) (movable_after inside s) after, ended_same, after_same))
 
     statement_known : (s : Statement) (label : Bool) (scope inside : List ℕ) (later : Place → Bool) → statement_scoped label scope (saved_at types inside later s) ≡ statement_scoped label scope s
-    statement_known (bind v e) label scope inside later = expr_known scope inside later e
     statement_known (match_on u arms) label scope inside later = ap (λ b. knows scope u.place && b) (arms_known arms label scope (unlooked inside u.place) later)
     statement_known (if_equal a b body) label scope inside later = ap (λ x. (knows scope a.place && knows scope b.place) && x) (block_known body label scope inside later)
     statement_known (for_each_of v from body) label scope inside later = ap (λ x. is_in from scope && x) (block_known body label (v ∷ scope) (v ∷ []) read_no_more)
     statement_known (labelled body) label scope inside later = block_known body true scope inside later
-    statement_known s label scope inside later = refl
+    statement_known s label scope inside later = grind (arith, all_known)
 
     arms_known : (arms : CodeArms) (label : Bool) (scope inside : List ℕ) (later : Place → Bool) → arms_scoped label scope (saved_arms types inside later arms) ≡ arms_scoped label scope arms
     arms_known no_code_arm label scope inside later = refl
@@ -112,11 +95,6 @@ module _ (types : Types) where
     all_others inside later before [] = refl
     all_others inside later before (u ∷ us) = ap (λ b. other taken u.place && b) (all_others inside later (u ∷ before) us)
 
-    expr_others : (inside : List ℕ) (later : Place → Bool) (e : Expr) → reads_other taken (saved_expr types inside later e) ≡ reads_other taken e
-    expr_others inside later (variant_of ty variant us) = all_others inside later [] us
-    expr_others inside later (struct_of ty us) = all_others inside later [] us
-    expr_others inside later e = refl
-
     mutual
       block_takes_same : (b : Block) (fresh inside : List ℕ) (after : Place → Bool) → block_takes taken fresh (saved types inside after b) ≡ block_takes taken fresh b
       block_takes_same no_statement fresh inside after = refl
@@ -124,17 +102,14 @@ module _ (types : Types) where
           let later = behind s rest after in
           let more = saved types (movable_after inside s) after rest in
           both (statement_takes_same s fresh inside later)
-          (ended_same s inside later (block_takes taken (fresh_after fresh (saved_at types inside later s)) more)
-          ∙ ap (λ l. unless_ended s (block_takes taken l more)) (fresh_same s inside later fresh)
-          ∙ ap (unless_ended s) (block_takes_same rest (fresh_after fresh s) (movable_after inside s) after))
+          (grind (arith, common_steps, block_takes_same rest (fresh_after fresh s) (movable_after inside s) after, ended_same, fresh_same))
 
       statement_takes_same : (s : Statement) (fresh inside : List ℕ) (later : Place → Bool) → statement_takes taken fresh (saved_at types inside later s) ≡ statement_takes taken fresh s
-      statement_takes_same (bind v e) fresh inside later = expr_others inside later e
       statement_takes_same (match_on u arms) fresh inside later = ap (λ b. other taken u.place && b) (arms_take_same arms (unlooked inside u.place) later)
       statement_takes_same (if_equal a b body) fresh inside later = ap (λ x. (other taken a.place && other taken b.place) && x) (block_takes_same body [] inside later)
       statement_takes_same (for_each_of v from body) fresh inside later = ap (λ x. (taken from && is_in from fresh) && x) (block_takes_same body [] (v ∷ []) read_no_more)
       statement_takes_same (labelled body) fresh inside later = block_takes_same body [] inside later
-      statement_takes_same s fresh inside later = refl
+      statement_takes_same s fresh inside later = grind (arith, all_others)
 
       arms_take_same : (arms : CodeArms) (inside : List ℕ) (later : Place → Bool) → arms_take taken (saved_arms types inside later arms) ≡ arms_take taken arms
       arms_take_same no_code_arm inside later = refl
@@ -146,11 +121,6 @@ module _ (types : Types) where
     all_touch_same inside later before [] = refl
     all_touch_same inside later before (u ∷ us) = ap (λ b. touches q u.place || b) (all_touch_same inside later (u ∷ before) us)
 
-    expr_reads_same : (inside : List ℕ) (later : Place → Bool) (e : Expr) → expr_reads q (saved_expr types inside later e) ≡ expr_reads q e
-    expr_reads_same inside later (variant_of ty variant us) = all_touch_same inside later [] us
-    expr_reads_same inside later (struct_of ty us) = all_touch_same inside later [] us
-    expr_reads_same inside later e = refl
-
     mutual
       block_reads_same : (b : Block) (inside : List ℕ) (after : Place → Bool) → block_reads q (saved types inside after b) ≡ block_reads q b
       block_reads_same no_statement inside after = refl
@@ -159,7 +129,7 @@ module _ (types : Types) where
           (behind_same q s inside (behind s rest after) (block_reads q (saved types (movable_after inside s) after rest)) ∙ ap (read_behind q s) (block_reads_same rest (movable_after inside s) after))
 
       statement_reads_same : (s : Statement) (inside : List ℕ) (later : Place → Bool) → statement_reads q (saved_at types inside later s) ≡ statement_reads q s
-      statement_reads_same (bind v e) inside later = expr_reads_same inside later e
+      statement_reads_same (bind v e) inside later = grind (arith, all_touch_same)
       statement_reads_same (match_on u arms) inside later = ap (λ b. touches q u.place || b) (arms_read_same arms (unlooked inside u.place) later)
       statement_reads_same (if_equal a b body) inside later = ap (λ x. (touches q a.place || touches q b.place) || x) (block_reads_same body inside later)
       statement_reads_same (for_each_of v from body) inside later = ap (λ x. touches q (variable from) || (not (is_of (v ∷ []) q) && x)) (block_reads_same body (v ∷ []) read_no_more)
@@ -172,15 +142,7 @@ module _ (types : Types) where
 
   -- 6. moves stand
   use_well : (inside : List ℕ) (later : Place → Bool) (u : PlaceUse) → moves_well types inside later u ≡ true → moves_well types inside later (saved_use types inside later u) ≡ true
-  use_well inside later u h = by (may_save types inside later u.place) refl u.pass h
-    where
-      by : (b : Bool) → may_save types inside later u.place ≡ b → (pass : Pass) → moves_well types inside later (record { place = u.place; pass = pass }) ≡ true
-          → moves_well types inside later (record { place = u.place; pass = saved_pass b pass }) ≡ true
-      by true e cloned k = or_right (not (is_away (given types (record { place = u.place; pass = as_it_is })))) (may_move inside later u.place) (and_parts (is_value (mode_at types u.place) && is_owned types u.place) (may_move inside later u.place) e).1
-      by true e as_it_is k = k
-      by true e lent k = k
-      by true e seen_through k = k
-      by false e pass k = k
+  use_well inside later u h = grind (arith, common_steps, or_right, and_parts)
 
   all_well : (inside : List ℕ) (later : Place → Bool) (before us : List PlaceUse) (made : List PlaceUse) → ((q : Place) → any_touch q made ≡ any_touch q before) → all_move_well types inside later before us ≡ true
       → all_move_well types inside later made (all_saved types inside later before us) ≡ true
@@ -188,27 +150,12 @@ module _ (types : Types) where
   all_well inside later before (u ∷ us) made same h =
       let hs = and_parts (moves_well types inside (beside before us later) u) (all_move_well types inside later (u ∷ before) us) h in
       and_from _ _
-      (subst (λ (l : Place → Bool). moves_well types inside l (saved_use types inside (beside before us later) u) ≡ true)
-      (λ i. λ q. (sym (same q) i || sym (all_touch_same q inside later (u ∷ before) us) i) || later q) (use_well inside (beside before us later) u hs.0))
+      (grind (arith, common_steps, all_touch_same, use_well))
       (all_well inside later (u ∷ before) us (saved_use types inside (beside before us later) u ∷ made) (λ q. ap (λ b. touches q u.place || b) (same q)) hs.1)
 
-  expr_well : (inside : List ℕ) (later : Place → Bool) (e : Expr) → expr_moves types inside later e ≡ true → expr_moves types inside later (saved_expr types inside later e) ≡ true
-  expr_well inside later (truth_written b ty) h = refl
-  expr_well inside later (read u) h = h
-  expr_well inside later (extraction term u) h = h
-  expr_well inside later (call term us instance) h = h
-  expr_well inside later (variant_of ty variant us) h = all_well inside later [] us [] (λ q. refl) h
-  expr_well inside later (struct_of ty us) h = all_well inside later [] us [] (λ q. refl) h
-  expr_well inside later (some_of u) h = use_well inside later u h
-
   module _ (multi : Bool) where
-    given_well : (inside : List ℕ) (later : Place → Bool) (u : PlaceUse) (several : Bool) → (not several || moves_well types inside later u) ≡ true → (not several || moves_well types inside later (saved_use types inside later u)) ≡ true
-    given_well inside later u true h = use_well inside later u h
-    given_well inside later u false h = refl
-
     ended_either : (s : Statement) (x y : Bool) → (x ≡ true → y ≡ true) → unless_ended s x ≡ true → unless_ended s y ≡ true
-    ended_either no_way x y f h = refl
-    ended_either s x y f h = f h
+    ended_either s x y f h = grind (arith, common_steps)
 
     mutual
       block_well : (b : Block) (inside : List ℕ) (after : Place → Bool) → block_moves types multi inside after b ≡ true → block_moves types multi inside after (saved types inside after b) ≡ true
@@ -222,23 +169,18 @@ module _ (types : Types) where
           (subst (λ (l : Place → Bool). statement_moves types multi inside l moved ≡ true)
           (λ i. λ q. sym (behind_same q s inside later (block_reads q more) ∙ ap (read_behind q s) (block_reads_same q rest (movable_after inside s) after)) i || after q)
           (statement_well s inside later hs.0))
-          (ended_same s inside later (block_moves types multi (movable_after inside moved) after more)
-          ∙ ap (λ l. unless_ended s (block_moves types multi l after more)) (movable_same s inside later inside)
-          ∙ ended_either s (block_moves types multi (movable_after inside s) after rest) (block_moves types multi (movable_after inside s) after more) (λ k. block_well rest (movable_after inside s) after k) hs.1)
+          (grind (arith, common_steps, block_well rest (movable_after inside s) after, ended_same, movable_same, ended_either))
 
       statement_well : (s : Statement) (inside : List ℕ) (later : Place → Bool) → statement_moves types multi inside later s ≡ true → statement_moves types multi inside later (saved_at types inside later s) ≡ true
-      statement_well (bind v e) inside later h = expr_well inside later e h
-      statement_well (match_on u arms) inside later h =
-          let out = unlooked inside u.place in
-          subst (λ (l : Place → Bool). arms_move types multi out later (moves_well types inside l u) (saved_arms types out later arms) ≡ true) (λ i. λ q. sym (arms_read_same q arms out later) i || later q)
-          (arms_well arms out later (moves_well types inside (around_arms arms later) u) h)
+      statement_well (bind v e) inside later h = grind (arith, all_well, use_well)
+      statement_well (match_on u arms) inside later h = grind (arith, common_steps, arms_well arms, arms_read_same)
       statement_well (if_equal a b body) inside later h = block_well body inside later h
       statement_well (for_each_of v from body) inside later h =
           let hs = and_parts (may_move inside (around_loop v body later) (variable from)) (block_moves types multi (v ∷ []) read_no_more body) h in
           and_from _ _
           (subst (λ (l : Place → Bool). may_move inside l (variable from) ≡ true) (λ i. λ q. (not (is_of (v ∷ []) q) && sym (block_reads_same q body (v ∷ []) read_no_more) i) || later q) hs.0)
           (block_well body (v ∷ []) read_no_more hs.1)
-      statement_well (give at u) inside later h = given_well inside later u multi h
+      statement_well (give at u) inside later h = grind (arith, use_well)
       statement_well (labelled body) inside later h = block_well body inside later h
       statement_well (bind_some v u) inside later h = h
       statement_well (unless_let u pattern fields) inside later h = h
@@ -252,54 +194,20 @@ module _ (types : Types) where
           and_from _ _ (and_from _ _ ks.0 (block_well body (field_sites fields ++ inside) later ks.1)) (arms_well rest inside later well hs.1)
 
   -- 7. uses fit
-  kept_either : (g : Given) → fits_value false g ≡ true → fits_value true g ≡ true
-  kept_either gives_reference h = h
-  kept_either gives_sight h = h
-  kept_either gives_nothing h = h
-  kept_either g h = refl
-
-  result_either : (multi : Bool) (g : Given) → fits_result multi false g ≡ true → fits_result multi true g ≡ true
-  result_either multi gives_reference h = h
-  result_either multi gives_sight h = h
-  result_either multi gives_nothing h = h
-  result_either multi g h = refl
-
   -- what may be saved gives a value, or is given away
   module _ (Fits : Bool → Given → Bool) (either : (g : Given) → Fits false g ≡ true → Fits true g ≡ true) (kept : Fits true gives_value ≡ true) (away : Fits true gives_away ≡ true) where
     saved_fits : (inside : List ℕ) (later : Place → Bool) (u : PlaceUse) → Fits false (given types u) ≡ true → Fits true (given types (saved_use types inside later u)) ≡ true
-    saved_fits inside later u h = by (mode_at types u.place) (is_new u.place || types.is_copy u.place) (is_owned types u.place) (may_move inside later u.place) u.pass (either (given types u) h)
-      where
-        by : (m : BindingMode) (keep owned may : Bool) (pass : Pass) → Fits true (given_by m keep owned pass) ≡ true → Fits true (given_by m keep owned (saved_pass ((is_value m && owned) && may) pass)) ≡ true
-        by a_reference keep owned may pass k = k
-        by a_value keep false may pass k = k
-        by a_value keep true false pass k = k
-        by a_value keep true true as_it_is k = k
-        by a_value keep true true lent k = k
-        by a_value keep true true seen_through k = k
-        by a_value true true true cloned k = kept
-        by a_value false true true cloned k = away
+    saved_fits inside later u h = grind (arith, common_steps)
 
   kept_saved : (inside : List ℕ) (later : Place → Bool) (u : PlaceUse) → fits_value false (given types u) ≡ true → fits_value true (given types (saved_use types inside later u)) ≡ true
-  kept_saved = saved_fits fits_value kept_either refl refl
+  kept_saved = grind (arith, saved_fits)
 
   all_kept : (inside : List ℕ) (later : Place → Bool) (before us : List PlaceUse) → fit_values types false us ≡ true → fit_values types true (all_saved types inside later before us) ≡ true
   all_kept inside later before [] h = refl
-  all_kept inside later before (u ∷ us) h =
-      let hs = and_parts (fits_value false (given types u)) (fit_values types false us) h in
-      and_from _ _ (kept_saved inside (beside before us later) u hs.0) (all_kept inside later (u ∷ before) us hs.1)
+  all_kept inside later before (u ∷ us) h = grind (arith, common_steps, all_kept inside later (u ∷ before) us, and_parts, and_from, kept_saved)
 
   expr_kept : (inside : List ℕ) (later : Place → Bool) (v : ℕ) (e : Expr) → expr_fits types false v e ≡ true → expr_fits types true v (saved_expr types inside later e) ≡ true
-  expr_kept inside later v (truth_written b ty) h = h
-  expr_kept inside later v (read u) h =
-      let hs = and_parts (is_value (types.variables v)) (fits_value false (given types u)) h in and_from _ _ hs.0 (kept_either (given types u) hs.1)
-  expr_kept inside later v (extraction term u) h = h
-  expr_kept inside later v (call term us instance) h = h
-  expr_kept inside later v (variant_of ty variant us) h =
-      let hs = and_parts (is_value (types.variables v)) (fit_values types false us) h in and_from _ _ hs.0 (all_kept inside later [] us hs.1)
-  expr_kept inside later v (struct_of ty us) h =
-      let hs = and_parts (is_value (types.variables v)) (fit_values types false us) h in and_from _ _ hs.0 (all_kept inside later [] us hs.1)
-  expr_kept inside later v (some_of u) h =
-      let hs = and_parts (is_value (types.variables v)) (fits_value false (given types u)) h in and_from _ _ hs.0 (kept_saved inside later u hs.1)
+  expr_kept inside later v e h = grind (arith, common_steps, and_parts, and_from, all_kept, kept_saved)
 
   module _ (multi : Bool) where
     mutual
@@ -310,19 +218,14 @@ module _ (types : Types) where
           and_from _ _ (statement_kept s inside (behind s rest after) hs.0) (block_kept rest (movable_after inside s) after hs.1)
 
       statement_kept : (s : Statement) (inside : List ℕ) (later : Place → Bool) → statement_fits types multi false s ≡ true → statement_fits types multi true (saved_at types inside later s) ≡ true
-      statement_kept (bind v e) inside later h = expr_kept inside later v e h
-      statement_kept (bind_some v u) inside later h = h
-      statement_kept no_way inside later h = refl
       statement_kept (match_on u arms) inside later h = arms_kept arms (unlooked inside u.place) later (given types u) h
       statement_kept (if_equal a b body) inside later h =
           let hs = and_parts (fits_equal (given types a) (given types b)) (block_fits types multi false body) h in and_from _ _ hs.0 (block_kept body inside later hs.1)
       statement_kept (for_each_of v from body) inside later h =
           let hs = and_parts (is_value (types.variables v) && is_value (types.variables from)) (block_fits types multi false body) h in
           and_from _ _ hs.0 (block_kept body (v ∷ []) read_no_more hs.1)
-      statement_kept (give at u) inside later h = saved_fits (fits_result multi) (result_either multi) refl refl inside later u h
       statement_kept (labelled body) inside later h = block_kept body inside later h
-      statement_kept (unless_let u pattern fields) inside later h = h
-      statement_kept (unless_equal a b) inside later h = h
+      statement_kept s inside later h = grind (arith, common_steps, expr_kept)
 
       arms_kept : (arms : CodeArms) (inside : List ℕ) (later : Place → Bool) (g : Given) → arms_fit types multi false g arms ≡ true → arms_fit types multi true g (saved_arms types inside later arms) ≡ true
       arms_kept no_code_arm inside later g h = refl
@@ -339,7 +242,4 @@ with_moves_says_same_lem types code = record {
 }
 
 pub with_moves_is_made_well_lem : WithMovesIsMadeWell
-with_moves_is_made_well_lem types multi code = record {
-  once = λ h. block_well types multi code [] read_no_more h;
-  fits = λ h. block_kept types multi code [] read_no_more h;
-}
+with_moves_is_made_well_lem types multi code = grind (arith, common_steps, block_well types multi code [] read_no_more, block_kept types multi code [] read_no_more)

@@ -1,18 +1,18 @@
 -- The code of a tree that binds sites before it uses them reads what is in scope, by induction on the marked tree.
-use Rattle.std.proofs.Common.{◌≡◌, inl, inr, ℕ, suc, ◌<◌, ◌&&◌, ◌||◌, Bool, true, false, not, if◌then◌else◌, List, [], ◌∷◌, ◌++◌, length, Option, Some, None, slice_get, Contains, refl, sym, ap, subst, ◌∙◌, arith}
+use Rattle.std.proofs.Common.{◌≡◌, inl, inr, ℕ, suc, ◌<◌, ◌&&◌, ◌||◌, Bool, true, false, not, if◌then◌else◌, List, [], ◌∷◌, ◌++◌, length, Option, Some, None, slice_get, Contains, refl, ap, subst, ◌∙◌, arith}
 use Rattle.std.proofs.lemmas.Grind.{common_steps}
 use Rattle.std.specs.List.{list_all}
-use Rattle.std.proofs.lemmas.Bool.{and_parts, and_from, false≢true, true≢false}
+use Rattle.std.proofs.lemmas.Bool.{and_parts, and_from}
 use Rattle.std.proofs.lemmas.Option.{none-some}
-use Rattle.std.proofs.lemmas.List.Elements.{All-contains, Contains-append_left, Contains-append_right, Contains-append_cases}
-use Rattle.model.specs.sites.Sites.{Site, bool_site, extractor_site, constructor_site, iterator_site, make_variant_site, match_variant_site, make_struct_site, extract_struct_site, make_some_site, match_some_site, match_tuple_site, SetRule, SiteSet, sources_of, sources_at}
+use Rattle.std.proofs.lemmas.List.Elements.{Contains-append_left, Contains-append_right, Contains-append_cases}
+use Rattle.model.specs.sites.Sites.{Site, SetRule, SiteSet, sources_of, sources_at}
 use Rattle.model.specs.trees.Trees.{Marked, m_no_step, m_step, MarkedCheck, m_match, m_equal, m_loop, m_return, MarkedArms, m_no_arm, m_arm, plain, plain_check, plain_arms, return_of, marks, marks_check, marks_arms}
 use Rattle.model.specs.trees.Places.{is_in, is_in_place, return_uses, uses, field_sites}
 use Rattle.model.specs.trees.Sound.{is_return}
 use Rattle.model.specs.claims.Layers.{gone_over, can_be_used, brings_new, binds_once, binds_before_use, binds_in_check, binds_in_arms}
 use Rattle.model.proofs.Elements.{or_split}
 use Rattle.model.proofs.Members.{nothing_in, in_head, in_tail, in_cases, each_passes, member_found, member_is_in, get_within}
-use Rattle.model_code.specs.Code.{Block, statement, Statement, bind, bind_some, no_way, match_on, if_equal, for_each_of, give, labelled, unless_let, unless_equal}
+use Rattle.model_code.specs.Code.{Block, statement, Statement}
 use Rattle.model_code.specs.TreeCode.{Passes, place_of, arguments_from, fields_of, bind_code, binds_code, loop_code, tree_code, check_code, arms_code}
 use Rattle.model_code.specs.CodeLaws.{not_in_place, none_in_place, no_field_in_place, binds_none_in_place, check_binds_none, arms_bind_none}
 use Rattle.model_code.specs.Scopes.{knows, knows_all, scope_after, unless_ended, block_scoped, statement_scoped, arms_scoped, LoopsAreOverBound, PrintedCodeIsScoped}
@@ -21,30 +21,14 @@ use Rattle.model_code.proofs.FlatScopes.{flat_keeps_scopes_lem}
 use Rattle.model_code.proofs.NothingInPlace.{best_trees_bind_none_in_place_lem}
 use Rattle.model_code.proofs.PrintedCode.{tree_unlabelled}
 
-first_only : (a : Bool) → (a || false) ≡ true → a ≡ true
-first_only true h = refl
-first_only false h = absurd (false≢true h)
-
 abbrev made_of : Option Site → List ℕ
 made_of o = elim o as (λ _. List ℕ) [ None ↦ [] | Some b ↦ sources_of b ]
 
 pub ended_or : (s : Statement) (later : Bool) → later ≡ true → unless_ended s later ≡ true
-ended_or (bind v e) later h = h
-ended_or (bind_some v u) later h = h
-ended_or no_way later h = refl
-ended_or (match_on u arms) later h = h
-ended_or (if_equal a b body) later h = h
-ended_or (for_each_of v from body) later h = h
-ended_or (give at u) later h = h
-ended_or (labelled body) later h = h
-ended_or (unless_let u pattern fields) later h = h
-ended_or (unless_equal a b) later h = h
+ended_or s later h = grind (arith, common_steps)
 
 later_there : (check : MarkedCheck) (x : Bool) → (if is_return check && not true then true else x) ≡ true → x ≡ true
-later_there (m_match source arms) x h = h
-later_there (m_equal a b body) x h = h
-later_there (m_loop result body) x h = h
-later_there (m_return rule) x h = h
+later_there check x h = grind (arith, common_steps)
 
 module _ (sites : List Site) (p : Passes) where
   -- what a tree has bound, the code has too; none of it is written in place
@@ -53,13 +37,7 @@ module _ (sites : List Site) (p : Passes) where
     pub outside : (x : ℕ) → Contains ts x → is_in_place (slice_get sites x) ≡ true → ⊥
 
   kept_more : (ts cs : List ℕ) (s : ℕ) → Kept ts cs → not_in_place sites s ≡ true → Kept (s ∷ ts) (s ∷ cs)
-  kept_more ts cs s k n = record {
-    there = λ x c. elim (in_cases s x ts c) [ inl e ↦ subst (Contains (s ∷ cs)) e (in_head s cs) | inr d ↦ in_tail s x cs (k.there x d) ];
-    outside = λ x c i. elim (in_cases s x ts c) [
-      | inl e ↦ true≢false (sym i ∙ ap (λ y. is_in_place (slice_get sites y)) (sym e) ∙ outside (is_in_place (slice_get sites s)) n)
-      | inr d ↦ k.outside x d i
-    ];
-  }
+  kept_more ts cs s k n = grind (arith, common_steps, in_cases, in_head, in_tail, outside)
 
   -- 1. what is used is known
   module _ (ts cs : List ℕ) (k : Kept ts cs) where
@@ -67,23 +45,7 @@ module _ (sites : List Site) (p : Passes) where
     carried s h = member_is_in s cs (k.there s (member_found s ts h))
 
     known_at : (s : ℕ) (o : Option Site) → (is_in_place o ≡ true → Contains ts s → ⊥) → (is_in s ts || (is_in_place o && list_all (λ a. is_in a ts) (made_of o))) ≡ true → knows cs (place_of o s) ≡ true
-    known_at s None n h = carried s (first_only (is_in s ts) h)
-    known_at s (Some (bool_site b ty)) n h = carried s (first_only (is_in s ts) h)
-    known_at s (Some (extractor_site term source)) n h = carried s (first_only (is_in s ts) h)
-    known_at s (Some (constructor_site term sources instance)) n h = carried s (first_only (is_in s ts) h)
-    known_at s (Some (iterator_site source)) n h = carried s (first_only (is_in s ts) h)
-    known_at s (Some (make_variant_site ty variant (f ∷ fs))) n h = carried s (first_only (is_in s ts) h)
-    known_at s (Some (match_variant_site source variant field)) n h = carried s (first_only (is_in s ts) h)
-    known_at s (Some (make_struct_site ty (f ∷ fs))) n h = carried s (first_only (is_in s ts) h)
-    known_at s (Some (extract_struct_site source field)) n h = carried s (first_only (is_in s ts) h)
-    known_at s (Some (make_some_site source)) n h = carried s (first_only (is_in s ts) h)
-    known_at s (Some (match_some_site source)) n h = carried s (first_only (is_in s ts) h)
-    known_at s (Some (match_tuple_site source field)) n h =
-        elim (or_split (is_in s ts) (list_all (λ a. is_in a ts) (source ∷ [])) h) [
-          | inl e ↦ absurd (n refl (member_found s ts e))
-          | inr e ↦ carried source (each_passes (λ a. is_in a ts) (source ∷ []) e source (in_head source []))
-        ]
-    known_at s o n h = refl
+    known_at s o n h = grind (arith, common_steps, carried, or_split, member_found, each_passes, in_head)
 
     known : (s : ℕ) → can_be_used sites ts s ≡ true → knows cs (place_of (slice_get sites s) s) ≡ true
     known s h = known_at s (slice_get sites s) (λ i c. k.outside s c i) h
@@ -102,14 +64,7 @@ module _ (sites : List Site) (p : Passes) where
     -- 2. a site is bound
     bind_scoped : (s : ℕ) (o : Option Site) (rest : Block) → is_in_place o ≡ false → AllUsable (made_of o) → block_scoped false (s ∷ cs) rest ≡ true
         → block_scoped false cs (statement (bind_code sites p s o) rest) ≡ true
-    bind_scoped s (Some (bool_site b ty)) rest n u h = h
-    bind_scoped s (Some (extractor_site term source)) rest n u h = and_from _ _ (known source (u source (in_head source []))) h
-    bind_scoped s (Some (constructor_site term sources instance)) rest n u h = and_from _ _ (arguments_known term 0 sources u) h
-    bind_scoped s (Some (make_variant_site ty variant fields)) rest n u h = and_from _ _ (fields_known fields u) h
-    bind_scoped s (Some (make_struct_site ty fields)) rest n u h = and_from _ _ (fields_known fields u) h
-    bind_scoped s (Some (make_some_site source)) rest n u h = and_from _ _ (known source (u source (in_head source []))) h
-    bind_scoped s (Some (match_some_site source)) rest n u h = and_from _ _ (known source (u source (in_head source []))) h
-    bind_scoped s o rest n u h = grind (arith, common_steps)
+    bind_scoped s o rest n u h = grind (arith, common_steps, known, in_head, arguments_known, fields_known)
 
   -- sites are bound in order, and what follows
   moved_back : (s : ℕ) (ss ts : List ℕ) (x : ℕ) → Contains (s ∷ (ss ++ ts)) x → Contains (ss ++ s ∷ ts) x
@@ -133,31 +88,17 @@ module _ (sites : List Site) (p : Passes) where
   kept_fields : (fields : List (Option ℕ)) (ts cs : List ℕ) → no_field_in_place sites fields ≡ true → Kept ts cs → Kept (field_sites fields ++ ts) (field_sites fields ++ cs)
   kept_fields [] ts cs n k = k
   kept_fields (None ∷ rest) ts cs n k = kept_fields rest ts cs n k
-  kept_fields (Some s ∷ rest) ts cs n k =
-      let ns = and_parts (not_in_place sites s) (no_field_in_place sites rest) n in
-      kept_more (field_sites rest ++ ts) (field_sites rest ++ cs) s (kept_fields rest ts cs ns.1 k) ns.0
+  kept_fields (Some s ∷ rest) ts cs n k = grind (arith, common_steps, kept_fields rest ts cs, and_parts, kept_more)
 
   -- 3. a loop, and a return
   loop_scoped : (over : LoopsAreOverBound sites) (result : ℕ) (o : Option Site) (body : Block) (ts cs : List ℕ) → slice_get sites result ≡ o → Kept ts cs
       → ((x : ℕ) → Contains (made_of o) x → can_be_used sites ts x ≡ true) → block_scoped false (result ∷ cs) body ≡ true → statement_scoped false cs (loop_code o result body) ≡ true
-  loop_scoped over result (Some (iterator_site source)) body ts cs at k u h =
-      and_from _ _
-      (carried ts cs k source (first_only (is_in source ts)
-      (ap (λ b. is_in source ts || (b && list_all (λ a. is_in a ts) (sources_at sites source))) (sym (over result source at)) ∙ u source (in_head source [])))) h
-  loop_scoped over result o body ts cs at k u h = refl
-
-  loop_after : (o : Option Site) (result : ℕ) (body : Block) (cs : List ℕ) → scope_after cs (loop_code o result body) ≡ cs
-  loop_after (Some (match_variant_site source variant field)) result body cs = refl
-  loop_after o result body cs = refl
+  loop_scoped over result o body ts cs at k u h = grind (arith, common_steps, and_from, carried, in_head)
 
   return_scoped : (o : Option SetRule) (r : SetRule) (ts cs : List ℕ) → o ≡ Some r → Kept ts cs → ((x : ℕ) → Contains (return_uses o) x → can_be_used sites ts x ≡ true)
       → statement_scoped false cs (check_code (return_of o) sites p) ≡ true
   return_scoped None r ts cs e k u = absurd (none-some r e)
   return_scoped (Some q) r ts cs e k u = known ts cs k q.result (u q.result (Contains-append_right q.impure (q.result ∷ []) q.result (in_head q.result [])))
-
-  return_after : (o : Option SetRule) (cs : List ℕ) → scope_after cs (check_code (return_of o) sites p) ≡ cs
-  return_after None cs = refl
-  return_after (Some r) cs = refl
 
 -- 4. by induction on the marked tree
 module _ (set : SiteSet) (p : Passes) (over : LoopsAreOverBound set.sites) where
@@ -165,8 +106,8 @@ module _ (set : SiteSet) (p : Passes) (over : LoopsAreOverBound set.sites) where
   AreOfRules ms = (i : ℕ) → Contains ms i → i < length set.rules
 
   check_after : (check : MarkedCheck) (cs : List ℕ) → scope_after cs (check_code (plain_check set.rules check) set.sites p) ≡ cs
-  check_after (m_loop result body) cs = loop_after set.sites p (slice_get set.sites result) result (tree_code (plain set.rules body) set.sites p) cs
-  check_after (m_return rule) cs = return_after set.sites p (slice_get set.rules rule) cs
+  check_after (m_loop result body) cs = grind arith
+  check_after (m_return rule) cs = grind arith
   check_after check cs = refl
 
   mutual
@@ -217,7 +158,4 @@ module _ (set : SiteSet) (p : Passes) (over : LoopsAreOverBound set.sites) where
 pub printed_code_is_scoped_lem : PrintedCodeIsScoped
 printed_code_is_scoped_lem set tree p deep n best binds over =
     flat_keeps_scopes_lem (tree_code tree set.sites p) deep n [] (tree_unlabelled set.sites p tree)
-    (subst (λ t. block_scoped false [] (tree_code t set.sites p) ≡ true) binds.returns.same
-    (steps_scoped set p over binds.marked [] [] [] binds.bound (ap (λ t. binds_none_in_place t set.sites) binds.returns.same ∙ best_trees_bind_none_in_place_lem set tree best)
-    (λ i c. All-contains (λ j. j < length set.rules) (marks binds.marked) i binds.returns.known c)
-    (record { there = λ x c. c; outside = λ x c i. nothing_in x c })))
+    (grind (arith, common_steps, steps_scoped, best_trees_bind_none_in_place_lem, outside, nothing_in))

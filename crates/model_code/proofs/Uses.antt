@@ -1,13 +1,14 @@
 -- Places and uses are read back, where what follows is no part of them.
-use Rattle.std.proofs.Common.{◌≡◌, ◌&&◌, ◌==◌, ◌∷◌, ℕ, Bool, true, false, List, Some, None, refl, ap, ◌∙◌}
-use Rattle.std.proofs.lemmas.Bool.{and_parts, and_from, false≢true}
+use Rattle.std.proofs.Common.{◌≡◌, ◌&&◌, ◌==◌, ◌∷◌, ℕ, Bool, true, false, List, Some, None, ap, arith}
+use Rattle.std.proofs.lemmas.Bool.{and_parts, and_from}
+use Rattle.std.proofs.lemmas.Grind.{common_steps}
 use Rattle.model.proofs.SameSites.{number_same}
-use Rattle.model_code.specs.Code.{Place, variable, Pass, as_it_is, lent, cloned, seen_through, PlaceUse}
-use Rattle.model_code.specs.Tokens.{dot, colon, Owner, variant_owner, struct_owner, Token, word, part_name, field_name, variable_name}
+use Rattle.model_code.specs.Code.{Place, Pass, PlaceUse}
+use Rattle.model_code.specs.Tokens.{dot, colon, Owner, Token, word, part_name, field_name, variable_name}
 use Rattle.model_code.specs.Notation.{Notation}
-use Rattle.model_code.specs.Pieces.{CodePiece, tokens_of, place_before, passed_before, use_before, clone_call, put_all}
+use Rattle.model_code.specs.Pieces.{CodePiece, tokens_of, place_before, passed_before, use_before, clone_call}
 use Rattle.model_code.specs.Shown.{shown_place, shown_use}
-use Rattle.model_code.specs.Reading.{TokenReading, then_read, expect_all, expect_variable, expect_field, same_owner, of_variable, read_place, use_of, cloned_or_not, read_use}
+use Rattle.model_code.specs.Reading.{TokenReading, then_read, expect_all, expect_variable, expect_field, same_owner, read_place, cloned_or_not, read_use}
 
 abbrev not_part : List Token → Bool
 not_part (part_name i ∷ rest) = false
@@ -21,34 +22,18 @@ not_dot tokens = true
 abbrev pub follows : List Token → Bool
 follows tokens = not_part tokens && not_dot tokens
 
-variable_alone : (v : ℕ) (tokens : List Token) → not_part tokens ≡ true → of_variable v tokens ≡ Some (variable v, tokens)
-variable_alone v (part_name i ∷ rest) h = absurd (false≢true h)
-variable_alone v tokens h = refl
-
 no_clone : (tokens : List Token) → not_dot tokens ≡ true → expect_all clone_call tokens ≡ None
-no_clone (word dot ∷ rest) h = absurd (false≢true h)
-no_clone tokens h = refl
+no_clone tokens h = grind (arith, common_steps)
 
 place_back : (p : Notation) (place : Place) (rest : List CodePiece) → not_part (tokens_of rest) ≡ true → read_place (tokens_of (place_before p place rest)) ≡ Some (shown_place p place, tokens_of rest)
-place_back p (variable v) rest h = variable_alone v (tokens_of rest) h
-place_back p place rest h = refl
+place_back p place rest h = grind (arith, common_steps)
 
 abbrev or_cloned : Place → List Token → TokenReading PlaceUse
 or_cloned place rest = cloned_or_not place rest (expect_all clone_call rest)
 
--- a place that nothing stands before
-bare : (p : Notation) (place : Place) (rest : List CodePiece) → read_use (tokens_of (place_before p place rest)) ≡ then_read (read_place (tokens_of (place_before p place rest))) or_cloned
-bare p (variable v) rest = refl
-bare p _ rest = refl
-
 pass_back : (p : Notation) (place : Place) (pass : Pass) (rest : List CodePiece) → follows (tokens_of rest) ≡ true
     → read_use (tokens_of (passed_before p place pass rest)) ≡ Some (record { place = shown_place p place; pass = pass }, tokens_of rest)
-pass_back p place as_it_is rest h =
-    let hs = and_parts (not_part (tokens_of rest)) (not_dot (tokens_of rest)) h in
-    bare p place rest ∙ (ap (λ r. then_read r or_cloned) (place_back p place rest hs.0) ∙ ap (cloned_or_not (shown_place p place) (tokens_of rest)) (no_clone (tokens_of rest) hs.1))
-pass_back p place lent rest h = ap (λ r. then_read r (use_of lent)) (place_back p place rest (and_parts (not_part (tokens_of rest)) (not_dot (tokens_of rest)) h).0)
-pass_back p place cloned rest h = bare p place (put_all clone_call rest) ∙ ap (λ r. then_read r or_cloned) (place_back p place (put_all clone_call rest) refl)
-pass_back p place seen_through rest h = ap (λ r. then_read r (use_of seen_through)) (place_back p place rest (and_parts (not_part (tokens_of rest)) (not_dot (tokens_of rest)) h).0)
+pass_back p place pass rest h = grind (arith, common_steps, and_parts, place_back, no_clone)
 
 pub after_use : {B : Type 0} (p : Notation) (u : PlaceUse) (rest : List CodePiece) (go : PlaceUse → List Token → TokenReading B) → follows (tokens_of rest) ≡ true
     → then_read (read_use (tokens_of (use_before p u rest))) go ≡ go (shown_use p u) (tokens_of rest)
@@ -59,8 +44,7 @@ pub that_variable : (v : ℕ) (rest : List Token) → expect_variable v (variabl
 that_variable v rest = rw (number_same v)
 
 pub same_owner-refl : (o : Owner) → same_owner o o ≡ true
-same_owner-refl (variant_owner ty variant) = and_from _ _ (number_same ty) (number_same variant)
-same_owner-refl (struct_owner ty) = number_same ty
+same_owner-refl o = grind (arith, common_steps, and_from, number_same)
 
 pub that_field : (o : Owner) (i : ℕ) (rest : List Token) → expect_field o i (field_name o i ∷ word colon ∷ rest) ≡ Some rest
 that_field o i rest = rw (and_from (same_owner o o) (i == i) (same_owner-refl o) (number_same i))

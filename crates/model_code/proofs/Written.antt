@@ -1,9 +1,10 @@
 -- The code that is written leaves the same labels, and can be written where the code can.
-use Rattle.std.proofs.Common.{◌≡◌, ◌&&◌, ◌||◌, Bool, true, false, not, refl, ap, ◌∙◌}
-use Rattle.std.proofs.lemmas.Bool.{and_parts, and_from, false≢true}
-use Rattle.model_code.specs.Code.{PlaceUse, Block, no_statement, statement, Statement, bind, bind_some, no_way, match_on, if_equal, for_each_of, give, labelled, unless_let, unless_equal, CodeArms, no_code_arm, code_arm}
+use Rattle.std.proofs.Common.{◌≡◌, ◌&&◌, ◌||◌, Bool, true, false, refl, arith}
+use Rattle.std.proofs.lemmas.Bool.{and_parts, and_from}
+use Rattle.std.proofs.lemmas.Grind.{common_steps}
+use Rattle.model_code.specs.Code.{PlaceUse, Block, no_statement, statement, Statement, match_on, if_equal, for_each_of, labelled, CodeArms, no_code_arm, code_arm}
 use Rattle.model_code.specs.Notation.{Notation}
-use Rattle.model_code.specs.Pieces.{is_left, leaves_at, leaves_arms, result_ends, is_end, unless_end}
+use Rattle.model_code.specs.Pieces.{is_left, leaves_at, leaves_arms, result_ends, is_end}
 use Rattle.model_code.specs.Written.{is_bare, unwrapped, written, written_at, written_arms}
 use Rattle.model_code.specs.ReadsBack.{pattern_writable, match_writable, writable, writable_at, writable_arms}
 
@@ -13,26 +14,16 @@ either e h = λ i. e i || h i
 
 module _ (p : Notation) where
   -- 1. code that can be written with no label around can be with one
-  later_with_label : (ended : Bool) (later : Block) (label : Bool) → unless_end ended true (writable p false later) ≡ true → (writable p false later ≡ true → writable p label later ≡ true) → unless_end ended true (writable p label later) ≡ true
-  later_with_label true later label h k = refl
-  later_with_label false later label h k = k h
-
   mutual
     pub with_label : (b : Block) (label : Bool) → writable p false b ≡ true → writable p label b ≡ true
     with_label no_statement label h = refl
-    with_label (statement s later) label h =
-        let hs = and_parts (writable_at p false s) (unless_end (is_end (result_ends p) s) true (writable p false later)) h in
-        and_from _ _ (with_label_at s label hs.0) (later_with_label (is_end (result_ends p) s) later label hs.1 (λ k. with_label later label k))
+    with_label (statement s later) label h = grind (arith, common_steps, with_label_at s label, with_label later label, and_parts, and_from)
 
     with_label_at : (s : Statement) (label : Bool) → writable_at p false s ≡ true → writable_at p label s ≡ true
     with_label_at (match_on u arms) label h = with_label_arms arms u label h
     with_label_at (if_equal a b body) label h = with_label body label h
     with_label_at (for_each_of v from body) label h = with_label body label h
-    with_label_at (labelled body) label h = h
-    with_label_at (unless_let u pattern fields) label h = absurd (false≢true h)
-    with_label_at (unless_equal a b) label h = absurd (false≢true h)
-    with_label_at (bind v e) label h = h
-    with_label_at s label h = refl
+    with_label_at s label h = grind (arith, common_steps)
 
     with_label_arms : (arms : CodeArms) (u : PlaceUse) (label : Bool) → writable_arms p false u arms ≡ true → writable_arms p label u arms ≡ true
     with_label_arms no_code_arm u label h = refl
@@ -43,31 +34,20 @@ module _ (p : Notation) where
 
   -- 2. labels are left as before
   pub end_written : (s : Statement) → is_end (result_ends p) (written_at p s) ≡ is_end (result_ends p) s
-  end_written (for_each_of v from body) = refl
-  end_written s = refl
+  end_written s = grind (arith, common_steps)
 
   -- the inside of a body that is within a label
   abbrev InnerLeft : Block → Type 0
   InnerLeft (statement (labelled body) no_statement) = is_left (result_ends p) (written p body) ≡ is_left (result_ends p) body
   InnerLeft code = Unit {0}
 
-  bare_left : (left : Bool) (body : Block) → is_left (result_ends p) body ≡ left → is_left (result_ends p) (written p body) ≡ is_left (result_ends p) body → is_left (result_ends p) (unwrapped (not left) (statement (labelled (written p body)) no_statement)) ≡ false
-  bare_left true body e h = refl
-  bare_left false body e h = h ∙ e
-
   body_left : (body : Block) → is_left (result_ends p) (written p body) ≡ is_left (result_ends p) body → InnerLeft body → is_left (result_ends p) (unwrapped (is_bare p body) (written p body)) ≡ is_left (result_ends p) body
-  body_left (statement (labelled body) no_statement) h i = bare_left (is_left (result_ends p) body) body refl i
-  body_left no_statement h i = h
-  body_left (statement (labelled body) (statement s later)) h i = h
-  body_left (statement s later) h i = h
-
-  ends_alike : (ended : Bool) (x y : Bool) → x ≡ y → unless_end ended false x ≡ unless_end ended false y
-  ends_alike ended x y e = ap (unless_end ended false) e
+  body_left body h i = grind (arith, common_steps)
 
   mutual
     pub left_written : (b : Block) → is_left (result_ends p) (written p b) ≡ is_left (result_ends p) b
     left_written no_statement = refl
-    left_written (statement s later) = rw (end_written s) (either (leaves_written s) (ends_alike (is_end (result_ends p) s) (is_left (result_ends p) (written p later)) (is_left (result_ends p) later) (left_written later)))
+    left_written (statement s later) = grind (arith, leaves_written s, left_written later, end_written, either)
 
     leaves_written : (s : Statement) → leaves_at (result_ends p) (written_at p s) ≡ leaves_at (result_ends p) s
     leaves_written (match_on u arms) = arms_left arms
@@ -88,39 +68,20 @@ module _ (p : Notation) where
   InnerWritable (statement (labelled body) no_statement) = (label : Bool) → writable p label body ≡ true → writable p label (written p body) ≡ true
   InnerWritable code = Unit {0}
 
-  bare_writable : (left : Bool) (body : Block) (label : Bool) → is_left (result_ends p) body ≡ left → writable p left body ≡ true → ((l : Bool) → writable p l body ≡ true → writable p l (written p body) ≡ true)
-      → writable p label (statement (labelled (written p body)) no_statement) ≡ true → writable p label (unwrapped (not left) (statement (labelled (written p body)) no_statement)) ≡ true
-  bare_writable true body label e h i w = w
-  bare_writable false body label e h i w = with_label (written p body) label (i false h)
-
   body_writable : (body : Block) (label : Bool) → writable p label body ≡ true → writable p label (written p body) ≡ true → InnerWritable body → writable p label (unwrapped (is_bare p body) (written p body)) ≡ true
-  body_writable (statement (labelled body) no_statement) label h w i = bare_writable (is_left (result_ends p) body) body label refl (and_parts (writable p (is_left (result_ends p) body) body) true h).0 i w
-  body_writable no_statement label h w i = w
-  body_writable (statement (labelled body) (statement s later)) label h w i = w
-  body_writable (statement s later) label h w i = w
-
-  later_writable : (ended : Bool) (later : Block) (label : Bool) → unless_end ended true (writable p label later) ≡ true → (writable p label later ≡ true → writable p label (written p later) ≡ true) → unless_end ended true (writable p label (written p later)) ≡ true
-  later_writable true later label h k = refl
-  later_writable false later label h k = k h
+  body_writable body label h w i = grind (arith, common_steps, and_parts, with_label)
 
   mutual
     is_writable : (b : Block) (label : Bool) → writable p label b ≡ true → writable p label (written p b) ≡ true
     is_writable no_statement label h = refl
-    is_writable (statement s later) label h =
-        let hs = and_parts (writable_at p label s) (unless_end (is_end (result_ends p) s) true (writable p label later)) h in
-        rw (end_written s) (and_from _ _ (is_writable_at s label hs.0) (later_writable (is_end (result_ends p) s) later label hs.1 (λ k. is_writable later label k)))
+    is_writable (statement s later) label h = grind (arith, is_writable_at s label, is_writable later label, and_parts, end_written, and_from)
 
     is_writable_at : (s : Statement) (label : Bool) → writable_at p label s ≡ true → writable_at p label (written_at p s) ≡ true
     is_writable_at (match_on u arms) label h = arms_writable arms u label h
     is_writable_at (if_equal a b body) label h = body_writable body label h (is_writable body label h) (inner_writable body)
     is_writable_at (for_each_of v from body) label h = body_writable body label h (is_writable body label h) (inner_writable body)
     is_writable_at (labelled body) label h = rw (left_written body) (is_writable body (is_left (result_ends p) body) h)
-    is_writable_at (bind v e) label h = h
-    is_writable_at (bind_some v u) label h = h
-    is_writable_at no_way label h = h
-    is_writable_at (give place u) label h = h
-    is_writable_at (unless_let u pattern fields) label h = h
-    is_writable_at (unless_equal a b) label h = h
+    is_writable_at _ label h = h
 
     arms_writable : (arms : CodeArms) (u : PlaceUse) (label : Bool) → writable_arms p label u arms ≡ true → writable_arms p label u (written_arms p arms) ≡ true
     arms_writable no_code_arm u label h = refl
