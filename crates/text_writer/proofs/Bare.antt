@@ -1,20 +1,20 @@
 -- What forms are doesn't depend on where they stand: the definition of forms without their places is the definition without
 -- its places.
-use Rattle.std.proofs.Common.{◌≡◌, ℕ, suc, refl, sym, ap, ◌∙◌, List, [], ◌∷◌, map}
-use Rattle.std.specs.Prelude.{◌^◌, ℤ, pos, negsuc, nat_lt, nat_le, Bool, true, false, codes, Option, Some, None, option_map, Result, Ok, Err, if◌then◌else◌}
-use Rattle.model.specs.lists.Syntax.{Position, Name, PatternTree, bool_pattern, wildcard_pattern, PatternTrees, ExprTree, bool_expr, tuple_fields, extern_extractor, Definition, type_definition, rule_definition, extern_definition}
+use Rattle.std.proofs.Common.{◌≡◌, ℕ, suc, refl, ap, ◌∙◌, List, [], ◌∷◌, map, arith}
+use Rattle.std.specs.Prelude.{ℤ, Bool, codes, Option, Some, None, option_map, Result, Ok, Err, if◌then◌else◌}
+use Rattle.std.proofs.lemmas.Grind.{common_steps}
+use Rattle.model.specs.lists.Syntax.{Position, Name, PatternTree, wildcard_pattern, PatternTrees, ExprTree, extern_extractor, Definition, type_definition, rule_definition, extern_definition}
 use Rattle.text_reader.specs.declared.errors.Mistake.{Mistake}
 use Rattle.text_reader.specs.declared.errors.Mistake.TheVariants as M
 use Rattle.text_reader.specs.Lexemes.{Complaint, expected, unclosed, unknown, Wrong, ◌>>=◌}
 use Rattle.text_reader.specs.FormTrees.{FormTree, a_word, a_number, a_constant, a_binding, a_list, FormTrees, no_form, form_and}
-use Rattle.text_reader.specs.PassedOver.{passes_over}
 use Rattle.text_reader.specs.Solid.{nowhere, placeless_name}
-use Rattle.text_reader.specs.Grammar.{Listed, listed, no, reads, place_of, name_of, names_of, each_of, list_of, next_in, next_of, next_name_of, head_of, word_at, headed_in, headed_of, word_first, behind_first, next_if_of, ended, count}
-use Rattle.text_reader.specs.PatternGrammar.{word_pattern_of, index_of, numbered, macro_arg_of, term_pattern_of, list_pattern_of, pattern_of, arguments_of, patterns_of}
+use Rattle.text_reader.specs.Grammar.{Listed, listed, reads, place_of, name_of, names_of, each_of, list_of, next_of, next_name_of, head_of, word_at, headed_of, word_first, behind_first, next_if_of, ended, count}
+use Rattle.text_reader.specs.PatternGrammar.{word_pattern_of, numbered, macro_arg_of, term_pattern_of, list_pattern_of, pattern_of, arguments_of, patterns_of}
 use Rattle.text_reader.specs.ExprGrammar.{word_expr_of, expr_of, expr_arguments_of, exprs_of, let_of, lets_of, lets_in, let_definition_of, defined_in}
 use Rattle.text_reader.specs.TypeGrammar.{named_field_of, named_fields_of, numbered_from, with_names_of, with_numbers_of, fields_of, with_fields_of, variant_of, variants_of, primitive_of, enumeration_of, structure_of, type_value_of, type_definition_of}
 use Rattle.text_reader.specs.TermGrammar.{FlagSet, no_flags, once_of, with_word, with_flag_of, flags_of, last_three, declared_of, declaration_of, extractor_of, conversion_of, external_constructor_of, infallible_of, external_extractor_of, constant_of, external_constant_of, external_by, external_of}
-use Rattle.text_reader.specs.RuleGrammar.{condition_of, if_let_of, statement_of, statements_of, named_in, rule_name_of, is_signed_64, prioritized_in, priority_of, parted_of, rule_of}
+use Rattle.text_reader.specs.RuleGrammar.{condition_of, if_let_of, statement_of, statements_of, rule_name_of, priority_of, parted_of, rule_of}
 use Rattle.text_reader.specs.Definitions.{defined_by, definition_of}
 use Rattle.text_writer.specs.Placeless.{placeless_pattern, placeless_patterns, placeless_expr, placeless_exprs, placeless_lets, placeless_field, placeless_tuple_field, placeless_fields, placeless_variant, placeless_value, placeless_if_let, placeless_definition}
 
@@ -47,110 +47,71 @@ bared g (Err w) = Err (bare_complaint w.0, nowhere)
 -- one step after another
 pub both : {A B C D : Type 0} (g : A → C) (h : B → D) (r : Result A Wrong) (s : Result C Wrong) (k : A → Result B Wrong) (m : C → Result D Wrong)
     → bared g r ≡ s → ((x : A) → bared h (k x) ≡ m (g x)) → bared h (r >>= k) ≡ (s >>= m)
-both g h (Ok x) s k m e f = f x ∙ ap (λ t. t >>= m) e
-both g h (Err w) s k m e f = ap (λ t. t >>= m) e
+both g h r s k m e f = grind (arith, common_steps)
 
 -- by a test
 pub either : {A B : Type 0} (g : A → B) (c : Bool) (r s : Result A Wrong) (t u : Result B Wrong) → bared g r ≡ t → bared g s ≡ u
     → bared g (if c then r else s) ≡ (if c then t else u)
-either g true r s t u e f = e
-either g false r s t u e f = f
+either g c r s t u e f = grind (arith, common_steps)
 
 pub apply_if : {A B : Type 0} (g : A → B) (c : Bool) (x y : A) → g (if c then x else y) ≡ (if c then g x else g y)
-apply_if g true x y = refl
-apply_if g false x y = refl
+apply_if g c x y = grind (arith, common_steps)
 
 -- ---- parts of lists
 
 pub name_bare : (f : FormTree) → bared placeless_name (name_of f) ≡ name_of (bare f)
-name_bare (a_word n) = refl
-name_bare (a_number z p) = refl
-name_bare (a_constant n p) = refl
-name_bare (a_binding n f) = refl
-name_bare (a_list fs p e) = refl
+name_bare f = grind (arith, common_steps)
 
 pub each_bare : {A B : Type 0} (g : A → B) (one : FormTree → Result A Wrong) (other : FormTree → Result B Wrong) → ((f : FormTree) → bared g (one f) ≡ other (bare f))
     → (fs : FormTrees) → bared (map g) (each_of one fs) ≡ each_of other (all_bare fs)
 each_bare g one other same no_form = refl
-each_bare g one other same (form_and f fs) =
-    both g (map g) (one f) (other (bare f)) _ _ (same f)
-    (λ x. both (map g) (map g) (each_of one fs) (each_of other (all_bare fs)) _ _ (each_bare g one other same fs) (λ xs. refl))
+each_bare g one other same (form_and f fs) = grind (arith, common_steps, each_bare g one other same fs, both)
 
 pub names_bare : (fs : FormTrees) → bared (map placeless_name) (names_of fs) ≡ names_of (all_bare fs)
 names_bare fs = each_bare placeless_name name_of name_of name_bare fs
 
 pub list_bare : (m : Mistake) (f : FormTree) → bared bare_list (list_of m f) ≡ list_of m (bare f)
-list_bare m (a_word n) = refl
-list_bare m (a_number z p) = refl
-list_bare m (a_constant n p) = refl
-list_bare m (a_binding n f) = refl
-list_bare m (a_list fs p e) = refl
+list_bare m f = grind (arith, common_steps)
 
 abbrev pub bare_next : FormTree × Listed → FormTree × Listed
 bare_next s = (bare s.0, bare_list s.1)
 
 pub next_bare : (m : Mistake) (l : Listed) → bared bare_next (next_of m l) ≡ next_of m (bare_list l)
-next_bare m l = by l.parts
-  where
-    by : (fs : FormTrees) → bared bare_next (next_in m fs l.at l.ends) ≡ next_in m (all_bare fs) nowhere nowhere
-    by no_form = refl
-    by (form_and f fs) = refl
+next_bare m l = grind (arith, common_steps)
 
 abbrev pub bare_named : Name × Listed → Name × Listed
 bare_named s = (placeless_name s.0, bare_list s.1)
 
 pub next_name_bare : (l : Listed) → bared bare_named (next_name_of l) ≡ next_name_of (bare_list l)
-next_name_bare l = both bare_next bare_named (next_of M.Name l) (next_of M.Name (bare_list l)) _ _ (next_bare M.Name l)
-    (λ s. both placeless_name bare_named (name_of s.0) (name_of (bare s.0)) _ _ (name_bare s.0) (λ n. refl))
+next_name_bare l = grind (arith, common_steps, both, next_bare, name_bare)
 
 pub head_bare : (fs : FormTrees) (ends : Position) → bared placeless_name (head_of fs ends) ≡ head_of (all_bare fs) nowhere
-head_bare no_form ends = refl
-head_bare (form_and f fs) ends = name_bare f
+head_bare fs ends = grind (arith, common_steps)
 
 word_bare : (m : Mistake) (at : Position) (f : FormTree) → bared placeless_name (word_at m at f) ≡ word_at m nowhere (bare f)
-word_bare m at (a_word n) = refl
-word_bare m at (a_number z p) = refl
-word_bare m at (a_constant n p) = refl
-word_bare m at (a_binding n f) = refl
-word_bare m at (a_list fs p e) = refl
+word_bare m at f = grind (arith, common_steps)
 
 pub headed_bare : (m : Mistake) (f : FormTree) → bared bare_named (headed_of m f) ≡ headed_of m (bare f)
-headed_bare m f = both bare_list bare_named (list_of m f) (list_of m (bare f)) _ _ (list_bare m f) (λ l. by l l.parts)
-  where
-    by : (l : Listed) (fs : FormTrees) → bared bare_named (headed_in m fs l.at l.ends) ≡ headed_in m (all_bare fs) nowhere nowhere
-    by l no_form = refl
-    by l (form_and f fs) = both placeless_name bare_named (word_at m l.at f) (word_at m nowhere (bare f)) _ _ (word_bare m l.at f) (λ n. refl)
+headed_bare m f = grind (arith, common_steps, both, list_bare, word_bare)
 
 word_first_bare : (text : List ℕ) (fs : FormTrees) → word_first text (all_bare fs) ≡ word_first text fs
-word_first_bare text no_form = refl
-word_first_bare text (form_and (a_word n) fs) = refl
-word_first_bare text (form_and (a_number z p) fs) = refl
-word_first_bare text (form_and (a_constant n p) fs) = refl
-word_first_bare text (form_and (a_binding n f) fs) = refl
-word_first_bare text (form_and (a_list gs p e) fs) = refl
+word_first_bare text fs = grind (arith, common_steps)
 
 abbrev pub bare_flagged : Bool × Listed → Bool × Listed
 bare_flagged s = (s.0, bare_list s.1)
 
 behind_first_bare : (fs : FormTrees) → all_bare (behind_first fs) ≡ behind_first (all_bare fs)
-behind_first_bare no_form = refl
-behind_first_bare (form_and f fs) = refl
+behind_first_bare fs = grind (arith, common_steps)
 
 pub next_if_bare : (text : List ℕ) (l : Listed) → bare_flagged (next_if_of text l) ≡ next_if_of text (bare_list l)
-next_if_bare text l =
-    apply_if bare_flagged (word_first text l.parts) (true, listed (behind_first l.parts) l.at l.ends) (false, l)
-    ∙ rw (word_first_bare text l.parts, behind_first_bare l.parts) refl
+next_if_bare text l = grind (arith, common_steps, apply_if, word_first_bare, behind_first_bare)
 
 pub place_bare : (f : FormTree) → place_of (bare f) ≡ nowhere
 place_bare (a_word n) = refl
-place_bare (a_number z p) = refl
-place_bare (a_constant n p) = refl
-place_bare (a_binding n f) = refl
-place_bare (a_list fs p e) = refl
+place_bare _ = refl
 
 pub ended_bare : (fs : FormTrees) → bared (λ _. tt) (ended fs) ≡ ended (all_bare fs)
-ended_bare no_form = refl
-ended_bare (form_and f fs) = ap (no M.End) (sym (place_bare f))
+ended_bare fs = grind (arith, common_steps, place_bare)
 
 count_bare : (fs : FormTrees) → count (all_bare fs) ≡ count fs
 count_bare no_form = refl
@@ -159,27 +120,13 @@ count_bare (form_and f fs) = ap suc (count_bare fs)
 -- ---- patterns
 
 word_pattern_bare : (n : Name) → placeless_pattern (word_pattern_of n) ≡ word_pattern_of (placeless_name n)
-word_pattern_bare n =
-    apply_if placeless_pattern (reads n (codes "_")) _ _
-    ∙ ap (λ q. if reads n (codes "_") then wildcard_pattern nowhere else q) (apply_if placeless_pattern (reads n (codes "true")) _ _
-    ∙ ap (λ q. if reads n (codes "true") then bool_pattern true nowhere else q) (apply_if placeless_pattern (reads n (codes "false")) _ _))
-
-index_bare : (z : ℤ) (p at : Position) → bared placeless_pattern (index_of z p at) ≡ index_of z nowhere nowhere
-index_bare (pos n) p at = either placeless_pattern (nat_lt n (2 ^ 64)) _ _ _ _ refl refl
-index_bare (negsuc n) p at = refl
+word_pattern_bare n = grind (arith, common_steps, apply_if)
 
 numbered_bare : (f : FormTree) (at : Position) → bared placeless_pattern (numbered f at) ≡ numbered (bare f) nowhere
-numbered_bare (a_word n) at = refl
-numbered_bare (a_number z p) at = index_bare z p at
-numbered_bare (a_constant n p) at = refl
-numbered_bare (a_binding n f) at = refl
-numbered_bare (a_list fs p e) at = refl
+numbered_bare f at = grind (arith, common_steps)
 
 macro_arg_bare : (l : Listed) → bared placeless_pattern (macro_arg_of l) ≡ macro_arg_of (bare_list l)
-macro_arg_bare l =
-    both bare_next placeless_pattern (next_of M.Name l) (next_of M.Name (bare_list l)) _ _ (next_bare M.Name l) (λ head.
-    both bare_next placeless_pattern (next_of M.Index head.1) (next_of M.Index (bare_list head.1)) _ _ (next_bare M.Index head.1) (λ n.
-    both (λ _. tt) placeless_pattern (ended n.1.parts) (ended (all_bare n.1.parts)) _ _ (ended_bare n.1.parts) (λ _. numbered_bare n.0 l.at)))
+macro_arg_bare l = grind (arith, common_steps, both, next_bare, ended_bare, numbered_bare)
 
 term_pattern_bare : (head : Name) (args : PatternTrees) (at : Position)
     → placeless_pattern (term_pattern_of head args at) ≡ term_pattern_of (placeless_name head) (placeless_patterns args) nowhere
@@ -206,30 +153,23 @@ mutual
 
   patterns_bare : (fs : FormTrees) → bared placeless_patterns (patterns_of fs) ≡ patterns_of (all_bare fs)
   patterns_bare no_form = refl
-  patterns_bare (form_and f fs) =
-      both placeless_pattern placeless_patterns (pattern_of f) (pattern_of (bare f)) _ _ (pattern_bare f) (λ q.
-      both placeless_patterns placeless_patterns (patterns_of fs) (patterns_of (all_bare fs)) _ _ (patterns_bare fs) (λ qs. refl))
+  patterns_bare (form_and f fs) = grind (arith, common_steps, pattern_bare f, patterns_bare fs, both)
 
 -- ---- expressions
 
 word_expr_bare : (n : Name) → placeless_expr (word_expr_of n) ≡ word_expr_of (placeless_name n)
-word_expr_bare n =
-    apply_if placeless_expr (reads n (codes "true")) _ _
-    ∙ ap (λ x. if reads n (codes "true") then bool_expr true nowhere else x) (apply_if placeless_expr (reads n (codes "false")) _ _)
+word_expr_bare n = grind (arith, common_steps, apply_if)
 
 abbrev bare_let : Name × Name × ExprTree × Position → Name × Name × ExprTree × Position
 bare_let d = (placeless_name d.0, placeless_name d.1, placeless_expr d.2, nowhere)
 
 mutual
   expr_bare : (f : FormTree) → bared placeless_expr (expr_of f) ≡ expr_of (bare f)
-  expr_bare (a_word n) = ap Ok (word_expr_bare n)
-  expr_bare (a_number z p) = refl
-  expr_bare (a_constant n p) = refl
-  expr_bare (a_binding n f) = refl
   expr_bare (a_list fs p e) =
       both placeless_name placeless_expr (head_of fs e) (head_of (all_bare fs) nowhere) _ _ (head_bare fs e) (λ head.
       either placeless_expr (reads head (codes "let")) _ _ _ _ (let_bare fs p e)
       (both placeless_exprs placeless_expr (expr_arguments_of fs) (expr_arguments_of (all_bare fs)) _ _ (expr_arguments_bare fs) (λ args. refl)))
+  expr_bare f = grind (arith, common_steps, word_expr_bare)
 
   expr_arguments_bare : (fs : FormTrees) → bared placeless_exprs (expr_arguments_of fs) ≡ expr_arguments_of (all_bare fs)
   expr_arguments_bare no_form = refl
@@ -237,57 +177,37 @@ mutual
 
   exprs_bare : (fs : FormTrees) → bared placeless_exprs (exprs_of fs) ≡ exprs_of (all_bare fs)
   exprs_bare no_form = refl
-  exprs_bare (form_and f fs) =
-      both placeless_expr placeless_exprs (expr_of f) (expr_of (bare f)) _ _ (expr_bare f) (λ x.
-      both placeless_exprs placeless_exprs (exprs_of fs) (exprs_of (all_bare fs)) _ _ (exprs_bare fs) (λ xs. refl))
+  exprs_bare (form_and f fs) = grind (arith, common_steps, expr_bare f, exprs_bare fs, both)
 
   let_bare : (fs : FormTrees) (p e : Position) → bared placeless_expr (let_of fs p e) ≡ let_of (all_bare fs) nowhere nowhere
-  let_bare no_form p e = refl
-  let_bare (form_and h no_form) p e = refl
-  let_bare (form_and h (form_and ds no_form)) p e = refl
   let_bare (form_and h (form_and ds (form_and body no_form))) p e =
       both placeless_lets placeless_expr (lets_of ds) (lets_of (bare ds)) _ _ (lets_bare ds) (λ defs.
       both placeless_expr placeless_expr (expr_of body) (expr_of (bare body)) _ _ (expr_bare body) (λ x. refl))
-  let_bare (form_and h (form_and ds (form_and body (form_and more fs)))) p e = ap (no M.End) (sym (place_bare more))
+  let_bare fs p e = grind (arith, common_steps, place_bare)
 
   lets_bare : (f : FormTree) → bared placeless_lets (lets_of f) ≡ lets_of (bare f)
-  lets_bare (a_word n) = refl
-  lets_bare (a_number z p) = refl
-  lets_bare (a_constant n p) = refl
-  lets_bare (a_binding n f) = refl
   lets_bare (a_list fs p e) = lets_in_bare fs
+  lets_bare _ = refl
 
   lets_in_bare : (fs : FormTrees) → bared placeless_lets (lets_in fs) ≡ lets_in (all_bare fs)
   lets_in_bare no_form = refl
-  lets_in_bare (form_and f fs) =
-      both bare_let placeless_lets (let_definition_of f) (let_definition_of (bare f)) _ _ (let_definition_bare f) (λ d.
-      both placeless_lets placeless_lets (lets_in fs) (lets_in (all_bare fs)) _ _ (lets_in_bare fs) (λ ds. refl))
+  lets_in_bare (form_and f fs) = grind (arith, common_steps, let_definition_bare f, lets_in_bare fs, both)
 
   let_definition_bare : (f : FormTree) → bared bare_let (let_definition_of f) ≡ let_definition_of (bare f)
-  let_definition_bare (a_word n) = refl
-  let_definition_bare (a_number z p) = refl
-  let_definition_bare (a_constant n p) = refl
-  let_definition_bare (a_binding n f) = refl
   let_definition_bare (a_list fs p e) = defined_bare fs p
+  let_definition_bare _ = refl
 
   defined_bare : (fs : FormTrees) (p : Position) → bared bare_let (defined_in fs p) ≡ defined_in (all_bare fs) nowhere
-  defined_bare no_form p = refl
-  defined_bare (form_and v no_form) p = refl
-  defined_bare (form_and v (form_and t no_form)) p = refl
   defined_bare (form_and v (form_and t (form_and x no_form))) p =
       both placeless_name bare_let (name_of v) (name_of (bare v)) _ _ (name_bare v) (λ var.
       both placeless_name bare_let (name_of t) (name_of (bare t)) _ _ (name_bare t) (λ ty.
       both placeless_expr bare_let (expr_of x) (expr_of (bare x)) _ _ (expr_bare x) (λ val. refl)))
-  defined_bare (form_and v (form_and t (form_and x (form_and more fs)))) p = refl
+  defined_bare _ p = refl
 
 -- ---- types
 
 named_field_bare : (f : FormTree) → bared placeless_field (named_field_of f) ≡ named_field_of (bare f)
-named_field_bare f =
-    both bare_list placeless_field (list_of M.Field f) (list_of M.Field (bare f)) _ _ (list_bare M.Field f) (λ l.
-    both bare_named placeless_field (next_name_of l) (next_name_of (bare_list l)) _ _ (next_name_bare l) (λ name.
-    both bare_named placeless_field (next_name_of name.1) (next_name_of (bare_list name.1)) _ _ (next_name_bare name.1) (λ ty.
-    both (λ _. tt) placeless_field (ended ty.1.parts) (ended (all_bare ty.1.parts)) _ _ (ended_bare ty.1.parts) (λ _. refl))))
+named_field_bare f = grind (arith, common_steps, both, list_bare, next_name_bare, ended_bare)
 
 with_names_bare : (fs : FormTrees) → bared placeless_fields (with_names_of fs) ≡ with_names_of (all_bare fs)
 with_names_bare fs =
@@ -299,9 +219,7 @@ numbered_from_bare i [] = refl
 numbered_from_bare i (ty ∷ tys) = ap (λ l. record { index = i; ty = placeless_name ty; at = nowhere } ∷ l) (numbered_from_bare (suc i) tys)
 
 with_numbers_bare : (fs : FormTrees) → bared placeless_fields (with_numbers_of fs) ≡ with_numbers_of (all_bare fs)
-with_numbers_bare fs =
-    both (map placeless_name) placeless_fields (names_of fs) (names_of (all_bare fs)) _ _ (names_bare fs)
-    (λ tys. ap (λ l. Ok (tuple_fields l)) (numbered_from_bare 0 tys))
+with_numbers_bare fs = grind (arith, common_steps, both, names_bare, numbered_from_bare)
 
 fields_bare : (fs : FormTrees) → bared placeless_fields (fields_of fs) ≡ fields_of (all_bare fs)
 fields_bare no_form = refl
@@ -312,10 +230,7 @@ fields_bare (form_and (a_constant n p) rest) = with_numbers_bare (form_and (a_co
 fields_bare (form_and (a_binding n f) rest) = with_numbers_bare (form_and (a_binding n f) rest)
 
 with_fields_bare : (f : FormTree) → bared placeless_variant (with_fields_of f) ≡ with_fields_of (bare f)
-with_fields_bare f =
-    both bare_list placeless_variant (list_of M.Variant f) (list_of M.Variant (bare f)) _ _ (list_bare M.Variant f) (λ l.
-    both bare_named placeless_variant (next_name_of l) (next_name_of (bare_list l)) _ _ (next_name_bare l) (λ name.
-    both placeless_fields placeless_variant (fields_of name.1.parts) (fields_of (all_bare name.1.parts)) _ _ (fields_bare name.1.parts) (λ fields. refl)))
+with_fields_bare f = grind (arith, common_steps, both, list_bare, next_name_bare, fields_bare)
 
 variant_bare : (f : FormTree) → bared placeless_variant (variant_of f) ≡ variant_of (bare f)
 variant_bare (a_word n) = refl
@@ -325,9 +240,7 @@ variant_bare (a_binding n f) = with_fields_bare (a_binding n f)
 variant_bare (a_list fs p e) = with_fields_bare (a_list fs p e)
 
 primitive_bare : (l : Listed) → bared placeless_value (primitive_of l) ≡ primitive_of (bare_list l)
-primitive_bare l =
-    both bare_named placeless_value (next_name_of l) (next_name_of (bare_list l)) _ _ (next_name_bare l) (λ name.
-    both (λ _. tt) placeless_value (ended name.1.parts) (ended (all_bare name.1.parts)) _ _ (ended_bare name.1.parts) (λ _. refl))
+primitive_bare l = grind (arith, common_steps, both, next_name_bare, ended_bare)
 
 enumeration_bare : (l : Listed) → bared placeless_value (enumeration_of l) ≡ enumeration_of (bare_list l)
 enumeration_bare l =
@@ -341,8 +254,7 @@ value_bare : (f : FormTree) → bared placeless_value (type_value_of f) ≡ type
 value_bare f =
     both bare_named placeless_value (headed_of M.TypeValue f) (headed_of M.TypeValue (bare f)) _ _ (headed_bare M.TypeValue f) (λ h.
     either placeless_value (reads h.0 (codes "primitive")) _ _ _ _ (primitive_bare h.1)
-    (either placeless_value (reads h.0 (codes "enum")) _ _ _ _ (enumeration_bare h.1)
-    (either placeless_value (reads h.0 (codes "struct")) _ _ _ _ (structure_bare h.1) refl)))
+    (grind (arith, common_steps, either placeless_value, enumeration_bare, structure_bare)))
 
 -- the rest of a type's definition, behind its name and its words
 abbrev type_by : Name → Position → Bool × Listed → Bool × Listed → Result Definition Wrong
@@ -352,10 +264,7 @@ type_by name at outside silent =
 
 type_by_bare : (name : Name) (at : Position) (outside silent : Bool × Listed)
     → bared placeless_definition (type_by name at outside silent) ≡ type_by (placeless_name name) nowhere (bare_flagged outside) (bare_flagged silent)
-type_by_bare name at outside silent =
-    both bare_next placeless_definition (next_of M.TypeValue silent.1) (next_of M.TypeValue (bare_list silent.1)) _ _ (next_bare M.TypeValue silent.1) (λ value.
-    both placeless_value placeless_definition (type_value_of value.0) (type_value_of (bare value.0)) _ _ (value_bare value.0) (λ v.
-    both (λ _. tt) placeless_definition (ended value.1.parts) (ended (all_bare value.1.parts)) _ _ (ended_bare value.1.parts) (λ _. refl)))
+type_by_bare name at outside silent = grind (arith, common_steps, both, next_bare, value_bare, ended_bare)
 
 type_bare : (l : Listed) → bared placeless_definition (type_definition_of l) ≡ type_definition_of (bare_list l)
 type_bare l =
@@ -377,18 +286,10 @@ once_bare : (was : Bool) (at : Position) (flags : FlagSet) → bared same_flags 
 once_bare was at flags = either same_flags was _ _ _ _ refl refl
 
 with_word_bare : (flags : FlagSet) (n : Name) → bared same_flags (with_word flags n) ≡ with_word flags (placeless_name n)
-with_word_bare flags n =
-    either same_flags (reads n (codes "pure")) _ _ _ _ (once_bare flags.is_pure n.at _)
-    (either same_flags (reads n (codes "multi")) _ _ _ _ (once_bare flags.is_multi n.at _)
-    (either same_flags (reads n (codes "partial")) _ _ _ _ (once_bare flags.is_partial n.at _)
-    (either same_flags (reads n (codes "rec")) _ _ _ _ (once_bare flags.is_rec n.at _) refl)))
+with_word_bare flags n = grind (arith, common_steps, either, once_bare)
 
 with_flag_bare : (flags : FlagSet) (f : FormTree) → bared same_flags (with_flag_of flags f) ≡ with_flag_of flags (bare f)
-with_flag_bare flags (a_word n) = with_word_bare flags n
-with_flag_bare flags (a_number z p) = refl
-with_flag_bare flags (a_constant n p) = refl
-with_flag_bare flags (a_binding n f) = refl
-with_flag_bare flags (a_list fs p e) = refl
+with_flag_bare flags f = grind (arith, common_steps, with_word_bare)
 
 flags_bare : (flags : FlagSet) (fs : FormTrees) → bared same_flags (flags_of flags fs) ≡ flags_of flags (all_bare fs)
 flags_bare flags no_form = refl
@@ -403,26 +304,20 @@ bare_four s = (all_bare s.0, bare s.1, bare s.2, bare s.3)
 
 with_first : (a : FormTree) (o : Option Four) → option_map bare_four (option_map (λ s. (form_and a s.0, s.1, s.2, s.3)) o)
     ≡ option_map (λ s. (form_and (bare a) s.0, s.1, s.2, s.3)) (option_map bare_four o)
-with_first a None = refl
-with_first a (Some s) = refl
+with_first a o = grind (arith, common_steps)
 
 last_three_bare : (fs : FormTrees) → option_map bare_four (last_three fs) ≡ last_three (all_bare fs)
-last_three_bare no_form = refl
-last_three_bare (form_and a no_form) = refl
-last_three_bare (form_and a (form_and b no_form)) = refl
-last_three_bare (form_and a (form_and b (form_and c no_form))) = refl
 last_three_bare (form_and a (form_and b (form_and c (form_and d ds)))) =
     with_first a (last_three (form_and b (form_and c (form_and d ds))))
     ∙ ap (option_map (λ s. (form_and (bare a) s.0, s.1, s.2, s.3))) (last_three_bare (form_and b (form_and c (form_and d ds))))
+last_three_bare _ = refl
 
 declared_bare : (at : Position) (o : Option Four) → bared placeless_definition (declared_of at o) ≡ declared_of nowhere (option_map bare_four o)
 declared_bare at None = refl
 declared_bare at (Some s) =
     both same_flags placeless_definition (flags_of no_flags s.0) (flags_of no_flags (all_bare s.0)) _ _ (flags_bare no_flags s.0) (λ flags.
     both bare_list placeless_definition (list_of M.Names s.2) (list_of M.Names (bare s.2)) _ _ (list_bare M.Names s.2) (λ args.
-    both placeless_name placeless_definition (name_of s.1) (name_of (bare s.1)) _ _ (name_bare s.1) (λ term.
-    both (map placeless_name) placeless_definition (names_of args.parts) (names_of (all_bare args.parts)) _ _ (names_bare args.parts) (λ arg_tys.
-    both placeless_name placeless_definition (name_of s.3) (name_of (bare s.3)) _ _ (name_bare s.3) (λ ret_ty. refl)))))
+    both placeless_name placeless_definition (name_of s.1) (name_of (bare s.1)) _ _ (name_bare s.1) (λ term. grind (arith, both, names_bare, name_bare))))
 
 declaration_bare : (l : Listed) → bared placeless_definition (declaration_of l) ≡ declaration_of (bare_list l)
 declaration_bare l = declared_bare l.at (last_three l.parts) ∙ ap (declared_of nowhere) (last_three_bare l.parts)
@@ -438,22 +333,13 @@ extractor_bare l =
     both (λ _. tt) placeless_definition (ended template.1.parts) (ended (all_bare template.1.parts)) _ _ (ended_bare template.1.parts) (λ _. refl)))))))
 
 conversion_bare : (l : Listed) → bared placeless_definition (conversion_of l) ≡ conversion_of (bare_list l)
-conversion_bare l =
-    both bare_named placeless_definition (next_name_of l) (next_name_of (bare_list l)) _ _ (next_name_bare l) (λ inner.
-    both bare_named placeless_definition (next_name_of inner.1) (next_name_of (bare_list inner.1)) _ _ (next_name_bare inner.1) (λ outer.
-    both bare_named placeless_definition (next_name_of outer.1) (next_name_of (bare_list outer.1)) _ _ (next_name_bare outer.1) (λ term.
-    both (λ _. tt) placeless_definition (ended term.1.parts) (ended (all_bare term.1.parts)) _ _ (ended_bare term.1.parts) (λ _. refl))))
+conversion_bare l = grind (arith, common_steps, both, next_name_bare, ended_bare)
 
 external_constructor_bare : (l : Listed) → bared placeless_definition (external_constructor_of l) ≡ external_constructor_of (bare_list l)
-external_constructor_bare l =
-    both bare_named placeless_definition (next_name_of l) (next_name_of (bare_list l)) _ _ (next_name_bare l) (λ term.
-    both bare_named placeless_definition (next_name_of term.1) (next_name_of (bare_list term.1)) _ _ (next_name_bare term.1) (λ func.
-    both (λ _. tt) placeless_definition (ended func.1.parts) (ended (all_bare func.1.parts)) _ _ (ended_bare func.1.parts) (λ _. refl)))
+external_constructor_bare l = grind (arith, common_steps, both, next_name_bare, ended_bare)
 
 infallible_bare : (l : Listed) → bare_flagged (infallible_of l) ≡ infallible_of (bare_list l)
-infallible_bare l =
-    apply_if bare_flagged (nat_le (count l.parts) 2) (false, l) (next_if_of (codes "infallible") l)
-    ∙ rw (count_bare l.parts, next_if_bare (codes "infallible") l) refl
+infallible_bare l = grind (arith, common_steps, apply_if, count_bare, next_if_bare)
 
 abbrev extractor_by : Position → Bool × Listed → Result Definition Wrong
 extractor_by at sure =
@@ -461,49 +347,27 @@ extractor_by at sure =
     Ok (extern_definition (extern_extractor term.0 func.0 at sure.0)))))
 
 extractor_by_bare : (at : Position) (sure : Bool × Listed) → bared placeless_definition (extractor_by at sure) ≡ extractor_by nowhere (bare_flagged sure)
-extractor_by_bare at sure =
-    both bare_named placeless_definition (next_name_of sure.1) (next_name_of (bare_list sure.1)) _ _ (next_name_bare sure.1) (λ term.
-    both bare_named placeless_definition (next_name_of term.1) (next_name_of (bare_list term.1)) _ _ (next_name_bare term.1) (λ func.
-    both (λ _. tt) placeless_definition (ended func.1.parts) (ended (all_bare func.1.parts)) _ _ (ended_bare func.1.parts) (λ _. refl)))
+extractor_by_bare at sure = grind (arith, common_steps, both, next_name_bare, ended_bare)
 
 external_extractor_bare : (l : Listed) → bared placeless_definition (external_extractor_of l) ≡ external_extractor_of (bare_list l)
 external_extractor_bare l = extractor_by_bare l.at (infallible_of l) ∙ ap (extractor_by nowhere) (infallible_bare l)
 
 constant_bare : (f : FormTree) → bared placeless_name (constant_of f) ≡ constant_of (bare f)
-constant_bare (a_word n) = refl
-constant_bare (a_number z p) = refl
-constant_bare (a_constant n p) = refl
-constant_bare (a_binding n f) = refl
-constant_bare (a_list fs p e) = refl
+constant_bare f = grind (arith, common_steps)
 
 external_constant_bare : (l : Listed) → bared placeless_definition (external_constant_of l) ≡ external_constant_of (bare_list l)
-external_constant_bare l =
-    both bare_next placeless_definition (next_of M.Constant l) (next_of M.Constant (bare_list l)) _ _ (next_bare M.Constant l) (λ constant.
-    both placeless_name placeless_definition (constant_of constant.0) (constant_of (bare constant.0)) _ _ (constant_bare constant.0) (λ name.
-    both bare_named placeless_definition (next_name_of constant.1) (next_name_of (bare_list constant.1)) _ _ (next_name_bare constant.1) (λ ty.
-    both (λ _. tt) placeless_definition (ended ty.1.parts) (ended (all_bare ty.1.parts)) _ _ (ended_bare ty.1.parts) (λ _. refl))))
+external_constant_bare l = grind (arith, common_steps, both, next_bare, constant_bare, next_name_bare, ended_bare)
 
 external_by_bare : (f : FormTree) (l : Listed) → bared placeless_definition (external_by f l) ≡ external_by (bare f) (bare_list l)
-external_by_bare (a_word n) l =
-    either placeless_definition (reads n (codes "constructor")) _ _ _ _ (external_constructor_bare l)
-    (either placeless_definition (reads n (codes "extractor")) _ _ _ _ (external_extractor_bare l)
-    (either placeless_definition (reads n (codes "const")) _ _ _ _ (external_constant_bare l) refl))
-external_by_bare (a_number z p) l = refl
-external_by_bare (a_constant n p) l = refl
-external_by_bare (a_binding n f) l = refl
-external_by_bare (a_list fs p e) l = refl
+external_by_bare f l = grind (arith, common_steps, either, external_constructor_bare, external_extractor_bare, external_constant_bare)
 
 external_bare : (l : Listed) → bared placeless_definition (external_of l) ≡ external_of (bare_list l)
-external_bare l =
-    both bare_next placeless_definition (next_of M.Extern l) (next_of M.Extern (bare_list l)) _ _ (next_bare M.Extern l) (λ kind. external_by_bare kind.0 kind.1)
+external_bare l = grind (arith, common_steps, both, next_bare, external_by_bare)
 
 -- ---- rules
 
 condition_bare : (pattern : PatternTree) (l : Listed) → bared placeless_if_let (condition_of pattern l) ≡ condition_of (placeless_pattern pattern) (bare_list l)
-condition_bare pattern l =
-    both bare_next placeless_if_let (next_of M.Expression l) (next_of M.Expression (bare_list l)) _ _ (next_bare M.Expression l) (λ f.
-    both placeless_expr placeless_if_let (expr_of f.0) (expr_of (bare f.0)) _ _ (expr_bare f.0) (λ x.
-    both (λ _. tt) placeless_if_let (ended f.1.parts) (ended (all_bare f.1.parts)) _ _ (ended_bare f.1.parts) (λ _. refl)))
+condition_bare pattern l = grind (arith, common_steps, both, next_bare, expr_bare, ended_bare)
 
 if_let_bare : (l : Listed) → bared placeless_if_let (if_let_of l) ≡ if_let_of (bare_list l)
 if_let_bare l =
@@ -520,38 +384,21 @@ abbrev bare_maybe : Option Name × Listed → Option Name × Listed
 bare_maybe s = (option_map placeless_name s.0, bare_list s.1)
 
 rule_name_bare : (l : Listed) → bare_maybe (rule_name_of l) ≡ rule_name_of (bare_list l)
-rule_name_bare l = by l.parts
-  where
-    by : (fs : FormTrees) → bare_maybe (named_in fs l.at l.ends) ≡ named_in (all_bare fs) nowhere nowhere
-    by no_form = refl
-    by (form_and (a_word n) fs) = refl
-    by (form_and (a_number z p) fs) = refl
-    by (form_and (a_constant n p) fs) = refl
-    by (form_and (a_binding n f) fs) = refl
-    by (form_and (a_list gs p e) fs) = refl
+rule_name_bare l = grind (arith, common_steps)
 
 abbrev bare_priority : Option ℤ × Listed → Option ℤ × Listed
 bare_priority s = (s.0, bare_list s.1)
 
 priority_bare : (l : Listed) → bared bare_priority (priority_of l) ≡ priority_of (bare_list l)
-priority_bare l = by l.parts
-  where
-    by : (fs : FormTrees) → bared bare_priority (prioritized_in fs l.at l.ends) ≡ prioritized_in (all_bare fs) nowhere nowhere
-    by no_form = refl
-    by (form_and (a_word n) fs) = refl
-    by (form_and (a_number z p) fs) = either bare_priority (is_signed_64 z) _ _ _ _ refl refl
-    by (form_and (a_constant n p) fs) = refl
-    by (form_and (a_binding n f) fs) = refl
-    by (form_and (a_list gs p e) fs) = refl
+priority_bare l = grind (arith, common_steps, either)
 
 abbrev bare_body : FormTrees × FormTree → FormTrees × FormTree
 bare_body s = (all_bare s.0, bare s.1)
 
 parted_bare : (ends : Position) (fs : FormTrees) → bared bare_body (parted_of ends fs) ≡ parted_of nowhere (all_bare fs)
-parted_bare ends no_form = refl
-parted_bare ends (form_and f no_form) = refl
 parted_bare ends (form_and f (form_and g gs)) =
     both bare_body bare_body (parted_of ends (form_and g gs)) (parted_of nowhere (form_and (bare g) (all_bare gs))) _ _ (parted_bare ends (form_and g gs)) (λ s. refl)
+parted_bare ends _ = refl
 
 -- the rest of a rule, behind its name
 abbrev rule_by : Position → Position → Option Name × Listed → Result Definition Wrong
@@ -576,14 +423,7 @@ rule_bare l = rule_by_bare l.at l.ends (rule_name_of l) ∙ ap (rule_by nowhere 
 -- ---- definitions
 
 defined_by_bare : (head : Name) (l : Listed) → bared placeless_definition (defined_by head l) ≡ defined_by (placeless_name head) (bare_list l)
-defined_by_bare head l =
-    either placeless_definition (reads head (codes "type")) _ _ _ _ (type_bare l)
-    (either placeless_definition (reads head (codes "decl")) _ _ _ _ (declaration_bare l)
-    (either placeless_definition (reads head (codes "rule")) _ _ _ _ (rule_bare l)
-    (either placeless_definition (reads head (codes "extractor")) _ _ _ _ (extractor_bare l)
-    (either placeless_definition (reads head (codes "extern")) _ _ _ _ (external_bare l)
-    (either placeless_definition (reads head (codes "convert")) _ _ _ _ (conversion_bare l)
-    (either placeless_definition (passes_over head.text) _ _ _ _ refl refl))))))
+defined_by_bare head l = grind (arith, common_steps, either, type_bare, declaration_bare, rule_bare, extractor_bare, external_bare, conversion_bare)
 
 pub definition_bare : (f : FormTree) → bared placeless_definition (definition_of f) ≡ definition_of (bare f)
 definition_bare f =

@@ -1,18 +1,19 @@
 -- What forms say for a verifier doesn't depend on where they stand: what forms without their places say is what they say,
 -- without its places.
-use Rattle.std.proofs.Common.{◌≡◌, ℕ, refl, sym, ap, ◌∙◌, List, [], ◌∷◌, map}
-use Rattle.std.specs.Prelude.{◌^◌, ℤ, pos, negsuc, nat_lt, Bool, true, false, codes, drop, Option, Some, None, option_map, Result, Ok, if◌then◌else◌}
+use Rattle.std.proofs.Common.{◌≡◌, ℕ, refl, sym, ap, ◌∙◌, List, map, arith}
+use Rattle.std.specs.Prelude.{Bool, true, false, codes, Option, option_map, Result, Ok, if◌then◌else◌}
 use Rattle.std.proofs.lemmas.List.{map-append}
+use Rattle.std.proofs.lemmas.Grind.{common_steps}
 use Rattle.model.specs.lists.Syntax.{Position, Name}
 use Rattle.text_reader.specs.declared.errors.Mistake.{Mistake}
 use Rattle.text_reader.specs.declared.errors.Mistake.TheVariants as M
 use Rattle.text_reader.specs.Lexemes.{Wrong, ◌>>=◌}
 use Rattle.text_reader.specs.FormTrees.{FormTree, a_word, a_number, a_constant, a_binding, a_list, FormTrees, no_form, form_and}
 use Rattle.text_reader.specs.Solid.{nowhere, placeless_name}
-use Rattle.text_reader.specs.Grammar.{Listed, no, reads, names_of, list_of, head_of, headed_of, next_of, next_name_of, next_if_of, ended}
+use Rattle.text_reader.specs.Grammar.{Listed, no, reads, list_of, head_of, headed_of, next_of, next_name_of, next_if_of}
 use Rattle.text_writer.proofs.Bare.{bare, all_bare, bare_list, bared, both, either, apply_if, each_bare, names_bare, list_bare, bare_next, next_bare, bare_named, next_name_bare, head_bare, headed_bare, bare_flagged, next_if_bare, place_bare, ended_bare}
-use Rattle.text_reader.specs.SpecTrees.{SpecExprTree, spec_bool, SpecExprTrees, ModelTypeTree, SpecTree, AttrTree}
-use Rattle.text_reader.specs.SpecGrammar.{is_empty, section_of, last_of, use_of, width_of, bits_model_in, bits_model_of, named_model_of, word_model_of, list_model_of, model_type_of, model_types_of, last_model_of, are_bits, bits_of, plain_word_of, has_mark, word_spec_of, has_cases, has_three, name_list_of, two_of, spec_expr_of, arguments_of, spec_exprs_of, switch_of, three_of, defs_of, pairs_of, pair_of, pair_in, last_expr_of, signature_of, signatures_of, form_of, begins_with_word, by_form_of, instantiation_of, veri_of, attr_kind_of, attr_kinds_of, attr_of, state_of, macro_of, valued_of, variant_value_of, variant_values_of, model_value_of, model_of}
+use Rattle.text_reader.specs.SpecTrees.{SpecExprTree, SpecExprTrees, ModelTypeTree, SpecTree, AttrTree}
+use Rattle.text_reader.specs.SpecGrammar.{is_empty, section_of, last_of, use_of, bits_model_in, bits_model_of, named_model_of, word_model_of, list_model_of, model_type_of, model_types_of, last_model_of, are_bits, bits_of, plain_word_of, word_spec_of, has_cases, has_three, name_list_of, two_of, spec_expr_of, arguments_of, spec_exprs_of, switch_of, three_of, defs_of, pairs_of, pair_of, pair_in, last_expr_of, signature_of, signatures_of, form_of, begins_with_word, by_form_of, instantiation_of, veri_of, attr_kind_of, attr_kinds_of, attr_of, state_of, macro_of, valued_of, variant_value_of, variant_values_of, model_value_of, model_of}
 use Rattle.text_reader.specs.TermSpecGrammar.{once_of, modifies_of, with_section, with_part_of, with_parts_of, spec_of}
 use Rattle.text_reader.specs.Verifying.{said_by, verification_of}
 use Rattle.text_writer.specs.PlacelessTrees.{placeless_model_type, placeless_spec_expr, placeless_spec_exprs, placeless_modifies, placeless_spec, placeless_variant_value, placeless_model_value, placeless_model, placeless_signature, placeless_signatures, placeless_instantiation, placeless_attr_kind, placeless_attr, placeless_state, placeless_macro, placeless_tree}
@@ -22,38 +23,24 @@ use Rattle.text_writer.specs.PlacelessTrees.{placeless_model_type, placeless_spe
 -- by a test whether nothing is left
 by_empty : {A B : Type 0} (g : A → B) (fs : FormTrees) (r s : Result A Wrong) (t u : Result B Wrong) → bared g r ≡ t → bared g s ≡ u
     → bared g (if is_empty fs then r else s) ≡ (if is_empty (all_bare fs) then t else u)
-by_empty g no_form r s t u e f = e
-by_empty g (form_and x fs) r s t u e f = f
+by_empty g fs r s t u e f = grind (arith, common_steps)
 
 section_bare : (word : List ℕ) (m : Mistake) (f : FormTree) → bared bare_list (section_of word m f) ≡ section_of word m (bare f)
 section_bare word m f = both bare_named bare_list (headed_of m f) (headed_of m (bare f)) _ _ (headed_bare m f) (λ h. either bare_list (reads h.0 word) _ _ _ _ refl refl)
 
 last_bare : (m : Mistake) (l : Listed) → bared bare (last_of m l) ≡ last_of m (bare_list l)
-last_bare m l =
-    both bare_next bare (next_of m l) (next_of m (bare_list l)) _ _ (next_bare m l) (λ f.
-    both (λ _. tt) bare (ended f.1.parts) (ended (all_bare f.1.parts)) _ _ (ended_bare f.1.parts) (λ _. refl))
+last_bare m l = grind (arith, common_steps, both, bare_list, next_bare, all_bare, ended_bare)
 
 abbrev bare_use : Name × List Name → Name × List Name
 bare_use u = (placeless_name u.0, map placeless_name u.1)
 
 use_bare : (f : FormTree) → bared bare_use (use_of f) ≡ use_of (bare f)
-use_bare f =
-    both bare_list bare_use (list_of M.Names f) (list_of M.Names (bare f)) _ _ (list_bare M.Names f) (λ l.
-    both bare_named bare_use (next_name_of l) (next_name_of (bare_list l)) _ _ (next_name_bare l) (λ n.
-    both (map placeless_name) bare_use (names_of n.1.parts) (names_of (all_bare n.1.parts)) _ _ (names_bare n.1.parts) (λ args. refl)))
+use_bare f = grind (arith, common_steps, both, bare, list_bare, bare_list, next_name_bare, all_bare, names_bare)
 
 -- ---- types of models
 
-width_bare : (z : ℤ) (p at : Position) → bared placeless_model_type (width_of z p at) ≡ width_of z nowhere nowhere
-width_bare (pos n) p at = either placeless_model_type (nat_lt n (2 ^ 64)) _ _ _ _ refl refl
-width_bare (negsuc n) p at = refl
-
 bits_model_in_bare : (f : FormTree) (at : Position) → bared placeless_model_type (bits_model_in f at) ≡ bits_model_in (bare f) nowhere
-bits_model_in_bare (a_word n) at = refl
-bits_model_in_bare (a_number z p) at = width_bare z p at
-bits_model_in_bare (a_constant n p) at = refl
-bits_model_in_bare (a_binding n f) at = refl
-bits_model_in_bare (a_list fs p e) at = refl
+bits_model_in_bare f at = grind (arith, common_steps)
 
 bits_model_bare : (l : Listed) → bared placeless_model_type (bits_model_of l) ≡ bits_model_of (bare_list l)
 bits_model_bare l =
@@ -61,21 +48,13 @@ bits_model_bare l =
     (both bare placeless_model_type (last_of M.Width l) (last_of M.Width (bare_list l)) _ _ (last_bare M.Width l) (λ f. bits_model_in_bare f l.at))
 
 named_model_bare : (l : Listed) → bared placeless_model_type (named_model_of l) ≡ named_model_of (bare_list l)
-named_model_bare l =
-    both bare_named placeless_model_type (next_name_of l) (next_name_of (bare_list l)) _ _ (next_name_bare l) (λ n.
-    both (λ _. tt) placeless_model_type (ended n.1.parts) (ended (all_bare n.1.parts)) _ _ (ended_bare n.1.parts) (λ _. refl))
+named_model_bare l = grind (arith, common_steps, both, bare_list, next_name_bare, all_bare, ended_bare)
 
 word_model_bare : (n : Name) → bared placeless_model_type (word_model_of n) ≡ word_model_of (placeless_name n)
-word_model_bare n =
-    either placeless_model_type (reads n (codes "Int")) _ _ _ _ refl
-    (either placeless_model_type (reads n (codes "Bool")) _ _ _ _ refl
-    (either placeless_model_type (reads n (codes "Unit")) _ _ _ _ refl refl))
+word_model_bare n = grind (arith, common_steps, either)
 
 list_model_bare : (f : FormTree) → bared placeless_model_type (list_model_of f) ≡ list_model_of (bare f)
-list_model_bare f =
-    both bare_named placeless_model_type (headed_of M.ModelType f) (headed_of M.ModelType (bare f)) _ _ (headed_bare M.ModelType f) (λ h.
-    either placeless_model_type (reads h.0 (codes "bv")) _ _ _ _ (bits_model_bare h.1)
-    (either placeless_model_type (reads h.0 (codes "named")) _ _ _ _ (named_model_bare h.1) refl))
+list_model_bare f = grind (arith, common_steps, both, bare, headed_bare, either, bits_model_bare, named_model_bare)
 
 model_type_bare : (f : FormTree) → bared placeless_model_type (model_type_of f) ≡ model_type_of (bare f)
 model_type_bare (a_word n) = word_model_bare n
@@ -96,18 +75,13 @@ bits_bare : (radix each : ℕ) (digits : List ℕ) (at : Position) → bared pla
 bits_bare radix each digits at = either placeless_spec_expr (are_bits radix each digits) _ _ _ _ refl refl
 
 plain_word_bare : (n : Name) → placeless_spec_expr (plain_word_of n) ≡ plain_word_of (placeless_name n)
-plain_word_bare n =
-    apply_if placeless_spec_expr (reads n (codes "true")) _ _
-    ∙ ap (λ x. if reads n (codes "true") then spec_bool true nowhere else x) (apply_if placeless_spec_expr (reads n (codes "false")) _ _)
+plain_word_bare n = grind (arith, common_steps, apply_if)
 
 word_spec_bare : (n : Name) → bared placeless_spec_expr (word_spec_of n) ≡ word_spec_of (placeless_name n)
-word_spec_bare n =
-    either placeless_spec_expr (has_mark 120 n.text) _ _ _ _ (bits_bare 16 4 (drop 2 n.text) n.at)
-    (either placeless_spec_expr (has_mark 98 n.text) _ _ _ _ (bits_bare 2 1 (drop 2 n.text) n.at) (ap Ok (plain_word_bare n)))
+word_spec_bare n = grind (arith, common_steps, either, bits_bare, plain_word_bare)
 
 name_list_bare : (f : FormTree) → bared (map placeless_name) (name_list_of f) ≡ name_list_of (bare f)
-name_list_bare f =
-    both bare_list (map placeless_name) (list_of M.Names f) (list_of M.Names (bare f)) _ _ (list_bare M.Names f) (λ l. names_bare l.parts)
+name_list_bare f = grind (arith, common_steps, both, bare, list_bare, names_bare)
 
 -- the parts of what is said in two parts
 module _ (defs other_defs : Result SpecExprTrees Wrong) (names other_names : Result (List Name) Wrong) (value other_value body other_body : Result SpecExprTree Wrong)
@@ -115,25 +89,17 @@ module _ (defs other_defs : Result SpecExprTrees Wrong) (names other_names : Res
   two_bare : (op : Name) (p : Position) → bared placeless_spec_exprs defs ≡ other_defs → bared (map placeless_name) names ≡ other_names
       → bared placeless_spec_expr value ≡ other_value → bared placeless_spec_expr body ≡ other_body → bared placeless_model_type type ≡ other_type
       → bared placeless_spec_expr (two_of op defs names value body type p) ≡ two_of (placeless_name op) other_defs other_names other_value other_body other_type nowhere
-  two_bare op p same_defs same_names same_value same_body same_type =
-      either placeless_spec_expr (reads op (codes "let")) _ _ _ _
-      (both placeless_spec_exprs placeless_spec_expr defs other_defs _ _ same_defs (λ ds. both placeless_spec_expr placeless_spec_expr body other_body _ _ same_body (λ x. refl)))
-      (either placeless_spec_expr (reads op (codes "with")) _ _ _ _
-      (both (map placeless_name) placeless_spec_expr names other_names _ _ same_names (λ ns. both placeless_spec_expr placeless_spec_expr body other_body _ _ same_body (λ x. refl)))
-      (both placeless_spec_expr placeless_spec_expr value other_value _ _ same_value (λ x. both placeless_model_type placeless_spec_expr type other_type _ _ same_type (λ t. refl))))
+  two_bare op p same_defs same_names same_value same_body same_type = grind (arith, common_steps, either, both)
 
 mutual
   spec_expr_bare : (f : FormTree) → bared placeless_spec_expr (spec_expr_of f) ≡ spec_expr_of (bare f)
-  spec_expr_bare (a_word n) = word_spec_bare n
-  spec_expr_bare (a_number z p) = refl
-  spec_expr_bare (a_constant n p) = refl
-  spec_expr_bare (a_binding n f) = refl
   spec_expr_bare (a_list fs p e) =
       by_empty placeless_spec_expr fs _ _ _ _ refl
       (both placeless_name placeless_spec_expr (head_of fs e) (head_of (all_bare fs) nowhere) _ _ (head_bare fs e) (λ op.
       either placeless_spec_expr (has_cases op) _ _ _ _ (switch_bare op fs p e)
       (either placeless_spec_expr (has_three op) _ _ _ _ (three_bare op fs p e)
       (both placeless_spec_exprs placeless_spec_expr (arguments_of fs) (arguments_of (all_bare fs)) _ _ (arguments_bare fs) (λ args. refl)))))
+  spec_expr_bare f = grind (arith, common_steps, word_spec_bare)
 
   arguments_bare : (fs : FormTrees) → bared placeless_spec_exprs (arguments_of fs) ≡ arguments_of (all_bare fs)
   arguments_bare no_form = refl
@@ -141,53 +107,39 @@ mutual
 
   spec_exprs_bare : (fs : FormTrees) → bared placeless_spec_exprs (spec_exprs_of fs) ≡ spec_exprs_of (all_bare fs)
   spec_exprs_bare no_form = refl
-  spec_exprs_bare (form_and f fs) =
-      both placeless_spec_expr placeless_spec_exprs (spec_expr_of f) (spec_expr_of (bare f)) _ _ (spec_expr_bare f) (λ x.
-      both placeless_spec_exprs placeless_spec_exprs (spec_exprs_of fs) (spec_exprs_of (all_bare fs)) _ _ (spec_exprs_bare fs) (λ xs. refl))
+  spec_exprs_bare (form_and f fs) = grind (arith, common_steps, spec_expr_bare f, spec_exprs_bare fs, both, bare, all_bare)
 
   switch_bare : (op : Name) (fs : FormTrees) (p e : Position) → bared placeless_spec_expr (switch_of op fs p e) ≡ switch_of (placeless_name op) (all_bare fs) nowhere nowhere
-  switch_bare op no_form p e = refl
-  switch_bare op (form_and h no_form) p e = refl
   switch_bare op (form_and h (form_and f fs)) p e =
       both placeless_spec_expr placeless_spec_expr (spec_expr_of f) (spec_expr_of (bare f)) _ _ (spec_expr_bare f) (λ x.
       both placeless_spec_exprs placeless_spec_expr (pairs_of fs) (pairs_of (all_bare fs)) _ _ (pairs_bare fs) (λ xs. refl))
+  switch_bare op _ p e = refl
 
   three_bare : (op : Name) (fs : FormTrees) (p e : Position) → bared placeless_spec_expr (three_of op fs p e) ≡ three_of (placeless_name op) (all_bare fs) nowhere nowhere
-  three_bare op no_form p e = refl
-  three_bare op (form_and h no_form) p e = refl
-  three_bare op (form_and h (form_and f no_form)) p e = refl
   three_bare op (form_and h (form_and f (form_and g no_form))) p e =
       two_bare (defs_of f) (defs_of (bare f)) (name_list_of f) (name_list_of (bare f)) (spec_expr_of f) (spec_expr_of (bare f)) (spec_expr_of g) (spec_expr_of (bare g))
       (model_type_of g) (model_type_of (bare g)) op p (defs_bare f) (name_list_bare f) (spec_expr_bare f) (spec_expr_bare g) (model_type_bare g)
   three_bare op (form_and h (form_and f (form_and g (form_and more fs)))) p e = ap (no M.End) (sym (place_bare more))
+  three_bare op _ p e = refl
 
   defs_bare : (f : FormTree) → bared placeless_spec_exprs (defs_of f) ≡ defs_of (bare f)
-  defs_bare (a_word n) = refl
-  defs_bare (a_number z p) = refl
-  defs_bare (a_constant n p) = refl
-  defs_bare (a_binding n f) = refl
   defs_bare (a_list fs p e) = pairs_bare fs
+  defs_bare _ = refl
 
   pairs_bare : (fs : FormTrees) → bared placeless_spec_exprs (pairs_of fs) ≡ pairs_of (all_bare fs)
   pairs_bare no_form = refl
   pairs_bare (form_and f fs) =
-      both placeless_spec_expr placeless_spec_exprs (pair_of f) (pair_of (bare f)) _ _ (pair_bare f) (λ x.
-      both placeless_spec_exprs placeless_spec_exprs (pairs_of fs) (pairs_of (all_bare fs)) _ _ (pairs_bare fs) (λ xs. refl))
+      both placeless_spec_expr placeless_spec_exprs (pair_of f) (pair_of (bare f)) _ _ (pair_bare f) (λ x. grind (arith, pairs_bare fs, both, all_bare))
 
   pair_bare : (f : FormTree) → bared placeless_spec_expr (pair_of f) ≡ pair_of (bare f)
-  pair_bare (a_word n) = refl
-  pair_bare (a_number z p) = refl
-  pair_bare (a_constant n p) = refl
-  pair_bare (a_binding n f) = refl
   pair_bare (a_list fs p e) = pair_in_bare fs p
+  pair_bare _ = refl
 
   pair_in_bare : (fs : FormTrees) (p : Position) → bared placeless_spec_expr (pair_in fs p) ≡ pair_in (all_bare fs) nowhere
-  pair_in_bare no_form p = refl
-  pair_in_bare (form_and f no_form) p = refl
   pair_in_bare (form_and f (form_and g no_form)) p =
       both placeless_spec_expr placeless_spec_expr (spec_expr_of f) (spec_expr_of (bare f)) _ _ (spec_expr_bare f) (λ x.
       both placeless_spec_expr placeless_spec_expr (spec_expr_of g) (spec_expr_of (bare g)) _ _ (spec_expr_bare g) (λ y. refl))
-  pair_in_bare (form_and f (form_and g (form_and h fs))) p = refl
+  pair_in_bare _ p = refl
 
 last_expr_bare : (l : Listed) → bared placeless_spec_expr (last_expr_of l) ≡ last_expr_of (bare_list l)
 last_expr_bare l = both bare placeless_spec_expr (last_of M.Expression l) (last_of M.Expression (bare_list l)) _ _ (last_bare M.Expression l) spec_expr_bare
@@ -211,24 +163,15 @@ signatures_bare : (fs : FormTrees) → bared (map placeless_signature) (signatur
 signatures_bare fs = each_bare placeless_signature signature_of signature_of signature_bare fs
 
 form_bare : (l : Listed) → bared placeless_signatures (form_of l) ≡ form_of (bare_list l)
-form_bare l =
-    both bare_named placeless_signatures (next_name_of l) (next_name_of (bare_list l)) _ _ (next_name_bare l) (λ n.
-    both (map placeless_signature) placeless_signatures (signatures_of n.1.parts) (signatures_of (all_bare n.1.parts)) _ _ (signatures_bare n.1.parts) (λ ss. refl))
+form_bare l = grind (arith, common_steps, both, bare_list, next_name_bare, all_bare, signatures_bare)
 
 by_form_bare : (term : Name) (l : Listed) (at : Position) → bared placeless_instantiation (by_form_of term l at) ≡ by_form_of (placeless_name term) (bare_list l) nowhere
-by_form_bare term l at =
-    both bare_named placeless_instantiation (next_name_of l) (next_name_of (bare_list l)) _ _ (next_name_bare l) (λ n.
-    both (λ _. tt) placeless_instantiation (ended n.1.parts) (ended (all_bare n.1.parts)) _ _ (ended_bare n.1.parts) (λ _. refl))
+by_form_bare term l at = grind (arith, common_steps, both, bare_list, next_name_bare, all_bare, ended_bare)
 
 -- by a test whether a word comes next
 by_word : {A B : Type 0} (g : A → B) (fs : FormTrees) (r s : Result A Wrong) (t u : Result B Wrong) → bared g r ≡ t → bared g s ≡ u
     → bared g (if begins_with_word fs then r else s) ≡ (if begins_with_word (all_bare fs) then t else u)
-by_word g no_form r s t u e f = f
-by_word g (form_and (a_word n) fs) r s t u e f = e
-by_word g (form_and (a_number z p) fs) r s t u e f = f
-by_word g (form_and (a_constant n p) fs) r s t u e f = f
-by_word g (form_and (a_binding n x) fs) r s t u e f = f
-by_word g (form_and (a_list gs p q) fs) r s t u e f = f
+by_word g fs r s t u e f = grind (arith, common_steps)
 
 instantiation_bare : (l : Listed) → bared placeless_instantiation (instantiation_of l) ≡ instantiation_of (bare_list l)
 instantiation_bare l =
@@ -239,16 +182,10 @@ instantiation_bare l =
 -- ---- attributes
 
 veri_bare : (at : Position) (n : Name) → bared placeless_attr_kind (veri_of at n) ≡ veri_of nowhere (placeless_name n)
-veri_bare at n =
-    either placeless_attr_kind (reads n (codes "chain")) _ _ _ _ refl (either placeless_attr_kind (reads n (codes "priority")) _ _ _ _ refl refl)
+veri_bare at n = grind (arith, common_steps, either)
 
 attr_kind_bare : (f : FormTree) → bared placeless_attr_kind (attr_kind_of f) ≡ attr_kind_of (bare f)
-attr_kind_bare f =
-    both bare_named placeless_attr_kind (headed_of M.Attribute f) (headed_of M.Attribute (bare f)) _ _ (headed_bare M.Attribute f) (λ h.
-    both bare_named placeless_attr_kind (next_name_of h.1) (next_name_of (bare_list h.1)) _ _ (next_name_bare h.1) (λ n.
-    both (λ _. tt) placeless_attr_kind (ended n.1.parts) (ended (all_bare n.1.parts)) _ _ (ended_bare n.1.parts) (λ _.
-    either placeless_attr_kind (reads h.0 (codes "tag")) _ _ _ _ refl
-    (either placeless_attr_kind (reads h.0 (codes "veri")) _ _ _ _ (veri_bare h.1.at n.0) refl))))
+attr_kind_bare f = grind (arith, common_steps, both, bare, headed_bare, bare_list, next_name_bare, all_bare, ended_bare, either, veri_bare)
 
 attr_kinds_bare : (fs : FormTrees) → bared (map placeless_attr_kind) (attr_kinds_of fs) ≡ attr_kinds_of (all_bare fs)
 attr_kinds_bare fs = each_bare placeless_attr_kind attr_kind_of attr_kind_of attr_kind_bare fs
@@ -259,9 +196,7 @@ attr_by at r =
     next_name_of r.1 >>= (λ n. attr_kinds_of n.1.parts >>= (λ kinds. Ok (record { is_rule = r.0; name = n.0; kinds = kinds; at = at })))
 
 attr_by_bare : (at : Position) (r : Bool × Listed) → bared placeless_attr (attr_by at r) ≡ attr_by nowhere (bare_flagged r)
-attr_by_bare at r =
-    both bare_named placeless_attr (next_name_of r.1) (next_name_of (bare_list r.1)) _ _ (next_name_bare r.1) (λ n.
-    both (map placeless_attr_kind) placeless_attr (attr_kinds_of n.1.parts) (attr_kinds_of (all_bare n.1.parts)) _ _ (attr_kinds_bare n.1.parts) (λ kinds. refl))
+attr_by_bare at r = grind (arith, common_steps, both, bare_list, next_name_bare, all_bare, attr_kinds_bare)
 
 attr_bare : (l : Listed) → bared placeless_attr (attr_of l) ≡ attr_of (bare_list l)
 attr_bare l = attr_by_bare l.at (next_if_of (codes "rule") l) ∙ ap (attr_by nowhere) (next_if_bare (codes "rule") l)
@@ -307,41 +242,21 @@ model_value_bare f =
     (either placeless_model_value (reads h.0 (codes "enum")) _ _ _ _
     (both (map placeless_variant_value) placeless_model_value (variant_values_of h.1.parts) (variant_values_of (all_bare h.1.parts)) _ _
     (each_bare placeless_variant_value variant_value_of variant_value_of variant_value_bare h.1.parts) (λ vs. refl))
-    (either placeless_model_value (reads h.0 (codes "const")) _ _ _ _
-    (both placeless_spec_expr placeless_model_value (last_expr_of h.1) (last_expr_of (bare_list h.1)) _ _ (last_expr_bare h.1) (λ x. refl)) refl)))
+    (grind (arith, common_steps, either placeless_model_value, both placeless_spec_expr placeless_model_value, bare_list, last_expr_bare))))
 
 model_bare : (l : Listed) → bared placeless_model (model_of l) ≡ model_of (bare_list l)
-model_bare l =
-    both bare_named placeless_model (next_name_of l) (next_name_of (bare_list l)) _ _ (next_name_bare l) (λ n.
-    both bare placeless_model (last_of M.ModelValue n.1) (last_of M.ModelValue (bare_list n.1)) _ _ (last_bare M.ModelValue n.1) (λ v.
-    both placeless_model_value placeless_model (model_value_of v) (model_value_of (bare v)) _ _ (model_value_bare v) (λ value. refl)))
+model_bare l = grind (arith, common_steps, both, bare_list, next_name_bare, last_bare, bare, model_value_bare)
 
 -- ---- specs of terms
 
 once_bare : (o : Option SpecExprTrees) (l : Listed) → bared (option_map placeless_spec_exprs) (once_of o l) ≡ once_of (option_map placeless_spec_exprs o) (bare_list l)
-once_bare None l =
-    both placeless_spec_exprs (option_map placeless_spec_exprs) (spec_exprs_of l.parts) (spec_exprs_of (all_bare l.parts)) _ _ (spec_exprs_bare l.parts) (λ xs. refl)
-once_bare (Some xs) l = refl
+once_bare o l = grind (arith, common_steps, both, all_bare, spec_exprs_bare)
 
 modifies_bare : (l : Listed) → bared placeless_modifies (modifies_of l) ≡ modifies_of (bare_list l)
-modifies_bare l =
-    both bare_named placeless_modifies (next_name_of l) (next_name_of (bare_list l)) _ _ (next_name_bare l) (λ s.
-    by_empty placeless_modifies s.1.parts _ _ _ _ refl
-    (both bare_named placeless_modifies (next_name_of s.1) (next_name_of (bare_list s.1)) _ _ (next_name_bare s.1) (λ c.
-    both (λ _. tt) placeless_modifies (ended c.1.parts) (ended (all_bare c.1.parts)) _ _ (ended_bare c.1.parts) (λ _. refl))))
+modifies_bare l = grind (arith, common_steps, both, bare_list, next_name_bare, by_empty, all_bare, ended_bare)
 
 with_section_bare : (s : SpecTree) (head : Name) (l : Listed) → bared placeless_spec (with_section s head l) ≡ with_section (placeless_spec s) (placeless_name head) (bare_list l)
-with_section_bare s head l =
-    let exprs = option_map placeless_spec_exprs in
-    either placeless_spec (reads head (codes "provide")) _ _ _ _
-    (both exprs placeless_spec (once_of s.provides l) (once_of (exprs s.provides) (bare_list l)) _ _ (once_bare s.provides l) (λ xs. refl))
-    (either placeless_spec (reads head (codes "require")) _ _ _ _
-    (both exprs placeless_spec (once_of s.required l) (once_of (exprs s.required) (bare_list l)) _ _ (once_bare s.required l) (λ xs. refl))
-    (either placeless_spec (reads head (codes "match")) _ _ _ _
-    (both exprs placeless_spec (once_of s.matches l) (once_of (exprs s.matches) (bare_list l)) _ _ (once_bare s.matches l) (λ xs. refl))
-    (either placeless_spec (reads head (codes "modifies")) _ _ _ _
-    (both placeless_modifies placeless_spec (modifies_of l) (modifies_of (bare_list l)) _ _ (modifies_bare l)
-    (λ m. ap (λ ms. Ok (record (placeless_spec s) { modifies = ms })) (map-append placeless_modifies s.modifies (m ∷ [])))) refl)))
+with_section_bare s head l = grind (arith, common_steps, either, both, bare_list, once_bare, modifies_bare, map-append)
 
 with_part_bare : (s : SpecTree) (f : FormTree) → bared placeless_spec (with_part_of s f) ≡ with_part_of (placeless_spec s) (bare f)
 with_part_bare s f =
@@ -355,8 +270,7 @@ with_parts_bare s (form_and f fs) =
 spec_bare : (l : Listed) → bared placeless_spec (spec_of l) ≡ spec_of (bare_list l)
 spec_bare l =
     both bare_next placeless_spec (next_of M.Names l) (next_of M.Names (bare_list l)) _ _ (next_bare M.Names l) (λ f.
-    both bare_use placeless_spec (use_of f.0) (use_of (bare f.0)) _ _ (use_bare f.0) (λ u.
-    with_parts_bare (record { term = u.0; args = u.1; provides = None; required = None; matches = None; modifies = []; at = l.at }) f.1.parts))
+    both bare_use placeless_spec (use_of f.0) (use_of (bare f.0)) _ _ (use_bare f.0) (λ u. grind (arith, common_steps, with_parts_bare)))
 
 -- ---- whole trees
 
@@ -373,5 +287,4 @@ said_bare head l =
     refl)))))))
 
 pub verification_bare : (f : FormTree) → bared placeless_tree (verification_of f) ≡ verification_of (bare f)
-verification_bare f =
-    both bare_named placeless_tree (headed_of M.Definition f) (headed_of M.Definition (bare f)) _ _ (headed_bare M.Definition f) (λ h. said_bare h.0 h.1)
+verification_bare f = grind (arith, common_steps, both, bare, headed_bare, said_bare)

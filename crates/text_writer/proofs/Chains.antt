@@ -1,6 +1,7 @@
 -- Text that is added in several steps.
-use Rattle.std.proofs.Common.{◌≡◌, ℕ, refl, sym, ap, ◌∙◌, List, [], ◌∷◌, ◌++◌, append_assoc, append-nil}
-use Rattle.std.specs.Prelude.{Result, Ok, Err, OnOk, is_ok, codes, if◌then◌else◌}
+use Rattle.std.proofs.Common.{◌≡◌, ℕ, sym, ap, ◌∙◌, List, [], ◌∷◌, ◌++◌, append_assoc, append-nil, arith}
+use Rattle.std.specs.Prelude.{Result, OnOk, is_ok, codes, if◌then◌else◌}
+use Rattle.std.proofs.lemmas.Grind.{common_steps}
 use Rattle.model.specs.lists.Syntax.{TypeTree, DeclTree, RuleTree}
 use Rattle.text_reader.specs.FormTrees.{FormTree, FormTrees, no_form, form_and}
 use Rattle.text_writer.specs.Forms.{list_form, headed_form, pattern_form, expr_form, value_form, type_form, type_words_before, decl_form, signature, flags_before, if_lets_before, rule_form, rule_body, rule_words_before}
@@ -9,40 +10,29 @@ use Rattle.text_writer.proofs.Spaces.{spaced-flags, spaced-type_words, spaced-ru
 
 -- where the last step succeeds
 pub when : {T E P Q : Type 0} (r : Result T E) → (P → Q) → OnOk r P → OnOk r Q
-when (Ok x) f h = f h
-when (Err e) f h = tt
+when r f h = grind (arith, common_steps)
 
 pub at_last : {T E Q : Type 0} (r : Result T E) (old new t : List ℕ) → new ≡ (if is_ok r then old ++ t else old) → (new ≡ old ++ t → Q) → OnOk r Q
-at_last (Ok x) old new t e f = f e
-at_last (Err x) old new t e f = tt
+at_last r old new t e f = grind (arith, common_steps)
 
 pub three : (s a b c : List ℕ) → ((s ++ a) ++ b) ++ c ≡ s ++ (a ++ (b ++ c))
 three s a b c = append_assoc (s ++ a) b c ∙ append_assoc s a (b ++ c)
 
 -- a list that begins so, has two parts of its text, and ends
 pub in_list : (s s1 s2 s3 s4 a b c x : List ℕ) → s1 ≡ s ++ a → s2 ≡ s1 ++ b → s3 ≡ s2 ++ c → s4 ≡ s3 ++ 41 ∷ [] → x ≡ b ++ c → s4 ≡ s ++ (a ++ (x ++ 41 ∷ []))
-in_list s s1 s2 s3 s4 a b c x e1 e2 e3 e4 is =
-    e4 ∙ ap (λ u. u ++ 41 ∷ []) (e3 ∙ ap (λ u. u ++ c) (e2 ∙ ap (λ u. u ++ b) e1) ∙ three s a b c)
-    ∙ append_assoc s (a ++ (b ++ c)) (41 ∷ []) ∙ ap (λ u. s ++ u) (append_assoc a (b ++ c) (41 ∷ []))
-    ∙ ap (λ u. s ++ (a ++ (u ++ 41 ∷ []))) (sym is)
+in_list s s1 s2 s3 s4 a b c x e1 e2 e3 e4 is = grind (arith, common_steps, three)
 
 pub decl_told : (d : DeclTree) (s s1 s2 s3 s4 : List ℕ) → s1 ≡ s ++ codes "(decl" → s2 ≡ s1 ++ spaced (flags_before d no_form) → s3 ≡ s2 ++ spaced (signature d)
     → s4 ≡ s3 ++ codes ")" → s4 ≡ s ++ written (decl_form d)
-decl_told d s s1 s2 s3 s4 e1 e2 e3 e4 =
-    in_list s s1 s2 s3 s4 (codes "(decl") (spaced (flags_before d no_form)) (spaced (signature d)) (spaced (flags_before d (signature d))) e1 e2 e3 e4 (spaced-flags d (signature d))
+decl_told d s s1 s2 s3 s4 e1 e2 e3 e4 = grind (arith, common_steps, in_list, spaced-flags)
 
 pub type_told : (t : TypeTree) (s s1 s2 s3 s4 : List ℕ) → s1 ≡ s ++ codes "(type" → s2 ≡ s1 ++ spaced (type_words_before t no_form) → s3 ≡ s2 ++ 32 ∷ written (value_form t.value)
     → s4 ≡ s3 ++ codes ")" → s4 ≡ s ++ written (type_form t)
-type_told t s s1 s2 s3 s4 e1 e2 e3 e4 =
-    let value = form_and (value_form t.value) no_form in
-    in_list s s1 s2 s3 s4 (codes "(type") (spaced (type_words_before t no_form)) (32 ∷ written (value_form t.value)) (spaced (type_words_before t value)) e1 e2 e3 e4
-    (spaced-type_words t value ∙ ap (λ u. spaced (type_words_before t no_form) ++ 32 ∷ u) (append-nil (written (value_form t.value))))
+type_told t s s1 s2 s3 s4 e1 e2 e3 e4 = grind (arith, common_steps, in_list, spaced-type_words)
 
 pub rule_told : (r : RuleTree) (s s1 s2 s3 : List ℕ) → s1 ≡ s ++ codes "(rule" → s2 ≡ s1 ++ spaced (rule_words_before r no_form) → s3 ≡ s2 ++ (spaced (rule_body r) ++ 41 ∷ [])
     → s3 ≡ s ++ written (rule_form r)
-rule_told r s s1 s2 s3 e1 e2 e3 =
-    in_list s s1 s2 (s2 ++ spaced (rule_body r)) s3 (codes "(rule") (spaced (rule_words_before r no_form)) (spaced (rule_body r)) (spaced (rule_words_before r (rule_body r)))
-    e1 e2 refl (e3 ∙ sym (append_assoc s2 (spaced (rule_body r)) (41 ∷ []))) (spaced-rule_words r (rule_body r))
+rule_told r s s1 s2 s3 e1 e2 e3 = grind (arith, common_steps, in_list, spaced-rule_words)
 
 -- an expression that ends a list
 pub ended : (w e : List ℕ) → w ++ 32 ∷ (e ++ 41 ∷ []) ≡ (w ++ 32 ∷ (e ++ [])) ++ 41 ∷ []
@@ -50,17 +40,8 @@ ended w e = sym (append_assoc w (32 ∷ (e ++ [])) (41 ∷ []) ∙ ap (λ u. w +
 
 pub body_told : (r : RuleTree) (s s1 s2 s3 s4 : List ℕ) → s1 ≡ s ++ codes " " → s2 ≡ s1 ++ written (pattern_form r.pattern) → s3 ≡ s2 ++ spaced (if_lets_before r.iflets no_form)
     → s4 ≡ s3 ++ 32 ∷ (written (expr_form r.expr) ++ 41 ∷ []) → s4 ≡ s ++ (spaced (rule_body r) ++ 41 ∷ [])
-body_told r s s1 s2 s3 s4 e1 e2 e3 e4 =
-    let p = written (pattern_form r.pattern) in
-    let i = spaced (if_lets_before r.iflets no_form) in
-    let x = written (expr_form r.expr) in
-    e4 ∙ ap (λ u. u ++ 32 ∷ (x ++ 41 ∷ [])) (e3 ∙ ap (λ u. u ++ i) (e2 ∙ ap (λ u. u ++ p) e1) ∙ three s (32 ∷ []) p i)
-    ∙ append_assoc s (32 ∷ (p ++ i)) (32 ∷ (x ++ 41 ∷ []))
-    ∙ ap (λ u. s ++ 32 ∷ u) (ended (p ++ i) x ∙ ap (λ u. u ++ 41 ∷ []) (append_assoc p i (32 ∷ (x ++ [])) ∙ ap (λ u. p ++ u) (sym (spaced-if_lets r.iflets (form_and (expr_form r.expr) no_form)))))
+body_told r s s1 s2 s3 s4 e1 e2 e3 e4 = grind (arith, common_steps, three, ended, spaced-if_lets)
 
 pub let_told : (ds : FormTrees) (b : FormTree) (s s1 s2 s3 : List ℕ) → s1 ≡ s ++ codes "(let " → s2 ≡ s1 ++ written (list_form ds) → s3 ≡ s2 ++ 32 ∷ (written b ++ 41 ∷ [])
     → s3 ≡ s ++ written (headed_form (codes "let") (form_and (list_form ds) (form_and b no_form)))
-let_told ds b s s1 s2 s3 e1 e2 e3 =
-    let w = written (list_form ds) in
-    e3 ∙ ap (λ u. u ++ 32 ∷ (written b ++ 41 ∷ [])) (e2 ∙ ap (λ u. u ++ w) e1) ∙ three s (codes "(let ") w (32 ∷ (written b ++ 41 ∷ []))
-    ∙ ap (λ u. s ++ (codes "(let " ++ u)) (ended w (written b))
+let_told ds b s s1 s2 s3 e1 e2 e3 = grind (arith, common_steps, three, ended)

@@ -1,21 +1,19 @@
 -- What texts have, one text more at a time; and that it goes together.
 use Rattle.std.proofs.Common.{◌≡◌, ℕ, suc, ◌+◌, List, [], ◌∷◌, ◌++◌, length, map, refl, sym, ap, ◌∙◌, subst, append-nil, arith}
-use Rattle.std.specs.Prelude.{Option, None, Some, Result, Ok, Err, ⊤}
+use Rattle.std.specs.Prelude.{Option, ⊤}
 use Rattle.std.proofs.lemmas.List.{append_assoc, length-append, map-append}
+use Rattle.std.proofs.lemmas.Grind.{common_steps}
 use Rattle.model.specs.lists.Syntax.{Position, Definition}
 use Rattle.core_syntax.specs.SyntaxViews.{definition_place, definition_views}
-use Rattle.text_reader.specs.Definitions.{reading}
-use Rattle.text_reader.specs.Lexemes.{Wrong, ◌>>=◌}
-use Rattle.text_reader.specs.SpecTrees.{VerificationTree}
+use Rattle.text_reader.specs.Lexemes.{Wrong}
 use Rattle.text_reader.specs.RecoveryViews.{wrong_view}
 use Rattle.text_reader.specs.SpecViews.{numbered_view}
-use Rattle.text_reader.specs.Verifying.{verification_in}
 use Rattle.text_writer.specs.declared.contents.Contents.{Contents}
 use Rattle.text_writer.specs.declared.spec_faults.SpecPrintFault.{SpecPrintFault}
 use Rattle.text_writer.specs.declared.spec_faults.SpecPrintFault.TheVariants.{Memory, Unspellable, Unmatched}
 use Rattle.text_writer.specs.SpecFaults.{IsTrouble}
 use Rattle.text_writer.specs.Woven.{AreMatched, Trees, number_by, other_numbers, woven}
-use Rattle.text_writer.specs.Contents.{AreOfTexts, TextContents, behind, contents_in, contents_of_text, contents_of_texts, followed_by, no_contents}
+use Rattle.text_writer.specs.Contents.{AreOfTexts, TextContents, behind, contents_of_text, contents_of_texts, followed_by, no_contents}
 use Rattle.text_writer.proofs.Matched.{never_unmatched, text_matched}
 
 -- ---- contents behind one another
@@ -25,32 +23,18 @@ held ds vs ms = record { definitions = ds; trees = vs; mistakes = ms }
 
 alike : (ds es : List Definition) (vs ws : Trees) (ms ns : List Wrong) → ds ≡ es → vs ≡ ws → ms ≡ ns
     → (let c : TextContents = record { definitions = ds; trees = vs; mistakes = ms } in let d : TextContents = record { definitions = es; trees = ws; mistakes = ns } in c ≡ d)
-alike ds es vs ws ms ns a b c =
-    ap (λ x. record { definitions = x; trees = vs; mistakes = ms }) a ∙ ap (λ x. record { definitions = es; trees = x; mistakes = ms }) b
-    ∙ ap (λ x. record { definitions = es; trees = ws; mistakes = x }) c
+alike ds es vs ws ms ns a b c = grind (arith, common_steps)
 
 behind_none : (vs : Trees) → map (behind 0) vs ≡ vs
 behind_none [] = refl
-behind_none (v ∷ vs) = first (0 + v.0) v.0 v.1 (map (behind 0) vs) vs (omega arith) (behind_none vs)
-  where
-    first : (m n : ℕ) (t : VerificationTree) (xs ys : Trees) → m ≡ n → xs ≡ ys → (m, t) ∷ xs ≡ (n, t) ∷ ys
-    first m n t xs ys e f = rw (e, f) refl
+behind_none (v ∷ vs) = grind (arith, common_steps, behind_none vs)
 
 behind_both : (m n k : ℕ) → m + n ≡ k → (vs : Trees) → map (behind m) (map (behind n) vs) ≡ map (behind k) vs
 behind_both m n k e [] = refl
-behind_both m n k e (v ∷ vs) = first (m + (n + v.0)) (k + v.0) v.1 (map (behind m) (map (behind n) vs)) (map (behind k) vs) (omega (arith, e)) (behind_both m n k e vs)
-  where
-    first : (m n : ℕ) (t : VerificationTree) (xs ys : Trees) → m ≡ n → xs ≡ ys → (m, t) ∷ xs ≡ (n, t) ∷ ys
-    first m n t xs ys e f = rw (e, f) refl
+behind_both m n k e (v ∷ vs) = grind (arith, common_steps, behind_both m n k e vs)
 
 behind_assoc : (a b c : TextContents) → followed_by (followed_by a b) c ≡ followed_by a (followed_by b c)
-behind_assoc a b c =
-    alike _ _ _ _ _ _ (append_assoc a.definitions b.definitions c.definitions)
-    (append_assoc a.trees (map (behind (length a.definitions)) b.trees) (map (behind (length (a.definitions ++ b.definitions))) c.trees)
-    ∙ ap (λ vs. a.trees ++ (map (behind (length a.definitions)) b.trees ++ vs))
-    (sym (behind_both (length a.definitions) (length b.definitions) (length (a.definitions ++ b.definitions)) (sym (length-append a.definitions b.definitions)) c.trees))
-    ∙ ap (λ vs. a.trees ++ vs) (sym (map-append (behind (length a.definitions)) b.trees (map (behind (length b.definitions)) c.trees))))
-    (append_assoc a.mistakes b.mistakes c.mistakes)
+behind_assoc a b c = grind (arith, common_steps, alike, append_assoc, behind_both, length-append, map-append)
 
 nothing_behind : (c : TextContents) → followed_by c no_contents ≡ c
 nothing_behind c = alike _ _ _ _ _ _ (append-nil c.definitions) (append-nil c.trees) (append-nil c.mistakes)
@@ -65,21 +49,11 @@ at_number m n e text = nothing_behind (contents_of_text m text) ∙ ap (λ k. co
 one_more : (first : ℕ) (texts : List (List ℕ)) (text : List ℕ)
     → contents_of_texts first (texts ++ text ∷ []) ≡ followed_by (contents_of_texts first texts) (contents_of_text (first + length texts) text)
 one_more first [] text = at_number first (first + 0) (omega arith) text
-one_more first (t ∷ ts) text =
-    ap (followed_by (contents_of_text first t)) (one_more (first + 1) ts text
-    ∙ ap (λ n. followed_by (contents_of_texts (first + 1) ts) (contents_of_text n text)) (next first (length ts)))
-    ∙ sym (behind_assoc (contents_of_text first t) (contents_of_texts (first + 1) ts) (contents_of_text (first + suc (length ts)) text))
-  where
-    next : (m n : ℕ) → (m + 1) + n ≡ m + suc n
-    next m n = omega arith
+one_more first (t ∷ ts) text = grind (arith, one_more (first + 1) ts text, behind_assoc)
 
 pub text_follows : (texts : List (List ℕ)) (text : List ℕ)
     → contents_of_texts 0 (texts ++ text ∷ []) ≡ followed_by (contents_of_texts 0 texts) (contents_of_text (length texts) text)
-text_follows texts text =
-    one_more 0 texts text ∙ ap (λ n. followed_by (contents_of_texts 0 texts) (contents_of_text n text)) (from_none (length texts))
-  where
-    from_none : (n : ℕ) → 0 + n ≡ n
-    from_none n = omega arith
+text_follows texts text = grind (arith, one_more)
 
 -- ---- definitions and trees go together
 
@@ -94,22 +68,15 @@ both : {xs ys zs ws : List ℕ} → xs ≡ zs → ys ≡ ws → xs ++ ys ≡ zs 
 both e f = rw (e, f) refl
 
 one_number : (o : Option Position) (k n : ℕ) → map (λ m. k + m) (number_by o (suc n)) ≡ map (λ m. suc k + m) (number_by o n)
-one_number None k n = ap (λ m. m ∷ []) (omega arith)
-one_number (Some p) k n = refl
+one_number o k n = grind (arith, common_steps)
 
 next_numbers : (ds : List Definition) (k n : ℕ) → map (λ m. k + m) (other_numbers (suc n) ds) ≡ map (λ m. suc k + m) (other_numbers n ds)
 next_numbers [] k n = refl
-next_numbers (d ∷ ds) k n =
-    map-append (λ m. k + m) (number_by (definition_place d) (suc n)) (other_numbers (suc (suc n)) ds)
-    ∙ both (one_number (definition_place d) k n) (next_numbers ds k (suc n))
-    ∙ sym (map-append (λ m. suc k + m) (number_by (definition_place d) n) (other_numbers (suc n) ds))
+next_numbers (d ∷ ds) k n = grind (arith, common_steps, next_numbers ds k (suc n), map-append, both, one_number)
 
 same_numbers : (ns : List ℕ) → ns ≡ map (λ m. 0 + m) ns
 same_numbers [] = refl
-same_numbers (n ∷ ns) = first n (0 + n) (omega arith) (same_numbers ns)
-  where
-    first : (m n : ℕ) {xs ys : List ℕ} → m ≡ n → xs ≡ ys → m ∷ xs ≡ n ∷ ys
-    first m n e f = rw (e, f) refl
+same_numbers (n ∷ ns) = grind (arith, common_steps, same_numbers ns)
 
 joined_numbers : (ds es : List Definition) (n : ℕ) → other_numbers n (ds ++ es) ≡ other_numbers n ds ++ map (λ m. length ds + m) (other_numbers n es)
 joined_numbers [] es n = same_numbers (other_numbers n es)
@@ -127,18 +94,11 @@ matched_behind a b h k =
     ∙ sym (joined_numbers a.definitions b.definitions 0)
 
 one_matched : (number : ℕ) (text : List ℕ) → IsMatched (contents_of_text number text)
-one_matched number text = by (reading number text) (verification_in number text) (text_matched number text)
-  where
-    by : (r : Result (List Definition) Wrong) (s : Result Trees Wrong) → ((ds : List Definition) (vs : Trees) → r ≡ Ok ds → s ≡ Ok vs → AreMatched 0 ds vs)
-        → IsMatched (contents_in (r >>= (λ ds. s >>= (λ vs. Ok (ds, vs)))))
-    by (Ok ds) (Ok vs) h = h ds vs refl refl
-    by (Ok ds) (Err w) h = refl
-    by (Err w) s h = refl
+one_matched number text = grind (arith, text_matched)
 
 all_matched : (number : ℕ) (texts : List (List ℕ)) → IsMatched (contents_of_texts number texts)
 all_matched number [] = refl
-all_matched number (text ∷ texts) =
-    matched_behind (contents_of_text number text) (contents_of_texts (number + 1) texts) (one_matched number text) (all_matched (number + 1) texts)
+all_matched number (text ∷ texts) = grind (arith, common_steps, all_matched (number + 1) texts, matched_behind, one_matched)
 
 -- what texts have is woven, or something can't be spelled
 pub contents_matched : (texts : List (List ℕ)) (ds : List Definition) (vs : Trees) (ms : List Wrong) → held ds vs ms ≡ contents_of_texts 0 texts → AreMatched 0 ds vs
@@ -153,13 +113,12 @@ IsUnmatched (Unmatched n) = ⊤
 -- printing what texts have never fails so
 pub never_told : (found : Contents) (ds : List Definition) (vs : Trees) (fault : SpecPrintFault) → IsTrouble fault (woven 0 ds vs) → IsUnmatched fault → AreOfTexts found
     → ds ≡ definition_views found.defs.items → vs ≡ map numbered_view found.forms.items → ⊥
-never_told found ds vs (Memory e) told is of d v = is
-never_told found ds vs (Unspellable p) told is of d v = is
 never_told found ds vs (Unmatched n) told is of d v =
     never_unmatched 0 ds vs n (subst (λ es. AreMatched 0 es vs) (sym d) (subst (λ ws. AreMatched 0 (definition_views found.defs.items) ws) (sym v) matched)) told
   where
     matched : AreMatched 0 (definition_views found.defs.items) (map numbered_view found.forms.items)
     matched = contents_matched of.0 _ _ (map wrong_view found.mistakes.items) of.1
+never_told found ds vs _ told is of d v = is
 
 -- ---- parts of contents that grow
 

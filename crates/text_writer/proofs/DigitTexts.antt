@@ -1,18 +1,18 @@
 -- Bits that are written are read as these bits.
-use Rattle.std.proofs.Common.{◌≡◌, ℕ, zero, suc, ◌+◌, ◌*◌, ◌^◌, ◌/◌, ◌%◌, ◌<◌, ◌≤◌, ◌==◌, List, [], ◌∷◌, ◌++◌, length, true, refl, inl, inr, sym, ap, ◌∙◌, arith}
-use Rattle.std.specs.Prelude.{Bool, ◌&&◌, nat_lt, nat_le, Ok, if◌then◌else◌}
+use Rattle.std.proofs.Common.{◌≡◌, ℕ, zero, suc, ◌+◌, ◌*◌, ◌^◌, ◌/◌, ◌%◌, ◌<◌, ◌≤◌, ◌==◌, List, [], ◌∷◌, ◌++◌, length, true, refl, inl, inr, ap, ◌∙◌, arith}
+use Rattle.std.specs.Prelude.{Bool, ◌&&◌, nat_lt, nat_le, Ok}
 use Rattle.std.specs.List.{list_all}
 use Rattle.std.specs.Char.{digit_value}
 use Rattle.std.proofs.lemmas.Bool.{cases_Bool, ltb-true, leb-true, lt-ltb, le-leb, eqb-true, eqb-false}
 use Rattle.std.proofs.lemmas.List.Folds.{list_all-append}
 use Rattle.std.proofs.Math.Nat.{pow-zero, pow-suc, mod-lt, div-add-mod, div-lt_iff_lt-mul}
 use Rattle.std.proofs.lemmas.List.{length-append}
+use Rattle.std.proofs.lemmas.Grind.{common_steps}
 use Rattle.text_reader.specs.Numbers.{digits_after, grown}
 use Rattle.text_reader.specs.Solid.{nowhere}
 use Rattle.text_reader.specs.declared.errors.Mistake.TheVariants as M
-use Rattle.text_reader.specs.Grammar.{no}
 use Rattle.text_reader.specs.SpecTrees.{spec_bits}
-use Rattle.text_reader.specs.SpecGrammar.{are_digits, are_bits, bits_of, word_spec_of}
+use Rattle.text_reader.specs.SpecGrammar.{are_digits, bits_of, word_spec_of}
 use Rattle.text_writer.specs.SpecForms.{digit_text, digits_text, bits_text}
 use Rattle.text_writer.specs.SpellableTrees.{bits_are_spellable}
 use Rattle.text_writer.proofs.WordParts.{both, three}
@@ -26,21 +26,13 @@ all_below test (suc n) = test n && all_below test n
 
 pub each_below : (test : ℕ → Bool) (n : ℕ) → all_below test n ≡ true → (d : ℕ) → d < n → test d ≡ true
 each_below test zero h d less = absurd (omega (arith, less))
-each_below test (suc n) h d less =
-    let k = both (test n) (all_below test n) h in
-    elim (cases_Bool (d == n)) [
-      | inl e ↦ ap test (eqb-true d n e) ∙ k.0
-      | inr e ↦ each_below test n k.1 d (omega (arith, less, eqb-false d n e))
-    ]
+each_below test (suc n) h d less = grind (arith, common_steps, each_below test n, both, eqb-true, eqb-false)
 
 value-of_digit : (d : ℕ) → d < 16 → digit_value (digit_text d) ≡ d
 value-of_digit d h = eqb-true (digit_value (digit_text d)) d (each_below (λ e. digit_value (digit_text e) == e) 16 refl d h)
 
 grown-digit : (radix n d : ℕ) → d < 16 → grown radix n (digit_text d) ≡ n * radix + d
-grown-digit radix n d h = elim (cases_Bool (digit_text d == 95)) [
-  | inl e ↦ absurd (omega (arith, h, sym (value-of_digit d h) ∙ ap digit_value (eqb-true (digit_text d) 95 e)))
-  | inr e ↦ rw (e, value-of_digit d h) refl
-]
+grown-digit radix n d h = grind (arith, common_steps, value-of_digit, eqb-true)
 
 -- ---- the digits of a number
 
@@ -50,9 +42,7 @@ one_after radix n (e ∷ ds) d = one_after radix (grown radix n e) ds d
 
 text-length : (radix k n : ℕ) → length (digits_text radix k n) ≡ k
 text-length radix zero n = refl
-text-length radix (suc k) n =
-    let before : length (digits_text radix k (n / radix)) ≡ k = text-length radix k (n / radix) in
-    length-append (digits_text radix k (n / radix)) (digit_text (n % radix) ∷ []) ∙ rw before (omega arith)
+text-length radix (suc k) n = grind (arith, common_steps, text-length radix k (n / radix), length-append)
 
 module _ (radix : ℕ) (two : 2 ≤ radix) (most : radix ≤ 16) where
   small : (n : ℕ) → n % radix < 16
@@ -61,38 +51,20 @@ module _ (radix : ℕ) (two : 2 ≤ radix) (most : radix ≤ 16) where
   -- what holds of all digits of the base
   pub text-all : (test : ℕ → Bool) → ((d : ℕ) → d < radix → test (digit_text d) ≡ true) → (k n : ℕ) → list_all test (digits_text radix k n) ≡ true
   text-all test all zero n = refl
-  text-all test all (suc k) n =
-      list_all-append test (digits_text radix k (n / radix)) (digit_text (n % radix) ∷ [])
-      ∙ rw (text-all test all k (n / radix), all (n % radix) (mod-lt n (omega (arith, two)))) refl
+  text-all test all (suc k) n = grind (arith, common_steps, text-all test all k (n / radix), list_all-append, mod-lt)
 
   text-digits : (k n : ℕ) → are_digits radix (digits_text radix k n) ≡ true
-  text-digits k n = text-all (λ d. nat_lt (digit_value d) radix)
-      (λ d h. ap (λ v. nat_lt v radix) (value-of_digit d (omega (arith, h, most))) ∙ lt-ltb d radix h) k n
+  text-digits k n = grind (arith, common_steps, text-all, value-of_digit, lt-ltb)
 
   text-value : (k n : ℕ) → n < radix ^ k → digits_after radix 0 (digits_text radix k n) ≡ n
   text-value zero n h = let one : radix ^ 0 ≡ 1 = pow-zero radix in omega (arith, one, h)
-  text-value (suc k) n h =
-      let whole : radix ^ suc k ≡ radix ^ k * radix = pow-suc radix k in
-      let less : n / radix < radix ^ k = (div-lt_iff_lt-mul {k = radix} {x = n} {y = radix ^ k} (omega (arith, two))).1 (omega (arith, h, whole)) in
-      one_after radix 0 (digits_text radix k (n / radix)) (digit_text (n % radix))
-      ∙ grown-digit radix (digits_after radix 0 (digits_text radix k (n / radix))) (n % radix) (small n)
-      ∙ ap (λ m. m * radix + n % radix) (text-value k (n / radix) less)
-      ∙ (let whole : radix * (n / radix) + n % radix ≡ n = div-add-mod n radix in omega (arith, whole))
+  text-value (suc k) n h = grind (arith, common_steps, text-value k (n / radix), pow-suc, div-lt_iff_lt-mul, one_after, grown-digit, small, div-add-mod)
 
 -- ---- bits
 
 made : (radix each k value : ℕ) → 2 ≤ radix → radix ≤ 16 → 0 < k → k * each ≤ 128 → value < radix ^ k
     → bits_of radix each (digits_text radix k value) nowhere ≡ Ok (spec_bits value (k * each) nowhere)
-made radix each k value two most some fits small =
-    let ds = digits_text radix k value in
-    let len : length ds ≡ k = text-length radix k value in
-    let a : nat_lt 0 (length ds) ≡ true = ap (nat_lt 0) len ∙ lt-ltb 0 k some in
-    let b : nat_le (length ds * each) 128 ≡ true = ap (λ l. nat_le (l * each) 128) len ∙ le-leb (k * each) 128 fits in
-    let c : are_digits radix ds ≡ true = text-digits radix two most k value in
-    let test : are_bits radix each ds ≡ true = rw (a, b, c) refl in
-    ap (λ t. if t then Ok (spec_bits (digits_after radix 0 ds) (length ds * each) nowhere) else no M.Bits nowhere) test
-    ∙ ap (λ v. Ok (spec_bits v (length ds * each) nowhere)) (text-value radix two most k value small)
-    ∙ ap (λ l. Ok (spec_bits value (l * each) nowhere)) len
+made radix each k value two most some fits small = grind (arith, common_steps, text-length, lt-ltb, le-leb, text-digits, text-value)
 
 pub bits_read : (value width : ℕ) → bits_are_spellable value width ≡ true → word_spec_of (record { text = bits_text value width; at = nowhere }) ≡ Ok (spec_bits value width nowhere)
 unfolding bits_are_spellable

@@ -1,12 +1,13 @@
 -- The forms of definitions that can be spelled: their words, numbers and constants can be, and they nest 1,000 deep at most. Words
 -- that begin with `-` stand in other forms.
-use Rattle.std.proofs.Common.{◌≡◌, ℕ, zero, suc, ◌+◌, ◌-◌, ◌≤◌, refl, sym, ◌∙◌, List, [], ◌∷◌, arith}
+use Rattle.std.proofs.Common.{◌≡◌, ℕ, zero, suc, ◌+◌, ◌-◌, ◌≤◌, refl, List, [], ◌∷◌, arith}
 use Rattle.std.specs.Prelude.{◌^◌, ℤ, pos, negsuc, max, nat_lt, Bool, true, false, ◌&&◌, ◌==◌, codes, Option, Some, None}
 use Rattle.std.specs.List.{list_all}
 use Rattle.std.specs.Str.{IsAscii}
-use Rattle.std.proofs.lemmas.Bool.{false≢true, true≢false}
+use Rattle.std.proofs.lemmas.Bool.{false≢true}
 use Rattle.std.proofs.lemmas.Bool.Decides.{nat_tests}
 use Rattle.std.proofs.lemmas.Str.{is_utf8-from_IsUtf8, IsUtf8-from_ascii, chars-IsAscii}
+use Rattle.std.proofs.lemmas.Grind.{common_steps}
 use Rattle.model.specs.lists.Syntax.{Name, PatternTree, var_pattern, bind_pattern, bool_pattern, int_pattern, prim_pattern, term_pattern, wildcard_pattern, and_pattern, macro_arg, PatternTrees, no_pattern, pattern_and, ExprTree, term_expr, var_expr, bool_expr, int_expr, prim_expr, let_expr, ExprTrees, no_expr, expr_and, LetTrees, no_let, let_and, FieldTree, TupleFieldTree, FieldTrees, unit_fields, struct_fields, tuple_fields, VariantTree, TypeValueTree, primitive_value, enum_value, struct_value, TypeTree, DeclTree, ExtractorTree, ConverterTree, IfLetTree, RuleTree, ExternTree, extern_constructor, extern_extractor, extern_const, Definition, type_definition, declaration, extractor_definition, converter_definition, rule_definition, extern_definition, other_definition}
 use Rattle.text_reader.specs.FormTrees.{FormTree, a_word, a_number, a_constant, a_binding, a_list, FormTrees, no_form, form_and, depth, all_depth}
 use Rattle.text_reader.specs.PassedOver.{is_dashed, has_dash, have_dash}
@@ -47,11 +48,9 @@ pub record AllFit (dashes : Bool) (fs : FormTrees) (room : ℕ) : Type 0 where
 -- where words may begin with `-`, they needn't
 mutual
   pub fine_anyway : (f : FormTree) → is_fine false f ≡ true → is_fine true f ≡ true
-  fine_anyway (a_word n) h = word_is_any n h
-  fine_anyway (a_number z p) h = h
-  fine_anyway (a_constant n p) h = h
   fine_anyway (a_binding n f) h = let k = both (is_word n) (is_fine false f) h in rw (k.0, fine_anyway f k.1) refl
   fine_anyway (a_list fs p e) h = all_fine_anyway fs h
+  fine_anyway f h = grind (arith, common_steps, word_is_any)
 
   all_fine_anyway : (fs : FormTrees) → are_fine false fs ≡ true → are_fine true fs ≡ true
   all_fine_anyway no_form h = refl
@@ -59,16 +58,13 @@ mutual
 
 -- no other word begins with `-`
 pub no_dash : (t : List ℕ) → begins_word t ≡ true → is_dashed t ≡ false
-no_dash [] h = absurd (true≢false (sym h ∙ nothing_begins))
-no_dash (b ∷ bs) h = (beginning_parts b bs h).1
+no_dash t h = grind (arith, common_steps, nothing_begins, beginning_parts)
 
 mutual
   pub fine_dashes : (f : FormTree) → is_fine false f ≡ true → has_dash f ≡ false
-  fine_dashes (a_word n) h = no_dash n.text (word_parts n h).0
-  fine_dashes (a_number z p) h = refl
-  fine_dashes (a_constant n p) h = refl
   fine_dashes (a_binding n f) h = fine_dashes f (both (is_word n) (is_fine false f) h).1
   fine_dashes (a_list fs p e) h = all_fine_dashes fs h
+  fine_dashes f h = grind (arith, common_steps, no_dash, word_parts)
 
   all_fine_dashes : (fs : FormTrees) → are_fine false fs ≡ true → have_dash fs ≡ false
   all_fine_dashes no_form h = refl
@@ -140,10 +136,7 @@ pub greatest : (a b n : ℕ) → a ≤ n → b ≤ n → max a b ≤ n
 greatest a b n h k = omega arith
 
 pub more : {dashes : Bool} {f : FormTree} {fs : FormTrees} {room : ℕ} → Fits dashes f room → AllFit dashes fs room → AllFit dashes (form_and f fs) room
-more {dashes = dashes} {f = f} {fs = fs} {room = room} h k = record {
-  fine = and_true (is_fine dashes f) (are_fine dashes fs) h.fine k.fine;
-  nests = greatest (depth f) (all_depth fs) room h.nests k.nests;
-}
+more {dashes = dashes} {f = f} {fs = fs} {room = room} h k = grind (arith, common_steps, and_true, greatest)
 
 pub less : (a room : ℕ) → nat_lt 0 room ≡ true → a ≤ room - 1 → a + 1 ≤ room
 less a room some h = grind (arith, nat_tests, some, h)
@@ -209,9 +202,7 @@ mutual
 
   patterns_fit : (qs : PatternTrees) (room : ℕ) → patterns_are_spellable qs room ≡ true → AllFit false (pattern_forms qs) room
   patterns_fit no_pattern room h = none
-  patterns_fit (pattern_and q qs) room h =
-      let k = both (pattern_is_spellable q room) (patterns_are_spellable qs room) h in
-      more (pattern_fits q room k.0) (patterns_fit qs room k.1)
+  patterns_fit (pattern_and q qs) room h = grind (arith, common_steps, pattern_fits q room, patterns_fit qs room, both, more)
 
 pub one_more : (room : ℕ) → nat_lt 1 room ≡ true → nat_lt 0 room ≡ true
 one_more room h = grind (arith, nat_tests, h)
@@ -236,14 +227,11 @@ mutual
   expr_fits (let_expr ds e p) room h =
       let k = three (nat_lt 1 room) (lets_are_spellable ds (room - 2)) (expr_is_spellable e (room - 1)) h in
       headed (codes "let") room (one_more room k.0) refl
-      (more (listed (room - 1) (some_left room k.0) (rw (two_less room) (lets_fit ds (room - 2) k.1)))
-      (more (expr_fits e (room - 1) k.2) none))
+      (grind (arith, lets_fit ds (room - 2) k.1, expr_fits e (room - 1) k.2, more, listed, some_left, two_less))
 
   exprs_fit : (es : ExprTrees) (room : ℕ) → exprs_are_spellable es room ≡ true → AllFit false (expr_forms es) room
   exprs_fit no_expr room h = none
-  exprs_fit (expr_and e es) room h =
-      let k = both (expr_is_spellable e room) (exprs_are_spellable es room) h in
-      more (expr_fits e room k.0) (exprs_fit es room k.1)
+  exprs_fit (expr_and e es) room h = grind (arith, common_steps, expr_fits e room, exprs_fit es room, both, more)
 
   lets_fit : (ds : LetTrees) (room : ℕ) → lets_are_spellable ds room ≡ true → AllFit false (let_forms ds) room
   lets_fit no_let room h = none
@@ -269,10 +257,9 @@ tuple_list_fits i (f ∷ fs) h =
 
 fields_fit : (fs : FieldTrees) → fields_are_spellable fs ≡ true → AllFit false (fields_forms fs) 997
 fields_fit unit_fields h = none
-fields_fit (struct_fields []) h = absurd (false≢true h)
 fields_fit (struct_fields (f ∷ fs)) h = field_list_fits (f ∷ fs) h
-fields_fit (tuple_fields []) h = absurd (false≢true h)
 fields_fit (tuple_fields (f ∷ fs)) h = tuple_list_fits 0 (f ∷ fs) h
+fields_fit _ h = absurd (false≢true h)
 
 deeper : (fs : FormTrees) → AllFit false fs 997 → AllFit false fs 998
 deeper fs h = record { fine = h.fine; nests = omega (arith, h.nests) }

@@ -1,9 +1,10 @@
 -- The form of a definition that can be spelled is read as this definition.
-use Rattle.std.proofs.Common.{◌≡◌, ℕ, suc, ◌-◌, refl, sym, ap, ◌∙◌, List, [], ◌∷◌, map}
+use Rattle.std.proofs.Common.{◌≡◌, ℕ, suc, ◌-◌, refl, ap, List, [], ◌∷◌, map, arith}
 use Rattle.std.specs.Prelude.{◌^◌, ℤ, nat_lt, Bool, true, false, not, ◌&&◌, ◌==◌, codes, Option, Some, None, Ok}
 use Rattle.std.specs.List.{list_all}
 use Rattle.std.proofs.lemmas.Bool.{false≢true, eqb-true}
-use Rattle.model.specs.lists.Syntax.{Position, Name, PatternTree, var_pattern, bind_pattern, bool_pattern, int_pattern, prim_pattern, term_pattern, wildcard_pattern, and_pattern, macro_arg, PatternTrees, no_pattern, pattern_and, ExprTree, term_expr, var_expr, bool_expr, int_expr, prim_expr, let_expr, ExprTrees, no_expr, expr_and, LetTrees, no_let, let_and, FieldTree, TupleFieldTree, FieldTrees, unit_fields, struct_fields, tuple_fields, VariantTree, TypeValueTree, primitive_value, enum_value, struct_value, TypeTree, DeclTree, IfLetTree, ExternTree, extern_constructor, extern_extractor, extern_const, Definition, type_definition, declaration, extractor_definition, converter_definition, rule_definition, extern_definition, other_definition}
+use Rattle.std.proofs.lemmas.Grind.{common_steps}
+use Rattle.model.specs.lists.Syntax.{Position, Name, PatternTree, var_pattern, bind_pattern, bool_pattern, term_pattern, and_pattern, macro_arg, PatternTrees, no_pattern, pattern_and, ExprTree, term_expr, var_expr, bool_expr, let_expr, ExprTrees, no_expr, expr_and, LetTrees, no_let, let_and, FieldTree, TupleFieldTree, FieldTrees, unit_fields, struct_fields, tuple_fields, VariantTree, TypeValueTree, TypeTree, DeclTree, IfLetTree, ExternTree, extern_constructor, extern_extractor, extern_const, Definition, type_definition, declaration, extractor_definition, converter_definition, rule_definition, extern_definition, other_definition}
 use Rattle.text_reader.specs.Lexemes.{◌>>=◌}
 use Rattle.text_reader.specs.FormTrees.{FormTree, FormTrees, no_form, form_and}
 use Rattle.text_reader.specs.Solid.{nowhere, placeless_name}
@@ -15,7 +16,7 @@ use Rattle.text_reader.specs.RuleGrammar.{statement_of, statements_of, named_in,
 use Rattle.text_reader.specs.Definitions.{definition_of}
 use Rattle.text_writer.specs.Placeless.{placeless_pattern, placeless_patterns, placeless_expr, placeless_exprs, placeless_lets, placeless_field, placeless_tuple_field, placeless_fields, placeless_variant, placeless_value, placeless_type, placeless_if_let, placeless_definition}
 use Rattle.text_writer.specs.Forms.{names_before, flag_before, flags_before, type_words_before, rule_words_before, name_before, priority_before, pattern_form, pattern_forms, expr_form, expr_forms, let_forms, field_forms, tuple_field_forms, fields_forms, variant_by, variant_forms, value_form, if_let_form, if_lets_before, form_of}
-use Rattle.text_writer.specs.Spellable.{is_pattern_variable, is_pattern_head, is_expr_variable, is_expr_head, is_signed_128, pattern_is_spellable, patterns_are_spellable, expr_is_spellable, exprs_are_spellable, lets_are_spellable, field_is_spellable, tuple_is_spellable, fields_are_spellable, variant_is_spellable, value_is_spellable, if_let_is_spellable, is_written_as_word, is_written_as_number, begins_with_pattern, is_no_name_or_word, is_no_priority_or_fits, can_be_spelled}
+use Rattle.text_writer.specs.Spellable.{is_pattern_head, is_expr_head, pattern_is_spellable, patterns_are_spellable, expr_is_spellable, exprs_are_spellable, lets_are_spellable, tuple_is_spellable, fields_are_spellable, variant_is_spellable, value_is_spellable, if_let_is_spellable, is_written_as_word, is_written_as_number, begins_with_pattern, is_no_name_or_word, is_no_priority_or_fits, can_be_spelled}
 use Rattle.text_writer.specs.Spellable as S
 use Rattle.text_writer.proofs.WordParts.{both, three, four, six, unless, variable_parts, pattern_head_parts, expr_variable_parts, expr_head_parts}
 
@@ -32,26 +33,21 @@ mutual
       let k = three (nat_lt 0 room) (S.is_word n) (pattern_is_spellable q (room - 1)) h in
       ap (λ r. r >>= (λ x. Ok (bind_pattern (placeless_name n) x nowhere))) (pattern_read q (room - 1) k.2)
   pattern_read (bool_pattern true p) room h = refl
-  pattern_read (bool_pattern false p) room h = refl
-  pattern_read (int_pattern z p) room h = refl
-  pattern_read (prim_pattern n p) room h = refl
   pattern_read (term_pattern t qs p) room h =
       let k = three (nat_lt 0 room) (is_pattern_head t) (patterns_are_spellable qs (room - 1)) h in
       let names = pattern_head_parts t k.1 in
       rw (patterns_read qs (room - 1) k.2, names.2, names.1) refl
-  pattern_read (wildcard_pattern p) room h = refl
   pattern_read (and_pattern qs p) room h =
       let k = both (nat_lt 0 room) (patterns_are_spellable qs (room - 1)) h in
       rw (patterns_read qs (room - 1) k.1) refl
   pattern_read (macro_arg i p) room h =
       let k = both (nat_lt 0 room) (nat_lt i (2 ^ 64)) h in
       rw k.1 refl
+  pattern_read _ room h = refl
 
   patterns_read : (qs : PatternTrees) (room : ℕ) → patterns_are_spellable qs room ≡ true → patterns_of (pattern_forms qs) ≡ Ok (placeless_patterns qs)
   patterns_read no_pattern room h = refl
-  patterns_read (pattern_and q qs) room h =
-      let k = both (pattern_is_spellable q room) (patterns_are_spellable qs room) h in
-      rw (pattern_read q room k.0, patterns_read qs room k.1) refl
+  patterns_read (pattern_and q qs) room h = grind (arith, common_steps, pattern_read q room, patterns_read qs room, both)
 
 -- ---- expressions
 
@@ -62,12 +58,10 @@ mutual
       rw ((expr_head_parts t k.1).1, exprs_read es (room - 1) k.2) refl
   expr_read (var_expr n p) room h = let k = expr_variable_parts n h in rw (k.1, k.2) refl
   expr_read (bool_expr true p) room h = refl
-  expr_read (bool_expr false p) room h = refl
-  expr_read (int_expr z p) room h = refl
-  expr_read (prim_expr n p) room h = refl
   expr_read (let_expr ds e p) room h =
       let k = three (nat_lt 1 room) (lets_are_spellable ds (room - 2)) (expr_is_spellable e (room - 1)) h in
       rw (lets_read ds (room - 2) k.1, expr_read e (room - 1) k.2) refl
+  expr_read _ room h = refl
 
   exprs_read : (es : ExprTrees) (room : ℕ) → exprs_are_spellable es room ≡ true → exprs_of (expr_forms es) ≡ Ok (placeless_exprs es)
   exprs_read no_expr room h = refl
@@ -103,12 +97,7 @@ numbered i (f ∷ fs) h =
     rw (eqb-true f.index i k.0, numbered (suc i) fs k.2) refl
 
 all_fields_read : (fs : FieldTrees) → fields_are_spellable fs ≡ true → fields_of (fields_forms fs) ≡ Ok (placeless_fields fs)
-all_fields_read unit_fields h = refl
-all_fields_read (struct_fields []) h = absurd (false≢true h)
-all_fields_read (struct_fields (f ∷ fs)) h = ap (λ r. r >>= (λ xs. Ok (struct_fields xs))) (fields_read (f ∷ fs))
-all_fields_read (tuple_fields []) h = absurd (false≢true h)
-all_fields_read (tuple_fields (f ∷ fs)) h =
-    ap (λ r. r >>= (λ tys. Ok (tuple_fields (numbered_from 0 tys)))) (types_read (f ∷ fs)) ∙ ap (λ l. Ok (tuple_fields l)) (numbered 0 (f ∷ fs) h)
+all_fields_read fs h = grind (arith, common_steps, fields_read, types_read, numbered)
 
 variant_read : (n : Name) (fs : FieldTrees) → fields_are_spellable fs ≡ true
     → variant_of (variant_by n fs) ≡ Ok (record { name = placeless_name n; fields = placeless_fields fs; at = nowhere })
@@ -118,20 +107,13 @@ variant_read n (tuple_fields fs) h = rw (all_fields_read (tuple_fields fs) h) re
 
 variants_read : (vs : List VariantTree) → list_all variant_is_spellable vs ≡ true → variants_of (variant_forms vs) ≡ Ok (map placeless_variant vs)
 variants_read [] h = refl
-variants_read (v ∷ vs) h =
-    let k = both (variant_is_spellable v) (list_all variant_is_spellable vs) h in
-    let one = both (S.is_word v.name) (fields_are_spellable v.fields) k.0 in
-    rw (variant_read v.name v.fields one.1, variants_read vs k.1) refl
+variants_read (v ∷ vs) h = grind (arith, common_steps, variants_read vs, both, variant_read)
 
 value_read : (v : TypeValueTree) → value_is_spellable v ≡ true → type_value_of (value_form v) ≡ Ok (placeless_value v)
-value_read (primitive_value n p) h = refl
-value_read (enum_value vs p) h = rw (variants_read vs h) refl
-value_read (struct_value fs p) h = rw (all_fields_read fs h) refl
+value_read v h = grind (arith, common_steps, variants_read, all_fields_read)
 
 value_no_word : (text : List ℕ) (v : TypeValueTree) → is_word text (value_form v) ≡ false
-value_no_word text (primitive_value n p) = refl
-value_no_word text (enum_value vs p) = refl
-value_no_word text (struct_value fs p) = refl
+value_no_word text v = grind (arith, common_steps)
 
 type_read : (n : Name) (outside silent : Bool) (v : TypeValueTree) (at : Position) → value_is_spellable v ≡ true
     → (let t : TypeTree = record { name = n; is_extern = outside; is_nodebug = silent; value = v; at = at } in
@@ -175,9 +157,7 @@ extern_read (extern_const n t p) = refl
 -- ---- rules
 
 if_let_read : (l : IfLetTree) → if_let_is_spellable l ≡ true → statement_of (if_let_form l) ≡ Ok (placeless_if_let l)
-if_let_read l h =
-    let k = both (pattern_is_spellable l.pattern 998) (expr_is_spellable l.expr 998) h in
-    rw (pattern_read l.pattern 998 k.0, expr_read l.expr 998 k.1) refl
+if_let_read l h = grind (arith, common_steps, both, pattern_read, expr_read)
 
 if_lets_read : (ls : List IfLetTree) → list_all if_let_is_spellable ls ≡ true → statements_of (if_lets_before ls no_form) ≡ Ok (map placeless_if_let ls)
 unfolding if_lets_before
@@ -194,28 +174,11 @@ body_parted ends (l ∷ m ∷ ls) f = ap (λ r. r >>= (λ s. Ok (form_and (if_le
 
 no_name : (q : PatternTree) (fs : FormTrees) (at ends : Position) → is_written_as_word q ≡ false
     → named_in (form_and (pattern_form q) fs) at ends ≡ (None, listed (form_and (pattern_form q) fs) at ends)
-no_name (var_pattern n p) fs at ends h = absurd (false≢true (sym h))
-no_name (bind_pattern n q p) fs at ends h = refl
-no_name (bool_pattern b p) fs at ends h = absurd (false≢true (sym h))
-no_name (int_pattern z p) fs at ends h = refl
-no_name (prim_pattern n p) fs at ends h = refl
-no_name (term_pattern t qs p) fs at ends h = refl
-no_name (wildcard_pattern p) fs at ends h = absurd (false≢true (sym h))
-no_name (and_pattern qs p) fs at ends h = refl
-no_name (macro_arg i p) fs at ends h = refl
+no_name q fs at ends h = grind (arith, common_steps)
 
 no_priority : (q : PatternTree) (fs : FormTrees) (at ends : Position) → is_written_as_number q ≡ false
     → prioritized_in (form_and (pattern_form q) fs) at ends ≡ Ok (None, listed (form_and (pattern_form q) fs) at ends)
-no_priority (var_pattern n p) fs at ends h = refl
-no_priority (bind_pattern n q p) fs at ends h = refl
-no_priority (bool_pattern true p) fs at ends h = refl
-no_priority (bool_pattern false p) fs at ends h = refl
-no_priority (int_pattern z p) fs at ends h = absurd (false≢true (sym h))
-no_priority (prim_pattern n p) fs at ends h = refl
-no_priority (term_pattern t qs p) fs at ends h = refl
-no_priority (wildcard_pattern p) fs at ends h = refl
-no_priority (and_pattern qs p) fs at ends h = refl
-no_priority (macro_arg i p) fs at ends h = refl
+no_priority q fs at ends h = grind (arith, common_steps)
 
 abbrev a_rule : PatternTree → List IfLetTree → ExprTree → Position → Option ℤ → Option Name → Definition
 a_rule q ls e at prio name = rule_definition (record { pattern = q; iflets = ls; expr = e; at = at; prio = prio; name = name })
@@ -252,9 +215,7 @@ module _ (q : PatternTree) (ls : List IfLetTree) (e : ExprTree) (at : Position)
 pub definition_read : (d : Definition) → can_be_spelled d ≡ true → definition_of (form_of d) ≡ Ok (placeless_definition d)
 definition_read (type_definition t) h = type_read t.name t.is_extern t.is_nodebug t.value t.at (both (S.is_word t.name) (value_is_spellable t.value) h).1
 definition_read (declaration d) h = decl_read d.pure d.multi d.partial d.rec d.term d.arg_tys d.ret_ty d.at
-definition_read (extractor_definition e) h =
-    let k = three (S.is_word e.term) (S.are_words e.args) (pattern_is_spellable e.template 999) h in
-    rw (names_read e.args, pattern_read e.template 999 k.2) refl
+definition_read (extractor_definition e) h = grind (arith, common_steps, three, names_read, pattern_read)
 definition_read (converter_definition c) h = refl
 definition_read (rule_definition r) h =
     let k = six (is_no_name_or_word r.name) (is_no_priority_or_fits r.prio) (begins_with_pattern r.name r.prio r.pattern)

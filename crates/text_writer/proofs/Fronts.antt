@@ -1,5 +1,6 @@
 -- A text begins with a byte order mark where its pieces do.
-use Rattle.std.proofs.Common.{◌≡◌, ℕ, Bool, List, [], ◌∷◌, ap, ap₂, ◌∙◌}
+use Rattle.std.proofs.Common.{◌≡◌, ℕ, Bool, List, ap₂, ◌∙◌, arith}
+use Rattle.std.proofs.lemmas.Grind.{common_steps}
 use Rattle.text_reader.specs.Pieces.{Piece, begins_with, AreIn}
 use Rattle.text_writer.specs.Placing.{Placed, all_placed}
 use Rattle.text_writer.specs.Plans.{planned, first_last, is_marked}
@@ -8,8 +9,7 @@ use Rattle.text_writer.specs.Pages.{laid, laid_plan, text_of}
 use Rattle.text_writer.proofs.Scans.{fronted}
 
 pub marked_text : (text : List ℕ) (ps : List Piece) → AreIn 0 text ps → begins_with 65279 text ≡ is_marked ps
-marked_text text [] h = ap (begins_with 65279) h
-marked_text text (q ∷ ps) h = ap (begins_with 65279) h.1 ∙ fronted 65279 q h.0 0 h.2
+marked_text text ps h = grind (arith, common_steps, fronted)
 
 -- a text that is laid out by its parts is laid out by its pieces
 pub laid_as : (i : Indentation) (text : List ℕ) (ps : List Piece) (parts : List Placed) (marked : Bool) (made : List ℕ) → AreIn 0 text ps → marked ≡ begins_with 65279 text → parts ≡ all_placed 0 0 ps

@@ -1,7 +1,8 @@
 -- A text that has lists has tokens, and a layout.
-use Rattle.std.proofs.Common.{◌≡◌, ℕ, List, [], refl, sym, ap, ◌∙◌, subst}
-use Rattle.std.specs.Prelude.{Result, Ok, Err, ⊤}
+use Rattle.std.proofs.Common.{◌≡◌, ℕ, List, [], sym, ap, ◌∙◌, arith}
+use Rattle.std.specs.Prelude.{Result, Ok, ⊤}
 use Rattle.std.specs.Str.{chars}
+use Rattle.std.proofs.lemmas.Grind.{common_steps}
 use Rattle.text_reader.specs.Definitions.{lists_in, tokens_in, forms_in}
 use Rattle.text_reader.specs.FormTrees.{FormTrees}
 use Rattle.text_reader.specs.Lexemes.{Wrong, ◌>>=◌}
@@ -16,12 +17,10 @@ abbrev fine : Result ⊤ Wrong
 fine = Ok tt
 
 anything : {A B : Type 0} (r : Result A Wrong) (x : B) → (r >>= (λ _. fine)) ≡ fine → (r >>= (λ _. Ok x)) ≡ Ok x
-anything (Ok a) x h = refl
-anything (Err w) x h = absurd (cc h)
+anything r x h = grind (arith, common_steps)
 
 pub had_tokens : (r : Result Tokens Wrong) (f : Tokens → Result FormTrees Wrong) → ((r >>= f) >>= (λ _. fine)) ≡ fine → (ts : Tokens) × (r ≡ Ok ts)
-had_tokens (Ok ts) f h = (ts, refl)
-had_tokens (Err w) f h = absurd (cc h)
+had_tokens r f h = grind (arith, common_steps)
 
 pub has_layout : (file : ℕ) (i : Indentation) (text made : List ℕ) → lists_in file text ≡ fine → made ≡ text_of (laid i (pieces_of (chars text))) → layout_in file i text ≡ Ok made
 has_layout file i text made h e = anything (forms_in file text) _ h ∙ ap (λ m. Ok m) (sym e)
@@ -33,6 +32,4 @@ pub has_same : (file : ℕ) (i : Indentation) (text made : List ℕ) → lists_i
     → ((ps qs : List Piece) (ts : Tokens) → AreIn 0 (chars text) ps → tokens_after file 0 ps [] ≡ Ok ts → AreIn 0 (text_of (laid i ps)) qs
     → stripped (tokens_after file 0 qs []) ≡ stripped (tokens_after file 0 ps []))
     → (ps qs : List Piece) → AreIn 0 (chars text) ps → AreIn 0 made qs → stripped (tokens_after file 0 ps []) ≡ stripped (tokens_after file 0 qs [])
-has_same file i text made h one is keeps ps qs are become =
-    let t = had_tokens (tokens_in file text) _ h in
-    sym (keeps ps qs t.0 are (ap (λ rs. tokens_after file 0 rs []) (one ps are) ∙ t.1) (subst (λ m. AreIn 0 m qs) (is ps are) become))
+has_same file i text made h one is keeps ps qs are become = grind (arith, common_steps, had_tokens (tokens_in file text) _ h)

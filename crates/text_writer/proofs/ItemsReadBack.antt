@@ -1,10 +1,10 @@
 -- The text of definitions and trees for a verifier is read as these, but for places.
-use Rattle.std.proofs.Common.{◌≡◌, ℕ, suc, refl, sym, ap, ◌∙◌, subst, List, [], ◌∷◌, ◌++◌, map, inl, inr}
-use Rattle.std.specs.Prelude.{Bool, true, false, Option, Some, None, Ok, if◌then◌else◌}
+use Rattle.std.proofs.Common.{◌≡◌, ℕ, suc, refl, sym, ap, ◌∙◌, subst, List, [], ◌∷◌, ◌++◌, map, arith}
+use Rattle.std.specs.Prelude.{true, false, Option, Some, None, Ok}
 use Rattle.std.specs.List.{list_all}
-use Rattle.std.proofs.lemmas.Bool.{cases_Bool}
 use Rattle.std.proofs.lemmas.Simd.{map-map}
-use Rattle.model.specs.lists.Syntax.{Definition, type_definition, declaration, extractor_definition, converter_definition, rule_definition, extern_definition, extern_constructor, extern_extractor, extern_const, other_definition}
+use Rattle.std.proofs.lemmas.Grind.{common_steps}
+use Rattle.model.specs.lists.Syntax.{Definition}
 use Rattle.text_reader.specs.Lexemes.{◌>>=◌}
 use Rattle.text_reader.specs.FormTrees.{FormTree, FormTrees, form_and}
 use Rattle.text_reader.specs.PassedOver.{is_passed_over}
@@ -20,7 +20,7 @@ use Rattle.text_writer.proofs.Placed.{placed, placed_bare}
 use Rattle.text_writer.proofs.Lines.{StandsAlone, lines, line_end, lines_placed, lines_forms, placed_passed}
 use Rattle.text_writer.proofs.FormsRead.{definition_read}
 use Rattle.text_writer.proofs.ReadBack.{good, definition_stands, all_stand, all_spelled_back}
-use Rattle.text_reader.specs.SpecTrees.{VerificationTree, a_spec, a_model, a_form, an_instantiation, an_attr, a_state, a_macro, a_pragma}
+use Rattle.text_reader.specs.SpecTrees.{VerificationTree}
 use Rattle.text_reader.specs.Verifying.{verification_of, said_of, said_from, numbered}
 use Rattle.text_writer.specs.PlacelessTrees.{placeless_tree}
 use Rattle.text_writer.specs.SpecForms.{verification_form, printed}
@@ -35,34 +35,10 @@ use Rattle.text_writer.proofs.TreesFit.{tree_passed, tree_stands}
 -- ---- one item
 
 definition_passed : (d : Definition) → is_passed_over (form_of d) ≡ false
-definition_passed (type_definition t) = refl
-definition_passed (declaration d) = refl
-definition_passed (extractor_definition e) = refl
-definition_passed (converter_definition c) = refl
-definition_passed (rule_definition r) = refl
-definition_passed (extern_definition (extern_constructor t f p)) = refl
-definition_passed (extern_definition (extern_extractor t f p i)) = refl
-definition_passed (extern_definition (extern_const n t p)) = refl
-definition_passed other_definition = refl
-
--- a reader of definitions passes over trees for a verifier
-tree_is_other : (v : VerificationTree) → definition_of (verification_form v) ≡ Ok other_definition
-tree_is_other (a_spec s) = refl
-tree_is_other (a_model m) = refl
-tree_is_other (a_form f) = refl
-tree_is_other (an_instantiation i) = refl
-tree_is_other (an_attr a) = refl
-tree_is_other (a_state s) = refl
-tree_is_other (a_macro m) = by m.is_spec
-  where
-    by : (is : Bool) → definition_of (verification_form (a_macro (record m { is_spec = is }))) ≡ Ok other_definition
-    by true = refl
-    by false = refl
-tree_is_other (a_pragma p) = refl
+definition_passed d = grind (arith, common_steps)
 
 item_read : (i : Item) → item_can_be_spelled i ≡ true → definition_of (item_form i) ≡ Ok (placeless_definition (definition_in i))
-item_read (a_definition d) h = definition_read d h
-item_read (a_tree v) h = tree_is_other v
+item_read i h = grind (arith, common_steps, definition_read)
 
 item_stands : (i : Item) → item_can_be_spelled i ≡ true → StandsAlone (item_form i)
 item_stands (a_definition d) h = definition_stands d h
@@ -81,25 +57,14 @@ module _ (file : ℕ) where
       ∙ ap Ok (tree_twice v))
 
   nothing_said : (o : ℕ) (d : Definition) → said_of (placed file o (form_of d)) ≡ Ok None
-  nothing_said o d = no_more (is_passed_over (placed file o (form_of d))) (placed_passed file o (form_of d) ∙ definition_passed d)
-    where
-      no_more : (b : Bool) → b ≡ false → (if b then (verification_of (placed file o (form_of d)) >>= (λ v. Ok (Some v))) else Ok None) ≡ Ok None
-      no_more b e = rw e refl
+  nothing_said o d = grind (arith, common_steps, placed, placed_passed, definition_passed)
 
   tree_said : (o : ℕ) (v w : VerificationTree) → verification_of (placed file o (verification_form v)) ≡ Ok w → said_of (placed file o (verification_form v)) ≡ Ok (Some w)
-  tree_said o v w e =
-      if_passed (is_passed_over (placed file o (verification_form v))) (placed_passed file o (verification_form v) ∙ tree_passed v)
-      ∙ ap (λ r. r >>= (λ x. Ok (Some x))) e
-    where
-      if_passed : (b : Bool) → b ≡ true
-          → (if b then (verification_of (placed file o (verification_form v)) >>= (λ x. Ok (Some x))) else Ok None) ≡ (verification_of (placed file o (verification_form v)) >>= (λ x. Ok (Some x)))
-      if_passed b e = rw e refl
+  tree_said o v w e = grind (arith, common_steps, placed, placed_passed, tree_passed)
 
   one_more : (n : ℕ) (f : FormTree) (fs : FormTrees) (v : Option VerificationTree) (vs : List (ℕ × VerificationTree)) → said_of f ≡ Ok v → said_from (suc n) fs ≡ Ok vs
       → said_from n (form_and f fs) ≡ Ok (numbered n v ++ vs)
-  one_more n f fs v vs e g =
-      ap (λ r. r >>= (λ x. said_from (suc n) fs >>= (λ xs. Ok (numbered n x ++ xs)))) e
-      ∙ ap (λ r. r >>= (λ xs. Ok (numbered n v ++ xs))) g
+  one_more n f fs v vs e g = grind (arith, common_steps)
 
   items_said : (is : List Item) (n o : ℕ) → list_all item_can_be_spelled is ≡ true
       → (said : List (ℕ × VerificationTree)) × (said_from n (lines_placed file o (map item_form is)) ≡ Ok said)
@@ -158,9 +123,7 @@ only_trees (v ∷ vs) = ap (λ t. written (verification_form v) ++ 10 ∷ t) (on
 
 trees_spelled : (vs : List VerificationTree) → list_all T.can_be_spelled vs ≡ true → list_all item_can_be_spelled (map a_tree vs) ≡ true
 trees_spelled [] h = refl
-trees_spelled (v ∷ vs) h =
-    let k = both (T.can_be_spelled v) (list_all T.can_be_spelled vs) h in
-    rw (k.0, trees_spelled vs k.1) refl
+trees_spelled (v ∷ vs) h = grind (arith, common_steps, trees_spelled vs, both)
 
 trees_numbered : (n : ℕ) (vs : List VerificationTree) → trees_from n (map a_tree vs) ≡ numbered_from n vs
 trees_numbered n [] = refl
@@ -174,10 +137,7 @@ trees_say vs h =
 -- where none is the first that can't be spelled, all can be
 all_spellable : (vs : List VerificationTree) → T.first_unspelled vs ≡ None → list_all T.can_be_spelled vs ≡ true
 all_spellable [] e = refl
-all_spellable (v ∷ vs) e = elim (cases_Bool (T.can_be_spelled v)) [
-  | inl fine ↦ rw fine (all_spellable vs (sym (ap (λ b. if b then T.first_unspelled vs else Some (T.place_of_tree v)) fine) ∙ e))
-  | inr bad ↦ absurd (cc (sym (ap (λ b. if b then T.first_unspelled vs else Some (T.place_of_tree v)) bad) ∙ e))
-]
+all_spellable (v ∷ vs) e = grind (arith, common_steps, all_spellable vs)
 
 pub printed_says : (text : List ℕ) (vs : List VerificationTree) → T.first_unspelled vs ≡ None → text ≡ printed vs → ReadsBackVerification text (numbered_from 0 vs)
 printed_says text vs none is = subst (λ t. ReadsBackVerification t (numbered_from 0 vs)) (sym is) (trees_say vs (all_spellable vs none))

@@ -1,8 +1,9 @@
 -- Comments give no tokens, however long they are.
 use Rattle.std.proofs.Common.{◌≡◌, ℕ, zero, suc, ◌+◌, List, [], ◌∷◌, ◌++◌, refl, sym, ap, ◌∙◌, map, arith, lit<, encode_utf8}
-use Rattle.std.specs.Prelude.{replicate, Result, Ok, Err}
+use Rattle.std.specs.Prelude.{replicate, Result}
 use Rattle.std.proofs.lemmas.List.{length-append}
 use Rattle.std.proofs.lemmas.Str.{length-encode, len_utf8_ascii}
+use Rattle.std.proofs.lemmas.Grind.{common_steps}
 use Rattle.text_reader.specs.Lexemes.{Wrong, ◌>>=◌}
 use Rattle.text_reader.specs.Lexing.{Tokens, tokens_after, added}
 use Rattle.text_reader.specs.Pieces.{Piece, space, line, block, left, right, bind, name, sign, endless, alone, spelling, size}
@@ -24,17 +25,14 @@ blanked (endless cs ∷ ps) = endless cs ∷ blanked ps
 blanked (alone ∷ ps) = alone ∷ blanked ps
 
 bind_same : {A B : Type 0} (r : Result A Wrong) (f g : A → Result B Wrong) → ((x : A) → f x ≡ g x) → (r >>= f) ≡ (r >>= g)
-bind_same (Ok x) f g h = h x
-bind_same (Err w) f g h = refl
+bind_same r f g h = grind (arith, common_steps)
 
 one_byte : size (32 ∷ []) ≡ 1
 one_byte = omega (arith, length-append (encode_utf8 32) [], length-encode 32, len_utf8_ascii 32 (lit< tt))
 
 skipped : (file n o : ℕ) (ps : List Piece) (done : Tokens) → tokens_after file o (replicate n (space 32) ++ ps) done ≡ tokens_after file (o + n) ps done
 skipped file zero o ps done = let e : o ≡ o + 0 = omega arith in ap (λ k. tokens_after file k ps done) e
-skipped file (suc n) o ps done =
-    let e : (o + size (32 ∷ [])) + n ≡ o + suc n = omega (arith, one_byte) in
-    skipped file n (o + size (32 ∷ [])) ps done ∙ ap (λ k. tokens_after file k ps done) e
+skipped file (suc n) o ps done = grind (arith, common_steps, skipped file n (o + size (32 ∷ [])) ps done, one_byte)
 
 blank_tokens : (file : ℕ) (ps : List Piece) (o : ℕ) (done : Tokens) → tokens_after file o ps done ≡ tokens_after file o (blanked ps) done
 blank_tokens file [] o done = refl
@@ -95,7 +93,4 @@ unlined_kept (alone ∷ ps) = ap (λ x. alone ∷ x) (unlined_kept ps)
 -- pieces that differ in white space alone have the same tokens, and so have those whose comments lose what ends them
 pub kept_tokens : ((file : ℕ) (ps qs : List Piece) → solid ps ≡ solid qs → stripped (tokens_after file 0 ps []) ≡ stripped (tokens_after file 0 qs []))
     → (file : ℕ) (ps qs : List Piece) → solid qs ≡ map kept (solid ps) → stripped (tokens_after file 0 qs []) ≡ stripped (tokens_after file 0 ps [])
-kept_tokens law file ps qs e =
-    ap stripped (blank_tokens file qs 0 [])
-    ∙ law file (blanked qs) (blanked ps) (solid_blanked qs ∙ ap unlined e ∙ unlined_kept (solid ps) ∙ sym (solid_blanked ps))
-    ∙ sym (ap stripped (blank_tokens file ps 0 []))
+kept_tokens law file ps qs e = grind (arith, common_steps, blank_tokens, solid_blanked, unlined_kept)

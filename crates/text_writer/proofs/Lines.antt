@@ -3,10 +3,11 @@ use Rattle.std.proofs.Common.{◌≡◌, ℕ, ◌≤◌, refl, sym, ap, ◌∙�
 use Rattle.std.specs.Prelude.{true, not, ◌||◌, Ok}
 use Rattle.std.specs.Str.{chars}
 use Rattle.std.proofs.lemmas.Str.{chars-nil}
+use Rattle.std.proofs.lemmas.Grind.{common_steps}
 use Rattle.text_reader.specs.Lexemes.{◌>>=◌}
-use Rattle.text_reader.specs.FormTrees.{FormTree, a_word, a_number, a_constant, a_binding, a_list, FormTrees, no_form, form_and, spelled, all_spelled, depth, all_depth}
+use Rattle.text_reader.specs.FormTrees.{FormTree, a_binding, a_list, FormTrees, no_form, form_and, all_spelled, all_depth}
 use Rattle.text_reader.specs.Forming.{forms_of}
-use Rattle.text_reader.specs.PassedOver.{begins_passed_over, is_passed_over, has_dash, have_dash, dashes_are_passed_over, mark}
+use Rattle.text_reader.specs.PassedOver.{is_passed_over, has_dash, have_dash, dashes_are_passed_over, mark}
 use Rattle.text_reader.specs.Pieces.{Piece, space, AreIn}
 use Rattle.text_reader.specs.Lexing.{Tokens, tokens_after}
 use Rattle.text_reader.specs.Definitions.{forms_in}
@@ -37,30 +38,16 @@ AllStand (f ∷ fs) = StandsAlone f × AllStand fs
 
 mutual
   dash_bare : (f : FormTree) → has_dash (bare f) ≡ has_dash f
-  dash_bare (a_word n) = refl
-  dash_bare (a_number z p) = refl
-  dash_bare (a_constant n p) = refl
   dash_bare (a_binding n f) = dash_bare f
   dash_bare (a_list fs p e) = dashes_bare fs
+  dash_bare _ = refl
 
   dashes_bare : (fs : FormTrees) → have_dash (all_bare fs) ≡ have_dash fs
   dashes_bare no_form = refl
   dashes_bare (form_and f fs) = rw (dash_bare f, dashes_bare fs) refl
 
-begins_bare : (fs : FormTrees) → begins_passed_over (all_bare fs) ≡ begins_passed_over fs
-begins_bare no_form = refl
-begins_bare (form_and (a_word n) fs) = refl
-begins_bare (form_and (a_number z p) fs) = refl
-begins_bare (form_and (a_constant n p) fs) = refl
-begins_bare (form_and (a_binding n f) fs) = refl
-begins_bare (form_and (a_list gs p e) fs) = refl
-
 pub passed_bare : (f : FormTree) → is_passed_over (bare f) ≡ is_passed_over f
-passed_bare (a_word n) = refl
-passed_bare (a_number z p) = refl
-passed_bare (a_constant n p) = refl
-passed_bare (a_binding n f) = refl
-passed_bare (a_list fs p e) = begins_bare fs
+passed_bare f = grind (arith, common_steps)
 
 module _ (file : ℕ) where
   pub placed_passed : (o : ℕ) (f : FormTree) → is_passed_over (placed file o f) ≡ is_passed_over f
@@ -95,18 +82,11 @@ module _ (file : ℕ) where
   lines_told : (fs : List FormTree) (o : ℕ) (done : Tokens) → AllStand fs
       → tokens_after file o (lines_pieces fs) done ≡ Ok (done ++ map mark (all_spelled (lines_placed o fs) []))
   lines_told [] o done h = ap Ok (sym (append-nil done))
-  lines_told (f ∷ fs) o done h =
-      let more = done ++ map mark (spelled (placed file o f) []) in
-      form_told file f o (space 10 ∷ lines_pieces fs) done h.0.fits.fine
-      ∙ next file (behind o f) (space 10) (lines_pieces fs) more more refl
-      ∙ lines_told fs (line_end o f) more h.1
-      ∙ ap Ok (joined file done (placed file o f) (lines_placed (line_end o f) fs))
+  lines_told (f ∷ fs) o done h = grind (arith, common_steps, lines_told fs (line_end o f), placed, form_told, next, behind, joined)
 
   lines_depth : (fs : List FormTree) (o : ℕ) → AllStand fs → all_depth (lines_placed o fs) ≤ 1000
   lines_depth [] o h = omega arith
-  lines_depth (f ∷ fs) o h =
-      greatest (depth (placed file o f)) (all_depth (lines_placed (line_end o f) fs)) 1000
-      (subst (λ n. n ≤ 1000) (sym (placed_depth file o f)) h.0.fits.nests) (lines_depth fs (line_end o f) h.1)
+  lines_depth (f ∷ fs) o h = grind (arith, common_steps, lines_depth fs (line_end o f) h.1, greatest, placed, placed_depth)
 
   lines_dashes : (fs : List FormTree) (o : ℕ) → AllStand fs → dashes_are_passed_over (lines_placed o fs) ≡ true
   lines_dashes [] o h = refl

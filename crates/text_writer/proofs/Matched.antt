@@ -1,29 +1,29 @@
 -- What is read of one text goes together: a list that is passed over is a definition without a place, and a tree with its number.
-use Rattle.std.proofs.Common.{◌≡◌, ◌≢◌, ◌==◌, ℕ, suc, refl, sym, ap, ◌∙◌, subst, List, [], ◌∷◌, ◌++◌, map}
+use Rattle.std.proofs.Common.{◌≡◌, ◌≢◌, ℕ, suc, refl, ap, subst, List, [], ◌∷◌, ◌++◌, map, arith}
 use Rattle.std.specs.Prelude.{Bool, true, false, Option, Some, None, Result, Ok, Err, codes, if◌then◌else◌}
 use Rattle.std.proofs.lemmas.Bool.{eq-eqb}
 use Rattle.std.proofs.lemmas.List.{map-append}
+use Rattle.std.proofs.lemmas.Grind.{common_steps}
 use Rattle.model.proofs.Bytes.{same_bytes}
 use Rattle.model.specs.lists.Syntax.{Position, Name, Definition, other_definition}
 use Rattle.core_syntax.specs.SyntaxViews.{definition_place}
 use Rattle.text_reader.specs.Lexemes.{Wrong, ◌>>=◌}
-use Rattle.text_reader.specs.FormTrees.{FormTree, FormTrees, no_form, form_and, a_word, a_number, a_constant, a_binding, a_list}
+use Rattle.text_reader.specs.FormTrees.{FormTree, FormTrees, no_form, form_and, a_word, a_list}
 use Rattle.text_reader.specs.PassedOver.{is_passed_over, passes_over}
 use Rattle.text_reader.specs.declared.errors.Mistake.TheVariants as M
 use Rattle.text_reader.specs.ExprGrammar.{expr_of}
 use Rattle.text_reader.specs.PatternGrammar.{pattern_of}
 use Rattle.text_reader.specs.Grammar.{Listed, listed, reads, ended, list_of, name_of, names_of, next_if_of, next_name_of, next_of}
 use Rattle.text_reader.specs.TypeGrammar.{type_definition_of, type_value_of}
-use Rattle.text_reader.specs.TermGrammar.{declaration_of, declared_of, last_three, extractor_of, conversion_of, external_of, external_by, external_constructor_of, external_extractor_of, external_constant_of, constant_of, flags_of, infallible_of, no_flags}
+use Rattle.text_reader.specs.TermGrammar.{declared_of, last_three, extractor_of, conversion_of, external_by, external_constructor_of, external_extractor_of, external_constant_of, constant_of, flags_of, infallible_of, no_flags}
 use Rattle.text_reader.specs.RuleGrammar.{rule_of, parted_of, priority_of, rule_name_of, statements_of}
-use Rattle.text_reader.specs.Definitions.{defined_by, definition_of, definitions_of, forms_in, reading}
+use Rattle.text_reader.specs.Definitions.{defined_by, definition_of, definitions_of, reading}
 use Rattle.text_reader.specs.SpecTrees.{VerificationTree}
 use Rattle.text_reader.specs.Verifying.{numbered, said_of, said_from, verification_in, verification_of}
 use Rattle.text_writer.specs.Spellable as D
 use Rattle.text_writer.specs.SpellableTrees as T
-use Rattle.text_writer.specs.Items.{Item, a_definition, a_tree, item_form}
-use Rattle.text_writer.specs.Texts.{written}
-use Rattle.text_writer.specs.Woven.{Trouble, unspelled, unmatched, Trees, tree_item, item_by, item_at, left_by, left_behind, before, item_before, woven, number_by, other_numbers, AreMatched}
+use Rattle.text_writer.specs.Items.{Item}
+use Rattle.text_writer.specs.Woven.{Trouble, unspelled, unmatched, Trees, tree_item, item_by, left_by, left_behind, item_before, woven, number_by, other_numbers, AreMatched}
 
 -- ---- steps of the grammar
 
@@ -31,19 +31,16 @@ abbrev fine : {A : Type 0} → A → Result A Wrong
 fine x = Ok x
 
 stepped : {A B : Type 0} (P : B → Type 0) (r : Result A Wrong) (f : A → Result B Wrong) → ((x : A) (y : B) → f x ≡ Ok y → P y) → (y : B) → (r >>= f) ≡ Ok y → P y
-stepped P (Ok x) f h y e = h x y e
-stepped P (Err w) f h y e = absurd (cc e)
+stepped P r f h y e = grind (arith, common_steps)
 
 -- one of two
 chosen : {B : Type 0} (P : B → Type 0) (b : Bool) (x y : Result B Wrong) → (b ≡ true → (z : B) → x ≡ Ok z → P z) → (b ≡ false → (z : B) → y ≡ Ok z → P z)
     → (z : B) → (if b then x else y) ≡ Ok z → P z
-chosen P true x y h k z e = h refl z e
-chosen P false x y h k z e = k refl z e
+chosen P b x y h k z e = grind (arith, common_steps)
 
 -- what a step was made of
 parts : {A B : Type 0} (r : Result A Wrong) (f : A → Result B Wrong) (y : B) → (r >>= f) ≡ Ok y → (x : A) × (r ≡ Ok x) × (f x ≡ Ok y)
-parts (Ok x) f y e = (x, refl, e)
-parts (Err w) f y e = absurd (cc e)
+parts r f y e = grind (arith, common_steps)
 
 -- ---- definitions with a place
 
@@ -94,14 +91,7 @@ constant_placed l =
     stepped HasPlace (next_name_of constant.1) _ (λ ty. stepped HasPlace (ended ty.1.parts) _ (λ end. placed _ (l.at, refl)))))
 
 external_placed : (f : FormTree) (l : Listed) (d : Definition) → external_by f l ≡ Ok d → HasPlace d
-external_placed (a_word n) l =
-    chosen HasPlace (reads n (codes "constructor")) _ _ (λ _. constructor_placed l)
-    (λ _. chosen HasPlace (reads n (codes "extractor")) _ _ (λ _. external_extractor_placed l)
-    (λ _. chosen HasPlace (reads n (codes "const")) _ _ (λ _. constant_placed l) (λ _ d e. absurd (cc e))))
-external_placed (a_number z p) l = λ d e. absurd (cc e)
-external_placed (a_constant n p) l = λ d e. absurd (cc e)
-external_placed (a_binding n f) l = λ d e. absurd (cc e)
-external_placed (a_list fs p end) l = λ d e. absurd (cc e)
+external_placed f l = grind (arith, common_steps, chosen, constructor_placed, external_extractor_placed, constant_placed)
 
 rule_placed : (l : Listed) (d : Definition) → rule_of l ≡ Ok d → HasPlace d
 rule_placed l =
@@ -118,17 +108,10 @@ Agrees false d = HasPlace d
 -- a list that begins with another word
 by_word : (head : Name) (word : List ℕ) (r : Result Definition Wrong) → passes_over word ≡ false → ((d : Definition) → r ≡ Ok d → HasPlace d)
     → reads head word ≡ true → (d : Definition) → r ≡ Ok d → Agrees (passes_over head.text) d
-by_word head word r other h is d e =
-    subst (λ b. Agrees b d) (sym (ap passes_over (same_bytes head.text word is) ∙ other)) (h d e)
+by_word head word r other h is d e = grind (arith, common_steps, same_bytes head.text word is)
 
 passed_over : (head : Name) (w : Wrong) (d : Definition) → (if passes_over head.text then Ok other_definition else Err w) ≡ Ok d → Agrees (passes_over head.text) d
-passed_over head w =
-    chosen (Agrees (passes_over head.text)) (passes_over head.text) (Ok other_definition) (Err w)
-    (λ is d e. subst (λ b. Agrees b d) (sym is) (ap definition_place (the_other d e)))
-    (λ _ d e. absurd (cc e))
-  where
-    the_other : (d : Definition) → fine other_definition ≡ Ok d → d ≡ other_definition
-    the_other d e = cc e
+passed_over head w = grind (arith, common_steps, chosen)
 
 defined_agrees : (head : Name) (l : Listed) (d : Definition) → defined_by head l ≡ Ok d → Agrees (passes_over head.text) d
 defined_agrees head l =
@@ -142,16 +125,8 @@ defined_agrees head l =
     (λ _. passed_over head _))))))
 
 form_agrees : (f : FormTree) (d : Definition) → definition_of f ≡ Ok d → Agrees (is_passed_over f) d
-form_agrees (a_word n) d e = absurd (cc e)
-form_agrees (a_number z p) d e = absurd (cc e)
-form_agrees (a_constant n p) d e = absurd (cc e)
-form_agrees (a_binding n f) d e = absurd (cc e)
-form_agrees (a_list no_form p end) d e = absurd (cc e)
 form_agrees (a_list (form_and (a_word n) fs) p end) d e = defined_agrees n (listed fs p end) d e
-form_agrees (a_list (form_and (a_number z q) fs) p end) d e = absurd (cc e)
-form_agrees (a_list (form_and (a_constant n q) fs) p end) d e = absurd (cc e)
-form_agrees (a_list (form_and (a_binding n f) fs) p end) d e = absurd (cc e)
-form_agrees (a_list (form_and (a_list gs q f) fs) p end) d e = absurd (cc e)
+form_agrees _ d e = absurd (cc e)
 
 -- ---- numbers
 
@@ -160,15 +135,7 @@ numbers vs = map (λ v. v.0) vs
 
 said_agrees : (b : Bool) (r : Result VerificationTree Wrong) (v : Option VerificationTree) → (if b then (r >>= (λ w. Ok (Some w))) else Ok None) ≡ Ok v
     → (n : ℕ) (d : Definition) → Agrees b d → numbers (numbered n v) ≡ number_by (definition_place d) n
-said_agrees true (Ok w) v e n d none = subst (λ x. numbers (numbered n x) ≡ number_by (definition_place d) n) (some v e) (sym (ap (λ o. number_by o n) none))
-  where
-    some : (v : Option VerificationTree) → fine (Some w) ≡ Ok v → Some w ≡ v
-    some v e = cc e
-said_agrees true (Err w) v e n d none = absurd (cc e)
-said_agrees false r v e n d some = subst (λ x. numbers (numbered n x) ≡ number_by (definition_place d) n) (none v e) (sym (ap (λ o. number_by o n) some.1))
-  where
-    none : (v : Option VerificationTree) → fine None ≡ Ok v → None ≡ v
-    none v e = cc e
+said_agrees b r v e n d none = grind (arith, common_steps)
 
 same : {A : Type 0} (x y : A) → fine x ≡ Ok y → x ≡ y
 same x y e = cc e
@@ -183,59 +150,30 @@ all_matched (form_and f fs) n ds vs e g =
     let one = said_agrees (is_passed_over f) (verification_of f) c.0 c.1 n a.0 (form_agrees f a.0 a.1) in
     let more = all_matched fs (suc n) b.0 k.0 b.1 k.1 in
     subst (λ xs. numbers xs ≡ other_numbers n ds) (same (numbered n c.0 ++ k.0) vs k.2)
-    (subst (λ es. numbers (numbered n c.0 ++ k.0) ≡ other_numbers n es) (same (a.0 ∷ b.0) ds b.2)
-    (map-append (λ v. v.0) (numbered n c.0) k.0 ∙ both one more))
+    (grind (arith, common_steps, both one more, same (a.0 ∷ b.0) ds b.2, map-append (λ v. v.0) (numbered n c.0) k.0))
   where
     both : {xs ys xs' ys' : List ℕ} → xs ≡ xs' → ys ≡ ys' → xs ++ ys ≡ xs' ++ ys'
     both e f = rw (e, f) refl
 
 pub text_matched : (file : ℕ) (text : List ℕ) (ds : List Definition) (vs : Trees) → reading file text ≡ Ok ds → verification_in file text ≡ Ok vs → AreMatched 0 ds vs
-text_matched file text ds vs e g = by_forms (forms_in file text) e g
-  where
-    by_forms : (r : Result FormTrees Wrong) → (r >>= definitions_of) ≡ Ok ds → (r >>= said_from 0) ≡ Ok vs → AreMatched 0 ds vs
-    by_forms (Ok fs) e g = all_matched fs 0 ds vs e g
-    by_forms (Err w) e g = absurd (cc e)
+text_matched file text ds vs e g = grind (arith, all_matched)
 
 -- ---- what goes together is woven, if it can be spelled
 
 spelled_or_not : (b : Bool) (i : Item) (p : Position) (k : ℕ) → (if b then Ok i else Err (unspelled p)) ≢ Err (unmatched k)
-spelled_or_not true i p k = λ e. absurd (cc e)
-spelled_or_not false i p k = λ e. absurd (cc e)
+spelled_or_not b i p k = grind (arith, common_steps)
 
 numbered_item : (n : ℕ) (v : ℕ × VerificationTree) (k : ℕ) → v.0 ≡ n → tree_item n v ≢ Err (unmatched k)
-numbered_item n v k e = λ g.
-    spelled_or_not (T.can_be_spelled v.1) (a_tree v.1) (T.place_of_tree v.1) k
-    (sym (ap (λ b. if b then (if T.can_be_spelled v.1 then Ok (a_tree v.1) else Err (unspelled (T.place_of_tree v.1))) else Err (unmatched n)) (eq-eqb v.0 n e)) ∙ g)
+numbered_item n v k e = grind (arith, common_steps, spelled_or_not, eq-eqb)
 
 one_matched : (o : Option Position) (n : ℕ) (d : Definition) (vs : Trees) (rest : List ℕ) → numbers vs ≡ number_by o n ++ rest
     → (numbers (left_by o vs) ≡ rest) × ((k : ℕ) → item_by o n d vs ≢ Err (unmatched k))
-one_matched None n d [] rest e = absurd (cc e)
-one_matched None n d (v ∷ vs) rest e = (tail e, λ k. numbered_item n v k (head e))
-  where
-    head : {x y : ℕ} {xs ys : List ℕ} → x ∷ xs ≡ y ∷ ys → x ≡ y
-    head e = cc e
-
-    tail : {x y : ℕ} {xs ys : List ℕ} → x ∷ xs ≡ y ∷ ys → xs ≡ ys
-    tail e = cc e
-one_matched (Some p) n d vs rest e = (e, λ k. spelled_or_not (D.can_be_spelled d) (a_definition d) p k)
+one_matched o n d vs rest e = grind (arith, common_steps, numbered_item, spelled_or_not)
 
 unmatched_behind : (r : Result Item Trouble) (s : Result (List ℕ) Trouble) (k : ℕ) → r ≢ Err (unmatched k) → item_before r s ≡ Err (unmatched k) → s ≡ Err (unmatched k)
-unmatched_behind (Err x) s k never e = absurd (never (ap no_item (same_trouble x (unmatched k) e)))
-  where
-    no_item : Trouble → Result Item Trouble
-    no_item x = Err x
-
-    no_text : Trouble → Result (List ℕ) Trouble
-    no_text x = Err x
-
-    same_trouble : (x y : Trouble) → no_text x ≡ no_text y → x ≡ y
-    same_trouble x y e = cc e
-unmatched_behind (Ok i) (Ok text) k never e = absurd (cc e)
-unmatched_behind (Ok i) (Err x) k never e = e
+unmatched_behind r s k never e = grind (arith, common_steps)
 
 pub never_unmatched : (n : ℕ) (ds : List Definition) (vs : Trees) (k : ℕ) → AreMatched n ds vs → woven n ds vs ≢ Err (unmatched k)
 never_unmatched n [] [] k h = λ e. absurd (cc e)
 never_unmatched n [] (v ∷ vs) k h = absurd (cc h)
-never_unmatched n (d ∷ ds) vs k h = λ e.
-    let one = one_matched (definition_place d) n d vs (other_numbers (suc n) ds) h in
-    never_unmatched (suc n) ds (left_behind d vs) k one.0 (unmatched_behind (item_at n d vs) (woven (suc n) ds (left_behind d vs)) k (one.1 k) e)
+never_unmatched n (d ∷ ds) vs k h = grind (arith, common_steps, never_unmatched (suc n) ds (left_behind d vs) k, one_matched, unmatched_behind)

@@ -1,8 +1,7 @@
 -- The token of a number that is written.
-use Rattle.std.proofs.Common.{◌≡◌, ℕ, zero, suc, ◌+◌, ◌-◌, ◌*◌, ◌<◌, refl, sym, ap, ◌∙◌, List, [], ◌∷◌, length, arith}
-use Rattle.std.specs.Prelude.{ℤ, pos, negsuc, ◌^◌, Bool, true, false, ◌&&◌, ◌||◌, ◌==◌, nat_lt, nat_le, Ok, slice_index}
+use Rattle.std.proofs.Common.{◌≡◌, ℕ, zero, suc, ◌+◌, ◌*◌, ◌<◌, refl, List, [], ◌∷◌, length, arith}
+use Rattle.std.specs.Prelude.{ℤ, pos, negsuc, ◌^◌, Bool, true, false, ◌&&◌, ◌==◌, nat_lt, Ok, slice_index}
 use Rattle.std.specs.List.{list_all}
-use Rattle.std.specs.Int.{w128}
 use Rattle.std.specs.Char.{digit_value, is_ascii_digit}
 use Rattle.std.specs.Fmt.{decimal, signed_decimal}
 use Rattle.std.specs.Str.{IsAscii}
@@ -11,6 +10,7 @@ use Rattle.std.proofs.lemmas.Bool.Decides.{nat_tests}
 use Rattle.std.proofs.lemmas.Int.{to_z_pos}
 use Rattle.std.proofs.lemmas.Fmt.{decimal_is_IsNumeral_wide, IsAscii-decimal_wide}
 use Rattle.std.proofs.lemmas.Str.Parse.{digit_from_value}
+use Rattle.std.proofs.lemmas.Grind.{common_steps}
 use Rattle.model.specs.lists.Syntax.{Position}
 use Rattle.text_reader.specs.Pieces.{is_in_word}
 use Rattle.text_reader.specs.Numbers.{is_underscore_or_digit, are_digits, digits_after, has_mark, radix_of, sized, unsigned_number, number_of}
@@ -20,32 +20,13 @@ use Rattle.text_writer.specs.Spellable.{is_signed_128, is_some_text}
 -- ---- digits
 
 in_word_from_48 : (d : ℕ) → d < 10 → is_in_word (48 + d) ≡ true
-in_word_from_48 zero h = refl
-in_word_from_48 (suc zero) h = refl
-in_word_from_48 (suc (suc zero)) h = refl
-in_word_from_48 (suc (suc (suc zero))) h = refl
-in_word_from_48 (suc (suc (suc (suc zero)))) h = refl
-in_word_from_48 (suc (suc (suc (suc (suc zero))))) h = refl
-in_word_from_48 (suc (suc (suc (suc (suc (suc zero)))))) h = refl
-in_word_from_48 (suc (suc (suc (suc (suc (suc (suc zero))))))) h = refl
-in_word_from_48 (suc (suc (suc (suc (suc (suc (suc (suc zero)))))))) h = refl
-in_word_from_48 (suc (suc (suc (suc (suc (suc (suc (suc (suc zero))))))))) h = refl
-in_word_from_48 (suc (suc (suc (suc (suc (suc (suc (suc (suc (suc d)))))))))) h = absurd (omega (arith, h))
+in_word_from_48 d h = grind (arith, common_steps)
 
 digit_in_word : (c : ℕ) → digit_value c < 10 → is_in_word c ≡ true
-digit_in_word c h =
-    let range = digit_from_value c h in
-    let same : 48 + (c - 48) ≡ c = omega (arith, range.0) in
-    ap is_in_word (sym same) ∙ in_word_from_48 (c - 48) (omega (arith, range.0, range.1))
+digit_in_word c h = grind (arith, common_steps, digit_from_value, in_word_from_48)
 
 digit_no_underscore : (c : ℕ) → digit_value c < 10 → (c == 95) ≡ false
 digit_no_underscore c h = let range = digit_from_value c h in grind (arith, nat_tests, range.1)
-
-digit_no_dash : (c : ℕ) → digit_value c < 10 → (c == 45) ≡ false
-digit_no_dash c h = let range = digit_from_value c h in grind (arith, nat_tests, range.0)
-
-digit_is_digit : (c : ℕ) → digit_value c < 10 → is_ascii_digit c ≡ true
-digit_is_digit c h = let range = digit_from_value c h in grind (arith, nat_tests, range.0, range.1)
 
 no_mark : (c m : ℕ) → digit_value c < 10 → 57 < m → (c == m) ≡ false
 no_mark c m h past = let range = digit_from_value c h in grind (arith, nat_tests, range.1, past)
@@ -63,8 +44,7 @@ digits_in_word (c ∷ cs) h = rw (digit_in_word c h.0, digits_in_word cs h.1) re
 -- ---- how digits are read
 
 and_false : (a b : Bool) → b ≡ false → (a && b) ≡ false
-and_false true b e = e
-and_false false b e = refl
+and_false a b e = grind (arith, common_steps)
 
 each_digit : (ds : List ℕ) → AllDigits 10 ds → list_all (is_underscore_or_digit 10) ds ≡ true
 each_digit [] h = refl
@@ -78,21 +58,13 @@ digits_same n [] h = refl
 digits_same n (c ∷ cs) h = rw (digit_no_underscore c h.0) (digits_same (n * 10 + digit_value c) cs h.1)
 
 second_no_mark : (c : ℕ) (cs : List ℕ) (small capital : ℕ) → AllDigits 10 (c ∷ cs) → 57 < small → 57 < capital → has_mark small capital (c ∷ cs) ≡ false
-second_no_mark c [] small capital h s k = and_false (c == 48) (0 == small || 0 == capital) (rw (nothing_mark small s, nothing_mark capital k) refl)
-second_no_mark c (d ∷ ds) small capital h s k =
-    and_false (c == 48) (d == small || d == capital) (rw (no_mark d small h.1.0 s, no_mark d capital h.1.0 k) refl)
+second_no_mark c cs small capital h s k = grind (arith, common_steps, and_false, nothing_mark, no_mark)
 
 decimal_radix : (c : ℕ) (cs : List ℕ) → AllDigits 10 (c ∷ cs) → radix_of (c ∷ cs) ≡ (10, c ∷ cs)
-decimal_radix c cs h =
-    let hexadecimal = second_no_mark c cs 120 88 h (omega arith) (omega arith) in
-    let octal = second_no_mark c cs 111 79 h (omega arith) (omega arith) in
-    let binary = second_no_mark c cs 98 66 h (omega arith) (omega arith) in
-    rw (hexadecimal, octal, binary) refl
+decimal_radix c cs h = grind (arith, common_steps, second_no_mark)
 
 digits_number : (is_negative : Bool) (ds : List ℕ) → 0 < length ds → AllDigits 10 ds → unsigned_number is_negative (radix_of ds) ≡ sized is_negative (digits_value 10 ds)
-digits_number is_negative [] some h = absurd (omega (arith, some))
-digits_number is_negative (c ∷ cs) some h =
-    ap (unsigned_number is_negative) (decimal_radix c cs h) ∙ rw (digits_are c cs h, digits_same 0 (c ∷ cs) h) refl
+digits_number is_negative ds some h = grind (arith, common_steps, decimal_radix, digits_are, digits_same)
 
 -- ---- a number below 2^127, and one above -2^127
 
@@ -105,22 +77,16 @@ unfolding is_signed_128
 neg_small n h = grind (arith, nat_tests, h)
 
 pos_sized : (n : ℕ) → n < 2 ^ 127 → sized false n ≡ Ok (pos n)
-pos_sized n h =
-    let fits : nat_lt n (2 ^ 128) ≡ true = grind (arith, nat_tests, h) in
-    rw (fits, to_z_pos w128 n h) refl
+pos_sized n h = grind (arith, common_steps, nat_tests, to_z_pos)
 
 neg_sized : (n : ℕ) → n < 2 ^ 127 → sized true (suc n) ≡ Ok (negsuc n)
-neg_sized n h =
-    let fits : nat_le (suc n) (2 ^ 127) ≡ true = grind (arith, nat_tests, h) in
-    rw fits refl
+neg_sized n h = grind (arith, common_steps, nat_tests)
 
 first_no_dash : (ds : List ℕ) → 0 < length ds → AllDigits 10 ds → (slice_index ds 0 == 45) ≡ false
-first_no_dash [] some h = absurd (omega (arith, some))
-first_no_dash (c ∷ cs) some h = digit_no_dash c h.0
+first_no_dash ds some h = grind (arith, common_steps)
 
 first_digit : (ds : List ℕ) → 0 < length ds → AllDigits 10 ds → is_ascii_digit (slice_index ds 0) ≡ true
-first_digit [] some h = absurd (omega (arith, some))
-first_digit (c ∷ cs) some h = digit_is_digit c h.0
+first_digit ds some h = grind (arith, common_steps)
 
 number_read : (z : ℤ) → is_signed_128 z ≡ true → number_of (signed_decimal z) ≡ Ok z
 unfolding number_of
@@ -159,8 +125,7 @@ number_characters (pos n) h = digits_in_word (decimal n) (decimal_is_IsNumeral_w
 number_characters (negsuc n) h = digits_in_word (decimal (suc n)) (decimal_is_IsNumeral_wide (suc n) (omega (arith, neg_small n h))).0.1
 
 some_text : (ds : List ℕ) → 0 < length ds → is_some_text ds ≡ true
-some_text [] h = absurd (omega (arith, h))
-some_text (c ∷ cs) h = refl
+some_text ds h = grind (arith, common_steps)
 
 -- its first character is no sign of anything else
 pub number_some : (z : ℤ) → is_signed_128 z ≡ true → is_some_text (signed_decimal z) ≡ true

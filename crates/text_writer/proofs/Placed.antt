@@ -1,11 +1,12 @@
 -- The tokens of forms that are written, and the places that they get.
-use Rattle.std.proofs.Common.{◌≡◌, ℕ, ◌+◌, refl, sym, ap, ◌∙◌, List, [], ◌∷◌, ◌++◌, map, append_assoc, append-nil}
+use Rattle.std.proofs.Common.{◌≡◌, ℕ, ◌+◌, refl, sym, ap, ◌∙◌, List, [], ◌∷◌, ◌++◌, map, append_assoc, append-nil, arith}
 use Rattle.std.specs.Prelude.{ℤ, Bool, true, false, Some, option_map, Result, Ok, if◌then◌else◌}
 use Rattle.std.specs.Fmt.{signed_decimal}
 use Rattle.std.specs.Str.{chars}
 use Rattle.std.proofs.lemmas.Bool.{true≢false}
 use Rattle.std.proofs.lemmas.List.{map-append}
 use Rattle.std.proofs.lemmas.Str.{encodes-chars, encodes-IsAscii}
+use Rattle.std.proofs.lemmas.Grind.{common_steps}
 use Rattle.model.specs.lists.Syntax.{Position, Name}
 use Rattle.text_reader.specs.Lexemes.{Lexeme, begin_list, end_list, word, dash, binder, number, constant, Wrong, ◌>>=◌, word_token, last_bound, or_mistake}
 use Rattle.text_reader.specs.FormTrees.{FormTree, a_word, a_number, a_constant, a_binding, a_list, FormTrees, no_form, form_and, spelled, all_spelled, depth, all_depth}
@@ -24,11 +25,9 @@ use Rattle.text_writer.proofs.Written.{pieces, parts_pieces, more_pieces, past, 
 
 mutual
   pub spelled_before : (f : FormTree) (more after : List Lexeme) → spelled f (more ++ after) ≡ spelled f more ++ after
-  spelled_before (a_word n) more after = refl
-  spelled_before (a_number z p) more after = refl
-  spelled_before (a_constant n p) more after = refl
   spelled_before (a_binding n f) more after = ap (λ ts. binder n ∷ ts) (spelled_before f more after)
   spelled_before (a_list fs p e) more after = ap (λ ts. begin_list p ∷ ts) (all_before fs (end_list e ∷ more) after)
+  spelled_before _ more after = refl
 
   pub all_before : (fs : FormTrees) (more after : List Lexeme) → all_spelled fs (more ++ after) ≡ all_spelled fs more ++ after
   all_before no_form more after = refl
@@ -43,9 +42,8 @@ all_marked fs more after = ap (map mark) (all_before fs more after) ∙ map-appe
 
 -- the last token, a word, bound
 bound : (done : Tokens) (n : Name) → last_bound (done ++ word n ∷ []) ≡ Some (done ++ binder n ∷ [])
-bound [] n = refl
-bound (t ∷ []) n = refl
 bound (t ∷ u ∷ us) n = ap (option_map (λ ts. t ∷ ts)) (bound (u ∷ us) n)
+bound _ n = refl
 
 module _ (file : ℕ) where
   abbrev pub at : ℕ → Position
@@ -79,11 +77,9 @@ module _ (file : ℕ) where
   -- they are the same but for places
   mutual
     pub placed_bare : (o : ℕ) (f : FormTree) → bare (placed o f) ≡ bare f
-    placed_bare o (a_word n) = refl
-    placed_bare o (a_number z p) = refl
-    placed_bare o (a_constant n p) = refl
     placed_bare o (a_binding n f) = ap (a_binding (placeless_name n)) (placed_bare (bound_at o n) f)
     placed_bare o (a_list fs p e) = ap (λ gs. a_list gs nowhere nowhere) (parts_bare (past o left) fs)
+    placed_bare o _ = refl
 
     parts_bare : (o : ℕ) (fs : FormTrees) → all_bare (parts_placed o fs) ≡ all_bare fs
     parts_bare o no_form = refl
@@ -96,11 +92,9 @@ module _ (file : ℕ) where
   -- they nest as deep
   mutual
     pub placed_depth : (o : ℕ) (f : FormTree) → depth (placed o f) ≡ depth f
-    placed_depth o (a_word n) = refl
-    placed_depth o (a_number z p) = refl
-    placed_depth o (a_constant n p) = refl
     placed_depth o (a_binding n f) = ap (λ d. d + 1) (placed_depth (bound_at o n) f)
     placed_depth o (a_list fs p e) = ap (λ d. d + 1) (parts_depth (past o left) fs)
+    placed_depth o _ = refl
 
     parts_depth : (o : ℕ) (fs : FormTrees) → all_depth (parts_placed o fs) ≡ all_depth fs
     parts_depth o no_form = refl
@@ -128,9 +122,7 @@ module _ (file : ℕ) where
 
   -- a name that is bound doesn't begin with `-`
   plain_added : (n : Name) (o : ℕ) (done : Tokens) → is_word n ≡ true → added (name (chars n.text)) (at o) done ≡ Ok (done ++ word (name_at n o) ∷ [])
-  plain_added n o done h =
-      word_added n o done (word_is_any n h)
-      ∙ ap (λ d. Ok (done ++ (if d then dash (name_at n o) else word (name_at n o)) ∷ [])) (no_dash n.text (word_parts n h).0)
+  plain_added n o done h = grind (arith, common_steps, word_added, word_is_any, no_dash, word_parts)
 
   pub number_added : (z : ℤ) (o : ℕ) (done : Tokens) → is_signed_128 z ≡ true → added (name (signed_decimal z)) (at o) done ≡ Ok (done ++ number z (at o) ∷ [])
   number_added z o done h = rw (encodes-IsAscii (signed_decimal z) (number_ascii z h), number_token z (at o) h) refl
@@ -156,20 +148,7 @@ module _ (file : ℕ) where
     form_told (a_word n) o after done h = next o (name (chars n.text)) after done _ (word_added n o done h)
     form_told (a_number z p) o after done h = next o (name (signed_decimal z)) after done _ (number_added z o done h)
     form_told (a_constant n p) o after done h = next o (sign (chars n.text)) after done _ (constant_added n o done h)
-    form_told (a_binding n f) o after done h =
-        let k = both (is_word n) (is_fine true f) h in
-        let one = past o (name (chars n.text)) in
-        let two = past one (space 32) in
-        let three = past two bind in
-        let four = past three (space 32) in
-        let named = done ++ word (name_at n o) ∷ [] in
-        let binds = done ++ binder (name_at n o) ∷ [] in
-        next o (name (chars n.text)) (space 32 ∷ bind ∷ space 32 ∷ pieces f after) done named (plain_added n o done k.0)
-        ∙ next one (space 32) (bind ∷ space 32 ∷ pieces f after) named named refl
-        ∙ next two bind (space 32 ∷ pieces f after) named binds (bind_added (name_at n o) two done)
-        ∙ next three (space 32) (pieces f after) binds binds refl
-        ∙ form_told f four after binds k.1
-        ∙ ap (tokens_after file (behind four f) after) (append_assoc done (binder (name_at n o) ∷ []) (map mark (spelled (placed four f) [])))
+    form_told (a_binding n f) o after done h = grind (arith, common_steps, form_told f, both, is_fine, past, next, pieces, plain_added, bind_added, behind)
     form_told (a_list fs p e) o after done h =
         let inside = past o left in
         let begun = done ++ begin_list (at o) ∷ [] in
@@ -179,9 +158,7 @@ module _ (file : ℕ) where
         ∙ parts_told fs inside (right ∷ after) begun h
         ∙ next ends right after (begun ++ map mark (all_spelled parts [])) _ refl
         ∙ ap (tokens_after file (past ends right) after)
-        (append_assoc begun (map mark (all_spelled parts [])) (end_list (at ends) ∷ [])
-        ∙ ap (λ ts. begun ++ ts) (sym (all_marked parts [] (end_list (at ends) ∷ [])))
-        ∙ append_assoc done (begin_list (at o) ∷ []) (map mark (all_spelled parts (end_list (at ends) ∷ []))))
+        (grind (arith, common_steps, all_marked parts [] (end_list (at ends) ∷ [])))
 
     pub parts_told : (fs : FormTrees) (o : ℕ) (after : List Piece) (done : Tokens) → are_fine true fs ≡ true
         → tokens_after file o (parts_pieces fs after) done ≡ tokens_after file (parts_behind o fs) after (done ++ map mark (all_spelled (parts_placed o fs) []))

@@ -1,15 +1,13 @@
 -- What is printed is read as what was to be printed, but for places.
-use Rattle.std.proofs.Common.{◌≡◌, ℕ, refl, sym, ap, ◌∙◌, subst, List, [], ◌∷◌, ◌++◌, map, inl, inr}
-use Rattle.std.specs.Prelude.{Bool, true, not, ◌||◌, Some, None, Result, Ok, Err, if◌then◌else◌}
-use Rattle.std.proofs.lemmas.Bool.{cases_Bool}
+use Rattle.std.proofs.Common.{◌≡◌, ℕ, refl, sym, ap, ◌∙◌, subst, List, [], ◌∷◌, ◌++◌, map, arith}
+use Rattle.std.specs.Prelude.{Bool, true, None, Result, Ok}
 use Rattle.std.specs.List.{list_all}
-use Rattle.model.specs.lists.Syntax.{Definition, type_definition, declaration, extractor_definition, converter_definition, rule_definition, extern_definition, extern_constructor, extern_extractor, extern_const, other_definition}
+use Rattle.std.proofs.lemmas.Grind.{common_steps}
+use Rattle.model.specs.lists.Syntax.{Definition}
 use Rattle.text_reader.specs.Lexemes.{Wrong, ◌>>=◌}
 use Rattle.text_reader.specs.FormTrees.{FormTree}
-use Rattle.text_reader.specs.PassedOver.{is_passed_over}
 use Rattle.text_reader.specs.Definitions.{definition_of, definitions_of, reading, Spells}
 use Rattle.text_reader.proofs.Spelled.{spelled_if_given}
-use Rattle.core_syntax.specs.SyntaxViews.{definition_place}
 use Rattle.text_writer.specs.Placeless.{placeless_definition}
 use Rattle.text_writer.specs.Forms.{form_of}
 use Rattle.text_writer.specs.Texts.{written, printed}
@@ -25,19 +23,10 @@ use Rattle.text_writer.proofs.Placed.{placed, placed_bare}
 use Rattle.text_writer.proofs.Lines.{StandsAlone, AllStand, lines, line_end, lines_placed, lines_forms}
 
 pub good : {A B : Type 0} (g : A → B) (r : Result A Wrong) (y : B) → bared g r ≡ Ok y → (x : A) × (r ≡ Ok x) × (g x ≡ y)
-good g (Ok x) y e = (x, refl, cc e)
-good g (Err w) y e = absurd (cc e)
+good g r y e = grind (arith, common_steps)
 
 definition_is_list : (d : Definition) → is_list (form_of d) ≡ true
-definition_is_list (type_definition t) = refl
-definition_is_list (declaration d) = refl
-definition_is_list (extractor_definition e) = refl
-definition_is_list (converter_definition c) = refl
-definition_is_list (rule_definition r) = refl
-definition_is_list (extern_definition (extern_constructor t f p)) = refl
-definition_is_list (extern_definition (extern_extractor t f p i)) = refl
-definition_is_list (extern_definition (extern_const n t p)) = refl
-definition_is_list other_definition = refl
+definition_is_list d = grind (arith, common_steps)
 
 pub two : {A : Type 0} (r : Result A Wrong) (s : Result (List A) Wrong) (x : A) (xs : List A) → r ≡ Ok x → s ≡ Ok xs → r >>= (λ y. s >>= (λ ys. Ok (y ∷ ys))) ≡ Ok (x ∷ xs)
 two r s x xs e f = rw (e, f) refl
@@ -51,9 +40,7 @@ module _ {A : Type 0} (form : A → FormTree) (definition : A → Definition) (t
     (stands : (x : A) → test x ≡ true → StandsAlone (form x)) where
   pub all_stand : (xs : List A) → list_all test xs ≡ true → AllStand (map form xs)
   all_stand [] h = tt
-  all_stand (x ∷ xs) h =
-      let k = both (test x) (list_all test xs) h in
-      (stands x k.0, all_stand xs k.1)
+  all_stand (x ∷ xs) h = grind (arith, common_steps, all_stand xs, both)
 
   -- one that stands anywhere
   there : (file o : ℕ) (x : A) → test x ≡ true
@@ -84,13 +71,7 @@ module _ {A : Type 0} (form : A → FormTree) (definition : A → Definition) (t
 
 -- the form of a definition stands on a line of its own
 pub definition_stands : (d : Definition) → can_be_spelled d ≡ true → StandsAlone (form_of d)
-definition_stands d h =
-    let k = definition_fits d h in
-    record {
-      list = definition_is_list d;
-      fits = record { fine = fine_anyway (form_of d) k.fine; nests = k.nests };
-      dashes = ap (λ b. not b || is_passed_over (form_of d)) (fine_dashes (form_of d) k.fine);
-    }
+definition_stands d h = grind (arith, common_steps, definition_fits d h, definition_is_list d, fine_anyway (form_of d), fine_dashes (form_of d))
 
 printed_lines : (ds : List Definition) → printed ds ≡ lines (map form_of ds)
 printed_lines [] = refl
@@ -105,10 +86,7 @@ reads_back ds h file =
 -- where none is the first that can't be spelled, all can be
 all_spellable : (ds : List Definition) → first_unspelled ds ≡ None → list_all can_be_spelled ds ≡ true
 all_spellable [] e = refl
-all_spellable (d ∷ ds) e = elim (cases_Bool (can_be_spelled d)) [
-  | inl good ↦ rw good (all_spellable ds (sym (ap (λ b. if b then first_unspelled ds else Some (definition_place d)) good) ∙ e))
-  | inr bad ↦ absurd (cc (sym (ap (λ b. if b then first_unspelled ds else Some (definition_place d)) bad) ∙ e))
-]
+all_spellable (d ∷ ds) e = grind (arith, common_steps, all_spellable ds, good)
 
 pub printed_reads_back : (text : List ℕ) (ds : List Definition) → first_unspelled ds ≡ None → text ≡ printed ds → ReadsBackAs text ds
 printed_reads_back text ds none is = subst (λ t. ReadsBackAs t ds) (sym is) (reads_back ds (all_spellable ds none))

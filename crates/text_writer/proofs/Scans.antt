@@ -7,6 +7,7 @@ use Rattle.std.proofs.lemmas.Bool.{cases_Bool, not-true, and_parts, false≢true
 use Rattle.std.proofs.lemmas.Bool.Decides.{nat_tests}
 use Rattle.std.proofs.lemmas.List.{append_assoc, append-nil, length-append}
 use Rattle.std.proofs.lemmas.Str.{length-encode, len_utf8_bounds}
+use Rattle.std.proofs.lemmas.Grind.{common_steps}
 use Rattle.text_reader.specs.declared.errors.Mistake.{Mistake}
 use Rattle.text_reader.specs.Pieces.{Piece, space, line, block, left, right, bind, name, sign, endless, alone, spelling, size, is_in_word, is_space, begins_word, begins_with, after_comment, ends_word, ends_line, Stands, AreIn}
 use Rattle.text_writer.specs.Placing.{Placing, all_placed, placed, with_piece, nothing_placed}
@@ -94,8 +95,7 @@ module _ {A : Type 0} (add : Piece → A → A) where
       → ((ms : List ℕ) → Ended cs ms (so_far ++ c ∷ []) d l a r) → Ended (c ∷ cs) more so_far depth last a r
   ended_more c depth last d l cs more so_far a (Err m) same h = same ∙ h more ∙ ap (λ x. add (endless x) a) (append_assoc so_far (c ∷ []) cs)
   ended_more c depth last d l cs [] so_far a (Ok rest) same h = (omega (arith, (h []).0), λ e. absurd (omega (arith, (h []).0, ap length e)))
-  ended_more c depth last d l cs (x ∷ more) so_far a (Ok rest) same h =
-      (omega (arith, (h []).0), λ e. same ∙ (h more).1 (cc e) ∙ ap (λ y. run add (between, add (block y) a) rest) (append_assoc so_far (c ∷ []) more ∙ ap (λ y. so_far ++ y ∷ more) (cc e)))
+  ended_more c depth last d l cs (x ∷ more) so_far a (Ok rest) same h = grind (arith, common_steps, append_assoc so_far (c ∷ []) more)
 
   comment_runs : (cs so_far : List ℕ) (depth last : ℕ) (a : A) (more : List ℕ) → Ended cs more so_far depth last a (after_comment depth last cs)
   unfolding run in_comment
@@ -171,51 +171,20 @@ longer : (c : ℕ) (cs : List ℕ) → 0 < size (c ∷ cs)
 longer c cs = omega (arith, length-append (encode_utf8 c) (encode_utf8_all cs), length-encode c, (len_utf8_bounds c).0)
 
 pub sized : (q : Piece) (rest : List ℕ) (o : ℕ) → Stands o q rest → 0 < size (spelling q)
-sized (space c) rest o s = longer c []
-sized (line cs) rest o s = longer 59 cs
-sized (block cs) rest o s = longer 40 (59 ∷ cs)
-sized left rest o s = longer 40 []
-sized right rest o s = longer 41 []
-sized bind rest o s = longer 64 []
-sized (name []) rest o s = absurd (false≢true s.0)
-sized (name (c ∷ cs)) rest o s = longer c cs
-sized (sign cs) rest o s = longer 36 cs
-sized (endless cs) rest o s = longer 40 (59 ∷ cs)
-sized alone rest o s = longer 36 []
+sized q rest o s = grind (arith, common_steps, longer)
 
 pub fronted : (d : ℕ) (q : Piece) (rest : List ℕ) (o : ℕ) → Stands o q rest → begins_with d (spelling q ++ rest) ≡ begins_with d (spelling q)
-fronted d (space c) rest o s = refl
-fronted d (line cs) rest o s = refl
-fronted d (block cs) rest o s = refl
-fronted d left rest o s = refl
-fronted d right rest o s = refl
-fronted d bind rest o s = refl
-fronted d (name []) rest o s = absurd (false≢true s.0)
-fronted d (name (c ∷ cs)) rest o s = refl
-fronted d (sign cs) rest o s = refl
-fronted d (endless cs) rest o s = refl
-fronted d alone rest o s = refl
+fronted d q rest o s = grind (arith, common_steps)
 
 pub past_zero : (b : Bool) (n : ℕ) → 0 < n → (b && n == 0) ≡ false
-past_zero true n h = grind (arith, nat_tests, h)
-past_zero false n h = refl
+past_zero b n h = grind (arith, common_steps, nat_tests)
 
 no_mark_name : (c : ℕ) → begins_word 0 c ≡ true → (c == 65279) ≡ true → true ≡ false
 no_mark_name c b m = grind (arith, nat_tests, b, m)
 
 -- what begins with a byte order mark at the text's beginning is one
 pub only_mark : (q : Piece) (rest : List ℕ) → Stands 0 q rest → begins_with 65279 (spelling q) ≡ true → (c : ℕ) × (q ≡ space c) × ((c == 65279) ≡ true)
-only_mark (space c) rest s m = (c, refl, m)
-only_mark (line cs) rest s m = absurd (false≢true m)
-only_mark (block cs) rest s m = absurd (false≢true m)
-only_mark left rest s m = absurd (false≢true m)
-only_mark right rest s m = absurd (false≢true m)
-only_mark bind rest s m = absurd (false≢true m)
-only_mark (name []) rest s m = absurd (false≢true s.0)
-only_mark (name (c ∷ cs)) rest s m = absurd (false≢true (sym (no_mark_name c (and_parts (begins_word 0 c) (list_all is_in_word cs) s.0).0 m)))
-only_mark (sign cs) rest s m = absurd (false≢true m)
-only_mark (endless cs) rest s m = absurd (false≢true m)
-only_mark alone rest s m = absurd (false≢true m)
+only_mark q rest s m = grind (arith, common_steps, no_mark_name, and_parts)
 
 module _ {A : Type 0} (add : Piece → A → A) where
   pub only : (ps : List Piece) (o : ℕ) (text : List ℕ) (a : A) → (begins_with 65279 text && o == 0) ≡ false → AreIn o text ps → run add (between, a) text ≡ folded add a ps
@@ -241,9 +210,7 @@ module _ {A : Type 0} (add : Piece → A → A) where
     where
       marked : (ps : List Piece) (text : List ℕ) (a : A) → AreIn 0 text ps → begins_with 65279 text ≡ true → run add (start, a) text ≡ folded add a ps
       marked [] text a h m = absurd (false≢true (ap (begins_with 65279) (sym h) ∙ m))
-      marked (q ∷ ps) text a h m =
-          let k = only_mark q h.0 h.2 (sym (fronted 65279 q h.0 0 h.2) ∙ ap (begins_with 65279) (sym h.1) ∙ m) in
-          ap (run add (start, a)) h.1 ∙ behind_mark q ps h.0 a k.0 k.1 k.2 h.2 h.3
+      marked (q ∷ ps) text a h m = grind (arith, common_steps, only_mark q h.0 h.2, fronted 65279 q h.0 0 h.2, behind_mark q ps h.0 a)
 
 -- ---- a text has one list of pieces
 abbrev behind_all : Piece → List Piece → List Piece

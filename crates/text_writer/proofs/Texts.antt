@@ -1,13 +1,14 @@
 -- Texts that grow by a character.
-use Rattle.std.proofs.Common.{◌≡◌, ℕ, ◌+◌, List, [], ◌∷◌, ◌++◌, length, refl, sym, ap, ◌∙◌, chars, encode_utf8, encode_utf8_all, IsUtf8}
+use Rattle.std.proofs.Common.{◌≡◌, ℕ, ◌+◌, List, [], ◌∷◌, ◌++◌, length, sym, ap, ◌∙◌, chars, encode_utf8, encode_utf8_all, IsUtf8}
 use Rattle.std.specs.Prelude.{replicate, string_bytes, string_len, false, true, ◌==◌}
 use Rattle.std.proofs.Common.{String}
 use Rattle.std.proofs.Common.{arith}
-use Rattle.std.proofs.lemmas.Bool.{eqb-true, false≢true}
+use Rattle.std.proofs.lemmas.Bool.{eqb-true}
 use Rattle.text_reader.specs.Pieces.{sign, alone}
 use Rattle.text_writer.specs.Scanning.{sign_piece}
 use Rattle.std.proofs.lemmas.List.{append_assoc, append-nil, nil_from_length, replicate-append-replicate}
 use Rattle.std.proofs.lemmas.Str.{chars_from_encodes, encodes-append, encodes-chars, chars-nil, IsUtf8-string_bytes, chars_past_char}
+use Rattle.std.proofs.lemmas.Grind.{common_steps}
 
 pushed : (old new : List ℕ) (c : ℕ) → IsUtf8 old → IsUtf8 new → new ≡ old ++ encode_utf8 c → chars new ≡ chars old ++ c ∷ []
 pushed old new c uo un e = sym (chars_from_encodes (chars old ++ c ∷ []) new un
@@ -40,15 +41,10 @@ one_more old new before n c e h = e ∙ ap (λ x. x ++ c ∷ []) h ∙ append_as
 
 -- the sign of a constant
 named : (bs cs : List ℕ) → (length bs == 0) ≡ false → encode_utf8_all cs ≡ bs → sign_piece cs ≡ sign cs
-named bs [] n e = absurd (false≢true (sym n ∙ ap (λ x. length x == 0) (sym e)))
-named bs (c ∷ cs) n e = refl
+named bs cs n e = grind (arith, common_steps)
 
 pub sign_named : {Z : Type 0} (s : String Z) → (string_len s == 0) ≡ false → sign_piece (chars (string_bytes s)) ≡ sign (chars (string_bytes s))
 sign_named s n = named (string_bytes s) (chars (string_bytes s)) (ap (λ k. k == 0) (sym s.bytes.ok.0) ∙ n) (encoded_text s)
 
 pub sign_alone : {Z : Type 0} (s : String Z) → (string_len s == 0) ≡ true → sign_piece (chars (string_bytes s)) ≡ alone
-sign_alone s n = ap sign_piece (ap chars (nil (string_bytes s) (ap (λ k. k == 0) (sym s.bytes.ok.0) ∙ n)) ∙ chars-nil)
-  where
-    nil : (bs : List ℕ) → (length bs == 0) ≡ true → bs ≡ []
-    nil [] n = refl
-    nil (b ∷ bs) n = absurd (omega (arith, eqb-true (length (b ∷ bs)) 0 n))
+sign_alone s n = grind (arith, common_steps, chars-nil, eqb-true)

@@ -3,6 +3,7 @@ use Rattle.std.proofs.Common.{◌≡◌, ℕ, ◌-◌, ◌/◌, ◌%◌, ◌≤�
 use Rattle.std.specs.Prelude.{◌^◌, ◌||◌, not, nat_lt, Bool, true, false, codes, Option, Some, None}
 use Rattle.std.specs.List.{list_all}
 use Rattle.std.proofs.lemmas.Bool.{false≢true, cases_Bool}
+use Rattle.std.proofs.lemmas.Grind.{common_steps}
 use Rattle.model.specs.lists.Syntax.{Name}
 use Rattle.text_reader.specs.FormTrees.{FormTree, FormTrees, no_form, form_and}
 use Rattle.text_reader.specs.Grammar.{reads}
@@ -35,9 +36,7 @@ use_fits n args h k = listed 999 refl (more (any_word_fits n h) (names_fit args 
 each_fits : {A : Type 0} (form : A → FormTree) (test : A → Bool) (room : ℕ) → ((x : A) → test x ≡ true → Fits true (form x) room)
     → (xs : List A) → list_all test xs ≡ true → AllFit true (forms_by form xs) room
 each_fits form test room fits [] h = none
-each_fits form test room fits (x ∷ xs) h =
-    let k = both (test x) (list_all test xs) h in
-    more (fits x k.0) (each_fits form test room fits xs k.1)
+each_fits form test room fits (x ∷ xs) h = grind (arith, common_steps, each_fits form test room fits xs, both, more)
 
 name_if_fits : (o : Option Name) (room : ℕ) → is_no_name_or_any_word o ≡ true → AllFit true (form_if word_form o) room
 name_if_fits None room h = none
@@ -109,30 +108,17 @@ mutual
 
   exprs_fit : (xs : SpecExprTrees) (room : ℕ) → spec_exprs_are_spellable xs room ≡ true → AllFit true (spec_expr_forms xs) room
   exprs_fit no_spec_expr room h = none
-  exprs_fit (spec_expr_and x xs) room h =
-      let k = both (spec_expr_is_spellable x room) (spec_exprs_are_spellable xs room) h in
-      more (expr_fits x room k.0) (exprs_fit xs room k.1)
+  exprs_fit (spec_expr_and x xs) room h = grind (arith, common_steps, expr_fits x room, exprs_fit xs room, both, more)
 
   pair_fits : (x : SpecExprTree) (room : ℕ) → pair_is_spellable x room ≡ true → Fits true (spec_expr_form x) room
-  pair_fits (spec_int z p) room h = absurd (false≢true h)
-  pair_fits (spec_bits value width p) room h = absurd (false≢true h)
-  pair_fits (spec_bool b p) room h = absurd (false≢true h)
-  pair_fits (spec_unit p) room h = absurd (false≢true h)
-  pair_fits (spec_var n p) room h = absurd (false≢true h)
-  pair_fits (spec_op op xs p) room h = absurd (false≢true h)
-  pair_fits (spec_cases op x xs p) room h = absurd (false≢true h)
-  pair_fits (spec_let ds x p) room h = absurd (false≢true h)
-  pair_fits (spec_with ns x p) room h = absurd (false≢true h)
-  pair_fits (spec_as x t p) room h = absurd (false≢true h)
   pair_fits (spec_pair x y p) room h =
       let k = three (nat_lt 0 room) (spec_expr_is_spellable x (room - 1)) (spec_expr_is_spellable y (room - 1)) h in
       listed room k.0 (more (expr_fits x (room - 1) k.1) (more (expr_fits y (room - 1) k.2) none))
+  pair_fits _ room h = absurd (false≢true h)
 
   pairs_fit : (xs : SpecExprTrees) (room : ℕ) → pairs_are_spellable xs room ≡ true → AllFit true (spec_expr_forms xs) room
   pairs_fit no_spec_expr room h = none
-  pairs_fit (spec_expr_and x xs) room h =
-      let k = both (pair_is_spellable x room) (pairs_are_spellable xs room) h in
-      more (pair_fits x room k.0) (pairs_fit xs room k.1)
+  pairs_fit (spec_expr_and x xs) room h = grind (arith, common_steps, pair_fits x room, pairs_fit xs room, both, more)
 
 -- ---- specs of terms
 
@@ -240,28 +226,10 @@ tree_fits (a_macro m) h = macro_fits m h
 tree_fits (a_pragma p) h = headed (codes "pragma") 1000 refl refl none
 
 tree_is_list : (v : VerificationTree) → is_list (verification_form v) ≡ true
-tree_is_list (a_spec s) = refl
-tree_is_list (a_model m) = refl
-tree_is_list (a_form f) = refl
-tree_is_list (an_instantiation i) = refl
-tree_is_list (an_attr a) = refl
-tree_is_list (a_state s) = refl
-tree_is_list (a_macro m) = refl
-tree_is_list (a_pragma p) = refl
+tree_is_list v = grind (arith, common_steps)
 
 pub tree_passed : (v : VerificationTree) → is_passed_over (verification_form v) ≡ true
-tree_passed (a_spec s) = refl
-tree_passed (a_model m) = refl
-tree_passed (a_form f) = refl
-tree_passed (an_instantiation i) = refl
-tree_passed (an_attr a) = refl
-tree_passed (a_state s) = refl
-tree_passed (a_macro m) = by m.is_spec
-  where
-    by : (is : Bool) → is_passed_over (macro_form (record m { is_spec = is })) ≡ true
-    by true = refl
-    by false = refl
-tree_passed (a_pragma p) = refl
+tree_passed v = grind (arith, common_steps)
 
 -- the form of a tree stands on a line of its own
 pub tree_stands : (v : VerificationTree) → can_be_spelled v ≡ true → StandsAlone (verification_form v)

@@ -1,8 +1,9 @@
 -- Parts that are written, one after another.
-use Rattle.std.proofs.Common.{◌≡◌, ℕ, zero, suc, Bool, false, ◌==◌, List, [], ◌∷◌, ◌++◌, length, refl, sym, ap, ap₂, ◌∙◌, inl, inr, arith}
+use Rattle.std.proofs.Common.{◌≡◌, ℕ, zero, suc, Bool, false, ◌==◌, List, [], ◌∷◌, ◌++◌, length, refl, sym, ap, ◌∙◌, inl, inr, arith}
 use Rattle.std.proofs.lemmas.Bool.{cases_Bool, eqb-true}
 use Rattle.std.specs.Prelude.{reverse, replicate, drop, take, get_or, slice_get, Some, if◌then◌else◌, ◌<◌, ◌+◌, ◌-◌}
 use Rattle.std.proofs.lemmas.List.{append_assoc, reverse-append, reverse-reverse, length-append, length-reverse, drop_more, take_at}
+use Rattle.std.proofs.lemmas.Grind.{common_steps}
 use Rattle.text_reader.specs.Pieces.{Piece, space, spelling}
 use Rattle.text_writer.specs.declared.gaps.Gap.TheVariants.{Breaks}
 use Rattle.text_writer.specs.declared.gaps.Last.{Last}
@@ -28,25 +29,19 @@ text_of_times (suc n) c = ap (λ x. c ∷ x) (text_of_times n c)
 
 -- a gap is written
 pub gap_written : (old broken new : List ℕ) (n column : ℕ) → broken ≡ old ++ replicate n 10 → new ≡ broken ++ replicate column 32 → new ≡ old ++ text_of (white column (Breaks n))
-gap_written old broken new n column e f =
-    f ∙ ap (λ x. x ++ replicate column 32) e ∙ append_assoc old (replicate n 10) (replicate column 32)
-    ∙ ap (λ x. old ++ x) (sym (text_joined (replicate n (space 10)) (replicate column (space 32)) ∙ ap₂ (λ x y. x ++ y) (text_of_times n 10) (text_of_times column 32)))
+gap_written old broken new n column e f = grind (arith, common_steps, append_assoc, text_joined, text_of_times)
 
 -- the innermost list is the last
 pub innermost : (xs ys : List OpenList) (o : OpenList) → xs ≡ ys ++ o ∷ [] → reverse xs ≡ o ∷ reverse ys
 innermost xs ys o e = ap reverse e ∙ reverse-append ys (o ∷ [])
 
 pub noted_one : (p : Piece) (at : LineColumn) (o : OpenList) (os : List OpenList) → noted p at (o ∷ os) ≡ with_part o (kind_of (length os == 0) p) at ∷ os
-noted_one p at o [] = refl
-noted_one p at o (q ∷ os) = sym (ap (λ b. with_part o (kind_of b p) at ∷ q ∷ os) (not_empty (length os)))
+noted_one p at o os = grind (arith, common_steps, not_empty)
 
 -- one part is written
 pub turned : (so_far next : Layout) (before after whole : List ℕ) (q : Planned) (qs : List Planned) → after ≡ before ++ text_of (written so_far q) → next ≡ layout_behind so_far q
     → before ++ text_of (laid_from so_far (q ∷ qs)) ≡ whole → after ++ text_of (laid_from next qs) ≡ whole
-turned so_far next before after whole q qs e n w =
-    ap₂ (λ x y. x ++ text_of (laid_from y qs)) e n
-    ∙ append_assoc before (text_of (written so_far q)) (text_of (laid_from (layout_behind so_far q) qs))
-    ∙ ap (λ x. before ++ x) (sym (text_joined (written so_far q) (laid_from (layout_behind so_far q) qs))) ∙ w
+turned so_far next before after whole q qs e n w = grind (arith, common_steps, append_assoc, text_joined)
 
 pub next_part : (last : Last) (parts : List PlacedPart) (i : ℕ) (p : PlacedPart) → i < length parts → p ≡ get_or parts i p
     → planned last (placed_views (drop i parts)) ≡ planned_view last p ∷ planned (last_of (part_view p.part)) (placed_views (drop (i + 1) parts))
@@ -57,11 +52,7 @@ pub page_turned : (so_far next : Layout) (before after whole : List ℕ) (parts 
     → after ≡ before ++ text_of (written so_far (planned_view so_far.last p)) → next ≡ layout_behind so_far (planned_view so_far.last p)
     → before ++ text_of (laid_from so_far (planned so_far.last (placed_views (drop i parts)))) ≡ whole
     → after ++ text_of (laid_from next (planned next.last (placed_views (drop (i + 1) parts)))) ≡ whole
-page_turned so_far next before after whole parts i p l e f n w =
-    let rest = placed_views (drop (i + 1) parts) in
-    ap (λ m. after ++ text_of (laid_from next (planned m rest))) (ap (λ (x : Layout). x.last) n)
-    ∙ turned so_far next before after whole (planned_view so_far.last p) (planned (last_of (part_view p.part)) rest) f n
-    (ap (λ qs. before ++ text_of (laid_from so_far qs)) (sym (next_part so_far.last parts i p l e)) ∙ w)
+page_turned so_far next before after whole parts i p l e f n w = grind (arith, common_steps, turned, next_part)
 
 ends_with : (last : Last) (parts : List PlacedPart) → text_of (ending (planned last (placed_views parts))) ≡ (if length parts == 0 then [] else 10 ∷ [])
 ends_with last [] = refl
@@ -70,20 +61,12 @@ ends_with last (p ∷ ps) = sym (ap (λ b. if b then [] else 10 ∷ []) (not_emp
 -- the whole is written
 pub written_whole : (i : Indentation) (marked : Bool) (parts : List PlacedPart) (end : List ℕ) → end ≡ text_of (mark marked) ++ text_of (laid_from (first_layout i marked) (planned (first_last marked) (placed_views parts)))
     → end ++ (if length parts == 0 then [] else 10 ∷ []) ≡ text_of (laid_plan i marked (planned (first_last marked) (placed_views parts)))
-written_whole i marked parts end e =
-    let qs = planned (first_last marked) (placed_views parts) in
-    ap₂ (λ x y. x ++ y) e (sym (ends_with (first_last marked) parts))
-    ∙ append_assoc (text_of (mark marked)) (text_of (laid_from (first_layout i marked) qs)) (text_of (ending qs))
-    ∙ ap (λ x. text_of (mark marked) ++ x) (sym (text_joined (laid_from (first_layout i marked) qs) (ending qs)))
-    ∙ sym (text_joined (mark marked) (laid_from (first_layout i marked) qs ++ ending qs))
+written_whole i marked parts end e = grind (arith, common_steps, ends_with, append_assoc, text_joined)
 
 -- the innermost list with one more part
 pub noted_list : (p : Piece) (at : LineColumn) (old popped new : List OpenList) (o n : OpenList) (b : Bool) → old ≡ popped ++ o ∷ [] → new ≡ popped ++ n ∷ []
     → n ≡ with_part o (kind_of b p) at → b ≡ (length popped == 0) → reverse new ≡ noted p at (reverse old)
-noted_list p at old popped new o n b e f g h =
-    innermost new popped n f
-    ∙ ap (λ x. x ∷ reverse popped) (g ∙ ap (λ k. with_part o (kind_of k p) at) (h ∙ ap (λ m. m == 0) (sym (length-reverse popped))))
-    ∙ sym (ap (noted p at) (innermost old popped o e) ∙ noted_one p at o (reverse popped))
+noted_list p at old popped new o n b e f g h = grind (arith, common_steps, innermost, length-reverse, noted_one)
 
 pub no_list : (p : Piece) (at : LineColumn) (old popped : List OpenList) → old ≡ [] → popped ≡ old → reverse popped ≡ noted p at (reverse old)
 no_list p at old popped e f = ap reverse (f ∙ e) ∙ sym (ap (λ x. noted p at (reverse x)) e)
@@ -104,16 +87,8 @@ pub last_indent : (i : Indentation) (xs os : List OpenList) (o : OpenList) (p : 
 last_indent i xs os o p e h = last_turned i (reverse os) o p (h ∙ ap (λ ys. slice_get ys (length ys - 1)) (e ∙ sym (reverse-reverse os)))
 
 end_turned : (rs : List OpenList) → reverse (take (length (reverse rs) - 1) (reverse rs)) ≡ drop 1 rs
-end_turned [] = refl
-end_turned (r ∷ rs) =
-    let f = reverse-append (r ∷ []) rs in
-    let n : length (reverse rs) ≡ length (reverse rs ++ r ∷ []) - 1 = omega (arith, length-append (reverse rs) (r ∷ [])) in
-    ap (λ xs. reverse (take (length xs - 1) xs)) f
-    ∙ ap reverse (take_at (reverse rs) (r ∷ []) (length (reverse rs ++ r ∷ []) - 1) n)
-    ∙ reverse-reverse rs
+end_turned rs = grind (arith, common_steps, reverse-append, length-append, take_at, reverse-reverse)
 
 -- without the innermost list
 pub list_ended : (xs ys : List OpenList) (n : ℕ) → n ≡ length xs → ys ≡ take (n - 1) xs → reverse ys ≡ drop 1 (reverse xs)
-list_ended xs ys n e f =
-    ap reverse (f ∙ ap (λ k. take (k - 1) xs) e ∙ ap (λ zs. take (length zs - 1) zs) (sym (reverse-reverse xs)))
-    ∙ end_turned (reverse xs)
+list_ended xs ys n e f = grind (arith, common_steps, reverse-reverse xs, end_turned (reverse xs))

@@ -2,11 +2,11 @@
 use Rattle.std.proofs.Common.{◌≡◌, ℕ, zero, suc, ◌+◌, ◌<◌, true, false, ◌&&◌, ◌==◌, Bool, List, [], ◌∷◌, ◌++◌, refl, sym, ap, ◌∙◌, subst, inl, inr, map, arith}
 use Rattle.std.specs.Prelude.{replicate, min, max}
 use Rattle.std.specs.Char.{is_whitespace}
-use Rattle.std.specs.List.{list_all}
-use Rattle.std.proofs.lemmas.Bool.{cases_Bool, and_parts, false≢true}
+use Rattle.std.proofs.lemmas.Bool.{cases_Bool, and_parts}
 use Rattle.std.proofs.lemmas.Bool.Decides.{nat_tests}
 use Rattle.std.proofs.lemmas.List.{append_assoc}
-use Rattle.text_reader.specs.Pieces.{Piece, space, line, block, left, right, bind, name, sign, endless, alone, spelling, size, is_in_word, begins_word, begins_with, ends_word, ends_line, AreIn}
+use Rattle.std.proofs.lemmas.Grind.{common_steps}
+use Rattle.text_reader.specs.Pieces.{Piece, space, line, block, left, right, bind, name, sign, endless, alone, spelling, size, begins_with, ends_word, ends_line, AreIn}
 use Rattle.text_reader.specs.Solid.{solid}
 use Rattle.text_writer.specs.declared.gaps.Gap.{Gap}
 use Rattle.text_writer.specs.declared.gaps.Gap.TheVariants.{Spaces, Breaks}
@@ -42,39 +42,15 @@ pub some_break : (n : ℕ) → (n == 0) ≡ false → 0 < min n 2
 some_break n h = let p : 0 < n = grind (arith, nat_tests, h) in omega arith
 
 broken_ends : (p : Piece) (n k column : ℕ) (ps : List Piece) → (n == 0) ≡ false → ((rest : List ℕ) → Ends p (10 ∷ rest)) → Ends p (text_of (white column (broken n k) ++ ps))
-broken_ends p n k column ps h e =
-    let b = breaks_first (min n 2) column ps (some_break n h) in
-    rw h (subst (Ends p) (sym b.1) (e b.0))
-
-no_comment : (c : ℕ) → begins_word 1 c ≡ true → (c == 59) ≡ false
-no_comment c h = grind (arith, nat_tests, h)
+broken_ends p n k column ps h e = grind (arith, common_steps, breaks_first (min n 2) column ps (some_break n h), some_break n h)
 
 -- behind `(` on a line
 open_ends : (p : Piece) (before column : ℕ) (ps : List Piece) → IsWhole p → begins_with 59 (text_of (white column (Spaces (spaces_in_line 0 before p)) ++ (p ∷ ps))) ≡ false
-open_ends (space c) before column ps w = absurd w
-open_ends (line cs) before column ps w = ap (begins_with 59) (spaces_first (max before 1) column (line cs ∷ ps) (omega arith)).1
-open_ends (block cs) before column ps w = refl
-open_ends left before column ps w = refl
-open_ends right before column ps w = refl
-open_ends bind before column ps w = refl
-open_ends (name []) before column ps w = absurd (false≢true w)
-open_ends (name (c ∷ cs)) before column ps w = no_comment c (and_parts (begins_word 1 c) (list_all is_in_word cs) w).0
-open_ends (sign cs) before column ps w = refl
-open_ends (endless cs) before column ps w = absurd w
-open_ends alone before column ps w = absurd w
+open_ends p before column ps w = grind (arith, common_steps, spaces_first, and_parts)
 
 -- behind a word on a line
 word_ends : (p : Piece) (before column : ℕ) (ps : List Piece) → IsWhole p → ends_word (text_of (white column (Spaces (spaces_in_line 1 before p)) ++ (p ∷ ps))) ≡ true
-word_ends (space c) before column ps w = absurd w
-word_ends (line cs) before column ps w = ap ends_word (spaces_first (max before 1) column (line cs ∷ ps) (omega arith)).1
-word_ends (block cs) before column ps w = refl
-word_ends left before column ps w = refl
-word_ends right before column ps w = refl
-word_ends bind before column ps w = refl
-word_ends (name cs) before column ps w = refl
-word_ends (sign cs) before column ps w = refl
-word_ends (endless cs) before column ps w = absurd w
-word_ends alone before column ps w = absurd w
+word_ends p before column ps w = grind (arith, common_steps, spaces_first)
 
 -- a piece is ended by the gap of the next one, with that
 word_gap : (q : Placed) (column : ℕ) (ps : List Piece) → IsWhole q.piece → ends_word (text_of (white column (broken q.breaks (spaces_in_line 1 q.spaces q.piece)) ++ (q.piece ∷ ps))) ≡ true
@@ -84,70 +60,36 @@ word_gap q column ps w = elim (cases_Bool (q.breaks == 0)) [
 ]
 
 gap_ends : (p : Piece) (q : Placed) (column : ℕ) (ps : List Piece) → IsWhole q.piece → Ends p (text_of (white column (gap_before (last_of p) q) ++ (q.piece ∷ ps)))
-gap_ends (space c) q column ps w = tt
 gap_ends (line cs) q column ps w = ap ends_line (breaks_first (max (min q.breaks 2) 1) column (q.piece ∷ ps) (omega arith)).1
-gap_ends (block cs) q column ps w = tt
 gap_ends left q column ps w = elim (cases_Bool (q.breaks == 0)) [
   | inl none ↦ rw none (open_ends q.piece q.spaces column ps w)
   | inr some ↦ broken_ends left q.breaks (spaces_in_line 0 q.spaces q.piece) column (q.piece ∷ ps) some (λ rest. refl)
 ]
-gap_ends right q column ps w = tt
-gap_ends bind q column ps w = tt
 gap_ends (name cs) q column ps w = word_gap q column ps w
 gap_ends (sign cs) q column ps w = word_gap q column ps w
-gap_ends (endless cs) q column ps w = tt
-gap_ends alone q column ps w = tt
+gap_ends _ q column ps w = tt
 
 last_ends : (p : Piece) → Ends p (10 ∷ [])
-last_ends (space c) = tt
-last_ends (line cs) = refl
-last_ends (block cs) = tt
-last_ends left = refl
-last_ends right = tt
-last_ends bind = tt
-last_ends (name cs) = refl
-last_ends (sign cs) = refl
-last_ends (endless cs) = tt
-last_ends alone = tt
+last_ends p = grind (arith, common_steps)
 
 rest_ends : (p : Piece) (so_far : Layout) (ps : List Placed) → AreWhole ps → Ends p (text_of (laid_from so_far (planned (last_of p) ps) ++ last_break))
 rest_ends p so_far [] w = last_ends p
-rest_ends p so_far (q ∷ qs) w =
-    let r = planned (last_of p) (q ∷ qs) in
-    subst (λ x. Ends p (text_of x))
-    (sym (regrouped (white (line_start so_far q.piece) (gap_before (last_of p) q)) q.piece
-    (laid_from (layout_behind so_far (record { gap = gap_before (last_of p) q; piece = q.piece })) (planned (last_of q.piece) qs)) last_break))
-    (gap_ends p q (line_start so_far q.piece) _ w.0)
+rest_ends p so_far (q ∷ qs) w = grind (arith, common_steps, regrouped, gap_ends)
 
 -- ---- pieces where they stand
 times : (n c : ℕ) (ps : List Piece) → is_whitespace c ≡ true → AreLater ps → AreLater (replicate n (space c) ++ ps)
 times zero c ps w h = h
-times (suc n) c ps w h = λ o pos. (
-  text_of (replicate n (space c) ++ ps),
-  refl,
-  rw w refl,
-  times n c ps w h (o + size (c ∷ [])) (omega (arith, pos)),
-)
+times (suc n) c ps w h = grind (arith, common_steps, times n c ps w h)
 
 white_are : (column : ℕ) (g : Gap) (ps : List Piece) → AreLater ps → AreLater (white column g ++ ps)
-white_are column (Spaces n) ps h = times n 32 ps refl h
-white_are column (Breaks n) ps h =
-    subst AreLater (sym (append_assoc (replicate n (space 10)) (replicate column (space 32)) ps)) (times n 10 (replicate column (space 32) ++ ps) refl (times column 32 ps refl h))
+white_are column g ps h = grind (arith, common_steps, times, append_assoc)
 
 piece_is : (p : Piece) (rest : List Piece) (o : ℕ) → IsWhole p → Ends p (text_of rest) → AreLater rest → (begins_with 65279 (spelling p) && o == 0) ≡ false → AreIn o (text_of (p ∷ rest)) (p ∷ rest)
-piece_is p rest o w e h n =
-    let s = standing p o (text_of rest) w n e in
-    (text_of rest, refl, s, h (o + size (spelling p)) (omega (arith, sized p (text_of rest) o s)))
+piece_is p rest o w e h n = grind (arith, common_steps, standing p o (text_of rest) w n e, sized p (text_of rest) o)
 
 later : (ps : List Placed) (last : Last) (so_far : Layout) → AreWhole ps → AreLater (laid_from so_far (planned last ps) ++ last_break)
 later [] last so_far w = λ o pos. ([], refl, refl, refl)
-later (q ∷ qs) last so_far w =
-    let p : Planned = record { gap = gap_before last q; piece = q.piece } in
-    let rest = laid_from (layout_behind so_far p) (planned (last_of q.piece) qs) in
-    subst AreLater (sym (regrouped (white (line_start so_far q.piece) (gap_before last q)) q.piece rest last_break))
-    (white_are (line_start so_far q.piece) (gap_before last q) (q.piece ∷ (rest ++ last_break))
-    (λ o pos. piece_is q.piece (rest ++ last_break) o w.0 (rest_ends q.piece (layout_behind so_far p) qs w.2) (later qs (last_of q.piece) (layout_behind so_far p) w.2)
-    (past_zero (begins_with 65279 (spelling q.piece)) o pos)))
+later (q ∷ qs) last so_far w = grind (arith, common_steps, later qs (last_of q.piece), regrouped, white_are, piece_is, rest_ends, past_zero)
 
 -- the text's beginning
 first : (ps : List Placed) (so_far : Layout) → AreWhole ps → (let r = planned L.Nothing ps in AreIn 0 (text_of (laid_from so_far r ++ ending r)) (laid_from so_far r ++ ending r))
@@ -163,68 +105,40 @@ first (q ∷ qs) so_far w =
     begun : (q : Placed) (column : ℕ) (rest : List Piece) → IsWhole q.piece → Ends q.piece (text_of rest) → AreLater rest
         → (let r = white column (gap_before L.Nothing q) ++ (q.piece ∷ rest) in AreIn 0 (text_of r) r)
     begun q column rest w e h = elim (cases_Bool (begins_with 65279 (spelling q.piece))) [
-      | inl m ↦ rw m (
-        text_of (q.piece ∷ rest),
-        refl,
-        refl,
-        piece_is q.piece rest (0 + size (32 ∷ [])) w e h
-            (past_zero (begins_with 65279 (spelling q.piece)) (0 + size (32 ∷ [])) (omega (arith, sized (space 32) [] 0 refl))),
-      )
+      | inl m ↦ grind (arith, common_steps, piece_is q.piece, past_zero (begins_with 65279 (spelling q.piece)) (0 + size (32 ∷ [])), sized (space 32) [] 0 refl)
       | inr m ↦ rw m (piece_is q.piece rest 0 w e h (ap (λ b. b && 0 == 0) m))
     ]
 
 plan_is_laid : (i : Indentation) (marked : Bool) (ps : List Placed) → AreWhole ps → (let r = laid_plan i marked (planned (first_last marked) ps) in AreIn 0 (text_of r) r)
 plan_is_laid i false ps w = first ps (first_layout i false) w
 plan_is_laid i true [] w = ([], refl, refl, refl)
-plan_is_laid i true (q ∷ qs) w = (
-  text_of (laid_from (first_layout i true) (planned L.Mark (q ∷ qs)) ++ last_break),
-  refl,
-  refl,
-  later (q ∷ qs) L.Mark (first_layout i true) w (0 + size (65279 ∷ [])) (omega (arith, sized (space 65279) [] 0 refl)),
-)
+plan_is_laid i true (q ∷ qs) w = grind (arith, later (q ∷ qs) L.Mark (first_layout i true) w (0 + size (65279 ∷ [])), sized (space 65279) [] 0 refl)
 
 pub laid_are : (i : Indentation) (ps : List Piece) → AreWhole (all_placed 0 0 ps) → AreIn 0 (text_of (laid i ps)) (laid i ps)
 laid_are i ps w = plan_is_laid i (is_marked ps) (all_placed 0 0 ps) w
 
 -- ---- the pieces but white space
 pub solid_piece : (p : Piece) (ps : List Piece) → IsWhole p → solid (p ∷ ps) ≡ p ∷ solid ps
-solid_piece (space c) ps w = absurd w
-solid_piece (line cs) ps w = refl
-solid_piece (block cs) ps w = refl
-solid_piece left ps w = refl
-solid_piece right ps w = refl
-solid_piece bind ps w = refl
-solid_piece (name cs) ps w = refl
-solid_piece (sign cs) ps w = refl
-solid_piece (endless cs) ps w = refl
-solid_piece alone ps w = refl
+solid_piece p ps w = grind (arith, common_steps)
 
 solid_times : (n c : ℕ) (ps : List Piece) → solid (replicate n (space c) ++ ps) ≡ solid ps
 solid_times zero c ps = refl
 solid_times (suc n) c ps = solid_times n c ps
 
 solid_white : (column : ℕ) (g : Gap) (ps : List Piece) → solid (white column g ++ ps) ≡ solid ps
-solid_white column (Spaces n) ps = solid_times n 32 ps
-solid_white column (Breaks n) ps = ap solid (append_assoc (replicate n (space 10)) (replicate column (space 32)) ps) ∙ solid_times n 10 _ ∙ solid_times column 32 ps
+solid_white column g ps = grind (arith, common_steps, solid_times, append_assoc)
 
 abbrev pieces_of : List Placed → List Piece
 pieces_of ps = map (λ (p : Placed). p.piece) ps
 
 solid_from : (ps : List Placed) (last : Last) (so_far : Layout) → AreWhole ps → solid (laid_from so_far (planned last ps) ++ last_break) ≡ pieces_of ps
 solid_from [] last so_far w = refl
-solid_from (q ∷ qs) last so_far w =
-    let p : Planned = record { gap = gap_before last q; piece = q.piece } in
-    let rest = laid_from (layout_behind so_far p) (planned (last_of q.piece) qs) in
-    ap solid (regrouped (white (line_start so_far q.piece) (gap_before last q)) q.piece rest last_break)
-    ∙ solid_white (line_start so_far q.piece) (gap_before last q) (q.piece ∷ (rest ++ last_break))
-    ∙ solid_piece q.piece (rest ++ last_break) w.0
-    ∙ ap (λ x. q.piece ∷ x) (solid_from qs (last_of q.piece) (layout_behind so_far p) w.2)
+solid_from (q ∷ qs) last so_far w = grind (arith, common_steps, solid_from qs (last_of q.piece), regrouped, solid_white, solid_piece)
 
 solid_plan : (i : Indentation) (marked : Bool) (ps : List Placed) → AreWhole ps → solid (laid_plan i marked (planned (first_last marked) ps)) ≡ pieces_of ps
-solid_plan i false [] w = refl
 solid_plan i false (q ∷ qs) w = solid_from (q ∷ qs) L.Nothing (first_layout i false) w
-solid_plan i true [] w = refl
 solid_plan i true (q ∷ qs) w = solid_from (q ∷ qs) L.Mark (first_layout i true) w
+solid_plan i _ _ w = refl
 
 placed_pieces : (ps : List Piece) (b s : ℕ) → pieces_of (all_placed b s ps) ≡ map kept (solid ps)
 placed_pieces [] b s = refl

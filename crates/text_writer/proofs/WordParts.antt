@@ -1,5 +1,5 @@
 -- The parts of a test that holds.
-use Rattle.std.proofs.Common.{◌≡◌, ◌==◌, ℕ, List, [], ◌∷◌, refl, sym, ◌∙◌}
+use Rattle.std.proofs.Common.{◌≡◌, ◌==◌, ℕ, List, [], ◌∷◌, refl, sym, ◌∙◌, arith}
 use Rattle.std.specs.Prelude.{Bool, true, false, not, ◌&&◌, ◌||◌, codes}
 use Rattle.std.proofs.lemmas.Bool.{false≢true, true≢false}
 use Rattle.model.specs.lists.Syntax.{Name}
@@ -8,44 +8,27 @@ use Rattle.text_reader.specs.Lexemes.{begins_number}
 use Rattle.std.specs.List.{list_all}
 use Rattle.std.specs.Char.{is_ascii_digit}
 use Rattle.std.specs.Str.{chars, is_utf8}
+use Rattle.std.proofs.lemmas.Grind.{common_steps}
 use Rattle.text_reader.specs.Pieces.{is_in_word}
 use Rattle.text_writer.specs.Spellable.{begins_word, begins_any_word, has_word_characters, is_some_text, is_word, is_any_word, is_constant_name, is_truth, is_pattern_variable, is_pattern_head, is_expr_variable, is_expr_head}
 
 pub both : (a b : Bool) → (a && b) ≡ true → (a ≡ true) × (b ≡ true)
-both true true e = (refl, refl)
-both true false e = absurd (false≢true e)
-both false b e = absurd (false≢true e)
+both a b e = grind (arith, common_steps)
 
 pub three : (a b c : Bool) → (a && b && c) ≡ true → (a ≡ true) × (b ≡ true) × (c ≡ true)
-three true true true e = (refl, refl, refl)
-three true true false e = absurd (false≢true e)
-three true false c e = absurd (false≢true e)
-three false b c e = absurd (false≢true e)
+three a b c e = grind (arith, common_steps)
 
 pub four : (a b c d : Bool) → (a && b && c && d) ≡ true → (a ≡ true) × (b ≡ true) × (c ≡ true) × (d ≡ true)
-four true true true true e = (refl, refl, refl, refl)
-four true true true false e = absurd (false≢true e)
-four true true false d e = absurd (false≢true e)
-four true false c d e = absurd (false≢true e)
-four false b c d e = absurd (false≢true e)
+four a b c d e = grind (arith, common_steps)
 
 pub six : (a b c d e f : Bool) → (a && b && c && d && e && f) ≡ true → (a ≡ true) × (b ≡ true) × (c ≡ true) × (d ≡ true) × (e ≡ true) × (f ≡ true)
-six true true true true true true h = (refl, refl, refl, refl, refl, refl)
-six true true true true true false h = absurd (false≢true h)
-six true true true true false f h = absurd (false≢true h)
-six true true true false e f h = absurd (false≢true h)
-six true true false d e f h = absurd (false≢true h)
-six true false c d e f h = absurd (false≢true h)
-six false b c d e f h = absurd (false≢true h)
+six a b c d e f h = grind (arith, common_steps)
 
 pub unless : (a : Bool) → not a ≡ true → a ≡ false
-unless true e = absurd (false≢true e)
-unless false e = refl
+unless a e = grind (arith, common_steps)
 
 pub neither : (a b : Bool) → not (a || b) ≡ true → (a ≡ false) × (b ≡ false)
-neither true b e = absurd (false≢true e)
-neither false true e = absurd (false≢true e)
-neither false false e = (refl, refl)
+neither a b e = grind (arith, common_steps)
 
 -- ---- names
 

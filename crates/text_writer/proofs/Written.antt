@@ -1,15 +1,14 @@
 -- The pieces of forms that are written.
-use Rattle.std.proofs.Common.{◌≡◌, ℕ, zero, suc, ◌+◌, ◌≤◌, ◌<◌, refl, sym, ap, ◌∙◌, inl, inr, List, [], ◌∷◌, ◌++◌, length, append_assoc, arith}
-use Rattle.std.specs.Prelude.{ℤ, Bool, true, false, not, ◌&&◌, ◌==◌, codes}
+use Rattle.std.proofs.Common.{◌≡◌, ℕ, ◌+◌, ◌≤◌, ◌<◌, refl, sym, ap, ◌∙◌, inl, inr, List, [], ◌∷◌, ◌++◌, length, append_assoc, arith}
+use Rattle.std.specs.Prelude.{ℤ, Bool, true, false, not, ◌==◌, codes}
 use Rattle.std.specs.List.{list_all}
 use Rattle.std.specs.Fmt.{signed_decimal}
-use Rattle.std.specs.Char.{encode_utf8}
 use Rattle.std.specs.Str.{chars, encode_utf8_all, IsAscii, IsUtf8}
-use Rattle.std.proofs.lemmas.Bool.{false≢true, true≢false, cases_Bool, eqb-true}
+use Rattle.std.proofs.lemmas.Bool.{true≢false, cases_Bool, eqb-true}
 use Rattle.std.proofs.lemmas.Bool.Decides.{nat_tests}
 use Rattle.std.proofs.lemmas.Str.{IsUtf8-from_is_utf8, IsUtf8-from_ascii, chars-IsAscii, chars-append, encodes-chars, length-le-encodes, byte_from_char}
+use Rattle.std.proofs.lemmas.Grind.{common_steps}
 use Rattle.model.specs.lists.Syntax.{Name}
-use Rattle.text_reader.specs.Lexemes.{begins_number}
 use Rattle.text_reader.specs.FormTrees.{FormTree, a_word, a_number, a_constant, a_binding, a_list, FormTrees, no_form, form_and}
 use Rattle.text_reader.specs.Pieces.{Piece, space, left, right, bind, name, sign, spelling, size, is_in_word, is_name, is_constant, ends_word, begins_with, Stands, AreIn}
 use Rattle.text_writer.specs.Spellable.{begins_any_word, has_word_characters, is_word, is_any_word, is_some_text, is_constant_name, is_signed_128}
@@ -38,12 +37,10 @@ abbrev mutual
 
 mutual
   pub text_written : (f : FormTree) (rest : List ℕ) → written f ++ rest ≡ text f rest
-  text_written (a_word n) rest = refl
-  text_written (a_number z p) rest = refl
-  text_written (a_constant n p) rest = refl
   text_written (a_binding n f) rest =
       append_assoc n.text (codes " @ " ++ written f) rest ∙ ap (λ t. n.text ++ 32 ∷ 64 ∷ 32 ∷ t) (text_written f rest)
   text_written (a_list fs p e) rest = ap (λ t. 40 ∷ t) (append_assoc (parted fs) (41 ∷ []) rest ∙ text_parted fs (41 ∷ rest))
+  text_written _ rest = refl
 
   pub text_parted : (fs : FormTrees) (rest : List ℕ) → parted fs ++ rest ≡ parts_text fs rest
   text_parted no_form rest = refl
@@ -51,8 +48,7 @@ mutual
 
   pub text_spaced : (fs : FormTrees) (rest : List ℕ) → spaced fs ++ rest ≡ more_text fs rest
   text_spaced no_form rest = refl
-  text_spaced (form_and f fs) rest =
-      ap (λ t. 32 ∷ t) (append_assoc (written f) (spaced fs) rest ∙ ap (λ t. written f ++ t) (text_spaced fs rest) ∙ text_written f (more_text fs rest))
+  text_spaced (form_and f fs) rest = grind (arith, common_steps, text_spaced fs rest, text_written f)
 
 -- ---- the pieces, and the offset behind them
 
@@ -94,8 +90,7 @@ abbrev mutual
 -- ---- characters
 
 one_ascii : (c : ℕ) → c < 128 → IsAscii (c ∷ [])
-one_ascii c h zero = h
-one_ascii c h (suc i) = omega arith
+one_ascii c h k = grind (arith, common_steps)
 
 pub first_char : (c : ℕ) (bytes : List ℕ) → c < 128 → chars (c ∷ bytes) ≡ c ∷ chars bytes
 first_char c bytes h =
@@ -123,74 +118,35 @@ constant_characters n h = (constant_parts n h).1
 
 -- text that isn't empty has characters
 pub some_chars : (t : List ℕ) → IsUtf8 t → is_some_text t ≡ true → is_some_text (chars t) ≡ true
-some_chars t u some = by (chars t) (ap is_some_text (encodes-chars t u) ∙ some)
-  where
-    by : (cs : List ℕ) → is_some_text (encode_utf8_all cs) ≡ true → is_some_text cs ≡ true
-    by [] h = h
-    by (c ∷ cs) h = refl
+some_chars t u some = grind (arith, common_steps, encodes-chars t u)
 
 -- a word's first character is no `$`
 pub no_sign : (t : List ℕ) (c : ℕ) (cs : List ℕ) → IsUtf8 t → chars t ≡ c ∷ cs → begins_any_word t ≡ true → (c == 36) ≡ false
 no_sign [] c cs u e h = absurd (true≢false (sym h ∙ nothing_begins_any))
 no_sign (b ∷ bs) c cs u e h = elim (cases_Bool (c == 36)) [
-  | inl d ↦
-      let whole : b ∷ bs ≡ encode_utf8 36 ++ encode_utf8_all cs = sym (encodes-chars (b ∷ bs) u) ∙ ap encode_utf8_all (e ∙ ap (λ x. x ∷ cs) (eqb-true c 36 d)) in
-      let first : b ≡ 36 = byte_from_char (b ∷ bs) (encode_utf8_all cs) 36 whole (omega arith) in
-      absurd (true≢false (ap (λ x. x == 36) (sym first) ∙ (any_beginning_parts b bs h).0))
+  | inl d ↦ grind (arith, common_steps, encodes-chars (b ∷ bs) u, eqb-true c 36 d, byte_from_char (b ∷ bs) (encode_utf8_all cs) 36, any_beginning_parts b bs h)
   | inr d ↦ d
 ]
 
 -- characters of a word stand as a name, where the text has begun
 pub stands : (o : ℕ) (cs : List ℕ) → 1 ≤ o → list_all is_in_word cs ≡ true → is_some_text cs ≡ true → begins_with 36 cs ≡ false → is_name o cs ≡ true
-stands o [] h all some plain = absurd (false≢true some)
-stands o (c ∷ cs) h all some plain =
-    let k = both (is_in_word c) (list_all is_in_word cs) all in
-    let begun : (o == 0) ≡ false = grind (arith, nat_tests, h) in
-    rw (k.0, plain, begun, k.1) (by (c == 65279))
-  where
-    by : (b : Bool) → (not (b && false) && true) ≡ true
-    by true = refl
-    by false = refl
+stands o cs h all some plain = grind (arith, common_steps, both, nat_tests)
 
 word_stands : (o : ℕ) (n : Name) → 1 ≤ o → is_any_word n ≡ true → is_name o (chars n.text) ≡ true
-word_stands o n begun h =
-    let characters = word_characters n h in
-    let utf8 = name_utf8 n characters in
-    let begins = (any_word_parts n h).0 in
-    stands o (chars n.text) begun (name_in_word n characters) (some_chars n.text utf8 (any_beginning_some n.text begins)) (by (chars n.text) refl utf8 begins)
-  where
-    by : (cs : List ℕ) → chars n.text ≡ cs → IsUtf8 n.text → begins_any_word n.text ≡ true → begins_with 36 cs ≡ false
-    by [] e u b = refl
-    by (c ∷ cs) e u b = no_sign n.text c cs u e b
+word_stands o n begun h = grind (arith, word_characters, name_utf8, begins, any_word_parts, stands, name_in_word, some_chars, any_beginning_some, no_sign)
 
 -- a number's characters
 pub number_plain : (z : ℤ) → is_signed_128 z ≡ true → begins_with 36 (signed_decimal z) ≡ false
-number_plain z h = by (signed_decimal z) (begins_as_number z h)
-  where
-    by : (cs : List ℕ) → begins_number cs ≡ true → begins_with 36 cs ≡ false
-    by [] e = refl
-    by (c ∷ cs) e = elim (cases_Bool (c == 36)) [
-      | inl d ↦ absurd (false≢true (sym (ap (λ x. begins_number (x ∷ cs)) (eqb-true c 36 d)) ∙ e))
-      | inr d ↦ d
-    ]
+number_plain z h = grind (arith, common_steps, begins_as_number z h, eqb-true)
 
 pub number_stands : (o : ℕ) (z : ℤ) → 1 ≤ o → is_signed_128 z ≡ true → is_name o (signed_decimal z) ≡ true
 number_stands o z begun h = stands o (signed_decimal z) begun (number_characters z h) (number_some z h) (number_plain z h)
 
 constant_stands : (cs : List ℕ) → list_all is_in_word cs ≡ true → is_some_text cs ≡ true → is_constant cs ≡ true
-constant_stands [] all some = absurd (false≢true some)
-constant_stands (c ∷ cs) all some = all
-
--- a character that may stand in a word is no `;`
-no_semicolon : (c : ℕ) → is_in_word c ≡ true → (c == 59) ≡ false
-no_semicolon c h = elim (cases_Bool (c == 59)) [
-  | inl d ↦ absurd (false≢true (sym (ap is_in_word (eqb-true c 59 d)) ∙ h))
-  | inr d ↦ d
-]
+constant_stands cs all some = grind (arith, common_steps)
 
 pub no_comment : (cs rest : List ℕ) → list_all is_in_word cs ≡ true → is_some_text cs ≡ true → begins_with 59 (cs ++ rest) ≡ false
-no_comment [] rest all some = absurd (false≢true some)
-no_comment (c ∷ cs) rest all some = no_semicolon c (both (is_in_word c) (list_all is_in_word cs) all).0
+no_comment cs rest all some = grind (arith, common_steps, both)
 
 -- ---- what forms begin with
 
@@ -198,17 +154,14 @@ pub plain_text : (t rest : List ℕ) → IsUtf8 t → list_all is_in_word (chars
 plain_text t rest u all some = ap (begins_with 59) (chars-append t rest u) ∙ no_comment (chars t) (chars rest) all (some_chars t u some)
 
 word_plain : (n : Name) (rest : List ℕ) → is_any_word n ≡ true → begins_with 59 (chars (n.text ++ rest)) ≡ false
-word_plain n rest h =
-    let characters = word_characters n h in
-    plain_text n.text rest (name_utf8 n characters) (name_in_word n characters) (any_beginning_some n.text (any_word_parts n h).0)
+word_plain n rest h = grind (arith, common_steps, word_characters, plain_text, name_utf8, name_in_word, any_beginning_some, any_word_parts)
 
 pub number_utf8 : (z : ℤ) → is_signed_128 z ≡ true → IsUtf8 (signed_decimal z)
 number_utf8 z h = IsUtf8-from_ascii (signed_decimal z) (number_ascii z h)
 
 form_plain : (f : FormTree) (rest : List ℕ) → is_fine true f ≡ true → begins_with 59 (chars (text f rest)) ≡ false
 form_plain (a_word n) rest h = word_plain n rest h
-form_plain (a_number z p) rest h =
-    plain_text (signed_decimal z) rest (number_utf8 z h) (ap (list_all is_in_word) (chars-IsAscii (signed_decimal z) (number_ascii z h)) ∙ number_characters z h) (number_some z h)
+form_plain (a_number z p) rest h = grind (arith, common_steps, plain_text, number_utf8, chars-IsAscii, number_ascii, number_characters, number_some)
 form_plain (a_constant n p) rest h = ap (begins_with 59) (first_char 36 (n.text ++ rest) (omega arith))
 form_plain (a_binding n f) rest h = word_plain n (32 ∷ 64 ∷ 32 ∷ text f rest) (word_is_any n (both (is_word n) (is_fine true f) h).0)
 form_plain (a_list fs p e) rest h = ap (begins_with 59) (first_char 40 (parts_text fs (41 ∷ rest)) (omega arith))
@@ -233,17 +186,11 @@ one_piece o c rest p after small is stand h = (chars rest, first_char c rest sma
 
 word_piece : (o : ℕ) (n : Name) (rest : List ℕ) (after : List Piece) → 1 ≤ o → is_any_word n ≡ true → ends_word (chars rest) ≡ true
     → AreIn (past o (name (chars n.text))) (chars rest) after → AreIn o (chars (n.text ++ rest)) (name (chars n.text) ∷ after)
-word_piece o n rest after begun h ends are =
-    (chars rest, chars-append n.text rest (name_utf8 n (word_characters n h)), (word_stands o n begun h, ends), are)
+word_piece o n rest after begun h ends are = grind (arith, common_steps, chars-append, name_utf8, word_characters, word_stands)
 
 pub number_piece : (o : ℕ) (z : ℤ) (rest : List ℕ) (after : List Piece) → 1 ≤ o → is_signed_128 z ≡ true → ends_word (chars rest) ≡ true
     → AreIn (past o (name (signed_decimal z))) (chars rest) after → AreIn o (chars (signed_decimal z ++ rest)) (name (signed_decimal z) ∷ after)
-number_piece o z rest after begun h ends are = (
-  chars rest,
-  chars-append (signed_decimal z) rest (number_utf8 z h) ∙ ap (λ cs. cs ++ chars rest) (chars-IsAscii (signed_decimal z) (number_ascii z h)),
-  (number_stands o z begun h, ends),
-  are,
-)
+number_piece o z rest after begun h ends are = grind (arith, common_steps, chars-append, number_utf8, chars-IsAscii, number_ascii, number_stands)
 
 constant_piece : (o : ℕ) (n : Name) (rest : List ℕ) (after : List Piece) → is_constant_name n ≡ true → ends_word (chars rest) ≡ true
     → AreIn (past o (sign (chars n.text))) (chars rest) after → AreIn o (chars (36 ∷ (n.text ++ rest))) (sign (chars n.text) ∷ after)
@@ -263,11 +210,7 @@ mutual
   farther (a_word n) o h = later o (name (chars n.text)) h
   farther (a_number z p) o h = later o (name (signed_decimal z)) h
   farther (a_constant n p) o h = later o (sign (chars n.text)) h
-  farther (a_binding n f) o h =
-      let one = past o (name (chars n.text)) in
-      let two = past one (space 32) in
-      let three = past two bind in
-      farther f (past three (space 32)) (later three (space 32) (later two bind (later one (space 32) (later o (name (chars n.text)) h))))
+  farther (a_binding n f) o h = grind (arith, common_steps, farther f, later)
   farther (a_list fs p e) o h = later (parts_behind (past o left) fs) right (parts_farther fs (past o left) (later o left h))
 
   pub parts_farther : (fs : FormTrees) (o : ℕ) → 1 ≤ o → 1 ≤ parts_behind o fs
@@ -305,10 +248,7 @@ mutual
   pub parts_in : (fs : FormTrees) (o : ℕ) (rest : List ℕ) (after : List Piece) → are_fine true fs ≡ true → 1 ≤ o → ends_word (chars rest) ≡ true
       → AreIn (parts_behind o fs) (chars rest) after → AreIn o (chars (parts_text fs rest)) (parts_pieces fs after)
   parts_in no_form o rest after h begun ends are = are
-  parts_in (form_and f fs) o rest after h begun ends are =
-      let k = both (is_fine true f) (are_fine true fs) h in
-      form_in f o (more_text fs rest) (more_pieces fs after) k.0 begun (more_ends fs rest ends)
-      (more_in fs (behind o f) rest after k.1 (farther f o begun) ends are)
+  parts_in (form_and f fs) o rest after h begun ends are = grind (arith, common_steps, form_in f o, more_in fs, both, is_fine, are_fine, more_ends, farther)
 
   pub more_in : (fs : FormTrees) (o : ℕ) (rest : List ℕ) (after : List Piece) → are_fine true fs ≡ true → 1 ≤ o → ends_word (chars rest) ≡ true
       → AreIn (more_behind o fs) (chars rest) after → AreIn o (chars (more_text fs rest)) (more_pieces fs after)
@@ -317,8 +257,7 @@ mutual
       let k = both (is_fine true f) (are_fine true fs) h in
       let next = past o (space 32) in
       one_piece o 32 (text f (more_text fs rest)) (space 32) (pieces f (more_pieces fs after)) (omega arith) refl refl
-      (form_in f next (more_text fs rest) (more_pieces fs after) k.0 (later o (space 32) begun) (more_ends fs rest ends)
-      (more_in fs (behind next f) rest after k.1 (farther f next (later o (space 32) begun)) ends are))
+      (grind (arith, common_steps, form_in f next, more_in fs, later o (space 32) begun, more_ends fs rest ends, farther f next (later o (space 32) begun)))
 
 abbrev pub is_list : FormTree → Bool
 is_list (a_word n) = false
@@ -330,13 +269,4 @@ is_list (a_list fs p e) = true
 -- a list stands at the beginning of a text too
 pub whole_in : (f : FormTree) (o : ℕ) (rest : List ℕ) (after : List Piece) → is_list f ≡ true → is_fine true f ≡ true
     → AreIn (behind o f) (chars rest) after → AreIn o (chars (text f rest)) (pieces f after)
-whole_in (a_word n) o rest after list h are = absurd (false≢true list)
-whole_in (a_number z p) o rest after list h are = absurd (false≢true list)
-whole_in (a_constant n p) o rest after list h are = absurd (false≢true list)
-whole_in (a_binding n f) o rest after list h are = absurd (false≢true list)
-whole_in (a_list fs p e) o rest after list h are =
-    let inside = past o left in
-    one_piece o 40 (parts_text fs (41 ∷ rest)) left (parts_pieces fs (right ∷ after)) (omega arith) refl
-    (parts_plain fs (41 ∷ rest) h (ap (begins_with 59) (first_char 41 rest (omega arith))))
-    (parts_in fs inside (41 ∷ rest) (right ∷ after) h (begins o left refl) (ends_after 41 rest (omega arith) refl)
-    (one_piece (parts_behind inside fs) 41 rest right after (omega arith) refl tt are))
+whole_in f o rest after list h are = grind (arith, common_steps, one_piece, parts_plain, first_char, parts_in, begins, ends_after)
