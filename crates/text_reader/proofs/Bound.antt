@@ -1,7 +1,8 @@
 -- The last token, bound.
-use Rattle.std.proofs.Common.{◌≡◌, List, [], ◌∷◌, ◌++◌, refl, ap, ◌∙◌}
+use Rattle.std.proofs.Common.{◌≡◌, List, [], ◌∷◌, ◌++◌, refl, ap, ◌∙◌, arith}
 use Rattle.std.proofs.lemmas.List.{map-append}
-use Rattle.std.specs.Prelude.{Option, Some, None, option_map}
+use Rattle.std.specs.Prelude.{Option, None, option_map}
+use Rattle.std.proofs.lemmas.Grind.{common_steps}
 use Rattle.core_syntax.specs.declared.syntax.Ident.{Ident}
 use Rattle.text_reader.specs.declared.tokens.Token.{Token}
 use Rattle.text_reader.specs.Lexemes.{Lexeme, binder, binder_of, last_bound}
@@ -9,12 +10,10 @@ use Rattle.core_syntax.specs.SyntaxViews.{name_view}
 use Rattle.text_reader.specs.Views.{token_view, token_views}
 
 twice : (f g : List Lexeme → List Lexeme) (r : Option (List Lexeme)) → option_map f (option_map g r) ≡ option_map (λ us. f (g us)) r
-twice f g None = refl
-twice f g (Some x) = refl
+twice f g r = grind (arith, common_steps)
 
 same : (r : Option (List Lexeme)) → r ≡ option_map (λ us. us) r
-same None = refl
-same (Some x) = refl
+same r = grind (arith, common_steps)
 
 bound_at_end : (ts : List Lexeme) (t : Lexeme) → last_bound (ts ++ t ∷ []) ≡ option_map (λ us. ts ++ us) (binder_of t)
 bound_at_end [] t = same (binder_of t)
@@ -22,14 +21,11 @@ bound_at_end (a ∷ []) t = refl
 bound_at_end (a ∷ b ∷ ts) t = ap (option_map (λ us. a ∷ us)) (bound_at_end (b ∷ ts) t) ∙ twice (λ us. a ∷ us) (λ us. b ∷ ts ++ us) (binder_of t)
 
 names : (ts : List Lexeme) (r : Option Ident) → option_map (λ us. ts ++ us) (option_map (λ i. binder (name_view i) ∷ []) r) ≡ option_map (λ i. ts ++ binder (name_view i) ∷ []) r
-names ts None = refl
-names ts (Some i) = refl
+names ts r = grind (arith, common_steps)
 
 pub bound_some : (old new : List Token) (t : Token) (r : Option Ident) → old ≡ new ++ t ∷ [] → binder_of (token_view t) ≡ option_map (λ i. binder (name_view i) ∷ []) r
     → last_bound (token_views old) ≡ option_map (λ i. token_views new ++ binder (name_view i) ∷ []) r
-bound_some old new t r e h =
-    ap (λ ts. last_bound (token_views ts)) e ∙ ap last_bound (map-append token_view new (t ∷ [])) ∙ bound_at_end (token_views new) (token_view t)
-    ∙ ap (option_map (λ us. token_views new ++ us)) h ∙ names (token_views new) r
+bound_some old new t r e h = grind (arith, common_steps, map-append, bound_at_end, names)
 
 pub bound_none : (old : List Token) → old ≡ [] → last_bound (token_views old) ≡ None
 bound_none old e = rw e

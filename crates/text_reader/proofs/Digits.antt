@@ -1,22 +1,17 @@
 -- Digits that are 128 bits at most spell a number of 128 bits.
-use Rattle.std.proofs.Common.{◌≡◌, ℕ, zero, suc, ◌+◌, ◌*◌, ◌^◌, ◌<◌, ◌≤◌, ◌==◌, List, [], ◌∷◌, length, true, refl, inl, inr, sym, ap, subst, ◌∙◌, arith}
-use Rattle.std.specs.Prelude.{Bool, ◌&&◌, nat_lt, nat_le}
+use Rattle.std.proofs.Common.{◌≡◌, ℕ, zero, suc, ◌+◌, ◌*◌, ◌^◌, ◌<◌, ◌≤◌, List, [], ◌∷◌, length, true, refl, arith}
+use Rattle.std.specs.Prelude.{nat_lt}
 use Rattle.std.specs.Char.{digit_value}
 use Rattle.std.proofs.lemmas.Nat.{pow-add}
-use Rattle.std.proofs.lemmas.Bool.{leb-true, cases_Bool, and_parts}
+use Rattle.std.proofs.lemmas.Bool.{leb-true, and_parts}
 use Rattle.std.proofs.lemmas.Bool.Decides.{nat_tests}
 use Rattle.std.proofs.Math.Nat.{pow-zero, pow-suc, pow-succ', pow-le-pow_right, mul-le-mul_right, le-mul_of_pos_right}
+use Rattle.std.proofs.lemmas.Grind.{common_steps}
 use Rattle.text_reader.specs.Numbers.{digits_after, grown}
 use Rattle.text_reader.specs.SpecGrammar.{are_digits, are_bits}
 
 one_more : (radix n b : ℕ) → 2 ≤ radix → digit_value b < radix → grown radix n b + 1 ≤ (n + 1) * radix
-one_more radix n b two is = elim (cases_Bool (b == 95)) [
-  | inl e ↦ rw e (le-mul_of_pos_right (n + 1) (omega (arith, two)))
-  | inr e ↦ rw e (by (digit_value b) is)
-]
-  where
-    by : (d : ℕ) → d < radix → n * radix + d + 1 ≤ (n + 1) * radix
-    by d h = omega (arith, h)
+one_more radix n b two is = grind (arith, common_steps, le-mul_of_pos_right)
 
 below : (radix n : ℕ) (ds : List ℕ) → 2 ≤ radix → are_digits radix ds ≡ true → digits_after radix n ds < (n + 1) * radix ^ length ds
 below radix n [] two h = let one : radix ^ 0 ≡ 1 = pow-zero radix in rw one (omega arith)
@@ -31,18 +26,8 @@ below radix n (d ∷ ds) two h =
 
 pub powers : (e k : ℕ) → (2 ^ e) ^ k ≡ 2 ^ (e * k)
 powers e zero = let one : (2 ^ e) ^ 0 ≡ 1 = pow-zero (2 ^ e) in let none : e * 0 ≡ 0 = omega arith in rw (one, none) refl
-powers e (suc k) =
-    let more : e * suc k ≡ e * k + e = omega arith in
-    let last : (2 ^ e) ^ suc k ≡ (2 ^ e) ^ k * 2 ^ e = pow-suc (2 ^ e) k in
-    rw (last, powers e k, more, pow-add 2 (e * k) e) refl
+powers e (suc k) = grind (arith, common_steps, powers e k, pow-suc, pow-add)
 
 -- digits that are bits of a base of two to so many
 pub bits_fit : (radix each : ℕ) (ds : List ℕ) → 2 ≤ radix → radix ≡ 2 ^ each → are_bits radix each ds ≡ true → digits_after radix 0 ds < 2 ^ 128
-bits_fit radix each ds two is h =
-    let k = and_parts (nat_lt 0 (length ds) && nat_le (length ds * each) 128) (are_digits radix ds) h in
-    let j = and_parts (nat_lt 0 (length ds)) (nat_le (length ds * each) 128) k.0 in
-    let few : each * length ds ≤ 128 = omega (arith, leb-true (length ds * each) 128 j.1) in
-    let first : digits_after radix 0 ds < (0 + 1) * radix ^ length ds = below radix 0 ds two k.1 in
-    let whole : radix ^ length ds ≡ 2 ^ (each * length ds) = ap (λ r. r ^ length ds) is ∙ powers each (length ds) in
-    let most : 2 ^ (each * length ds) ≤ 2 ^ 128 = pow-le-pow_right (omega arith) few in
-    omega (arith, first, whole, most)
+bits_fit radix each ds two is h = grind (arith, common_steps, and_parts, leb-true, below, powers, pow-le-pow_right)

@@ -1,15 +1,16 @@
 -- Each text has pieces: the longest that it begins with, and so on.
-use Rattle.std.proofs.Common.{◌≡◌, ℕ, zero, suc, ◌+◌, ◌-◌, ◌≤◌, Bool, true, false, not, ◌&&◌, ◌==◌, List, [], ◌∷◌, ◌++◌, take, drop, length, refl, sym, ap, ◌∙◌, subst, inl, inr, arith, append_assoc, append-nil, length-append, encode_utf8, encode_utf8_all}
-use Rattle.std.specs.Prelude.{⊤, Result, Ok, Err, IfOk, nat_le, if◌then◌else◌}
+use Rattle.std.proofs.Common.{◌≡◌, ℕ, zero, suc, ◌+◌, ◌-◌, ◌≤◌, Bool, true, false, not, ◌==◌, List, [], ◌∷◌, ◌++◌, take, drop, length, refl, ap, inl, inr, arith, append_assoc, append-nil, length-append, encode_utf8, encode_utf8_all}
+use Rattle.std.specs.Prelude.{⊤, Result, Ok, Err, IfOk}
 use Rattle.std.specs.List.{list_all, take_while}
 use Rattle.std.proofs.lemmas.Bool.{cases_Bool, eqb-true, not-false, true≢false}
 use Rattle.std.proofs.lemmas.List.{length-drop}
 use Rattle.std.proofs.lemmas.List.Sums.{take_while-cons}
 use Rattle.std.proofs.Math.Seq.{drop-length, drop-append_seam, take-append_seam}
+use Rattle.std.proofs.lemmas.Grind.{common_steps}
 use Rattle.model.specs.lists.Syntax.{Position, Name}
 use Rattle.text_reader.specs.declared.errors.Mistake.{Mistake}
 use Rattle.text_reader.specs.Lexemes.{Wrong, ◌>>=◌}
-use Rattle.text_reader.specs.Pieces.{Piece, line, block, name, spelling, size, is_in_word, is_space, begins_word, after_comment, ends_word, ends_line, is_constant, Stands, AreIn, comment_of, left_of, sign_of, first_piece, pieces_from, pieces_of}
+use Rattle.text_reader.specs.Pieces.{Piece, line, block, name, spelling, size, is_in_word, begins_word, after_comment, ends_word, ends_line, is_constant, Stands, AreIn, comment_of, left_of, sign_of, first_piece, pieces_from, pieces_of}
 
 abbrev pub at : ℕ → ℕ → Position
 at file offset = record { file = file; offset = offset }
@@ -19,12 +20,10 @@ width c = length (encode_utf8 c)
 
 -- one call after another, in either grouping
 pub bind_twice : {A B C : Type 0} (r : Result A Wrong) (f : A → Result B Wrong) (g : B → Result C Wrong) → (r >>= f) >>= g ≡ r >>= (λ x. f x >>= g)
-bind_twice (Ok x) f g = refl
-bind_twice (Err e) f g = refl
+bind_twice r f g = grind (arith, common_steps)
 
 pub bind_same : {A B : Type 0} (r : Result A Wrong) (f g : A → Result B Wrong) → ((x : A) → f x ≡ g x) → r >>= f ≡ r >>= g
-bind_same (Ok x) f g h = h x
-bind_same (Err e) f g h = refl
+bind_same r f g h = grind (arith, common_steps)
 
 -- how many bytes characters take
 pub size_one : (c : ℕ) → size (c ∷ []) ≡ width c
@@ -56,22 +55,13 @@ IsCut test front all = (all ≡ front ++ drop (length front) all) × (list_all t
 
 cut_at : (test : ℕ → Bool) (cs : List ℕ) → IsCut test (take_while test cs) cs
 cut_at test [] = (refl, refl, tt)
-cut_at test (c ∷ cs) = elim (cases_Bool (test c)) [
-  | inl e ↦ (let h = cut_at test cs in
-      subst (λ front. IsCut test front (c ∷ cs)) (sym (take_while-cons test c cs ∙ ap (λ b. if b then c ∷ take_while test cs else []) e))
-      (ap (λ x. c ∷ x) h.0, rw e h.1, h.2))
-  | inr e ↦
-      subst (λ front. IsCut test front (c ∷ cs)) (sym (take_while-cons test c cs ∙ ap (λ b. if b then c ∷ take_while test cs else []) e))
-      (refl, refl, e)
-]
+cut_at test (c ∷ cs) = grind (arith, common_steps, cut_at test cs, take_while-cons)
 
 word_ends : (cs : List ℕ) → Stops is_in_word cs → ends_word cs ≡ true
-word_ends [] s = refl
-word_ends (c ∷ cs) s = rw s refl
+word_ends cs s = grind (arith, common_steps)
 
 line_ends : (cs : List ℕ) → Stops (λ c. not (c == 10)) cs → ends_line cs ≡ true
-line_ends [] s = refl
-line_ends (c ∷ cs) s = not-false (c == 10) s
+line_ends cs s = grind (arith, common_steps)
 
 -- ---- what follows a comment
 
@@ -84,19 +74,7 @@ one_before c cs (Err m) h = tt
 
 after : (depth last : ℕ) (cs : List ℕ) → IsAfter cs (after_comment depth last cs)
 after depth last [] = tt
-after depth last (c ∷ cs) = elim (cases_Bool (last == 40 && c == 59)) [
-  | inl e ↦ elim (cases_Bool (nat_le 1000 depth)) [
-    | inl deep ↦ rw (e, deep) tt
-    | inr deep ↦ rw (e, deep) (one_before c cs _ (after (depth + 1) 32 cs))
-  ]
-  | inr e ↦ elim (cases_Bool (last == 59 && c == 41)) [
-    | inl f ↦ elim (cases_Bool (nat_le depth 1)) [
-      | inl one ↦ rw (e, f, one) (c ∷ [], refl)
-      | inr one ↦ rw (e, f, one) (one_before c cs _ (after (depth - 1) 32 cs))
-    ]
-    | inr f ↦ rw (e, f) (one_before c cs _ (after depth c cs))
-  ]
-]
+after depth last (c ∷ cs) = grind (arith, common_steps, after (depth + 1) 32 cs, after (depth - 1) 32 cs, after depth c cs, one_before)
 
 -- ---- the first piece
 
@@ -106,25 +84,13 @@ Begins o p text = (text ≡ spelling p ++ drop (length (spelling p)) text) × St
 
 comment_begins : (o : ℕ) (more rest : List ℕ) → after_comment 1 32 (more ++ rest) ≡ Ok rest
     → Begins o (block (take (length (more ++ rest) - length rest) (more ++ rest))) (40 ∷ 59 ∷ (more ++ rest))
-comment_begins o more rest e =
-    let cut : length (more ++ rest) - length rest ≡ length more = omega (arith, length-append more rest) in
-    let left_over = drop-append_seam more rest in
-    subst (λ m. Begins o (block m) (40 ∷ 59 ∷ (more ++ rest))) (sym (ap (λ k. take k (more ++ rest)) cut ∙ take-append_seam more rest))
-    (ap (λ x. 40 ∷ 59 ∷ (more ++ x)) (sym left_over), subst (λ x. after_comment 1 32 (more ++ x) ≡ Ok x) (sym left_over) e, omega arith)
+comment_begins o more rest e = grind (arith, common_steps, drop-append_seam, take-append_seam)
 
 comment_first : (o : ℕ) (cs : List ℕ) (r : Result (List ℕ) Mistake) → after_comment 1 32 cs ≡ r → IsAfter cs r → Begins o (comment_of cs r) (40 ∷ 59 ∷ cs)
-comment_first o cs (Ok rest) e h =
-    subst (λ x. Begins o (comment_of x (Ok rest)) (40 ∷ 59 ∷ x)) (sym h.1) (comment_begins o h.0 rest (sym (ap (after_comment 1 32) h.1) ∙ e))
-comment_first o cs (Err m) e h =
-    let none = drop-length cs in
-    (ap (λ x. 40 ∷ 59 ∷ x) (sym (append-nil cs) ∙ ap (λ x. cs ++ x) (sym none)), (none, m, e), omega arith)
+comment_first o cs r e h = grind (arith, common_steps, comment_begins, drop-length)
 
 left_first : (o : ℕ) (cs : List ℕ) → Begins o (left_of cs) (40 ∷ cs)
-left_first o [] = (refl, refl, omega arith)
-left_first o (c ∷ cs) = elim (cases_Bool (c == 59)) [
-  | inl e ↦ rw e (subst (λ x. Begins o (comment_of cs (after_comment 1 32 cs)) (40 ∷ x ∷ cs)) (sym (eqb-true c 59 e)) (comment_first o cs _ refl (after 1 32 cs)))
-  | inr e ↦ rw e (refl, e, omega arith)
-]
+left_first o cs = grind (arith, common_steps, eqb-true, comment_first, after)
 
 sign_first : (o : ℕ) (cs : List ℕ) → Begins o (sign_of cs) (36 ∷ cs)
 sign_first o cs = elim (cases_Bool (ends_word cs)) [
@@ -135,10 +101,7 @@ sign_first o cs = elim (cases_Bool (ends_word cs)) [
   where
     constant_there : (cs : List ℕ) → ends_word cs ≡ false → is_constant (take_while is_in_word cs) ≡ true
     constant_there [] e = absurd (true≢false e)
-    constant_there (c ∷ cs) e =
-        let c_is : is_in_word c ≡ true = not-false (is_in_word c) e in
-        let h = cut_at is_in_word cs in
-        subst (λ w. is_constant w ≡ true) (sym (take_while-cons is_in_word c cs ∙ ap (λ b. if b then c ∷ take_while is_in_word cs else []) c_is)) (rw c_is h.1)
+    constant_there (c ∷ cs) e = grind (arith, common_steps, not-false (is_in_word c) e, cut_at is_in_word cs, take_while-cons is_in_word c cs)
 
 line_first : (o : ℕ) (cs : List ℕ) → Begins o (line (take_while (λ d. not (d == 10)) cs)) (59 ∷ cs)
 line_first o cs = let h = cut_at (λ d. not (d == 10)) cs in (ap (λ x. 59 ∷ x) h.0, (h.1, line_ends _ h.2), omega arith)
@@ -147,28 +110,7 @@ name_first : (o c : ℕ) (cs : List ℕ) → begins_word o c ≡ true → Begins
 name_first o c cs b = let h = cut_at is_in_word cs in (ap (λ x. c ∷ x) h.0, (rw b h.1, word_ends _ h.2), omega arith)
 
 first_begins : (o c : ℕ) (cs : List ℕ) → Begins o (first_piece o c cs) (c ∷ cs)
-first_begins o c cs = elim (cases_Bool (c == 40)) [
-  | inl e ↦ is 40 (left_first o cs) e
-  | inr a ↦ elim (cases_Bool (c == 41)) [
-    | inl e ↦ is 41 (refl, tt, omega arith) e
-    | inr b ↦ elim (cases_Bool (c == 59)) [
-      | inl e ↦ is 59 (line_first o cs) e
-      | inr d ↦ elim (cases_Bool (c == 64)) [
-        | inl e ↦ is 64 (refl, tt, omega arith) e
-        | inr f ↦ elim (cases_Bool (c == 36)) [
-          | inl e ↦ is 36 (sign_first o cs) e
-          | inr g ↦ elim (cases_Bool (is_space o c)) [
-            | inl s ↦ rw (a, b, d, f, g, s) (refl, s, omega arith)
-            | inr s ↦ rw (a, b, d, f, g, s) (name_first o c cs (grind (arith, a, b, d, f, g, s)))
-          ]
-        ]
-      ]
-    ]
-  ]
-]
-  where
-    is : (d : ℕ) → Begins o (first_piece o d cs) (d ∷ cs) → (c == d) ≡ true → Begins o (first_piece o c cs) (c ∷ cs)
-    is d h e = subst (λ x. Begins o (first_piece o x cs) (x ∷ cs)) (sym (eqb-true c d e)) h
+first_begins o c cs = grind (arith, common_steps, left_first o cs, line_first o cs, sign_first o cs, name_first o c cs, eqb-true c)
 
 pub divided_from : (most o : ℕ) (text : List ℕ) → length text ≤ most → AreIn o text (pieces_from most o text)
 divided_from most o [] h = refl

@@ -7,13 +7,14 @@ use Rattle.std.proofs.lemmas.Bool.Decides.{nat_tests}
 use Rattle.std.proofs.lemmas.List.Elements.{All-nil, All-cons}
 use Rattle.std.proofs.lemmas.Str.{chars-append, chars-IsAscii, IsUtf8-append, IsUtf8-from_ascii}
 use Rattle.std.proofs.lemmas.Str.Ascii.{IsAscii-from_all}
+use Rattle.std.proofs.lemmas.Grind.{common_steps}
 use Rattle.model.specs.lists.Syntax.{Position}
 use Rattle.text_reader.specs.declared.errors.Mistake.TheVariants.{CommentEnd}
 use Rattle.text_reader.specs.Lexemes.{begin_list, end_list, constant, Complaint, expected, unclosed, Wrong, ◌>>=◌, word_token, last_bound, or_mistake}
 use Rattle.text_reader.specs.Pieces.{size, is_in_word, is_space, pieces_of}
 use Rattle.text_reader.specs.Lexing.{Tokens, Mode, between, in_line, opened, in_block, signed, in_name, in_constant, begun, in_comment, finished, step, run, reached}
 use Rattle.text_reader.specs.FormTrees.{FormTree, a_list, a_binding, FormTrees, no_form}
-use Rattle.text_reader.specs.Forming.{Begun, a_group, a_binder, behind, put, formed, whole, forms_from, forms_of}
+use Rattle.text_reader.specs.Forming.{Begun, a_group, a_binder, behind, put, whole, forms_from, forms_of}
 use Rattle.text_reader.specs.Definitions.{definitions_of, tokens_in, forms_in, reading}
 use Rattle.text_reader.proofs.Dividing.{at, width, divided}
 use Rattle.text_reader.proofs.Only.{only}
@@ -64,14 +65,10 @@ halts file end cs = sym (run_past file end cs [] between 0 []) ∙ ap (λ l. run
 
 -- the text goes on from there
 gone_on : (file end next : ℕ) (cs more : List ℕ) (s : Mode × Tokens) → reached file end between 0 cs [] ≡ Ok s → run file next between 0 (cs ++ more) [] ≡ run file next s.0 (0 + size cs) more s.1
-gone_on file end next cs more s e =
-    run_past file next cs more between 0 []
-    ∙ ap (λ r. r >>= (λ t. run file next t.0 (0 + size cs) more t.1)) (reached_anywhere file next end cs between 0 [] ∙ e)
+gone_on file end next cs more s e = grind (arith, common_steps, run_past, reached_anywhere)
 
 tokens_run : (file : ℕ) (text : List ℕ) → tokens_in file text ≡ run file (size (chars text)) between 0 (chars text) []
-tokens_run file text =
-    let none : 0 + size (chars text) ≡ size (chars text) = omega arith in
-    sym (only file (size (chars text)) (pieces_of (chars text)) 0 (chars text) [] none (divided (chars text)))
+tokens_run file text = grind (arith, common_steps, only, divided)
 
 chars_more : (text more : List ℕ) → IsUtf8 text → IsAscii more → chars (text ++ more) ≡ chars text ++ more
 chars_more text more u a = chars-append text more u ∙ ap (λ cs. chars text ++ cs) (chars-IsAscii more a)
@@ -104,11 +101,7 @@ left_at_end file end fs (a_binder n ∷ os) b e h = absurd (never IsUnclosed (wh
 
 left_behind : (file end : ℕ) (ts : Tokens) (fs : FormTrees) (os : List Begun) (b e : Position) → forms_from file end ts fs os ≡ Err (unclosed b, e) → IsLeft file ts fs os
 left_behind file end [] fs os b e h = left_at_end file end fs os b e h
-left_behind file end (t ∷ ts) fs os b e h = elim (one_fails (formed t fs os) (λ s. forms_from file end ts s.0 s.1) (unclosed b, e) h) [
-  | inl k ↦ absurd (never IsUnclosed (formed t fs os) (unclosed b, e) (closed_formed t fs os) tt k)
-  | inr k ↦ (let l = left_behind file end ts k.0.0 k.0.1 b e k.2 in
-      (l.0, l.1, l.2, l.3, λ next more. ap (λ r. r >>= (λ s. forms_from file next (ts ++ more) s.0 s.1)) k.1 ∙ l.4 next more))
-]
+left_behind file end (t ∷ ts) fs os b e h = grind (arith, common_steps, left_behind file end ts, one_fails, never, closed_formed)
 
 -- how many lists are begun
 abbrev lists_begun : List Begun → ℕ
@@ -220,10 +213,7 @@ abbrev CanGoOn : (file : ℕ) → Mode → Tokens → Type 0
 CanGoOn file m done = (more : List ℕ) × IsAscii more × ((next o : ℕ) → run file next m o more done ≡ Ok done)
 
 comment_plain : (n : ℕ) → All (λ b. b < 128) (comment_closing n)
-comment_plain zero = plain_end [] (All-nil (λ b. b < 128))
-  where
-    plain_end : (rest : List ℕ) → All (λ b. b < 128) rest → All (λ b. b < 128) (59 ∷ 41 ∷ rest)
-    plain_end rest h = let low : 59 < 128 = omega arith in let less : 41 < 128 = omega arith in All-cons (λ b. b < 128) 59 (41 ∷ rest) low (All-cons (λ b. b < 128) 41 rest less h)
+comment_plain zero = grind (arith, common_steps)
 comment_plain (suc zero) = comment_plain zero
 comment_plain (suc (suc n)) = let low : 59 < 128 = omega arith in let less : 41 < 128 = omega arith in All-cons (λ b. b < 128) 59 (41 ∷ comment_closing (suc n)) low (All-cons (λ b. b < 128) 41 (comment_closing (suc n)) less (comment_plain (suc n)))
 
@@ -231,14 +221,11 @@ spaced_plain : (n : ℕ) → IsAscii (32 ∷ comment_closing n)
 spaced_plain n = let low : 32 < 128 = omega arith in IsAscii-from_all (32 ∷ comment_closing n) (All-cons (λ b. b < 128) 32 (comment_closing n) low (comment_plain n))
 
 goes_on : (file end : ℕ) (m : Mode) (done : Tokens) (place : Position) → finished file end m done ≡ Err (expected CommentEnd, place) → CanGoOn file m done
-goes_on file end between done place e = absurd (cc e)
-goes_on file end in_line done place e = absurd (cc e)
-goes_on file end (opened o) done place e = absurd (cc e)
 goes_on file end (in_block p depth last) done place e = (32 ∷ comment_closing depth, spaced_plain depth, λ next o. comment_ended file next p depth last o done)
 goes_on file end (signed s) done place e = absurd (never IsMissingEnd (finished file end (signed s) done) (expected CommentEnd, place) (λ b. cc b) refl e)
 goes_on file end (in_name n) done place e =
     absurd (never IsMissingEnd (finished file end (in_name n) done) (expected CommentEnd, place) (never_next IsMissingEnd (word_token n) _ (never_word n) (λ t. tt)) refl e)
-goes_on file end (in_constant n s) done place e = absurd (cc e)
+goes_on file end _ done place e = absurd (cc e)
 
 comments_ended : (file : ℕ) (text : List ℕ) (place : Position) → IsUtf8 text → tokens_in file text ≡ Err (expected CommentEnd, place)
     → (more : List ℕ) × (ts : Tokens) × IsUtf8 (text ++ more) × (tokens_in file (text ++ more) ≡ Ok ts)
@@ -263,10 +250,7 @@ comments_ended file text place u e =
 
 -- the mistake of a whole is that of its first part, if the second never has it
 first_part : {A B : Type 0} (bad : Complaint → Type 0) (r : Result A Wrong) (f : A → Result B Wrong) (w : Wrong) → ((x : A) → Never bad (f x)) → bad w.0 → r >>= f ≡ Err w → r ≡ Err w
-first_part bad r f w h b e = elim (one_fails r f w e) [
-  | inl k ↦ k
-  | inr k ↦ absurd (never bad (f k.0) w (h k.0) b k.2)
-]
+first_part bad r f w h b e = grind (arith, common_steps, one_fails, never)
 
 pub lists_can_be_ended : (file : ℕ) (text : List ℕ) (begin place : Position) → IsUtf8 text → reading file text ≡ Err (unclosed begin, place)
     → (more : List ℕ) × (fs : FormTrees) × IsUtf8 (text ++ more) × (forms_in file (text ++ more) ≡ Ok fs)

@@ -1,7 +1,8 @@
 -- What is read of a text is what reading it gives.
-use Rattle.std.proofs.Common.{◌≡◌, ℕ, List, refl, sym, ap, ◌∙◌, subst, Vec}
-use Rattle.std.specs.Prelude.{Result, Ok, Err, IfOk}
+use Rattle.std.proofs.Common.{◌≡◌, ℕ, List, refl, ap, ◌∙◌, subst, Vec, arith}
+use Rattle.std.specs.Prelude.{Result, Ok, IfOk}
 use Rattle.std.specs.declared.alloc.Global.{Global}
+use Rattle.std.proofs.lemmas.Grind.{common_steps}
 use Rattle.model.specs.lists.Syntax.{Definition}
 use Rattle.core_syntax.specs.declared.syntax.Def.{Def}
 use Rattle.core_syntax.specs.SyntaxViews.{definition_views}
@@ -11,7 +12,7 @@ use Rattle.text_reader.specs.Lexing.{Tokens}
 use Rattle.text_reader.specs.FormTrees.{FormTrees}
 use Rattle.text_reader.specs.Forming.{forms_of}
 use Rattle.text_reader.specs.Views.{Fails, Gives}
-use Rattle.text_reader.specs.Definitions.{definitions_of, Spells, reading}
+use Rattle.text_reader.specs.Definitions.{Spells, reading}
 use Rattle.text_reader.proofs.Running.{fails}
 use Rattle.text_reader.proofs.Spelled.{spelled_if_given, given_if_spelled}
 
@@ -30,9 +31,7 @@ module _ {A : Type 0} (file end : ℕ) (lexed : Result Tokens Wrong) (made : For
   module _ (tokens : Tokens) (lexed_is : lexed ≡ Ok tokens) where
     -- a mistake of the forms
     pub no_forms : (fault : ReadFault) → Fails fault (forms_of file end tokens) → Fails fault Whole
-    no_forms fault h =
-        fails fault (lexed >>= forms_of file end) made Whole refl
-        (subst (λ r. Fails fault (r >>= forms_of file end)) (sym lexed_is) h)
+    no_forms fault h = grind (arith, common_steps, fails)
 
     pub made_of_forms : (forms : FormTrees) → forms_of file end tokens ≡ Ok forms → Whole ≡ made forms
     made_of_forms forms formed = ap (λ r. (r >>= forms_of file end) >>= made) lexed_is ∙ ap (λ r. r >>= made) formed
@@ -40,11 +39,7 @@ module _ {A : Type 0} (file end : ℕ) (lexed : Result Tokens Wrong) (made : For
 -- then it is what the text spells, and the only thing
 module _ (file : ℕ) (text : List ℕ) (result : Result (Vec Def Global) ReadFault) where
   pub found_if_exact : Gives view result (reading file text) → IfOk result (λ ds. Spells file text (view ds))
-  found_if_exact = by result
-    where
-      by : (r : Result (Vec Def Global) ReadFault) → Gives view r (reading file text) → IfOk r (λ ds. Spells file text (view ds))
-      by (Ok ds) h = spelled_if_given file text (view ds) h
-      by (Err e) h = tt
+  found_if_exact = grind (arith, common_steps, spelled_if_given)
 
   pub only_if_exact : Gives view result (reading file text) → (ds : List Definition) → Spells file text ds → Gives view result (Ok ds)
   only_if_exact h ds s = subst (Gives view result) (given_if_spelled file text ds s) h

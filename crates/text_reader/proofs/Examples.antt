@@ -1,8 +1,9 @@
 -- The texts of the examples give the definitions that are said.
-use Rattle.std.proofs.Common.{◌≡◌, ℕ, true, List, [], ◌∷◌, ◌++◌, length, refl, sym, ap, ◌∙◌, subst, chars, codes}
+use Rattle.std.proofs.Common.{◌≡◌, ℕ, true, List, [], ◌∷◌, ◌++◌, length, refl, sym, ap, ◌∙◌, chars, codes, arith}
 use Rattle.std.specs.Prelude.{Result, Ok}
 use Rattle.std.proofs.Math.Utf8.{scalars, encodes}
 use Rattle.std.proofs.lemmas.Str.{chars-encodes}
+use Rattle.std.proofs.lemmas.Grind.{common_steps}
 use Rattle.model.specs.lists.Syntax.{Definition}
 use Rattle.text_reader.specs.Lexemes.{Wrong, ◌>>=◌, word_token}
 use Rattle.text_reader.specs.Numbers.{number_of}
@@ -25,9 +26,7 @@ abbrev read_by : List ℕ → List Piece → Result (List Definition) Wrong
 read_by text ps = (tokens_after 0 0 ps [] >>= forms_of 0 (length text)) >>= definitions_of
 
 defines_by : (text cs : List ℕ) (ps : List Piece) (d : Definition) → scalars cs ≡ true → encodes cs ≡ text → AreIn 0 cs ps → read_by text ps ≡ Ok (d ∷ []) → IsTextOfDefinition text d
-defines_by text cs ps d plain is are e =
-    ap (λ r. (r >>= forms_of 0 (length text)) >>= definitions_of)
-    (tokens_given 0 text ps (subst (λ x. AreIn 0 x ps) (sym (ap chars (sym is) ∙ chars-encodes cs plain)) are)) ∙ e
+defines_by text cs ps d plain is are e = grind (arith, common_steps, tokens_given, chars-encodes)
 
 -- the pieces of that text
 skipped_pieces : List Piece

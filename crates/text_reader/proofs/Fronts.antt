@@ -1,11 +1,12 @@
 -- A mistake that shows at a character is that of every text with this front.
-use Rattle.std.proofs.Common.{◌≡◌, ℕ, ◌+◌, List, [], ◌∷◌, ◌++◌, refl, sym, ap, ◌∙◌}
+use Rattle.std.proofs.Common.{◌≡◌, ℕ, ◌+◌, List, [], ◌∷◌, ◌++◌, refl, sym, ap, ◌∙◌, arith}
 use Rattle.std.specs.Prelude.{Err}
 use Rattle.std.proofs.Math.Nat.{add-zero}
+use Rattle.std.proofs.lemmas.Grind.{common_steps}
 use Rattle.model.specs.lists.Syntax.{Position}
 use Rattle.text_reader.specs.Lexemes.{Wrong, ◌>>=◌}
 use Rattle.text_reader.specs.Pieces.{size}
-use Rattle.text_reader.specs.Lexing.{Tokens, Mode, between, in_line, opened, in_block, signed, in_name, in_constant, step, run, reached}
+use Rattle.text_reader.specs.Lexing.{Tokens, Mode, between, step, run, reached}
 use Rattle.text_reader.proofs.Dividing.{at, width, bind_twice, bind_same, past}
 
 pub run_past : (file end : ℕ) (front rest : List ℕ) (m : Mode) (o : ℕ) (done : Tokens)
@@ -19,19 +20,11 @@ run_past file end (c ∷ cs) rest m o done =
 
 -- the text's end plays no part before it comes
 pub step_anywhere : (a b : ℕ) (m : Mode) (p : Position) (c : ℕ) (done : Tokens) → step a m p c done ≡ step b m p c done
-step_anywhere a b between p c done = refl
-step_anywhere a b in_line p c done = refl
-step_anywhere a b (opened o) p c done = refl
-step_anywhere a b (in_block o d l) p c done = refl
-step_anywhere a b (signed s) p c done = refl
-step_anywhere a b (in_name n) p c done = refl
-step_anywhere a b (in_constant n s) p c done = refl
+step_anywhere a b _ p c done = refl
 
 pub reached_anywhere : (file a b : ℕ) (front : List ℕ) (m : Mode) (o : ℕ) (done : Tokens) → reached file a m o front done ≡ reached file b m o front done
 reached_anywhere file a b [] m o done = refl
-reached_anywhere file a b (c ∷ cs) m o done =
-    ap (λ r. r >>= (λ s. reached file a s.0 (o + width c) cs s.1)) (step_anywhere a b m (at file o) c done)
-    ∙ bind_same (step b m (at file o) c done) _ _ (λ s. reached_anywhere file a b cs s.0 (o + width c) s.1)
+reached_anywhere file a b (c ∷ cs) m o done = grind (arith, common_steps, reached_anywhere file a b cs, width, step_anywhere, at, bind_same)
 
 pub same_front : (file a b : ℕ) (front rest : List ℕ) (w : Wrong) → reached file a between 0 front [] ≡ Err w → run file b between 0 (front ++ rest) [] ≡ Err w
 same_front file a b front rest w e =

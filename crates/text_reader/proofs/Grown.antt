@@ -1,18 +1,14 @@
 -- Numbers grow by each digit.
-use Rattle.std.proofs.Common.{◌≡◌, ◌≤◌, ◌<◌, ℕ, suc, zero, ◌+◌, ◌*◌, ◌==◌, List, [], ◌∷◌, inl, inr, arith, drop, get_or, length}
-use Rattle.std.proofs.lemmas.Bool.{cases_Bool}
+use Rattle.std.proofs.Common.{◌≡◌, ◌≤◌, ◌<◌, ℕ, ◌+◌, ◌*◌, List, [], ◌∷◌, arith, drop, get_or, length}
 use Rattle.std.proofs.lemmas.List.{drop_more}
+use Rattle.std.proofs.lemmas.Grind.{common_steps}
 use Rattle.text_reader.specs.Numbers.{digits_after, grown}
 
 times : (radix n d : ℕ) → 2 ≤ radix → n ≤ n * radix + d
-times zero n d r = absurd (omega (arith, r))
-times (suc radix) n d r = omega (arith)
+times radix n d r = grind (arith, common_steps)
 
 grows : (radix n b : ℕ) → 2 ≤ radix → n ≤ grown radix n b
-grows radix n b r = elim (cases_Bool (b == 95)) [
-  | inl e ↦ rw e (omega arith)
-  | inr e ↦ rw e (times radix n _ r)
-]
+grows radix n b r = grind (arith, common_steps, times)
 
 pub digits_grow : (radix n : ℕ) (bs : List ℕ) → 2 ≤ radix → n ≤ digits_after radix n bs
 digits_grow radix n [] r = omega arith

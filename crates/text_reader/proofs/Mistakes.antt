@@ -1,15 +1,16 @@
 -- Which mistakes are never told: tokens and lists have no list without end before a text's end, and numbers no comment.
-use Rattle.std.proofs.Common.{◌≡◌, ℕ, ℤ, ◌+◌, Bool, true, false, ◌==◌, List, [], ◌∷◌, drop, length, sym, ap, subst, refl, inl, inr}
-use Rattle.std.specs.Prelude.{slice_index, ◌⊎◌, ⊤, Result, Ok, Err, nat_le, nat_lt, Option, Some, None, if◌then◌else◌, ◌^◌}
+use Rattle.std.proofs.Common.{◌≡◌, ℕ, ℤ, ◌+◌, Bool, true, false, ◌==◌, List, [], ◌∷◌, drop, arith}
+use Rattle.std.specs.Prelude.{slice_index, ◌⊎◌, ⊤, Result, Ok, Err, Option, if◌then◌else◌}
+use Rattle.std.proofs.lemmas.Grind.{common_steps}
 use Rattle.model.specs.lists.Syntax.{Position, Name}
 use Rattle.text_reader.specs.declared.errors.Mistake.{Mistake}
 use Rattle.text_reader.specs.declared.errors.Mistake.TheVariants.{CommentEnd}
-use Rattle.text_reader.specs.Lexemes.{Lexeme, begin_list, end_list, word, dash, binder, number, constant, Complaint, expected, unclosed, unknown, Wrong, ◌>>=◌, at_place, begins_number, word_token, last_bound, or_mistake}
+use Rattle.text_reader.specs.Lexemes.{Lexeme, Complaint, expected, unclosed, unknown, Wrong, ◌>>=◌, at_place, begins_number, word_token, last_bound, or_mistake}
 use Rattle.text_reader.specs.Numbers.{number_of, radix_of, sized, unsigned_number, are_digits}
-use Rattle.text_reader.specs.Pieces.{Piece, space, line, block, left, right, bind, name, sign, endless, alone, spelling, size}
+use Rattle.text_reader.specs.Pieces.{Piece, bind, name, endless, alone, spelling, size}
 use Rattle.text_reader.specs.Lexing.{Tokens, added, tokens_after}
 use Rattle.text_reader.specs.FormTrees.{FormTrees}
-use Rattle.text_reader.specs.Forming.{Begun, a_group, a_binder, passes, formed, whole, forms_from}
+use Rattle.text_reader.specs.Forming.{Begun, formed, whole, forms_from}
 use Rattle.text_reader.proofs.Dividing.{at}
 
 abbrev pub told : {A : Type 0} → Result A Wrong → Wrong → Wrong
@@ -18,13 +19,11 @@ told (Err w) other = w
 
 -- where two steps give something, both do
 pub both_give : {A B : Type 0} (r : Result A Wrong) (f : A → Result B Wrong) (y : B) → r >>= f ≡ Ok y → (x : A) × (r ≡ Ok x) × (f x ≡ Ok y)
-both_give (Ok x) f y e = (x, refl, e)
-both_give (Err w) f y e = absurd (cc e)
+both_give r f y e = grind (arith, common_steps)
 
 -- the mistake of two steps is that of one of them
 pub one_fails : {A B : Type 0} (r : Result A Wrong) (f : A → Result B Wrong) (w : Wrong) → r >>= f ≡ Err w → (r ≡ Err w) ⊎ ((x : A) × (r ≡ Ok x) × (f x ≡ Err w))
-one_fails (Ok x) f w e = inr (x, refl, e)
-one_fails (Err v) f w e = inl (ap (λ r. Err (told r w)) e)
+one_fails r f w e = grind (arith, common_steps)
 
 -- ---- which mistakes are never told
 
@@ -33,16 +32,13 @@ Never bad (Ok x) = ⊤
 Never bad (Err w) = bad w.0 → ⊥
 
 pub never : {A : Type 0} (bad : Complaint → Type 0) (r : Result A Wrong) (w : Wrong) → Never bad r → bad w.0 → r ≡ Err w → ⊥
-never bad (Ok x) w h b e = cc e
-never bad (Err v) w h b e = h (subst (λ x. bad x.0) (sym (ap (λ r. told r w) e)) b)
+never bad r w h b e = grind (arith, common_steps)
 
 pub never_next : {A B : Type 0} (bad : Complaint → Type 0) (r : Result A Wrong) (f : A → Result B Wrong) → Never bad r → ((x : A) → Never bad (f x)) → Never bad (r >>= f)
-never_next bad (Ok x) f h k = k x
-never_next bad (Err w) f h k = h
+never_next bad r f h k = grind (arith, common_steps)
 
 pub never_if : {A : Type 0} (bad : Complaint → Type 0) (b : Bool) (x y : Result A Wrong) → Never bad x → Never bad y → Never bad (if b then x else y)
-never_if bad true x y h k = h
-never_if bad false x y h k = k
+never_if bad b x y h k = grind (arith, common_steps)
 
 -- no mistake of a number is one of these
 abbrev pub IsFine : Result ℤ Mistake → Type 0
@@ -50,12 +46,10 @@ IsFine (Ok z) = ⊤
 IsFine (Err m) = m ≡ CommentEnd → ⊥
 
 pub fine_if : (b : Bool) (x y : Result ℤ Mistake) → IsFine x → IsFine y → IsFine (if b then x else y)
-fine_if true x y h k = h
-fine_if false x y h k = k
+fine_if b x y h k = grind (arith, common_steps)
 
 pub fine_sized : (is_negative : Bool) (n : ℕ) → IsFine (sized is_negative n)
-fine_sized true n = fine_if (nat_le n (2 ^ 127)) _ _ tt (λ e. cc e)
-fine_sized false n = fine_if (nat_lt n (2 ^ 128)) _ _ tt (λ e. cc e)
+fine_sized is_negative n = grind (arith, common_steps, fine_if)
 
 pub fine_unsigned : (is_negative : Bool) (d : ℕ × List ℕ) → IsFine (unsigned_number is_negative d)
 fine_unsigned is_negative d = fine_if (are_digits d.0 d.1) _ _ (fine_sized is_negative _) (λ e. cc e)
@@ -71,8 +65,7 @@ IsMissingEnd (unclosed p) = ⊤
 IsMissingEnd (unknown w) = ⊥
 
 pub never_at : (p : Position) (r : Result ℤ Mistake) → IsFine r → Never IsMissingEnd (at_place p r)
-never_at p (Ok x) h = tt
-never_at p (Err m) h = h
+never_at p r h = grind (arith, common_steps)
 
 pub never_word : (n : Name) → Never IsMissingEnd (word_token n)
 unfolding word_token
@@ -81,8 +74,7 @@ never_word n =
     (never_if IsMissingEnd (slice_index n.text 0 == 45) _ _ tt tt)
 
 pub never_bound : (p : Position) (r : Option Tokens) → Never IsMissingEnd (or_mistake p r)
-never_bound p None = λ e. cc e
-never_bound p (Some ts) = tt
+never_bound p r = grind (arith, common_steps)
 
 -- tokens never have a list without end
 abbrev pub IsUnclosed : Complaint → Type 0
@@ -91,8 +83,7 @@ IsUnclosed (unclosed p) = ⊤
 IsUnclosed (unknown w) = ⊥
 
 pub closed_at : {A : Type 0} (p : Position) (r : Result A Mistake) → Never IsUnclosed (at_place p r)
-closed_at p (Ok x) = tt
-closed_at p (Err m) = λ b. b
+closed_at p r = grind (arith, common_steps)
 
 pub closed_word : (n : Name) → Never IsUnclosed (word_token n)
 unfolding word_token
@@ -101,37 +92,22 @@ closed_word n =
     (never_if IsUnclosed (slice_index n.text 0 == 45) _ _ tt tt)
 
 pub closed_bound : (p : Position) (r : Option Tokens) → Never IsUnclosed (or_mistake p r)
-closed_bound p None = λ b. b
-closed_bound p (Some ts) = tt
+closed_bound p r = grind (arith, common_steps)
 
 pub closed_added : (p : Piece) (place : Position) (done : Tokens) → Never IsUnclosed (added p place done)
-closed_added (space c) place done = tt
-closed_added (line cs) place done = tt
-closed_added (block cs) place done = tt
-closed_added left place done = tt
-closed_added right place done = tt
 closed_added bind place done = closed_bound place (last_bound done)
 closed_added (name cs) place done = never_next IsUnclosed (word_token _) _ (closed_word _) (λ t. tt)
-closed_added (sign cs) place done = tt
 closed_added (endless cs) place done = λ b. b
 closed_added alone place done = λ b. b
+closed_added _ place done = tt
 
 pub closed_tokens : (file offset : ℕ) (ps : List Piece) (done : Tokens) → Never IsUnclosed (tokens_after file offset ps done)
 closed_tokens file offset [] done = tt
-closed_tokens file offset (p ∷ ps) done =
-    never_next IsUnclosed (added p (at file offset) done) _ (closed_added p (at file offset) done) (λ ts. closed_tokens file (offset + size (spelling p)) ps ts)
+closed_tokens file offset (p ∷ ps) done = grind (arith, common_steps, closed_tokens file (offset + size (spelling p)) ps, never_next, at, closed_added)
 
 -- nor does a token of a list show one
 pub closed_formed : (t : Lexeme) (fs : FormTrees) (os : List Begun) → Never IsUnclosed (formed t fs os)
-closed_formed (begin_list p) fs os = never_if IsUnclosed (nat_le 1000 (length os)) _ _ (λ b. b) tt
-closed_formed (end_list p) fs [] = λ b. b
-closed_formed (end_list p) fs (a_binder n ∷ os) = λ b. b
-closed_formed (end_list p) fs (a_group gs q ∷ os) = tt
-closed_formed (word n) fs os = tt
-closed_formed (dash n) fs os = never_if IsUnclosed (passes os) _ _ tt (λ b. b)
-closed_formed (binder n) fs os = never_if IsUnclosed (nat_le 1000 (length os)) _ _ (λ b. b) tt
-closed_formed (number z p) fs os = tt
-closed_formed (constant n p) fs os = tt
+closed_formed t fs os = grind (arith, common_steps, never_if)
 
 -- lists never have a comment without end
 abbrev pub IsUnendedComment : Complaint → Type 0
@@ -140,20 +116,10 @@ IsUnendedComment (unclosed p) = ⊥
 IsUnendedComment (unknown w) = ⊥
 
 other_formed : (t : Lexeme) (fs : FormTrees) (os : List Begun) → Never IsUnendedComment (formed t fs os)
-other_formed (begin_list p) fs os = never_if IsUnendedComment (nat_le 1000 (length os)) _ _ (λ e. cc e) tt
-other_formed (end_list p) fs [] = λ e. cc e
-other_formed (end_list p) fs (a_binder n ∷ os) = λ e. cc e
-other_formed (end_list p) fs (a_group gs q ∷ os) = tt
-other_formed (word n) fs os = tt
-other_formed (dash n) fs os = never_if IsUnendedComment (passes os) _ _ tt (λ e. cc e)
-other_formed (binder n) fs os = never_if IsUnendedComment (nat_le 1000 (length os)) _ _ (λ e. cc e) tt
-other_formed (number z p) fs os = tt
-other_formed (constant n p) fs os = tt
+other_formed t fs os = grind (arith, common_steps, never_if)
 
 other_whole : (file end : ℕ) (fs : FormTrees) (os : List Begun) → Never IsUnendedComment (whole file end fs os)
-other_whole file end fs [] = tt
-other_whole file end fs (a_group gs p ∷ os) = λ b. b
-other_whole file end fs (a_binder n ∷ os) = λ e. cc e
+other_whole file end fs os = grind (arith, common_steps)
 
 pub other_forms : (file end : ℕ) (ts : Tokens) (fs : FormTrees) (os : List Begun) → Never IsUnendedComment (forms_from file end ts fs os)
 other_forms file end [] fs os = other_whole file end fs os

@@ -6,6 +6,7 @@ use Rattle.std.proofs.lemmas.Bool.{cases_Bool, eqb-true, not-true, and_parts, fa
 use Rattle.std.proofs.lemmas.Bool.Decides.{nat_tests}
 use Rattle.std.proofs.lemmas.Str.{encodes-append}
 use Rattle.std.proofs.Math.Nat.{add-zero}
+use Rattle.std.proofs.lemmas.Grind.{common_steps}
 use Rattle.model.specs.lists.Syntax.{Position, Name}
 use Rattle.text_reader.specs.declared.errors.Mistake.{Mistake}
 use Rattle.text_reader.specs.declared.errors.Mistake.TheVariants.{ConstantName}
@@ -15,8 +16,7 @@ use Rattle.text_reader.specs.Lexing.{Tokens, tokens_after, added, between, in_li
 use Rattle.text_reader.proofs.Dividing.{at, width, bind_twice, bind_same, past, past_one, grown_name, size_more}
 
 bind_done : (r : Result Tokens Wrong) → r ≡ r >>= (λ d. Ok d)
-bind_done (Ok x) = refl
-bind_done (Err e) = refl
+bind_done r = grind (arith, common_steps)
 
 module _ (file end : ℕ) where
   -- what is left of a word
@@ -76,8 +76,7 @@ module _ (file end : ℕ) where
       → ((ms : List ℕ) → Ended (o + width c) cs ms d l r) → Ended o (c ∷ cs) more depth last r
   ended_more o c depth last d l cs more (Err m) same h = λ p done. same p done ∙ h more p done
   ended_more o c depth last d l cs [] (Ok rest) same h = (omega (arith, (h []).0), λ e. absurd (omega (arith, (h []).0, ap length e)))
-  ended_more o c depth last d l cs (x ∷ more) (Ok rest) same h =
-      (omega (arith, (h []).0), λ e p done. same p done ∙ (h more).1 (cc e) p done ∙ ap (λ k. run file end between k rest done) (past o c more ∙ ap (λ y. o + size (y ∷ more)) (cc e)))
+  ended_more o c depth last d l cs (x ∷ more) (Ok rest) same h = grind (arith, past o c more, h [], h more)
 
   comment_runs : (cs : List ℕ) (o depth last : ℕ) (more : List ℕ) → Ended o cs more depth last (after_comment depth last cs)
   unfolding run in_comment

@@ -1,21 +1,19 @@
 -- Forms that tokens spell are read, where they nest 1,000 deep at most and words that begin with `-` are passed over.
-use Rattle.std.proofs.Common.{◌≡◌, ℕ, suc, ◌+◌, ◌≤◌, true, false, not, ◌||◌, ◌==◌, List, [], ◌∷◌, length, map, refl, sym, ap, ◌∙◌, subst, inl, inr, arith}
+use Rattle.std.proofs.Common.{◌≡◌, ℕ, suc, ◌+◌, ◌≤◌, true, false, not, ◌||◌, List, [], ◌∷◌, length, map, refl, sym, ap, ◌∙◌, arith}
 use Rattle.std.specs.Prelude.{◌⊎◌, nat_le, Ok}
-use Rattle.std.proofs.lemmas.Bool.{cases_Bool, or_parts, and_parts, eqb-true, true≢false, false≢true}
+use Rattle.std.proofs.lemmas.Bool.{or_parts, and_parts, eqb-true}
 use Rattle.std.proofs.lemmas.Bool.Decides.{nat_tests}
+use Rattle.std.proofs.lemmas.Grind.{common_steps}
 use Rattle.model.specs.lists.Syntax.{Position, Name}
 use Rattle.text_reader.specs.Lexemes.{Lexeme, end_list, word, dash, ◌>>=◌}
-use Rattle.text_reader.specs.FormTrees.{FormTree, a_word, a_number, a_constant, a_binding, a_list, FormTrees, no_form, form_and, spelled, all_spelled, depth, all_depth}
-use Rattle.text_reader.specs.PassedOver.{passes_over, begins_passed_over, is_passed_over, is_dashed, has_dash, have_dash, dashes_are_passed_over}
+use Rattle.text_reader.specs.FormTrees.{FormTree, a_word, a_binding, a_list, FormTrees, no_form, form_and, spelled, all_spelled, depth, all_depth}
+use Rattle.text_reader.specs.PassedOver.{passes_over, is_dashed, has_dash, have_dash, dashes_are_passed_over}
 use Rattle.text_reader.specs.Forming.{Begun, a_group, a_binder, behind, put, passes, started, forms_from, forms_of}
 use Rattle.text_reader.specs.PassedOver.{mark}
 use Rattle.text_reader.proofs.FoundForms.{Takes}
 
 clean_alone : (f : FormTree) → (not (has_dash f) || false) ≡ true → has_dash f ≡ false
-clean_alone f e = elim (cases_Bool (has_dash f)) [
-  | inl d ↦ absurd (false≢true (sym (ap (λ b. not b || false) d) ∙ e))
-  | inr d ↦ d
-]
+clean_alone f e = grind (arith, common_steps)
 
 abbrev joined : FormTrees → FormTrees → FormTrees
 joined no_form gs = gs
@@ -31,54 +29,27 @@ joined_none (form_and f fs) = ap (form_and f) (joined_none fs)
 
 -- a word that begins with `-` begins nothing that is passed over
 head_clean : (w : List ℕ) → passes_over w ≡ true → is_dashed w ≡ false
-head_clean [] e = refl
-head_clean (c ∷ cs) e = elim (cases_Bool (c == 45)) [
-  | inl d ↦ absurd (false≢true (subst (λ x. passes_over (x ∷ cs) ≡ true) (eqb-true c 45 d) e))
-  | inr d ↦ d
-]
+head_clean w e = grind (arith, common_steps, eqb-true)
 
 room : (n : ℕ) → suc n ≤ 1000 → nat_le 1000 n ≡ false
 room n h = grind (arith, nat_tests, h)
 
 -- the name's form is taken as the binding is
 bound_takes : (n : Name) (f : FormTree) (os : List Begun) → Takes (a_binding n f) os → Takes f (a_binder n ∷ os)
-bound_takes n f [] h = inl (clean_alone f h)
-bound_takes n f (o ∷ os) h = h
+bound_takes n f os h = grind (arith, common_steps, clean_alone)
 
 -- the list that the parts make, behind those that are read, passes over what it has, or they have nothing to pass over
 abbrev PartsTake : FormTrees → FormTrees → Position → List Begun → Type 0
 PartsTake gs done p os = (have_dash gs ≡ false) ⊎ (passes (a_group (joined done gs) p ∷ os) ≡ true)
 
 first_takes : (g : FormTree) (gs done : FormTrees) (p : Position) (os : List Begun) → PartsTake (form_and g gs) done p os → Takes g (a_group done p ∷ os)
-first_takes g gs done p os (inl clean) = inl (or_parts (has_dash g) (have_dash gs) clean).0
-first_takes g gs done p (o ∷ os) (inr over) = inr over
-first_takes g gs (form_and d done) p [] (inr over) = first_over d done over
-  where
-    first_over : (d : FormTree) (done : FormTrees) → begins_passed_over (form_and d (joined done (form_and g gs))) ≡ true → Takes g (a_group (form_and d done) p ∷ [])
-    first_over (a_word n) done h = inr h
-    first_over (a_number z q) done h = inr h
-    first_over (a_constant n q) done h = inr h
-    first_over (a_binding n f) done h = inr h
-    first_over (a_list fs q e) done h = inr h
-first_takes g gs no_form p [] (inr over) = head_takes g over
-  where
-    head_takes : (g : FormTree) → begins_passed_over (form_and g gs) ≡ true → Takes g (a_group no_form p ∷ [])
-    head_takes (a_word n) h = inl (head_clean n.text h)
-    head_takes (a_number z q) h = absurd (false≢true h)
-    head_takes (a_constant n q) h = absurd (false≢true h)
-    head_takes (a_binding n f) h = absurd (false≢true h)
-    head_takes (a_list fs q e) h = absurd (false≢true h)
+first_takes g gs done p os h = grind (arith, common_steps, or_parts, head_clean)
 
 rest_take : (g : FormTree) (gs done : FormTrees) (p : Position) (os : List Begun) → PartsTake (form_and g gs) done p os → PartsTake gs (behind done g) p os
-rest_take g gs done p os (inl clean) = inl (or_parts (has_dash g) (have_dash gs) clean).1
-rest_take g gs done p os (inr over) = inr (ap (λ l. passes (a_group l p ∷ os)) (joined_behind done g gs) ∙ over)
+rest_take g gs done p os h = grind (arith, common_steps, or_parts, joined_behind)
 
 list_takes : (gs : FormTrees) (p e : Position) (os : List Begun) → Takes (a_list gs p e) os → PartsTake gs no_form p os
-list_takes gs p e [] h = elim (cases_Bool (have_dash gs)) [
-  | inl d ↦ inr (sym (ap (λ b. not b || begins_passed_over gs) d) ∙ h)
-  | inr d ↦ inl d
-]
-list_takes gs p e (o ∷ os) h = h
+list_takes gs p e os h = grind (arith, common_steps)
 
 module _ (file end : ℕ) where
   started_reads : (o : Begun) (p : Position) (fs : FormTrees) (os : List Begun) (ts : List Lexeme) → suc (length os) ≤ 1000
@@ -91,27 +62,18 @@ module _ (file end : ℕ) where
 
   word_reads : (n : Name) (fs : FormTrees) (os : List Begun) (ts : List Lexeme) → Takes (a_word n) os
       → forms_from file end (mark (word n) ∷ ts) fs os ≡ forms_from file end ts (put (a_word n) fs os).0 (put (a_word n) fs os).1
-  word_reads n fs [] ts h = rw (clean_alone (a_word n) h) refl
-  word_reads n fs (o ∷ os) ts h = elim (cases_Bool (is_dashed n.text)) [
-    | inl d ↦ elim h [
-      | inl clean ↦ absurd (true≢false (sym d ∙ clean))
-      | inr over ↦ rw d (dash_reads n fs (o ∷ os) ts over)
-    ]
-    | inr d ↦ rw d refl
-  ]
+  word_reads n fs os ts h = grind (arith, common_steps, clean_alone, dash_reads)
 
   mutual
     reads_one : (f : FormTree) (fs : FormTrees) (os : List Begun) (after : List Lexeme) → depth f + length os ≤ 1000 → Takes f os
         → forms_from file end (map mark (spelled f after)) fs os ≡ forms_from file end (map mark after) (put f fs os).0 (put f fs os).1
-    reads_one (a_word n) fs os after deep h = word_reads n fs os (map mark after) h
-    reads_one (a_number z p) fs os after deep h = refl
-    reads_one (a_constant n p) fs os after deep h = refl
     reads_one (a_binding n f) fs os after deep h =
         started_reads (a_binder n) n.at fs os (map mark (spelled f after)) (omega (arith, deep))
         ∙ reads_one f fs (a_binder n ∷ os) after (omega (arith, deep)) (bound_takes n f os h)
     reads_one (a_list gs p e) fs os after deep h =
         started_reads (a_group no_form p) p fs os (map mark (all_spelled gs (end_list e ∷ after))) (omega (arith, deep))
         ∙ reads_parts gs no_form p fs os (end_list e ∷ after) (omega (arith, deep)) (list_takes gs p e os h)
+    reads_one f fs os after deep h = grind (arith, common_steps, word_reads)
 
     reads_parts : (gs done : FormTrees) (p : Position) (fs : FormTrees) (os : List Begun) (after : List Lexeme) → all_depth gs + suc (length os) ≤ 1000 → PartsTake gs done p os
         → forms_from file end (map mark (all_spelled gs after)) fs (a_group done p ∷ os) ≡ forms_from file end (map mark after) fs (a_group (joined done gs) p ∷ os)
@@ -123,11 +85,7 @@ module _ (file end : ℕ) where
 
   reads_all : (gs done : FormTrees) → all_depth gs ≤ 1000 → dashes_are_passed_over gs ≡ true → forms_from file end (map mark (all_spelled gs [])) done [] ≡ Ok (joined done gs)
   reads_all no_form done deep h = ap Ok (sym (joined_none done))
-  reads_all (form_and g gs) done deep h =
-      let k = and_parts (not (has_dash g) || is_passed_over g) (dashes_are_passed_over gs) h in
-      reads_one g done [] (all_spelled gs []) (omega (arith, deep)) k.0
-      ∙ reads_all gs (behind done g) (omega (arith, deep)) k.1
-      ∙ ap Ok (joined_behind done g gs)
+  reads_all (form_and g gs) done deep h = grind (arith, common_steps, reads_all gs (behind done g), and_parts, reads_one, joined_behind)
 
   pub forms_read : (gs : FormTrees) → all_depth gs ≤ 1000 → dashes_are_passed_over gs ≡ true → forms_of file end (map mark (all_spelled gs [])) ≡ Ok gs
   forms_read gs deep h = reads_all gs no_form deep h

@@ -1,18 +1,18 @@
 -- No mistake of definitions is that a list or a comment isn't ended.
-use Rattle.std.proofs.Common.{◌≡◌, ℤ, pos, negsuc, Bool, codes}
-use Rattle.std.specs.Prelude.{Option, Some, None, Result, nat_lt, if◌then◌else◌, ◌^◌}
-use Rattle.model.specs.lists.Syntax.{Position, Name, PatternTree, wildcard_pattern}
+use Rattle.std.proofs.Common.{◌≡◌, Bool, codes, arith}
+use Rattle.std.specs.Prelude.{Option, Some, None, Result, if◌then◌else◌}
+use Rattle.std.proofs.lemmas.Grind.{common_steps}
+use Rattle.model.specs.lists.Syntax.{Position, Name, PatternTree}
 use Rattle.text_reader.specs.declared.errors.Mistake.{Mistake}
 use Rattle.text_reader.specs.declared.errors.Mistake.TheVariants as M
 use Rattle.text_reader.specs.Lexemes.{Wrong, ◌>>=◌}
 use Rattle.text_reader.specs.FormTrees.{FormTree, a_word, a_number, a_constant, a_binding, a_list, FormTrees, no_form, form_and}
-use Rattle.text_reader.specs.PassedOver.{passes_over}
-use Rattle.text_reader.specs.Grammar.{Listed, listed, name_of, each_of, list_of, next_of, next_in, next_name_of, head_of, word_at, headed_in, headed_of, ended, reads, next_if_of}
+use Rattle.text_reader.specs.Grammar.{Listed, listed, name_of, each_of, list_of, next_of, next_in, next_name_of, head_of, word_at, headed_in, headed_of, ended, reads}
 use Rattle.text_reader.specs.TypeGrammar.{named_field_of, named_fields_of, with_names_of, with_numbers_of, fields_of, with_fields_of, variant_of, type_value_of, type_definition_of}
-use Rattle.text_reader.specs.PatternGrammar.{index_of, numbered, macro_arg_of, pattern_of, arguments_of, patterns_of}
+use Rattle.text_reader.specs.PatternGrammar.{numbered, macro_arg_of, pattern_of, arguments_of, patterns_of}
 use Rattle.text_reader.specs.ExprGrammar.{expr_of, expr_arguments_of, exprs_of, let_of, lets_of, lets_in, let_definition_of, defined_in}
-use Rattle.text_reader.specs.TermGrammar.{FlagSet, no_flags, once_of, with_word, with_flag_of, flags_of, last_three, declared_of, extractor_of, conversion_of, external_constructor_of, infallible_of, external_extractor_of, constant_of, external_constant_of, external_by, external_of}
-use Rattle.text_reader.specs.RuleGrammar.{condition_of, statement_of, is_signed_64, prioritized_in, rule_name_of, priority_of, parted_of, rule_of}
+use Rattle.text_reader.specs.TermGrammar.{FlagSet, no_flags, once_of, with_word, with_flag_of, flags_of, declared_of, extractor_of, conversion_of, external_constructor_of, external_extractor_of, constant_of, external_constant_of, external_by, external_of}
+use Rattle.text_reader.specs.RuleGrammar.{condition_of, statement_of, prioritized_in, parted_of, rule_of}
 use Rattle.text_reader.specs.Definitions.{definition_of, definitions_of}
 use Rattle.text_reader.proofs.Mistakes.{Never, IsMissingEnd, never_next, never_if}
 
@@ -30,26 +30,17 @@ either : {A : Type 0} (b : Bool) (x y : Result A Wrong) → Fine x → Fine y �
 either b x y h k = never_if IsMissingEnd b x y h k
 
 name_fine : (f : FormTree) → Fine (name_of f)
-name_fine (a_word n) = tt
-name_fine (a_number z p) = λ e. cc e
-name_fine (a_constant n p) = λ e. cc e
-name_fine (a_binding n f) = λ e. cc e
-name_fine (a_list fs p e) = λ x. cc x
+name_fine f = grind (arith, common_steps)
 
 each_fine : {A : Type 0} (one : FormTree → Result A Wrong) → ((f : FormTree) → Fine (one f)) → (fs : FormTrees) → Fine (each_of one fs)
 each_fine one h no_form = tt
 each_fine one h (form_and f fs) = seq (one f) _ (h f) (λ x. seq (each_of one fs) _ (each_fine one h fs) (λ xs. tt))
 
 list_fine : (m : Mistake) (f : FormTree) → Other m → Fine (list_of m f)
-list_fine m (a_word n) h = h
-list_fine m (a_number z p) h = h
-list_fine m (a_constant n p) h = h
-list_fine m (a_binding n f) h = h
-list_fine m (a_list fs p e) h = tt
+list_fine m f h = grind (arith, common_steps)
 
 next_in_fine : (m : Mistake) (fs : FormTrees) (p e : Position) → Other m → Fine (next_in m fs p e)
-next_in_fine m no_form p e h = h
-next_in_fine m (form_and f fs) p e h = tt
+next_in_fine m fs p e h = grind (arith, common_steps)
 
 next_fine : (m : Mistake) (l : Listed) → Other m → Fine (next_of m l)
 next_fine m l h = next_in_fine m l.parts l.at l.ends h
@@ -58,33 +49,24 @@ next_name_fine : (l : Listed) → Fine (next_name_of l)
 next_name_fine l = seq (next_of M.Name l) _ (next_fine M.Name l (λ e. cc e)) (λ p. seq (name_of p.0) _ (name_fine p.0) (λ n. tt))
 
 head_fine : (fs : FormTrees) (e : Position) → Fine (head_of fs e)
-head_fine no_form e = λ x. cc x
-head_fine (form_and f fs) e = name_fine f
+head_fine fs e = grind (arith, common_steps)
 
 word_fine : (m : Mistake) (p : Position) (f : FormTree) → Other m → Fine (word_at m p f)
-word_fine m p (a_word n) h = tt
-word_fine m p (a_number z q) h = h
-word_fine m p (a_constant n q) h = h
-word_fine m p (a_binding n f) h = h
-word_fine m p (a_list fs q e) h = h
+word_fine m p f h = grind (arith, common_steps)
 
 headed_in_fine : (m : Mistake) (fs : FormTrees) (p e : Position) → Other m → Fine (headed_in m fs p e)
-headed_in_fine m no_form p e h = h
-headed_in_fine m (form_and f fs) p e h = seq (word_at m p f) _ (word_fine m p f h) (λ n. tt)
+headed_in_fine m fs p e h = grind (arith, common_steps, word_fine)
 
 headed_fine : (m : Mistake) (f : FormTree) → Other m → Fine (headed_of m f)
 headed_fine m f h = seq (list_of m f) _ (list_fine m f h) (λ l. headed_in_fine m l.parts l.at l.ends h)
 
 ended_fine : (fs : FormTrees) → Fine (ended fs)
-ended_fine no_form = tt
-ended_fine (form_and f fs) = λ e. cc e
+ended_fine fs = grind (arith, common_steps)
 
 -- ---- types
 
 field_fine : (f : FormTree) → Fine (named_field_of f)
-field_fine f =
-    seq (list_of M.Field f) _ (list_fine M.Field f (λ e. cc e)) (λ l. seq (next_name_of l) _ (next_name_fine l) (λ name. seq (next_name_of name.1) _ (next_name_fine name.1) (λ ty.
-    seq (ended ty.1.parts) _ (ended_fine ty.1.parts) (λ u. tt))))
+field_fine f = grind (arith, common_steps, seq, list_fine, next_name_fine, ended_fine)
 
 names_fine : (fs : FormTrees) → Fine (each_of name_of fs)
 names_fine fs = each_fine name_of name_fine fs
@@ -104,8 +86,7 @@ fields_fine (form_and (a_constant n p) rest) = with_numbers_fine (form_and (a_co
 fields_fine (form_and (a_binding n f) rest) = with_numbers_fine (form_and (a_binding n f) rest)
 
 with_fields_fine : (f : FormTree) → Fine (with_fields_of f)
-with_fields_fine f =
-    seq (list_of M.Variant f) _ (list_fine M.Variant f (λ e. cc e)) (λ l. seq (next_name_of l) _ (next_name_fine l) (λ name. seq (fields_of name.1.parts) _ (fields_fine name.1.parts) (λ x. tt)))
+with_fields_fine f = grind (arith, common_steps, seq, list_fine, next_name_fine, fields_fine)
 
 variant_fine : (f : FormTree) → Fine (variant_of f)
 variant_fine (a_word n) = tt
@@ -118,43 +99,26 @@ type_value_fine : (f : FormTree) → Fine (type_value_of f)
 type_value_fine f =
     seq (headed_of M.TypeValue f) _ (headed_fine M.TypeValue f (λ e. cc e)) (λ h.
     either (reads h.0 (codes "primitive")) _ _ (seq (next_name_of h.1) _ (next_name_fine h.1) (λ name. seq (ended name.1.parts) _ (ended_fine name.1.parts) (λ u. tt)))
-    (either (reads h.0 (codes "enum")) _ _ (seq (each_of variant_of h.1.parts) _ (each_fine variant_of variant_fine h.1.parts) (λ vs. tt))
-    (either (reads h.0 (codes "struct")) _ _ (seq (fields_of h.1.parts) _ (fields_fine h.1.parts) (λ fs. tt)) (λ e. cc e))))
+    (grind (arith, common_steps, either, seq, each_fine variant_of variant_fine, fields_fine)))
 
 type_fine : (l : Listed) → Fine (type_definition_of l)
-type_fine l =
-    seq (next_name_of l) _ (next_name_fine l) (λ name.
-    let outside = next_if_of (codes "extern") name.1 in
-    let silent = next_if_of (codes "nodebug") outside.1 in
-    seq (next_of M.TypeValue silent.1) _ (next_fine M.TypeValue silent.1 (λ e. cc e)) (λ value. seq (type_value_of value.0) _ (type_value_fine value.0) (λ v. seq (ended value.1.parts) _ (ended_fine value.1.parts) (λ u. tt))))
+type_fine l = grind (arith, common_steps, seq, next_name_fine, next_fine, type_value_fine, ended_fine)
 
 -- ---- patterns
 
-index_fine : (z : ℤ) (p place : Position) → Fine (index_of z p place)
-index_fine (pos n) p place = either (nat_lt n (2 ^ 64)) _ _ tt (λ e. cc e)
-index_fine (negsuc n) p place = λ e. cc e
-
 numbered_fine : (f : FormTree) (place : Position) → Fine (numbered f place)
-numbered_fine (a_word n) place = λ e. cc e
-numbered_fine (a_number z p) place = index_fine z p place
-numbered_fine (a_constant n p) place = λ e. cc e
-numbered_fine (a_binding n f) place = λ e. cc e
-numbered_fine (a_list fs p x) place = λ e. cc e
+numbered_fine f place = grind (arith, common_steps)
 
 macro_arg_fine : (l : Listed) → Fine (macro_arg_of l)
-macro_arg_fine l =
-    seq (next_of M.Name l) _ (next_fine M.Name l (λ e. cc e)) (λ head. seq (next_of M.Index head.1) _ (next_fine M.Index head.1 (λ e. cc e)) (λ n.
-    seq (ended n.1.parts) _ (ended_fine n.1.parts) (λ u. numbered_fine n.0 l.at)))
+macro_arg_fine l = grind (arith, common_steps, seq, next_fine, ended_fine, numbered_fine)
 
 mutual
   pattern_fine : (f : FormTree) → Fine (pattern_of f)
-  pattern_fine (a_word n) = tt
-  pattern_fine (a_number z p) = tt
-  pattern_fine (a_constant n p) = tt
   pattern_fine (a_binding n f) = seq (pattern_of f) _ (pattern_fine f) (λ q. tt)
   pattern_fine (a_list fs p e) =
       seq (head_of fs e) _ (head_fine fs e) (λ head. seq (arguments_of fs) _ (arguments_fine fs) (λ args.
       either (reads head (codes "macro-arg")) _ _ (macro_arg_fine (listed fs p e)) tt))
+  pattern_fine _ = tt
 
   arguments_fine : (fs : FormTrees) → Fine (arguments_of fs)
   arguments_fine no_form = tt
@@ -168,13 +132,10 @@ mutual
 
 mutual
   expr_fine : (f : FormTree) → Fine (expr_of f)
-  expr_fine (a_word n) = tt
-  expr_fine (a_number z p) = tt
-  expr_fine (a_constant n p) = tt
-  expr_fine (a_binding n f) = λ e. cc e
   expr_fine (a_list fs p e) =
       seq (head_of fs e) _ (head_fine fs e) (λ head. either (reads head (codes "let")) _ _ (let_fine fs p e)
       (seq (expr_arguments_of fs) _ (expr_arguments_fine fs) (λ args. tt)))
+  expr_fine f = grind (arith, common_steps)
 
   expr_arguments_fine : (fs : FormTrees) → Fine (expr_arguments_of fs)
   expr_arguments_fine no_form = tt
@@ -185,36 +146,25 @@ mutual
   exprs_fine (form_and f fs) = seq (expr_of f) _ (expr_fine f) (λ x. seq (exprs_of fs) _ (exprs_fine fs) (λ xs. tt))
 
   let_fine : (fs : FormTrees) (p e : Position) → Fine (let_of fs p e)
-  let_fine no_form p e = λ x. cc x
-  let_fine (form_and h no_form) p e = λ x. cc x
-  let_fine (form_and h (form_and ds no_form)) p e = λ x. cc x
   let_fine (form_and h (form_and ds (form_and body no_form))) p e = seq (lets_of ds) _ (lets_fine ds) (λ defs. seq (expr_of body) _ (expr_fine body) (λ x. tt))
-  let_fine (form_and h (form_and ds (form_and body (form_and more fs)))) p e = λ x. cc x
+  let_fine _ p e = λ x. cc x
 
   lets_fine : (f : FormTree) → Fine (lets_of f)
-  lets_fine (a_word n) = λ e. cc e
-  lets_fine (a_number z p) = λ e. cc e
-  lets_fine (a_constant n p) = λ e. cc e
-  lets_fine (a_binding n f) = λ e. cc e
   lets_fine (a_list fs p e) = lets_in_fine fs
+  lets_fine _ = λ e. cc e
 
   lets_in_fine : (fs : FormTrees) → Fine (lets_in fs)
   lets_in_fine no_form = tt
   lets_in_fine (form_and f fs) = seq (let_definition_of f) _ (let_definition_fine f) (λ d. seq (lets_in fs) _ (lets_in_fine fs) (λ ds. tt))
 
   let_definition_fine : (f : FormTree) → Fine (let_definition_of f)
-  let_definition_fine (a_word n) = λ e. cc e
-  let_definition_fine (a_number z p) = λ e. cc e
-  let_definition_fine (a_constant n p) = λ e. cc e
-  let_definition_fine (a_binding n f) = λ e. cc e
   let_definition_fine (a_list fs p e) = defined_fine fs p
+  let_definition_fine _ = λ e. cc e
 
   defined_fine : (fs : FormTrees) (p : Position) → Fine (defined_in fs p)
-  defined_fine no_form p = λ x. cc x
-  defined_fine (form_and v no_form) p = λ x. cc x
-  defined_fine (form_and v (form_and t no_form)) p = λ x. cc x
   defined_fine (form_and v (form_and t (form_and x no_form))) p = seq (name_of v) _ (name_fine v) (λ var. seq (name_of t) _ (name_fine t) (λ ty. seq (expr_of x) _ (expr_fine x) (λ val. tt)))
   defined_fine (form_and v (form_and t (form_and x (form_and more fs)))) p = λ y. cc y
+  defined_fine _ p = λ x. cc x
 
 -- ---- terms
 
@@ -222,16 +172,10 @@ once_fine : (was : Bool) (p : Position) (flags : FlagSet) → Fine (once_of was 
 once_fine was p flags = either was _ _ (λ e. cc e) tt
 
 flag_word_fine : (flags : FlagSet) (n : Name) → Fine (with_word flags n)
-flag_word_fine flags n =
-    either (reads n (codes "pure")) _ _ (once_fine flags.is_pure n.at _) (either (reads n (codes "multi")) _ _ (once_fine flags.is_multi n.at _)
-    (either (reads n (codes "partial")) _ _ (once_fine flags.is_partial n.at _) (either (reads n (codes "rec")) _ _ (once_fine flags.is_rec n.at _) (λ e. cc e))))
+flag_word_fine flags n = grind (arith, common_steps, either, once_fine)
 
 flag_fine : (flags : FlagSet) (f : FormTree) → Fine (with_flag_of flags f)
-flag_fine flags (a_word n) = flag_word_fine flags n
-flag_fine flags (a_number z p) = λ e. cc e
-flag_fine flags (a_constant n p) = λ e. cc e
-flag_fine flags (a_binding n f) = λ e. cc e
-flag_fine flags (a_list fs p x) = λ e. cc e
+flag_fine flags f = grind (arith, common_steps, flag_word_fine)
 
 flags_fine : (flags : FlagSet) (fs : FormTrees) → Fine (flags_of flags fs)
 flags_fine flags no_form = tt
@@ -246,42 +190,25 @@ declared_fine p (Some s) =
 extractor_fine : (l : Listed) → Fine (extractor_of l)
 extractor_fine l =
     seq (next_of M.Names l) _ (next_fine M.Names l (λ e. cc e)) (λ use_of. seq (list_of M.Names use_of.0) _ (list_fine M.Names use_of.0 (λ e. cc e)) (λ used. seq (next_name_of used) _ (next_name_fine used) (λ term.
-    seq (next_of M.Pattern use_of.1) _ (next_fine M.Pattern use_of.1 (λ e. cc e)) (λ template. seq (each_of name_of term.1.parts) _ (names_fine term.1.parts) (λ args. seq (pattern_of template.0) _ (pattern_fine template.0) (λ pattern.
-    seq (ended template.1.parts) _ (ended_fine template.1.parts) (λ u. tt)))))))
+    seq (next_of M.Pattern use_of.1) _ (next_fine M.Pattern use_of.1 (λ e. cc e)) (λ template. grind (arith, seq, names_fine, pattern_fine, ended_fine)))))
 
 conversion_fine : (l : Listed) → Fine (conversion_of l)
-conversion_fine l =
-    seq (next_name_of l) _ (next_name_fine l) (λ inner. seq (next_name_of inner.1) _ (next_name_fine inner.1) (λ outer. seq (next_name_of outer.1) _ (next_name_fine outer.1) (λ term.
-    seq (ended term.1.parts) _ (ended_fine term.1.parts) (λ u. tt))))
+conversion_fine l = grind (arith, common_steps, seq, next_name_fine, ended_fine)
 
 constructor_fine : (l : Listed) → Fine (external_constructor_of l)
-constructor_fine l =
-    seq (next_name_of l) _ (next_name_fine l) (λ term. seq (next_name_of term.1) _ (next_name_fine term.1) (λ func. seq (ended func.1.parts) _ (ended_fine func.1.parts) (λ u. tt)))
+constructor_fine l = grind (arith, common_steps, seq, next_name_fine, ended_fine)
 
 external_extractor_fine : (l : Listed) → Fine (external_extractor_of l)
-external_extractor_fine l =
-    let sure = infallible_of l in
-    seq (next_name_of sure.1) _ (next_name_fine sure.1) (λ term. seq (next_name_of term.1) _ (next_name_fine term.1) (λ func. seq (ended func.1.parts) _ (ended_fine func.1.parts) (λ u. tt)))
+external_extractor_fine l = grind (arith, common_steps, seq, next_name_fine, ended_fine)
 
 constant_fine : (f : FormTree) → Fine (constant_of f)
-constant_fine (a_word n) = λ e. cc e
-constant_fine (a_number z p) = λ e. cc e
-constant_fine (a_constant n p) = tt
-constant_fine (a_binding n f) = λ e. cc e
-constant_fine (a_list fs p x) = λ e. cc e
+constant_fine f = grind (arith, common_steps)
 
 external_constant_fine : (l : Listed) → Fine (external_constant_of l)
-external_constant_fine l =
-    seq (next_of M.Constant l) _ (next_fine M.Constant l (λ e. cc e)) (λ constant. seq (constant_of constant.0) _ (constant_fine constant.0) (λ name. seq (next_name_of constant.1) _ (next_name_fine constant.1) (λ ty.
-    seq (ended ty.1.parts) _ (ended_fine ty.1.parts) (λ u. tt))))
+external_constant_fine l = grind (arith, common_steps, seq, next_fine, constant_fine, next_name_fine, ended_fine)
 
 external_by_fine : (f : FormTree) (l : Listed) → Fine (external_by f l)
-external_by_fine (a_word n) l =
-    either (reads n (codes "constructor")) _ _ (constructor_fine l) (either (reads n (codes "extractor")) _ _ (external_extractor_fine l) (either (reads n (codes "const")) _ _ (external_constant_fine l) (λ e. cc e)))
-external_by_fine (a_number z p) l = λ e. cc e
-external_by_fine (a_constant n p) l = λ e. cc e
-external_by_fine (a_binding n f) l = λ e. cc e
-external_by_fine (a_list fs p x) l = λ e. cc e
+external_by_fine f l = grind (arith, common_steps, either, constructor_fine, external_extractor_fine, external_constant_fine)
 
 external_fine : (l : Listed) → Fine (external_of l)
 external_fine l = seq (next_of M.Extern l) _ (next_fine M.Extern l (λ e. cc e)) (λ kind. external_by_fine kind.0 kind.1)
@@ -289,23 +216,13 @@ external_fine l = seq (next_of M.Extern l) _ (next_fine M.Extern l (λ e. cc e))
 -- ---- rules
 
 condition_fine : (q : PatternTree) (l : Listed) → Fine (condition_of q l)
-condition_fine q l =
-    seq (next_of M.Expression l) _ (next_fine M.Expression l (λ e. cc e)) (λ f. seq (expr_of f.0) _ (expr_fine f.0) (λ x. seq (ended f.1.parts) _ (ended_fine f.1.parts) (λ u. tt)))
+condition_fine q l = grind (arith, common_steps, seq, next_fine, expr_fine, ended_fine)
 
 statement_fine : (f : FormTree) → Fine (statement_of f)
-statement_fine f =
-    seq (headed_of M.Statement f) _ (headed_fine M.Statement f (λ e. cc e)) (λ h.
-    either (reads h.0 (codes "if-let")) _ _
-    (seq (next_of M.Pattern h.1) _ (next_fine M.Pattern h.1 (λ e. cc e)) (λ p. seq (pattern_of p.0) _ (pattern_fine p.0) (λ q. condition_fine q p.1)))
-    (either (reads h.0 (codes "if")) _ _ (condition_fine (wildcard_pattern h.1.at) h.1) (λ e. cc e)))
+statement_fine f = grind (arith, common_steps, seq, headed_fine, either, next_fine, pattern_fine, condition_fine)
 
 priority_in_fine : (fs : FormTrees) (p e : Position) → Fine (prioritized_in fs p e)
-priority_in_fine no_form p e = tt
-priority_in_fine (form_and (a_word n) fs) p e = tt
-priority_in_fine (form_and (a_number z q) fs) p e = either (is_signed_64 z) _ _ tt (λ x. cc x)
-priority_in_fine (form_and (a_constant n q) fs) p e = tt
-priority_in_fine (form_and (a_binding n f) fs) p e = tt
-priority_in_fine (form_and (a_list gs q x) fs) p e = tt
+priority_in_fine fs p e = grind (arith, common_steps)
 
 parted_fine : (e : Position) (fs : FormTrees) → Fine (parted_of e fs)
 parted_fine e no_form = λ x. cc x
@@ -313,20 +230,12 @@ parted_fine e (form_and f no_form) = tt
 parted_fine e (form_and f (form_and g gs)) = seq (parted_of e (form_and g gs)) _ (parted_fine e (form_and g gs)) (λ s. tt)
 
 rule_fine : (l : Listed) → Fine (rule_of l)
-rule_fine l =
-    let name = rule_name_of l in
-    seq (priority_of name.1) _ (priority_in_fine name.1.parts name.1.at name.1.ends) (λ prio. seq (next_of M.Pattern prio.1) _ (next_fine M.Pattern prio.1 (λ e. cc e)) (λ root.
-    seq (parted_of l.ends root.1.parts) _ (parted_fine l.ends root.1.parts) (λ body. seq (pattern_of root.0) _ (pattern_fine root.0) (λ pattern.
-    seq (each_of statement_of body.0) _ (each_fine statement_of statement_fine body.0) (λ iflets. seq (expr_of body.1) _ (expr_fine body.1) (λ x. tt))))))
+rule_fine l = grind (arith, seq, priority_in_fine, next_fine M.Pattern, parted_fine l.ends, pattern_fine, each_fine statement_of statement_fine, expr_fine)
 
 -- ---- definitions
 
 definition_fine : (f : FormTree) → Fine (definition_of f)
-definition_fine f =
-    seq (headed_of M.Definition f) _ (headed_fine M.Definition f (λ e. cc e)) (λ h.
-    either (reads h.0 (codes "type")) _ _ (type_fine h.1) (either (reads h.0 (codes "decl")) _ _ (declared_fine h.1.at (last_three h.1.parts))
-    (either (reads h.0 (codes "rule")) _ _ (rule_fine h.1) (either (reads h.0 (codes "extractor")) _ _ (extractor_fine h.1) (either (reads h.0 (codes "extern")) _ _ (external_fine h.1)
-    (either (reads h.0 (codes "convert")) _ _ (conversion_fine h.1) (either (passes_over h.0.text) _ _ tt (λ b. b))))))))
+definition_fine f = grind (arith, common_steps, seq, headed_fine, either, type_fine, declared_fine, rule_fine, extractor_fine, external_fine, conversion_fine)
 
 pub definitions_fine : (fs : FormTrees) → Fine (definitions_of fs)
 definitions_fine fs = each_fine definition_of definition_fine fs

@@ -1,5 +1,6 @@
 -- What a let of a text is read as, and each of its definitions, by what their parts are read as.
 use Rattle.std.proofs.Common.{◌≡◌, suc, ◌<◌, ◌≤◌, List, [], ◌∷◌, get_or, length, refl, sym, ap, subst, ◌∙◌, Result, Ok, arith}
+use Rattle.std.proofs.lemmas.Grind.{common_steps}
 use Rattle.core_syntax.specs.declared.syntax.Pos.{Pos}
 use Rattle.core_syntax.specs.SyntaxViews.{position}
 use Rattle.model.specs.lists.Syntax.{Position, Name, ExprTree, LetTrees, let_expr}
@@ -27,34 +28,22 @@ let-three : (fs : List TextForm) (d b : TextForm) (p e : Position) → length fs
 let-three [] d b p e three hd hb = let k : 0 ≡ 3 = three in absurd (omega (arith, k))
 let-three (h ∷ []) d b p e three hd hb = let k : 1 ≡ 3 = three in absurd (omega (arith, k))
 let-three (h ∷ y ∷ []) d b p e three hd hb = let k : 2 ≡ 3 = three in absurd (omega (arith, k))
-let-three (h ∷ y ∷ z ∷ []) d b p e three hd hb =
-    ap (λ f. lets_of (form_view f) >>= (λ defs. expr_of (form_view z) >>= (λ x. Ok (let_expr defs x p)))) (sym hd)
-    ∙ ap (λ f. lets_of (form_view d) >>= (λ defs. expr_of (form_view f) >>= (λ x. Ok (let_expr defs x p)))) (sym hb)
+let-three (h ∷ y ∷ z ∷ []) d b p e three hd hb = grind (arith, common_steps)
 let-three (h ∷ y ∷ z ∷ w ∷ fs) d b p e three hd hb = let k : suc (suc (suc (suc (length fs)))) ≡ 3 = three in absurd (omega (arith, k))
 
 module _ (fs : List TextForm) (d b : TextForm) (p e : Position) (three : length fs ≡ 3) (hd : d ≡ get_or fs 1 d) (hb : b ≡ get_or fs 2 b) where
   pub let-is : (defs : LetTrees) (x : ExprTree) → lets_of (form_view d) ≡ Ok defs → expr_of (form_view b) ≡ Ok x → let_of (all_view fs) p e ≡ Ok (let_expr defs x p)
-  let-is defs x ds is =
-      let-three fs d b p e three hd hb
-      ∙ ap (λ r. r >>= (λ defs. expr_of (form_view b) >>= (λ x. Ok (let_expr defs x p)))) ds
-      ∙ ap (λ r. r >>= (λ x. Ok (let_expr defs x p))) is
+  let-is defs x ds is = grind (arith, common_steps, let-three fs d b p e three hd hb)
 
   pub let-definitionless : (f : ReadFault) → Fails f (lets_of (form_view d)) → Fails f (let_of (all_view fs) p e)
-  let-definitionless f fails =
-      fails-too f (lets_of (form_view d)) (let_of (all_view fs) p e) fails (λ w ds.
-      let-three fs d b p e three hd hb ∙ ap (λ r. r >>= (λ defs. expr_of (form_view b) >>= (λ x. Ok (let_expr defs x p)))) ds)
+  let-definitionless f fails = grind (arith, fails-too f (lets_of (form_view d)) (let_of (all_view fs) p e) fails, let-three fs d b p e three hd hb)
 
   pub let-bodiless : (defs : LetTrees) (f : ReadFault) → lets_of (form_view d) ≡ Ok defs → Fails f (expr_of (form_view b)) → Fails f (let_of (all_view fs) p e)
-  let-bodiless defs f ds fails =
-      fails-too f (expr_of (form_view b)) (let_of (all_view fs) p e) fails (λ w is.
-      let-three fs d b p e three hd hb
-      ∙ ap (λ r. r >>= (λ defs. expr_of (form_view b) >>= (λ x. Ok (let_expr defs x p)))) ds
-      ∙ ap (λ r. r >>= (λ x. Ok (let_expr defs x p))) is)
+  let-bodiless defs f ds fails = grind (arith, fails-too f (expr_of (form_view b)) (let_of (all_view fs) p e) fails, let-three fs d b p e three hd hb)
 
 pub let-few : (fs : List TextForm) (p e : Position) → length fs < 2 → let_of (all_view fs) p e ≡ no M.LetDefinitions e
-let-few [] p e few = refl
-let-few (h ∷ []) p e few = refl
 let-few (h ∷ y ∷ fs) p e few = let k : suc (suc (length fs)) < 2 = few in absurd (omega (arith, k))
+let-few _ p e few = refl
 
 pub let-two : (fs : List TextForm) (p e : Position) → length fs ≡ 2 → let_of (all_view fs) p e ≡ no M.Expression e
 let-two [] p e two = let k : 0 ≡ 2 = two in absurd (omega (arith, k))
@@ -69,31 +58,22 @@ defined-three : (fs : List TextForm) (v t b : TextForm) (p : Position) → lengt
 defined-three [] v t b p three hv ht hb = let k : 0 ≡ 3 = three in absurd (omega (arith, k))
 defined-three (x ∷ []) v t b p three hv ht hb = let k : 1 ≡ 3 = three in absurd (omega (arith, k))
 defined-three (x ∷ y ∷ []) v t b p three hv ht hb = let k : 2 ≡ 3 = three in absurd (omega (arith, k))
-defined-three (x ∷ y ∷ z ∷ []) v t b p three hv ht hb =
-    ap (λ f. name_of (form_view f) >>= (λ var. name_of (form_view y) >>= (λ ty. expr_of (form_view z) >>= (λ a. Ok (var, ty, a, p))))) (sym hv)
-    ∙ ap (λ f. name_of (form_view v) >>= (λ var. name_of (form_view f) >>= (λ ty. expr_of (form_view z) >>= (λ a. Ok (var, ty, a, p))))) (sym ht)
-    ∙ ap (λ f. name_of (form_view v) >>= (λ var. name_of (form_view t) >>= (λ ty. expr_of (form_view f) >>= (λ a. Ok (var, ty, a, p))))) (sym hb)
+defined-three (x ∷ y ∷ z ∷ []) v t b p three hv ht hb = grind (arith, common_steps)
 defined-three (x ∷ y ∷ z ∷ w ∷ fs) v t b p three hv ht hb = let k : suc (suc (suc (suc (length fs)))) ≡ 3 = three in absurd (omega (arith, k))
 
 module _ (fs : List TextForm) (v t b : TextForm) (p : Position) (three : length fs ≡ 3) (hv : v ≡ get_or fs 0 v) (ht : t ≡ get_or fs 1 t) (hb : b ≡ get_or fs 2 b) (var ty : Name) (is_var : name_of (form_view v) ≡ Ok var) (is_ty : name_of (form_view t) ≡ Ok ty) where
   named : defined_in (all_view fs) p ≡ (expr_of (form_view b) >>= (λ x. Ok (var, ty, x, p)))
-  named =
-      defined-three fs v t b p three hv ht hb
-      ∙ ap (λ r. r >>= (λ n. name_of (form_view t) >>= (λ m. expr_of (form_view b) >>= (λ x. Ok (n, m, x, p))))) is_var
-      ∙ ap (λ r. r >>= (λ m. expr_of (form_view b) >>= (λ x. Ok (var, m, x, p)))) is_ty
+  named = grind (arith, common_steps, defined-three fs v t b p three hv ht hb)
 
   pub definition-is : (x : ExprTree) → expr_of (form_view b) ≡ Ok x → defined_in (all_view fs) p ≡ Ok (var, ty, x, p)
   definition-is x is = named ∙ ap (λ r. r >>= (λ y. Ok (var, ty, y, p))) is
 
   pub definition-valueless : (f : ReadFault) → Fails f (expr_of (form_view b)) → Fails f (defined_in (all_view fs) p)
-  definition-valueless f fails =
-      fails-too f (expr_of (form_view b)) (defined_in (all_view fs) p) fails (λ w is. named ∙ ap (λ r. r >>= (λ y. Ok (var, ty, y, p))) is)
+  definition-valueless f fails = grind (arith, common_steps, fails-too, named)
 
 pub defined-few : (fs : List TextForm) (p : Position) → length fs < 3 → defined_in (all_view fs) p ≡ no M.LetDefinitions p
-defined-few [] p few = refl
-defined-few (x ∷ []) p few = refl
-defined-few (x ∷ y ∷ []) p few = refl
 defined-few (x ∷ y ∷ z ∷ fs) p few = let k : suc (suc (suc (length fs))) < 3 = few in absurd (omega (arith, k))
+defined-few _ p few = refl
 
 pub defined-many : (fs : List TextForm) (p : Position) → 4 ≤ length fs → defined_in (all_view fs) p ≡ no M.LetDefinitions p
 defined-many [] p many = let k : 4 ≤ 0 = many in absurd (omega (arith, k))

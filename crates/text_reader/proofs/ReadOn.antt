@@ -1,7 +1,8 @@
 -- Forms that are read one after another.
-use Rattle.std.proofs.Common.{◌≡◌, ℕ, suc, ◌+◌, ◌<◌, List, [], ◌∷◌, ◌++◌, drop, get_or, length, map, refl, sym, ap, subst, ◌∙◌, Result, Ok, Err, arith}
+use Rattle.std.proofs.Common.{◌≡◌, ℕ, suc, ◌+◌, ◌<◌, List, [], ◌∷◌, ◌++◌, drop, get_or, length, map, ap, ◌∙◌, Result, Ok, arith}
 use Rattle.std.proofs.lemmas.List.{append_assoc, map-append}
 use Rattle.std.proofs.Math.Seq.{drop-cons}
+use Rattle.std.proofs.lemmas.Grind.{common_steps}
 use Rattle.text_reader.specs.declared.forms.TextForm.{TextForm}
 use Rattle.text_reader.specs.Lexemes.{Wrong, ◌>>=◌}
 use Rattle.text_reader.specs.FormTrees.{FormTree, form_and}
@@ -17,13 +18,11 @@ module _ {A : Type 0} (one : FormTree → Result A Wrong) where
   -- the form that comes next, and the others
   parted : (forms : List TextForm) (n : ℕ) (f : TextForm) → n < length forms → f ≡ get_or forms n f
       → all_view (drop n forms) ≡ form_and (form_view f) (all_view (drop (suc n) forms))
-  parted forms n f inside at =
-      ap all_view (drop-cons forms n f inside) ∙ ap (λ x. form_and (form_view x) (all_view (drop (suc n) forms))) (sym at)
+  parted forms n f inside at = grind (arith, common_steps, drop-cons)
 
   then : (read : List A) (x : A) (r : Result (List A) Wrong)
       → ((r >>= (λ xs. Ok (x ∷ xs))) >>= (λ rest. Ok (read ++ rest))) ≡ (r >>= (λ rest. Ok ((read ++ x ∷ []) ++ rest)))
-  then read x (Ok xs) = ap Ok (sym (append_assoc read (x ∷ []) xs))
-  then read x (Err w) = refl
+  then read x r = grind (arith, common_steps, append_assoc)
 
   pub more : (forms : List TextForm) (n : ℕ) (read : List A) (f : TextForm) (x : A) → n < length forms → f ≡ get_or forms n f
       → one (form_view f) ≡ Ok x → IsReadOn forms n read → IsReadOn forms (suc n) (read ++ x ∷ [])
@@ -36,7 +35,4 @@ module _ {A : Type 0} (one : FormTree → Result A Wrong) where
   -- one more is put behind them
   pub put : {X : Type 0} (view : X → A) (forms : List TextForm) (n : ℕ) (old new : List X) (f : TextForm) (x : X) → n < length forms → f ≡ get_or forms n f
       → one (form_view f) ≡ Ok (view x) → new ≡ old ++ x ∷ [] → IsReadOn forms n (map view old) → IsReadOn forms (n + 1) (map view new)
-  put view forms n old new f x inside at is pushed so_far =
-      let next : suc n ≡ n + 1 = omega arith in
-      subst (IsReadOn forms (n + 1)) (sym (ap (map view) pushed ∙ map-append view old (x ∷ [])))
-      (subst (λ k. IsReadOn forms k (map view old ++ view x ∷ [])) next (more forms n (map view old) f (view x) inside at is so_far))
+  put view forms n old new f x inside at is pushed so_far = grind (arith, common_steps, map-append, more)

@@ -3,6 +3,7 @@ use Rattle.std.proofs.Common.{◌≡◌, suc, ℕ, ◌+◌, ◌<◌, ◌≤◌, 
 use Rattle.std.specs.Prelude.{Bool, codes, if◌then◌else◌}
 use Rattle.model.specs.lists.Syntax.{Position, Name}
 use Rattle.std.specs.declared.alloc.Global.{Global}
+use Rattle.std.proofs.lemmas.Grind.{common_steps}
 use Rattle.core_syntax.specs.declared.syntax.Pos.{Pos}
 use Rattle.text_reader.specs.declared.forms.TextForm.{TextForm, Group}
 use Rattle.text_reader.specs.PassedOver.{begins_passed_over, is_passed_over}
@@ -11,7 +12,7 @@ use Rattle.text_reader.specs.declared.errors.ReadFault.{ReadFault}
 use Rattle.text_reader.specs.Lexemes.{Wrong, ◌>>=◌}
 use Rattle.text_reader.specs.FormTrees.{FormTree, a_list, FormTrees}
 use Rattle.text_reader.specs.FormViews.{form_view, all_view}
-use Rattle.text_reader.specs.Grammar.{no, reads, head_of, place_of}
+use Rattle.text_reader.specs.Grammar.{no, reads, head_of}
 use Rattle.text_reader.specs.Views.{Fails}
 use Rattle.text_reader.proofs.ReadLists.{fails-too, group-view}
 use Rattle.text_reader.proofs.ReadTrees.{AllIsEach, AreRead, before, begun, put, failed, done}
@@ -53,27 +54,22 @@ module _ (fs : FormTrees) (at ends : Position) where
 
     module _ (op : Name) (h : head_of fs ends ≡ Ok op) where
       pub is-switch : has_cases op ≡ true → switch_of op fs at ends ≡ whole
-      is-switch is =
-          sym (by-head ∙ ap (λ r. r >>= by_word) h
-          ∙ ap (λ b. if b then switch_of op fs at ends else by_other_word op) is)
+      is-switch is = grind (arith, common_steps, by-head)
 
       by-other : has_cases op ≡ false → whole ≡ by_other_word op
       by-other is = by-head ∙ ap (λ r. r >>= by_word) h ∙ ap (λ b. if b then switch_of op fs at ends else by_other_word op) is
 
       pub is-three : has_cases op ≡ false → has_three op ≡ true → three_of op fs at ends ≡ whole
-      is-three is three =
-          sym (by-other is ∙ ap (λ b. if b then three_of op fs at ends else (arguments_of fs >>= (λ args. Ok (spec_op op args at)))) three)
+      is-three is three = grind (arith, common_steps, by-other)
 
       by-arguments : has_cases op ≡ false → has_three op ≡ false → whole ≡ (arguments_of fs >>= (λ args. Ok (spec_op op args at)))
-      by-arguments is three =
-          by-other is ∙ ap (λ b. if b then three_of op fs at ends else (arguments_of fs >>= (λ args. Ok (spec_op op args at)))) three
+      by-arguments is three = grind (arith, common_steps, by-other)
 
       pub is-operation : (args : SpecExprTrees) → has_cases op ≡ false → has_three op ≡ false → arguments_of fs ≡ Ok args → whole ≡ Ok (spec_op op args at)
       is-operation args is three a = by-arguments is three ∙ ap (λ r. r >>= (λ xs. Ok (spec_op op xs at))) a
 
       pub argumentless : (e : ReadFault) → has_cases op ≡ false → has_three op ≡ false → Fails e (arguments_of fs) → Fails e whole
-      argumentless e is three fails =
-          fails-too e (arguments_of fs) whole fails (λ w a. by-arguments is three ∙ ap (λ r. r >>= (λ xs. Ok (spec_op op xs at))) a)
+      argumentless e is three fails = grind (arith, common_steps, fails-too, by-arguments)
 
 -- ---- a switch
 
@@ -81,13 +77,11 @@ value-first : (op : Name) (gs : List TextForm) (v : TextForm) (p e : Position) �
     → switch_of op (all_view gs) p e ≡ (spec_expr_of (form_view v) >>= (λ x. pairs_of (all_view (drop 2 gs)) >>= (λ xs. Ok (spec_cases op x xs p))))
 value-first op [] v p e two is = let k : 2 ≤ 0 = two in absurd (omega (arith, k))
 value-first op (h ∷ []) v p e two is = let k : 2 ≤ 1 = two in absurd (omega (arith, k))
-value-first op (h ∷ y ∷ gs) v p e two is =
-    ap (λ f. spec_expr_of (form_view f) >>= (λ x. pairs_of (all_view gs) >>= (λ xs. Ok (spec_cases op x xs p)))) (sym is)
+value-first op (h ∷ y ∷ gs) v p e two is = grind (arith, common_steps)
 
 pub few-cases : (op : Name) (gs : List TextForm) (p e : Position) → length gs < 2 → switch_of op (all_view gs) p e ≡ no M.Expression e
-few-cases op [] p e few = refl
-few-cases op (h ∷ []) p e few = refl
 few-cases op (h ∷ y ∷ gs) p e few = let k : suc (suc (length gs)) < 2 = few in absurd (omega (arith, k))
+few-cases op _ p e few = refl
 
 module _ (op : Name) (fs : List TextForm) (v : TextForm) (p e : Position) where
   module _ (two : 2 ≤ length fs) (is : v ≡ get_or fs 1 v) where
@@ -95,21 +89,14 @@ module _ (op : Name) (fs : List TextForm) (v : TextForm) (p e : Position) where
     by-value = value-first op fs v p e two is
 
     pub valueless : (f : ReadFault) → Fails f (spec_expr_of (form_view v)) → Fails f (switch_of op (all_view fs) p e)
-    valueless f fails =
-        fails-too f (spec_expr_of (form_view v)) (switch_of op (all_view fs) p e) fails (λ w x.
-        by-value ∙ ap (λ r. r >>= (λ y. pairs_of (all_view (drop 2 fs)) >>= (λ xs. Ok (spec_cases op y xs p)))) x)
+    valueless f fails = grind (arith, common_steps, fails-too, by-value)
 
     module _ (x : SpecExprTree) (value : spec_expr_of (form_view v) ≡ Ok x) where
       pub caseless : (f : ReadFault) → Fails f (pairs_of (all_view (drop 2 fs))) → Fails f (switch_of op (all_view fs) p e)
-      caseless f fails =
-          fails-too f (pairs_of (all_view (drop 2 fs))) (switch_of op (all_view fs) p e) fails (λ w xs.
-          by-value ∙ ap (λ r. r >>= (λ y. pairs_of (all_view (drop 2 fs)) >>= (λ ys. Ok (spec_cases op y ys p)))) value
-          ∙ ap (λ r. r >>= (λ ys. Ok (spec_cases op x ys p))) xs)
+      caseless f fails = grind (arith, common_steps, fails-too, by-value)
 
       pub switch-is : (xs : SpecExprTrees) → pairs_of (all_view (drop 2 fs)) ≡ Ok xs → switch_of op (all_view fs) p e ≡ Ok (spec_cases op x xs p)
-      switch-is xs cases =
-          by-value ∙ ap (λ r. r >>= (λ y. pairs_of (all_view (drop 2 fs)) >>= (λ ys. Ok (spec_cases op y ys p)))) value
-          ∙ ap (λ r. r >>= (λ ys. Ok (spec_cases op x ys p))) cases
+      switch-is xs cases = grind (arith, common_steps, by-value)
 
 -- ---- two forms behind `let`, `with` or `as`
 
@@ -120,9 +107,7 @@ module _ {A B C : Type 0} (both : A → B → C) (first : Result A Wrong) (secon
 
   module _ (x : A) (has : first ≡ Ok x) where
     pub secondless : (e : ReadFault) → Fails e second → Fails e all
-    secondless e fails =
-        fails-too e second all fails (λ w h.
-        is ∙ ap (λ r. r >>= (λ a. second >>= (λ y. Ok (both a y)))) has ∙ ap (λ r. r >>= (λ y. Ok (both x y))) h)
+    secondless e fails = grind (arith, common_steps, fails-too)
 
     pub both-read : (y : B) → second ≡ Ok y → all ≡ Ok (both x y)
     both-read y h = is ∙ ap (λ r. r >>= (λ a. second >>= (λ b. Ok (both a b)))) has ∙ ap (λ r. r >>= (λ b. Ok (both x b))) h
@@ -135,8 +120,7 @@ three-parts : (op : Name) (gs : List TextForm) (a b : TextForm) (p e : Position)
 three-parts op [] a b p e three ha hb = let k : 0 ≡ 3 = three in absurd (omega (arith, k))
 three-parts op (x ∷ []) a b p e three ha hb = let k : 1 ≡ 3 = three in absurd (omega (arith, k))
 three-parts op (x ∷ y ∷ []) a b p e three ha hb = let k : 2 ≡ 3 = three in absurd (omega (arith, k))
-three-parts op (x ∷ y ∷ z ∷ []) a b p e three ha hb =
-    sym (ap (λ f. by_two op (form_view f) (form_view b) p) ha ∙ ap (λ f. by_two op (form_view y) (form_view f) p) hb)
+three-parts op (x ∷ y ∷ z ∷ []) a b p e three ha hb = grind (arith, common_steps)
 three-parts op (x ∷ y ∷ z ∷ w ∷ gs) a b p e three ha hb = let k : suc (suc (suc (suc (length gs)))) ≡ 3 = three in absurd (omega (arith, k))
 
 module _ (op : Name) (gs : List TextForm) (a b : TextForm) (p e : Position) (three : length gs ≡ 3) (ha : a ≡ get_or gs 1 a) (hb : b ≡ get_or gs 2 b) where
@@ -158,17 +142,14 @@ module _ (op : Name) (gs : List TextForm) (a b : TextForm) (p e : Position) (thr
   behind-as other is = three-parts op gs a b p e three ha hb ∙ ap (λ l. either l (reads op (codes "with"))) other ∙ ap (either false) is
 
 pub three-few : (op : Name) (gs : List TextForm) (p e : Position) → length gs < 3 → three_of op (all_view gs) p e ≡ no M.Expression e
-three-few op [] p e few = refl
-three-few op (x ∷ []) p e few = refl
-three-few op (x ∷ y ∷ []) p e few = refl
 three-few op (x ∷ y ∷ z ∷ gs) p e few = let k : suc (suc (suc (length gs))) < 3 = few in absurd (omega (arith, k))
+three-few op _ p e few = refl
 
 -- ---- a pair
 
 pub few-parts : (gs : List TextForm) (p : Position) → length gs < 2 → pair_in (all_view gs) p ≡ no M.Case p
-few-parts [] p few = refl
-few-parts (h ∷ []) p few = refl
 few-parts (h ∷ y ∷ gs) p few = let k : suc (suc (length gs)) < 2 = few in absurd (omega (arith, k))
+few-parts _ p few = refl
 
 pub many-parts : (gs : List TextForm) (p : Position) → 3 ≤ length gs → pair_in (all_view gs) p ≡ no M.Case p
 many-parts [] p many = let k : 3 ≤ 0 = many in absurd (omega (arith, k))
@@ -180,9 +161,7 @@ parts-of_two : (gs : List TextForm) (l r : TextForm) (p : Position) → length g
     → pair_in (all_view gs) p ≡ (spec_expr_of (form_view l) >>= (λ x. spec_expr_of (form_view r) >>= (λ y. Ok (spec_pair x y p))))
 parts-of_two [] l r p two hl hr = let k : 0 ≡ 2 = two in absurd (omega (arith, k))
 parts-of_two (h ∷ []) l r p two hl hr = let k : 1 ≡ 2 = two in absurd (omega (arith, k))
-parts-of_two (h ∷ y ∷ []) l r p two hl hr =
-    ap (λ f. spec_expr_of (form_view f) >>= (λ a. spec_expr_of (form_view y) >>= (λ b. Ok (spec_pair a b p)))) (sym hl)
-    ∙ ap (λ f. spec_expr_of (form_view l) >>= (λ a. spec_expr_of (form_view f) >>= (λ b. Ok (spec_pair a b p)))) (sym hr)
+parts-of_two (h ∷ y ∷ []) l r p two hl hr = grind (arith, common_steps)
 parts-of_two (h ∷ y ∷ z ∷ gs) l r p two hl hr = let k : suc (suc (suc (length gs))) ≡ 2 = two in absurd (omega (arith, k))
 
 module _ (fs : List TextForm) (l r : TextForm) (p : Position) where
@@ -191,21 +170,14 @@ module _ (fs : List TextForm) (l r : TextForm) (p : Position) where
     by-parts = parts-of_two fs l r p two hl hr
 
     pub leftless : (f : ReadFault) → Fails f (spec_expr_of (form_view l)) → Fails f (pair_in (all_view fs) p)
-    leftless f fails =
-        fails-too f (spec_expr_of (form_view l)) (pair_in (all_view fs) p) fails (λ w x.
-        by-parts ∙ ap (λ s. s >>= (λ a. spec_expr_of (form_view r) >>= (λ b. Ok (spec_pair a b p)))) x)
+    leftless f fails = grind (arith, common_steps, fails-too, by-parts)
 
     module _ (x : SpecExprTree) (left : spec_expr_of (form_view l) ≡ Ok x) where
       pub rightless : (f : ReadFault) → Fails f (spec_expr_of (form_view r)) → Fails f (pair_in (all_view fs) p)
-      rightless f fails =
-          fails-too f (spec_expr_of (form_view r)) (pair_in (all_view fs) p) fails (λ w y.
-          by-parts ∙ ap (λ s. s >>= (λ a. spec_expr_of (form_view r) >>= (λ b. Ok (spec_pair a b p)))) left
-          ∙ ap (λ s. s >>= (λ b. Ok (spec_pair x b p))) y)
+      rightless f fails = grind (arith, common_steps, fails-too, by-parts)
 
       pub pair-is : (y : SpecExprTree) → spec_expr_of (form_view r) ≡ Ok y → pair_in (all_view fs) p ≡ Ok (spec_pair x y p)
-      pair-is y right =
-          by-parts ∙ ap (λ s. s >>= (λ a. spec_expr_of (form_view r) >>= (λ b. Ok (spec_pair a b p)))) left
-          ∙ ap (λ s. s >>= (λ b. Ok (spec_pair x b p))) right
+      pair-is y right = grind (arith, common_steps, by-parts)
 
 -- ---- expressions one after another
 
@@ -220,8 +192,7 @@ before-specs [] = refl
 before-specs (x ∷ xs) = ap (spec_expr_and (spec_expr_view x)) (before-specs xs)
 
 behind-first : (forms : List TextForm) → arguments_of (all_view forms) ≡ spec_exprs_of (all_view (drop 1 forms))
-behind-first [] = refl
-behind-first (f ∷ fs) = refl
+behind-first forms = grind (arith, common_steps)
 
 pub specs-begun : (forms : List TextForm) (read : List SpecExpr) → read ≡ [] → SpecsAreRead (spec_exprs_of (all_view forms)) forms 0 read
 specs-begun forms read empty = begun spec_expr_and spec_expr_view spec_exprs_of (spec_exprs_of (all_view forms)) forms 0 read empty refl

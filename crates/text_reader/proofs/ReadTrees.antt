@@ -1,6 +1,7 @@
 -- Forms that are read one after another into a list of trees.
-use Rattle.std.proofs.Common.{◌≡◌, ℕ, ◌+◌, ◌<◌, ◌≤◌, List, [], ◌∷◌, ◌++◌, drop, get_or, length, refl, sym, ap, ◌∙◌, Result, Ok, Err}
+use Rattle.std.proofs.Common.{◌≡◌, ℕ, ◌+◌, ◌<◌, ◌≤◌, List, [], ◌∷◌, ◌++◌, drop, get_or, length, refl, ap, ◌∙◌, Result, Ok, arith}
 use Rattle.std.proofs.lemmas.List.{at_drop_more, at_drop_all}
+use Rattle.std.proofs.lemmas.Grind.{common_steps}
 use Rattle.core_syntax.specs.declared.syntax.Pattern.{Pattern}
 use Rattle.core_syntax.specs.declared.syntax.Expr.{Expr}
 use Rattle.core_syntax.specs.declared.syntax.LetDef.{LetDef}
@@ -35,28 +36,21 @@ before-push and view [] x rest = refl
 before-push and view (y ∷ xs) x rest = ap (and (view y)) (before-push and view xs x rest)
 
 same : {X A AS : Type 0} (and : A → AS → AS) (view : X → A) (r : Result AS Wrong) → r ≡ (r >>= (λ rest. Ok (before and view [] rest)))
-same and view (Ok xs) = refl
-same and view (Err w) = refl
+same and view r = grind (arith, common_steps)
 
 joined : {X A AS : Type 0} (and : A → AS → AS) (view : X → A) (old new : List X) (x : X) (r : Result AS Wrong) → new ≡ old ++ x ∷ []
     → ((r >>= (λ xs. Ok (and (view x) xs))) >>= (λ rest. Ok (before and view old rest))) ≡ (r >>= (λ rest. Ok (before and view new rest)))
-joined and view old new x (Ok xs) pushed = ap Ok (sym (ap (λ ys. before and view ys xs) pushed ∙ before-push and view old x xs))
-joined and view old new x (Err w) pushed = refl
+joined and view old new x r pushed = grind (arith, common_steps, before-push)
 
 -- the form that comes next, and the others
 parted : {A AS : Type 0} (and : A → AS → AS) (one : FormTree → Result A Wrong) (all : FormTrees → Result AS Wrong) → AllIsEach and one all
     → (forms : List TextForm) (n : ℕ) (f : TextForm) → n < length forms → f ≡ get_or forms n f
     → all (all_view (drop n forms)) ≡ (one (form_view f) >>= (λ x. all (all_view (drop (n + 1) forms)) >>= (λ xs. Ok (and x xs))))
-parted and one all each forms n f inside at =
-    at_drop_more (λ fs. all (all_view fs)) forms n f inside
-    ∙ each (form_view (get_or forms n f)) (all_view (drop (n + 1) forms))
-    ∙ ap (λ x. one (form_view x) >>= (λ y. all (all_view (drop (n + 1) forms)) >>= (λ xs. Ok (and y xs)))) (sym at)
+parted and one all each forms n f inside at = grind (arith, common_steps, at_drop_more)
 
 pub begun : {X A AS : Type 0} (and : A → AS → AS) (view : X → A) (all : FormTrees → Result AS Wrong) (whole : Result AS Wrong) (forms : List TextForm) (count : ℕ) (read : List X)
     → read ≡ [] → whole ≡ all (all_view (drop count forms)) → AreRead and view all whole forms count read
-begun and view all whole forms count read empty is =
-    is ∙ same and view (all (all_view (drop count forms)))
-    ∙ ap (λ xs. all (all_view (drop count forms)) >>= (λ rest. Ok (before and view xs rest))) (sym empty)
+begun and view all whole forms count read empty is = grind (arith, common_steps, same)
 
 pub put : {X A AS : Type 0} (and : A → AS → AS) (view : X → A) (one : FormTree → Result A Wrong) (all : FormTrees → Result AS Wrong) → AllIsEach and one all
     → (whole : Result AS Wrong) (forms : List TextForm) (n : ℕ) (old new : List X) (f : TextForm) (x : X) → n < length forms → f ≡ get_or forms n f
@@ -70,17 +64,11 @@ put and view one all each whole forms n old new f x inside at is pushed so_far =
 pub failed : {X A AS : Type 0} (and : A → AS → AS) (view : X → A) (one : FormTree → Result A Wrong) (all : FormTrees → Result AS Wrong) → AllIsEach and one all
     → (whole : Result AS Wrong) (forms : List TextForm) (n : ℕ) (read : List X) (f : TextForm) (e : ReadFault) → n < length forms → f ≡ get_or forms n f
     → Fails e (one (form_view f)) → AreRead and view all whole forms n read → Fails e whole
-failed and view one all each whole forms n read f e inside at fails so_far =
-    fails-too e (one (form_view f)) whole fails (λ w is.
-    so_far
-    ∙ ap (λ r. r >>= (λ rest. Ok (before and view read rest)))
-    (parted and one all each forms n f inside at ∙ ap (λ r. r >>= (λ y. all (all_view (drop (n + 1) forms)) >>= (λ xs. Ok (and y xs)))) is))
+failed and view one all each whole forms n read f e inside at fails so_far = grind (arith, common_steps, fails-too, parted)
 
 pub done : {X A AS : Type 0} (and : A → AS → AS) (view : X → A) (all : FormTrees → Result AS Wrong) (none : AS) (whole : Result AS Wrong) (forms : List TextForm) (n : ℕ) (read : List X)
     → all no_form ≡ Ok none → length forms ≤ n → AreRead and view all whole forms n read → whole ≡ Ok (before and view read none)
-done and view all none whole forms n read at_end past so_far =
-    so_far
-    ∙ ap (λ r. r >>= (λ rest. Ok (before and view read rest))) (at_drop_all (λ fs. all (all_view fs)) forms n past ∙ at_end)
+done and view all none whole forms n read at_end past so_far = grind (arith, common_steps, at_drop_all)
 
 -- ---- patterns
 
@@ -96,8 +84,7 @@ before-patterns (p ∷ ps) = ap (pattern_and (pattern_view p)) (before-patterns 
 
 -- the arguments are the patterns behind the first form
 behind-first : (forms : List TextForm) → arguments_of (all_view forms) ≡ patterns_of (all_view (drop 1 forms))
-behind-first [] = refl
-behind-first (f ∷ fs) = refl
+behind-first forms = grind (arith, common_steps)
 
 pub arguments-begun : (forms : List TextForm) (read : List Pattern) → read ≡ [] → PatternsAreRead (arguments_of (all_view forms)) forms 1 read
 arguments-begun forms read empty = begun pattern_and pattern_view patterns_of (arguments_of (all_view forms)) forms 1 read empty (behind-first forms)
@@ -126,8 +113,7 @@ before-exprs [] = refl
 before-exprs (e ∷ es) = ap (expr_and (expr_view e)) (before-exprs es)
 
 exprs-behind-first : (forms : List TextForm) → expr_arguments_of (all_view forms) ≡ exprs_of (all_view (drop 1 forms))
-exprs-behind-first [] = refl
-exprs-behind-first (f ∷ fs) = refl
+exprs-behind-first forms = grind (arith, common_steps)
 
 pub expr-arguments-begun : (forms : List TextForm) (read : List Expr) → read ≡ [] → ExprsAreRead (expr_arguments_of (all_view forms)) forms 1 read
 expr-arguments-begun forms read empty = begun expr_and expr_view exprs_of (expr_arguments_of (all_view forms)) forms 1 read empty (exprs-behind-first forms)

@@ -1,9 +1,10 @@
 -- What is read one after another, where it lies in memory.
-use Rattle.std.proofs.Common.{◌≡◌, ℕ, suc, ◌+◌, ◌<◌, List, [], ◌∷◌, ◌++◌, drop, get_or, length, map, refl, sym, ap, ◌∙◌, subst, arith, append_assoc, append-nil, chars, encode_utf8, encode_utf8_all, IsUtf8, String}
-use Rattle.std.specs.Prelude.{true, false, if◌then◌else◌, Result, Ok, string_bytes}
+use Rattle.std.proofs.Common.{◌≡◌, ℕ, ◌+◌, ◌<◌, List, [], ◌∷◌, ◌++◌, drop, get_or, length, map, refl, sym, ap, ◌∙◌, subst, arith, append_assoc, append-nil, chars, encode_utf8, encode_utf8_all, IsUtf8, String}
+use Rattle.std.specs.Prelude.{true, false, Result, Ok, string_bytes}
 use Rattle.std.proofs.lemmas.List.{map-append, nil_from_length}
 use Rattle.std.proofs.lemmas.Str.{encodes-chars, encodes-append, chars_from_encodes, chars_past_char, chars-nil, IsUtf8-string_bytes}
 use Rattle.std.proofs.Math.Seq.{drop-cons}
+use Rattle.std.proofs.lemmas.Grind.{common_steps}
 use Rattle.model.specs.lists.Syntax.{Definition}
 use Rattle.core_syntax.specs.declared.syntax.Def.{Def}
 use Rattle.core_syntax.specs.SyntaxViews.{definition_view, definition_views}
@@ -38,41 +39,22 @@ beside_nothing r = both_same _ _ _ _ (append-nil r.definitions) (append-nil r.mi
 -- one more chunk
 pub chunk_read : (file : ℕ) (cs : List Chunk) (n : ℕ) (c : Chunk) (old new whole : Recovery) → n < length cs → c ≡ get_or cs n c → new ≡ beside old (of_forms (forms_in_part file (part_view c)))
     → beside old (of_parts file (part_views (drop n cs))) ≡ whole → beside new (of_parts file (part_views (drop (n + 1) cs))) ≡ whole
-chunk_read file cs n c old new whole inside at_it grown so_far =
-    let next : n + 1 ≡ suc n = omega arith in
-    let rest = of_parts file (part_views (drop (suc n) cs)) in
-    ap (λ k. beside new (of_parts file (part_views (drop k cs)))) next
-    ∙ ap (λ r. beside r rest) grown
-    ∙ beside_assoc old (of_forms (forms_in_part file (part_view c))) rest
-    ∙ ap (λ x. beside old (beside (of_forms (forms_in_part file (part_view x))) rest)) at_it
-    ∙ sym (ap (λ xs. beside old (of_parts file (part_views xs))) (drop-cons cs n c inside))
-    ∙ so_far
+chunk_read file cs n c old new whole inside at_it grown so_far = grind (arith, common_steps, beside_assoc, drop-cons)
 
 -- one more form
 pub form_read : (fs : List TextForm) (n : ℕ) (f : TextForm) (old new whole : Recovery) → n < length fs → f ≡ get_or fs n f → new ≡ beside old (one_of (definition_of (form_view f)))
     → beside old (each_by_itself (all_view (drop n fs))) ≡ whole → beside new (each_by_itself (all_view (drop (n + 1) fs))) ≡ whole
-form_read fs n f old new whole inside at_it grown so_far =
-    let next : n + 1 ≡ suc n = omega arith in
-    let rest = each_by_itself (all_view (drop (suc n) fs)) in
-    ap (λ k. beside new (each_by_itself (all_view (drop k fs)))) next
-    ∙ ap (λ r. beside r rest) grown
-    ∙ beside_assoc old (one_of (definition_of (form_view f))) rest
-    ∙ ap (λ x. beside old (beside (one_of (definition_of (form_view x))) rest)) at_it
-    ∙ sym (ap (λ xs. beside old (each_by_itself (all_view xs))) (drop-cons fs n f inside))
-    ∙ so_far
+form_read fs n f old new whole inside at_it grown so_far = grind (arith, common_steps, beside_assoc, drop-cons)
 
 abbrev held : List Def → List TextError → Recovery
 held ds es = record { definitions = definition_views ds; mistakes = map wrong_view es }
 
 -- one more definition, or one more mistake
 pub definition_added : (old new : List Def) (es fs : List TextError) (d : Def) (read : Result Definition Wrong) → new ≡ old ++ d ∷ [] → fs ≡ es → read ≡ Ok (definition_view d) → held new fs ≡ beside (held old es) (one_of read)
-definition_added old new es fs d read n f h =
-    subst (λ r. held new fs ≡ beside (held old es) (one_of r)) (sym h)
-    (both_same _ _ _ _ (ap definition_views n ∙ map-append definition_view old (d ∷ [])) (ap (map wrong_view) f ∙ sym (append-nil (map wrong_view es))))
+definition_added old new es fs d read n f h = grind (arith, common_steps, both_same, map-append)
 
 pub mistake_added : (ds bs : List Def) (old new : List TextError) (e : TextError) → new ≡ old ++ e ∷ [] → bs ≡ ds → held bs new ≡ beside (held ds old) (record { definitions = []; mistakes = wrong_view e ∷ [] })
-mistake_added ds bs old new e n b =
-    both_same _ _ _ _ (ap definition_views b ∙ sym (append-nil (definition_views ds))) (ap (map wrong_view) n ∙ map-append wrong_view old (e ∷ []))
+mistake_added ds bs old new e n b = grind (arith, common_steps, both_same, map-append)
 
 -- ---- the forms of a chunk
 
@@ -111,22 +93,16 @@ chunk_kept place next last made empty o there c n bytes rest old new whole u e w
 
 pub chunks_ended : (place : CharacterPlace) (o : ℕ) (bytes : List ℕ) (old new : List Chunk) (last : Chunk) (whole : List Part) → length bytes ≡ 0 → new ≡ old ++ last ∷ []
     → part_views old ++ chunks_from place (part_view last) o (chars bytes) ≡ whole → part_views new ≡ whole
-chunks_ended place o bytes old new last whole none n w =
-    ap part_views n ∙ map-append part_view old (last ∷ [])
-    ∙ ap (λ cs. part_views old ++ chunks_from place (part_view last) o cs) (sym (ap chars (nil_from_length bytes none) ∙ chars-nil)) ∙ w
+chunks_ended place o bytes old new last whole none n w = grind (arith, common_steps, map-append, nil_from_length, chars-nil)
 
 -- a chunk that goes on, or begins
 pub begun_next : (place : CharacterPlace) (c : ℕ) (empty last made : Part) (old new : List Part) → begins_chunk place c ≡ true → new ≡ old ++ last ∷ [] → made ≡ longer empty c
     → (others : Part → List Part) → new ++ others made ≡ old ++ next_parts others place empty last c
-begun_next place c empty last made old new b n m others =
-    ap (λ x. new ++ others x) m ∙ ap (λ x. x ++ others (longer empty c)) n ∙ append_assoc old (last ∷ []) (others (longer empty c))
-    ∙ ap (λ x. old ++ (if x then last ∷ others (longer empty c) else others (longer last c))) (sym b)
+begun_next place c empty last made old new b n m others = grind (arith, common_steps)
 
 pub gone_on : (place : CharacterPlace) (c : ℕ) (empty last made : Part) (old new : List Part) → begins_chunk place c ≡ false → new ≡ old → made ≡ longer last c
     → (others : Part → List Part) → new ++ others made ≡ old ++ next_parts others place empty last c
-gone_on place c empty last made old new b n m others =
-    ap (λ x. new ++ others x) m ∙ ap (λ x. x ++ others (longer last c)) n
-    ∙ ap (λ x. old ++ (if x then last ∷ others (longer empty c) else others (longer last c))) (sym b)
+gone_on place c empty last made old new b n m others = grind (arith, common_steps)
 
 -- ---- a chunk's text
 

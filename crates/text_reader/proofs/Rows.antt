@@ -1,7 +1,8 @@
 -- What lies within a text, where its parts lie in a `Vec`.
-use Rattle.std.proofs.Common.{◌≡◌, ℕ, List, [], ◌∷◌, ◌++◌, All, subst, sym, Vec, map}
+use Rattle.std.proofs.Common.{◌≡◌, ℕ, List, [], ◌∷◌, ◌++◌, All, subst, sym, Vec, map, arith}
 use Rattle.std.proofs.lemmas.List.Elements.{All-nil, All-cons, All-head, All-tail, All-map, All-push}
 use Rattle.std.specs.declared.alloc.Global.{Global}
+use Rattle.std.proofs.lemmas.Grind.{common_steps}
 use Rattle.core_syntax.specs.declared.syntax.Pattern.{Pattern}
 use Rattle.core_syntax.specs.declared.syntax.Pattern.TheBlock.{hidden-the_row-Pattern-0}
 use Rattle.core_syntax.specs.declared.syntax.Expr.{Expr}
@@ -40,9 +41,7 @@ row-from_forms file size v h = row-from_all file size (hidden-the_row-TextForm-0
 
 -- what a list of a text has
 pub group-parts : (file size : ℕ) (form : TextForm) (v : Vec TextForm Global) (p e : Pos) (fs : List TextForm) → form ≡ Group v p e → fs ≡ v.items → FormIsWithin file size form → FormsAreWithin file size fs × PosIsWithin file size p × PosIsWithin file size e
-group-parts file size form v p e fs is at h =
-    let k = subst (FormIsWithin file size) is h in
-    (subst (FormsAreWithin file size) (sym at) (forms-from_row file size v k.0), k.1, k.2)
+group-parts file size form v p e fs is at h = grind (arith, common_steps, forms-from_row)
 
 -- the patterns of a term
 patterns-from_all : (file size : ℕ) (qs : List Pattern) → All (λ q. PatternIsWithin file size (pattern_view q)) qs → PatternsAreWithin file size (pattern_views qs)

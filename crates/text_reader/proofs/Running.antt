@@ -1,10 +1,10 @@
 -- One character of a text, and its end.
-use Rattle.std.proofs.Common.{◌≡◌, ℕ, ◌+◌, List, ◌++◌, length, refl, sym, ap, ◌∙◌, subst, chars, encode_utf8, IsUtf8}
+use Rattle.std.proofs.Common.{◌≡◌, ℕ, ◌+◌, List, ◌++◌, length, refl, sym, ap, ◌∙◌, subst, chars, encode_utf8, IsUtf8, arith}
 use Rattle.std.specs.Prelude.{Result, Ok}
 use Rattle.std.proofs.lemmas.List.{nil_from_length}
 use Rattle.std.proofs.lemmas.Str.{chars_past_char, chars-nil, IsUtf8-past_char}
+use Rattle.std.proofs.lemmas.Grind.{common_steps}
 use Rattle.text_reader.specs.declared.errors.ReadFault.{ReadFault}
-use Rattle.text_reader.specs.declared.errors.ReadFault.TheVariants.{Memory, Text}
 use Rattle.text_reader.specs.Lexemes.{Wrong, ◌>>=◌}
 use Rattle.text_reader.specs.Lexing.{Tokens, Mode, finished, step, run}
 use Rattle.text_reader.specs.Views.{Fails}
@@ -19,8 +19,7 @@ unfolding run
 run_end file end m o bytes done e = rw (nil_from_length bytes e, chars-nil) refl
 
 pub fails : {A B : Type 0} (e : ReadFault) (r : Result A Wrong) (f : A → Result B Wrong) (whole : Result B Wrong) → r >>= f ≡ whole → Fails e r → Fails e whole
-fails (Memory e) r f whole w h = tt
-fails (Text e) r f whole w h = sym w ∙ ap (λ x. x >>= f) h
+fails e r f whole w h = grind (arith, common_steps)
 
 pub goes_on : {A B : Type 0} (x : A) (r : Result A Wrong) (f : A → Result B Wrong) (whole : Result B Wrong) → r >>= f ≡ whole → r ≡ Ok x → f x ≡ whole
 goes_on x r f whole w h = sym (ap (λ y. y >>= f) h) ∙ w

@@ -1,12 +1,13 @@
 -- Texts that differ in white space alone have the same tokens, but for their places.
-use Rattle.std.proofs.Common.{◌≡◌, ℕ, ℤ, ◌+◌, ◌==◌, List, [], ◌∷◌, ◌++◌, refl, sym, ap, ◌∙◌, inl, inr, map, encode_utf8_all}
-use Rattle.std.specs.Prelude.{Option, Some, None, option_map, Result, Ok, Err, slice_index}
+use Rattle.std.proofs.Common.{◌≡◌, ℕ, ℤ, ◌+◌, ◌==◌, List, [], ◌∷◌, ◌++◌, refl, sym, ap, ◌∙◌, inl, inr, map, encode_utf8_all, arith}
+use Rattle.std.specs.Prelude.{Option, option_map, Result, Ok, slice_index}
 use Rattle.std.proofs.lemmas.Bool.{cases_Bool}
 use Rattle.std.proofs.lemmas.List.{map-append}
+use Rattle.std.proofs.lemmas.Grind.{common_steps}
 use Rattle.model.specs.lists.Syntax.{Position}
 use Rattle.text_reader.specs.declared.errors.Mistake.{Mistake}
 use Rattle.text_reader.specs.Numbers.{number_of}
-use Rattle.text_reader.specs.Lexemes.{Lexeme, begin_list, end_list, word, dash, binder, number, constant, Wrong, ◌>>=◌, at_place, begins_number, word_token, binder_of, last_bound, or_mistake}
+use Rattle.text_reader.specs.Lexemes.{Lexeme, begin_list, end_list, word, dash, number, constant, Wrong, ◌>>=◌, at_place, begins_number, word_token, binder_of, last_bound, or_mistake}
 use Rattle.text_reader.specs.Pieces.{Piece, space, line, block, left, right, bind, name, sign, endless, alone}
 use Rattle.text_reader.specs.Lexing.{Tokens, added, tokens_after}
 use Rattle.text_reader.specs.Solid.{solid, placeless, stripped}
@@ -19,17 +20,10 @@ pushed a b t u h e = map-append placeless a (t ∷ []) ∙ ap (λ x. x ++ placel
 
 -- the last token, bound
 one_bound : (t : Lexeme) → option_map (map placeless) (binder_of t) ≡ binder_of (placeless t)
-one_bound (begin_list p) = refl
-one_bound (end_list p) = refl
-one_bound (word n) = refl
-one_bound (dash n) = refl
-one_bound (binder n) = refl
-one_bound (number z p) = refl
-one_bound (constant n p) = refl
+one_bound t = grind (arith, common_steps)
 
 fronted : (t : Lexeme) (r : Option Tokens) → option_map (map placeless) (option_map (λ ts. t ∷ ts) r) ≡ option_map (λ ts. placeless t ∷ ts) (option_map (map placeless) r)
-fronted t None = refl
-fronted t (Some ts) = refl
+fronted t r = grind (arith, common_steps)
 
 bound_placeless : (ts : Tokens) → option_map (map placeless) (last_bound ts) ≡ last_bound (map placeless ts)
 bound_placeless [] = refl
@@ -37,16 +31,12 @@ bound_placeless (t ∷ []) = one_bound t
 bound_placeless (t ∷ u ∷ us) = fronted t (last_bound (u ∷ us)) ∙ ap (option_map (λ ts. placeless t ∷ ts)) (bound_placeless (u ∷ us))
 
 bound_or_not : (x y : Position) (o p : Option Tokens) → option_map (map placeless) o ≡ option_map (map placeless) p → stripped (or_mistake x o) ≡ stripped (or_mistake y p)
-bound_or_not x y None None e = refl
-bound_or_not x y None (Some b) e = absurd (cc e)
-bound_or_not x y (Some a) None e = absurd (cc e)
-bound_or_not x y (Some a) (Some b) e = cc e
+bound_or_not x y o p e = grind (arith, common_steps)
 
 -- a word
 by_number : (x y : Position) (a b : Tokens) (r : Result ℤ Mistake) → Same a b
     → stripped ((at_place x r >>= (λ z. Ok (number z x))) >>= (λ t. Ok (a ++ t ∷ []))) ≡ stripped ((at_place y r >>= (λ z. Ok (number z y))) >>= (λ t. Ok (b ++ t ∷ [])))
-by_number x y a b (Ok z) h = ap Ok (pushed a b (number z x) (number z y) h refl)
-by_number x y a b (Err m) h = refl
+by_number x y a b r h = grind (arith, common_steps, pushed)
 
 worded : (text : List ℕ) (x y : Position) (a b : Tokens) → Same a b
     → stripped (word_token (record { text = text; at = x }) >>= (λ t. Ok (a ++ t ∷ []))) ≡ stripped (word_token (record { text = text; at = y }) >>= (λ t. Ok (b ++ t ∷ [])))
@@ -73,10 +63,7 @@ adds (endless cs) x y a b h = refl
 adds alone x y a b h = refl
 
 both : (r s : Result Tokens Wrong) (f g : Tokens → Result Tokens Wrong) → stripped r ≡ stripped s → ((a b : Tokens) → Same a b → stripped (f a) ≡ stripped (g b)) → stripped (r >>= f) ≡ stripped (s >>= g)
-both (Ok a) (Ok b) f g e h = h a b (cc e)
-both (Ok a) (Err w) f g e h = absurd (cc e)
-both (Err v) (Ok b) f g e h = absurd (cc e)
-both (Err v) (Err w) f g e h = e
+both r s f g e h = grind (arith, common_steps)
 
 at : ℕ → ℕ → Position
 at file offset = record { file = file; offset = offset }

@@ -1,8 +1,9 @@
 -- Forms that are begun, and one more.
-use Rattle.std.proofs.Common.{◌≡◌, ℕ, ◌+◌, ◌<◌, ◌≤◌, true, false, List, [], ◌∷◌, ◌++◌, length, refl, sym, ap, ◌∙◌, Vec, arith}
-use Rattle.std.specs.Prelude.{nat_le, Option, Some, option_to_list, Ok, Err}
+use Rattle.std.proofs.Common.{◌≡◌, ℕ, ◌+◌, ◌<◌, ◌≤◌, List, [], ◌∷◌, ◌++◌, length, refl, sym, ap, ◌∙◌, Vec, arith}
+use Rattle.std.specs.Prelude.{Option, Some, option_to_list, Ok, Err}
 use Rattle.std.proofs.lemmas.Bool.Decides.{nat_tests}
 use Rattle.std.specs.declared.alloc.Global.{Global}
+use Rattle.std.proofs.lemmas.Grind.{common_steps}
 use Rattle.model.specs.lists.Syntax.{Position}
 use Rattle.core_syntax.specs.SyntaxViews.{position}
 use Rattle.core_syntax.specs.declared.syntax.Ident.{Ident}
@@ -12,7 +13,7 @@ use Rattle.text_reader.specs.declared.forms.TextForm.{TextForm, Group, Row_of-Te
 use Rattle.text_reader.specs.declared.forms.TextForm.TheBlock.{hidden-the_row-TextForm-0, items_hidden-the_row-TextForm-0}
 use Rattle.text_reader.specs.declared.forms.Open.{Open}
 use Rattle.text_reader.specs.declared.forms.Open.TheVariants as V
-use Rattle.text_reader.specs.FormTrees.{a_list, FormTrees, form_and}
+use Rattle.text_reader.specs.FormTrees.{FormTrees, form_and}
 use Rattle.text_reader.specs.FormViews.{form_view, row_view, all_view, open_view, stacked, begun_views, outermost_passes}
 use Rattle.text_reader.specs.Forming.{Begun, a_group, behind, put, passes, started, ended, whole}
 use Rattle.text_reader.specs.Grammar.{no}
@@ -45,16 +46,10 @@ begun_count [] under = omega arith
 begun_count (o ∷ os) under = omega (arith, begun_count os (open_view o ∷ under))
 
 pub too_deep : (old : List Open) (o : Begun) (p : Position) (fs : FormTrees) → 1000 ≤ length old → started o p fs (begun_views old) ≡ no M.Depth p
-too_deep old o p fs deep =
-    let there : 1000 ≤ length (begun_views old) = omega (arith, deep, begun_count old []) in
-    let test : nat_le 1000 (length (begun_views old)) ≡ true = grind (arith, nat_tests, there) in
-    rw test refl
+too_deep old o p fs deep = grind (arith, common_steps, begun_count, nat_tests)
 
 pub not_deep : (old new : List Open) (o : Open) (p : Position) (fs : FormTrees) → length old < 1000 → new ≡ old ++ o ∷ [] → started (open_view o) p fs (begun_views old) ≡ Ok (fs, begun_views new)
-not_deep old new o p fs room e =
-    let there : length (begun_views old) < 1000 = omega (arith, room, begun_count old []) in
-    let test : nat_le 1000 (length (begun_views old)) ≡ false = grind (arith, nat_tests, there) in
-    rw test (ap (λ os. Ok (fs, os)) (sym (stack_pushed old new o e)))
+not_deep old new o p fs room e = grind (arith, common_steps, begun_count, nat_tests, stack_pushed)
 
 -- the outermost that is begun
 passes_under : (os : List Open) (o : Begun) (under : List Begun) → passes (stacked os (o ∷ under)) ≡ passes (o ∷ under)
@@ -62,8 +57,7 @@ passes_under [] o under = refl
 passes_under (x ∷ os) o under = passes_under os (open_view x) (o ∷ under)
 
 pub outermost : (os : List Open) → outermost_passes os ≡ passes (begun_views os)
-outermost [] = refl
-outermost (o ∷ os) = sym (passes_under os (open_view o) [])
+outermost os = grind (arith, common_steps, passes_under)
 
 -- what was begun last
 last_begun : (old new : List Open) (r : Option Open) (o : Open) → old ≡ new ++ option_to_list r → r ≡ Some o → begun_views old ≡ open_view o ∷ begun_views new
@@ -90,9 +84,7 @@ put_into old new after_it parts more pos f fs o m n =
 -- the list that was begun last ends
 pub closed : (old new : List Open) (parts : Vec TextForm Global) (pos end : Pos) (fs : FormTrees) → old ≡ new ++ V.Group parts pos ∷ []
     → Ok (put (form_view (Group parts pos end)) fs (begun_views new)) ≡ ended (position end) fs (begun_views old)
-closed old new parts pos end fs o =
-    ap (λ gs. Ok (put (a_list gs (position pos) (position end)) fs (begun_views new))) (row_hidden parts)
-    ∙ sym (ap (ended (position end) fs) (stack_pushed new old (V.Group parts pos) o))
+closed old new parts pos end fs o = grind (arith, common_steps, row_hidden, stack_pushed)
 
 pub ruleset stack_parts = (stack_pushed, too_deep, not_deep)
 

@@ -1,11 +1,12 @@
 -- Where no chunk of a text has a mistake, the text has none, and gives what they give.
-use Rattle.std.proofs.Common.{◌≡◌, ℕ, ◌+◌, ◌-◌, Bool, true, false, ◌==◌, List, [], ◌∷◌, ◌++◌, length, refl, sym, ap, ◌∙◌, subst, inl, inr, arith, append_assoc, append-nil, length-append, chars, encode_utf8_all, IsUtf8}
-use Rattle.std.specs.Prelude.{Option, Some, None, Result, Ok, Err, if◌then◌else◌, nat_le, ◌&&◌}
+use Rattle.std.proofs.Common.{◌≡◌, ℕ, ◌+◌, ◌-◌, Bool, true, false, ◌==◌, List, [], ◌∷◌, ◌++◌, length, refl, sym, ap, ◌∙◌, subst, inl, inr, arith, append-nil, length-append, chars, encode_utf8_all, IsUtf8}
+use Rattle.std.specs.Prelude.{Option, Result, Ok, Err, if◌then◌else◌, nat_le, ◌&&◌}
 use Rattle.std.specs.Char.{encode_utf8}
 use Rattle.std.proofs.Math.Nat.{add-zero}
 use Rattle.text_reader.specs.declared.errors.Mistake.TheVariants.{Depth, ConstantName}
 use Rattle.std.proofs.lemmas.Bool.{cases_Bool, eqb-true, false≢true}
 use Rattle.std.proofs.lemmas.Str.{encodes-append, encodes-chars}
+use Rattle.std.proofs.lemmas.Grind.{common_steps}
 use Rattle.model.specs.lists.Syntax.{Position, Definition}
 use Rattle.text_reader.specs.Lexemes.{Wrong, expected, begin_list, end_list, ◌>>=◌, last_bound, or_mistake}
 use Rattle.text_reader.specs.Pieces.{size, pieces_from, is_in_word, is_space}
@@ -50,8 +51,7 @@ reads m d = Ok (m, d)
 
 -- what a test leads to
 chosen : {A : Type 0} (P : Type 0) (b : Bool) (q r : Result A Wrong) (s : A) → (q ≡ Ok s → P) → (r ≡ Ok s → P) → (if b then q else r) ≡ Ok s → P
-chosen P true q r s h k e = h e
-chosen P false q r s h k e = k e
+chosen P b q r s h k e = grind (arith, common_steps)
 
 module _ (p : Position) (d : Tokens) (s : Mode × Tokens) where
   abbrev OneMore : (n c : ℕ) → Type 0
@@ -61,12 +61,10 @@ module _ (p : Position) (d : Tokens) (s : Mode × Tokens) where
   mode_is m ts e = ap (λ x. x.0) (sym (same (m, ts) s e))
 
   ended_agrees : (b : Bool) (k : ℕ) → s.0 ≡ between → Agrees (if b then Ended else Within k) s.0
-  ended_agrees true k e = e
-  ended_agrees false k e = ap outside e
+  ended_agrees b k e = grind (arith, common_steps)
 
   bound_outside : (r : Option Tokens) → or_mistake p r >>= (λ ts. Ok (between, ts)) ≡ Ok s → outside s.0 ≡ true
-  bound_outside None e = absurd (cc e)
-  bound_outside (Some ts) e = ap outside (mode_is between ts e)
+  bound_outside r e = grind (arith, common_steps, mode_is)
 
   other_outside : (n c : ℕ) → c == 10 ≡ false → c == 40 ≡ false → c == 59 ≡ false → c == 41 ≡ false → OneMore n c
   unfolding begun
@@ -98,10 +96,7 @@ module _ (p : Position) (d : Tokens) (s : Mode × Tokens) where
   finished_agrees n c end m e h = let f = both_give (finished p.file end m d) (begun p c) s e in h f.0 f.2
 
 no_such : (c k : ℕ) → is_in_word c ≡ true → is_in_word k ≡ false → c == k ≡ false
-no_such c k w not_k = elim (cases_Bool (c == k)) [
-  | inl e ↦ absurd (false≢true (sym not_k ∙ ap is_in_word (sym (eqb-true c k e)) ∙ w))
-  | inr e ↦ e
-]
+no_such c k w not_k = grind (arith, common_steps, eqb-true)
 
 -- a character of a word is within
 word_within : (n c : ℕ) → is_in_word c ≡ true → moved_between n c ≡ Within n
@@ -118,20 +113,14 @@ module _ (end : ℕ) (p : Position) (c : ℕ) (d : Tokens) (s : Mode × Tokens) 
   plain_agrees n m is e = begun_agrees p d s n c (subst (λ x. step end x p c d ≡ Ok s) is e)
 
   word_agrees : (n : ℕ) (m : Mode) (r : Read) → outside m ≡ true → (r ≡ Ok s → Agrees (moved_between n c) s.0) → (if is_in_word c then reads m d else r) ≡ Ok s → Agrees (moved_between n c) s.0
-  word_agrees n m r is h e = elim (cases_Bool (is_in_word c)) [
-    | inl w ↦ subst (λ x. Agrees x s.0) (sym (word_within n c w))
-        (ap outside (mode_is p d s m d (sym (ap (λ b. if b then Ok (m, d) else r) w) ∙ e)) ∙ is)
-    | inr w ↦ h (sym (ap (λ b. if b then Ok (m, d) else r) w) ∙ e)
-  ]
+  word_agrees n m r is h e = grind (arith, common_steps, word_within, mode_is)
 
   within_agrees : (n : ℕ) (m : Mode) → outside m ≡ true → Leads (Within n) m
   within_agrees n between is e = begun_agrees p d s n c e
-  within_agrees n in_line is e = absurd (false≢true is)
-  within_agrees n (opened o) is e = absurd (false≢true is)
-  within_agrees n (in_block o depth l) is e = absurd (false≢true is)
   within_agrees n (signed o) is e = word_agrees n (in_constant (record { text = encode_utf8 c; at = p }) o) (Err (expected ConstantName, p)) refl (λ f. absurd (cc f)) e
   within_agrees n (in_name o) is e = word_agrees n (in_name (with_char o c)) _ refl (λ f. finished_agrees p d s n c end (in_name o) f (λ ts. begun_agrees p ts s n c)) e
   within_agrees n (in_constant o q) is e = word_agrees n (in_constant (with_char o c) q) _ refl (λ f. finished_agrees p d s n c end (in_constant o q) f (λ ts. begun_agrees p ts s n c)) e
+  within_agrees n _ is e = absurd (false≢true is)
 
   opened_agrees : (b : Bool) (n : ℕ) (o : Position)
       → (if b then Ok (in_block o 1 32, d) else (Ok (d ++ begin_list o ∷ []) >>= begun p c)) ≡ Ok s → Agrees (if b then Block n 1 32 else moved_between (deeper n) c) s.0
@@ -139,17 +128,12 @@ module _ (end : ℕ) (p : Position) (c : ℕ) (d : Tokens) (s : Mode × Tokens) 
   opened_agrees false n o e = begun_agrees p (d ++ begin_list o ∷ []) s (deeper n) c e
 
   line_agrees : (b : Bool) (n : ℕ) → (if b then reads between d else reads in_line d) ≡ Ok s → Agrees (if b then LineBegin n else Line n) s.0
-  line_agrees true n e = mode_is p d s between d e
-  line_agrees false n e = mode_is p d s in_line d e
+  line_agrees b n e = grind (arith, common_steps, mode_is)
 
   block_agrees : (begins too_deep ends last : Bool) (n depth : ℕ) (o : Position)
       → ((if begins then (if too_deep then Err (expected Depth, o) else Ok (in_block o (depth + 1) 32)) else if ends then (if last then Ok between else Ok (in_block o (depth - 1) 32)) else Ok (in_block o depth c)) >>= (λ m. Ok (m, d))) ≡ Ok s
       → Agrees (if begins then (if too_deep then Lost else Block n (depth + 1) 32) else if ends then (if last then Within n else Block n (depth - 1) 32) else Block n depth c) s.0
-  block_agrees true true ends last n depth o e = absurd (cc e)
-  block_agrees true false ends last n depth o e = (o, mode_is p d s _ d e)
-  block_agrees false too_deep true true n depth o e = ap outside (mode_is p d s between d e)
-  block_agrees false too_deep true false n depth o e = (o, mode_is p d s _ d e)
-  block_agrees false too_deep false last n depth o e = (o, mode_is p d s _ d e)
+  block_agrees begins too_deep ends last n depth o e = grind (arith, common_steps, mode_is)
 
   step_agrees : (place : CharacterPlace) (m : Mode) → Agrees place m → Leads place m
   unfolding in_comment
@@ -164,23 +148,12 @@ module _ (end : ℕ) (p : Position) (c : ℕ) (d : Tokens) (s : Mode × Tokens) 
 
 -- where a chunk begins, what was read before it is ended as it is at a text's end
 begins_anew : (file a b : ℕ) (p : Position) (place : CharacterPlace) (m : Mode) (c : ℕ) (d ts : Tokens) → begins_chunk place c ≡ true → Agrees place m → finished file a m d ≡ Ok ts → step b m p c d ≡ step b between p c ts
-begins_anew file a b p (LineBegin n) m c d ts begins h e =
-    ap (λ x. step b x p c d) h ∙ ap (step b between p c) (same d ts (sym (ap (λ x. finished file a x d) h) ∙ e))
-begins_anew file a b p Ended m c d ts begins h e =
-    ap (λ x. step b x p c d) h ∙ ap (step b between p c) (same d ts (sym (ap (λ x. finished file a x d) h) ∙ e))
-begins_anew file a b p (Within n) m c d ts begins h e = absurd (false≢true begins)
-begins_anew file a b p (Opened n) m c d ts begins h e = absurd (false≢true begins)
-begins_anew file a b p (Line n) m c d ts begins h e = absurd (false≢true begins)
-begins_anew file a b p (Block n depth last) m c d ts begins h e = absurd (false≢true begins)
-begins_anew file a b p Lost m c d ts begins h e = absurd (false≢true begins)
+begins_anew file a b p place m c d ts begins h e = grind (arith, common_steps, same)
 
 reached_past : (file end : ℕ) (front rest : List ℕ) (m : Mode) (o : ℕ) (done : Tokens)
     → reached file end m o (front ++ rest) done ≡ reached file end m o front done >>= (λ s. reached file end s.0 (o + size front) rest s.1)
 reached_past file end [] rest m o done = ap (λ k. reached file end m k rest done) (sym (add-zero o))
-reached_past file end (c ∷ cs) rest m o done =
-    bind_same (step end m (at file o) c done) _ _ (λ s. reached_past file end cs rest s.0 (o + width c) s.1
-    ∙ bind_same (reached file end s.0 (o + width c) cs s.1) _ _ (λ t. ap (λ k. reached file end t.0 k rest t.1) (past o c cs)))
-    ∙ sym (bind_twice (step end m (at file o) c done) (λ s. reached file end s.0 (o + width c) cs s.1) (λ t. reached file end t.0 (o + size (c ∷ cs)) rest t.1))
+reached_past file end (c ∷ cs) rest m o done = grind (arith, common_steps, reached_past file end cs rest, bind_same, at, width, past, bind_twice)
 
 -- a place is one that reading a part is at behind it
 abbrev Follows : (file : ℕ) → CharacterPlace → Part → Type 0
@@ -198,13 +171,7 @@ nothing_read : (m : Mode) (s : Mode × Tokens) → Given (m, []) ≡ Ok s → s.
 nothing_read m s e = ap (λ x. x.0) (sym (same _ s e))
 
 follows_begin : (file o : ℕ) (place : CharacterPlace) (c : ℕ) → begins_chunk place c ≡ true → Follows file place (empty_at o)
-follows_begin file o (LineBegin n) c b = nothing_read between
-follows_begin file o Ended c b = nothing_read between
-follows_begin file o (Within n) c b = absurd (false≢true b)
-follows_begin file o (Opened n) c b = absurd (false≢true b)
-follows_begin file o (Line n) c b = absurd (false≢true b)
-follows_begin file o (Block n depth last) c b = absurd (false≢true b)
-follows_begin file o Lost c b = absurd (false≢true b)
+follows_begin file o place c b = grind (arith, common_steps, nothing_read)
 
 -- a chunk behind one that is read by itself
 goes_on_behind : (file next : ℕ) (place : CharacterPlace) (p : Part) (c : ℕ) (cs : List ℕ) (ts : Tokens) → begins_chunk place c ≡ true → Follows file place p
@@ -254,9 +221,7 @@ whole_behind file place p c cs ds es begins follows h k =
 one_fine : (fs : FormTrees) (f : FormTree) (r : Result Definition Wrong) → definition_of f ≡ r → (one_of r).mistakes ++ (each_by_itself fs).mistakes ≡ []
     → ((each_by_itself fs).mistakes ≡ [] → definitions_of fs ≡ Ok (each_by_itself fs).definitions)
     → definitions_of (form_and f fs) ≡ Ok ((one_of r).definitions ++ (each_by_itself fs).definitions)
-one_fine fs f (Ok d) is e others =
-    ap (λ r. r >>= (λ x. definitions_of fs >>= (λ xs. Ok (x ∷ xs)))) is ∙ ap (λ r. r >>= (λ xs. Ok (d ∷ xs))) (others e)
-one_fine fs f (Err w) is e others = absurd (cc e)
+one_fine fs f r is e others = grind (arith, common_steps)
 
 each_fine : (fs : FormTrees) → (each_by_itself fs).mistakes ≡ [] → definitions_of fs ≡ Ok (each_by_itself fs).definitions
 each_fine no_form e = refl
@@ -289,15 +254,10 @@ first_fine file o place p c cs ps begins at_end follows others e =
 next_fine : (file o c : ℕ) (p : Part) (cs : List ℕ) (new more : List Part) (place : CharacterPlace) (b : Bool) → begins_chunk place c ≡ b → o ≡ p.at + size p.text → Follows file place p
     → (b ≡ true → AreFine file o (c ∷ cs) new) → AreFine file p.at ((p.text ++ c ∷ []) ++ cs) more → AreFine file p.at (p.text ++ c ∷ cs) (if b then p ∷ new else more)
 next_fine file o c p cs new more place true begins at_end follows first others e = first_fine file o place p c cs new begins at_end follows (first refl) e
-next_fine file o c p cs new more place false begins at_end follows first others e =
-    subst (λ t. IsWhole file p.at t (of_parts file more).definitions) (append_assoc p.text (c ∷ []) cs) (others e)
+next_fine file o c p cs new more place false begins at_end follows first others e = grind (arith, common_steps)
 
 chunks_fine : (file : ℕ) (cs : List ℕ) (place : CharacterPlace) (p : Part) (o : ℕ) → o ≡ p.at + size p.text → Follows file place p → AreFine file p.at (p.text ++ cs) (chunks_from place p o cs)
-chunks_fine file [] place p o at_end follows e =
-    let r = of_forms (forms_in_part file p) in
-    let none : r.mistakes ≡ [] = sym (append-nil r.mistakes) ∙ e in
-    subst (λ ds. IsWhole file p.at (p.text ++ []) ds) (sym (append-nil r.definitions))
-    (subst (λ t. IsWhole file p.at t r.definitions) (sym (append-nil p.text)) (part_fine file p (forms_in_part file p) refl none))
+chunks_fine file [] place p o at_end follows e = grind (arith, common_steps, part_fine file p (forms_in_part file p) refl)
 chunks_fine file (c ∷ cs) place p o at_end follows none =
     next_fine file o c p cs _ _ place (begins_chunk place c) refl at_end follows
     (λ b. chunks_fine file cs (moved place c) (longer (empty_at o) c) (o + width c) (omega (arith, size_one c)) (follows_more file place (empty_at o) c (follows_begin file o place c b)))
@@ -307,11 +267,7 @@ chunks_fine file (c ∷ cs) place p o at_end follows none =
 -- ---- a text
 
 read_whole : (file : ℕ) (text : List ℕ) (ds : List Definition) → IsUtf8 text → IsWhole file 0 (chars text) ds → reading file text ≡ Ok ds
-read_whole file text ds u h =
-    let long : 0 + size (chars text) ≡ length text = omega (arith, ap length (encodes-chars text u)) in
-    ap (λ r. (r >>= forms_of file (length text)) >>= definitions_of) (sym (by_pieces file 0 (chars text) []) ∙ h.2)
-    ∙ ap (λ r. r >>= definitions_of) (subst (λ e. forms_of file e h.0 ≡ Ok h.1) long h.3)
-    ∙ h.4
+read_whole file text ds u h = grind (arith, encodes-chars, by_pieces)
 
 by_result : (file : ℕ) (text : List ℕ) (r : Result (List Definition) Wrong) → IsUtf8 text → reading file text ≡ r
     → (whole_or r (of_parts file (chunks_of (chars text)))).mistakes ≡ [] → reading file text ≡ Ok (whole_or r (of_parts file (chunks_of (chars text)))).definitions
