@@ -1,5 +1,6 @@
 -- The first error that is noted, and where it stands, one step after another.
-use Rattle.std.proofs.Common.{◌≡◌, ◌≢◌, List, [], ◌∷◌, ◌++◌, Contains, refl, sym, ap, subst, ◌∙◌, inl, inr}
+use Rattle.std.proofs.Common.{◌≡◌, ◌≢◌, List, [], ◌∷◌, ◌++◌, Contains, refl, sym, subst, inl, inr, arith}
+use Rattle.std.proofs.lemmas.Grind.{common_steps}
 use Rattle.model.specs.lists.Syntax.{Position, Definition}
 use Rattle.model.specs.lists.KnownTypes.{KnownTypes}
 use Rattle.model.proofs.Members.{in_head, nothing_in}
@@ -25,10 +26,7 @@ begins_among ps qs old new a b = record { begins = λ first rest none is. stand_
 -- where more is noted the first error stays
 first_kept : (more es es' : List Error) (first : Error) (rest : List Error) → es ≢ [] → es' ≡ es ++ more → es' ≡ first ∷ rest → (others : List Error) × (es ≡ first ∷ others)
 first_kept more [] es' first rest some e is = absurd (some refl)
-first_kept more (x ∷ xs) es' first rest some e is =
-    let all : x ∷ (xs ++ more) ≡ first ∷ rest = sym e ∙ is in
-    let same : x ≡ first = cc in
-    (xs, ap (λ y. y ∷ xs) same)
+first_kept more (x ∷ xs) es' first rest some e is = grind (arith, common_steps)
 
 pub begins_before : (ps : List Position) (a b c : List Error) → NotesMore a b → FirstStandsAt ps a b → MayNoteMore b c → FirstStandsAt ps a c
 begins_before ps a b c some begun (inl same) = subst (FirstStandsAt ps a) (sym same) begun
@@ -57,11 +55,4 @@ first_found k group defs es es' none noted b =
     record { first = f.0; rest = f.1; is = f.2; positions = b.positions; breaks = b.breaks; stands = b.begins.begins f.0 f.1 none f.2 }
 
 pub first_stays : (k : KnownTypes) (group : TermGroup) (defs : List Definition) (es es' : List Error) → NotesMore es es' → FirstBreaksGroup k group defs es → FirstBreaksGroup k group defs es'
-first_stays k group defs es es' n f = record {
-  first = f.first;
-  rest = f.rest ++ n.more;
-  is = n.added ∙ ap (λ l. l ++ n.more) f.is;
-  positions = f.positions;
-  breaks = f.breaks;
-  stands = f.stands;
-}
+first_stays k group defs es es' n f = grind (arith, common_steps)

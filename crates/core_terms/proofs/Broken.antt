@@ -1,10 +1,11 @@
 -- A list of definitions that breaks a condition has no term table.
-use Rattle.std.proofs.Common.{◌≡◌, ℕ, List, [], ◌∷◌, ◌++◌, map, slice_get, All, Contains, refl, sym, ap, ◌∙◌}
-use Rattle.std.specs.List.{cons_option, filter_map, flat_map}
+use Rattle.std.proofs.Common.{◌≡◌, ℕ, List, [], ◌∷◌, ◌++◌, map, slice_get, All, Contains, refl, sym, ap, ◌∙◌, arith}
+use Rattle.std.specs.List.{filter_map, flat_map}
 use Rattle.std.proofs.lemmas.List.{append_assoc, map-append}
 use Rattle.std.proofs.lemmas.List.Concat.{flat_map-append}
 use Rattle.std.proofs.lemmas.List.Elements.{filter_map-append}
 use Rattle.std.proofs.lemmas.Option.{slice_get_within}
+use Rattle.std.proofs.lemmas.Grind.{common_steps}
 use Rattle.model.specs.lists.Syntax.{Position, DeclTree, ExtractorTree, ConverterTree, RuleTree, Definition, declaration, extractor_definition, converter_definition, rule_definition, extern_definition, extern_constructor, extern_extractor}
 use Rattle.model.specs.lists.Names.{IsDistinct}
 use Rattle.model.specs.lists.Tables.{TypeEntry}
@@ -46,15 +47,8 @@ module _ (k : KnownTypes) (defs : List Definition) (v : IsValidTerms k defs) whe
       (ap (λ l. decl_names defs ++ l) names ∙ sym (append_assoc (decl_names defs) (filter_map (slice_get k.names) (numbers_by before ++ b.earlier)) (b.name ∷ filter_map (slice_get k.names) (b.later ++ numbers_by after))))
       b.taken v.distinct
     where
-      numbers : flat_map made_by k.types ≡ (numbers_by before ++ b.earlier) ++ b.number ∷ (b.later ++ numbers_by after)
-      numbers =
-          ap (flat_map made_by) whole ∙ flat_map-append made_by before (t ∷ after) ∙ ap (λ l. numbers_by before ++ (l ++ numbers_by after)) b.makes
-          ∙ ap (λ l. numbers_by before ++ l) (append_assoc b.earlier (b.number ∷ b.later) (numbers_by after)) ∙ sym (append_assoc (numbers_by before) b.earlier (b.number ∷ (b.later ++ numbers_by after)))
-
       names : filter_map (slice_get k.names) (flat_map made_by k.types) ≡ filter_map (slice_get k.names) (numbers_by before ++ b.earlier) ++ b.name ∷ filter_map (slice_get k.names) (b.later ++ numbers_by after)
-      names =
-          ap (filter_map (slice_get k.names)) numbers ∙ filter_map-append (slice_get k.names) (numbers_by before ++ b.earlier) (b.number ∷ (b.later ++ numbers_by after))
-          ∙ ap (λ o. filter_map (slice_get k.names) (numbers_by before ++ b.earlier) ++ cons_option o (filter_map (slice_get k.names) (b.later ++ numbers_by after))) b.name_is
+      names = grind (arith, common_steps, filter_map-append (slice_get k.names) (numbers_by before ++ b.earlier) (b.number ∷ (b.later ++ numbers_by after)))
 
   rule_breaks : (before after : List Definition) (r : RuleTree) → defs ≡ before ++ rule_definition r ∷ after → (HasDeclaredRoot defs r → ⊥) → ⊥
   rule_breaks before after r whole b = b (at_middle (HasDeclaredRoot defs) (rule_trees before) r (rule_trees after) (rule_trees defs) (parts defs before after (rule_definition r) whole rule_of r refl) v.roots)

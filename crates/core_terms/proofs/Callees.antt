@@ -8,6 +8,7 @@ use Rattle.std.proofs.lemmas.Bool.Decides.{Decides-eqb}
 use Rattle.std.proofs.lemmas.List.{length_push}
 use Rattle.std.proofs.lemmas.List.Elements.{All-contains, All-map}
 use Rattle.std.proofs.lemmas.List.Sorted.{All-permutation, IsPermutation-map, IsPermutation-trans}
+use Rattle.std.proofs.lemmas.Grind.{common_steps}
 use Rattle.core_types.specs.declared.ids.TermId.{TermId}
 use Rattle.core_terms.specs.declared.term_table.TermTable.{TermTable}
 use Rattle.core_terms.specs.Templating.{callees_of, AreCallees, NameNothing, SetsCallees}
@@ -25,35 +26,23 @@ pub nothing_first : (cs : Callees) → cs ≡ [] → NameNothing 0 cs
 nothing_first cs e = record { count_is = ap length e; nothing = λ t. ap (λ l. callees_of l t) e }
 
 pub nothing_more : (n : ℕ) (cs new : Callees) (v : Vec TermId Global) → v.items ≡ [] → new ≡ cs ++ v ∷ [] → NameNothing n cs → NameNothing (n + 1) new
-nothing_more n cs new v none e h = record {
-  count_is = ap length e ∙ length_push cs v ∙ ap (λ k. k + 1) h.count_is;
-  nothing = λ t. ap (λ l. callees_of l t) e ∙ nothing_pushed cs v t none h.nothing;
-}
+nothing_more n cs new v none e h = grind (arith, common_steps, length_push cs v, nothing_pushed cs v)
 
 set_this : (cs : Callees) (t : ℕ) (v : Vec TermId Global) → t < length cs → callees_of (set cs t v) t ≡ map (λ u. u.0) v.items
-set_this [] t v h = absurd (omega (arith, h))
-set_this (c ∷ cs) zero v h = refl
 set_this (c ∷ cs) (suc t) v h = set_this cs t v (omega (arith, h))
+set_this cs t v h = grind arith
 
 set_other : (cs : Callees) (t u : ℕ) (v : Vec TermId Global) → u ≢ t → callees_of (set cs t v) u ≡ callees_of cs u
-set_other [] t u v e = refl
-set_other (c ∷ cs) zero zero v e = absurd (e refl)
-set_other (c ∷ cs) zero (suc u) v e = refl
-set_other (c ∷ cs) (suc t) zero v e = refl
 set_other (c ∷ cs) (suc t) (suc u) v e = set_other cs t u v (λ s. e (ap suc s))
+set_other cs t u v e = grind arith
 
 set_count : (cs : Callees) (t : ℕ) (v : Vec TermId Global) → length (set cs t v) ≡ length cs
-set_count [] t v = refl
-set_count (c ∷ cs) zero v = refl
 set_count (c ∷ cs) (suc t) v = ap suc (set_count cs t v)
+set_count _ _ v = refl
 
 -- a write of what a term names
 pub sets_callees : (cs : Callees) (t : ℕ) (v : Vec TermId Global) (named : List ℕ) → t < length cs → IsPermutation named (map (λ u. u.0) v.items) → SetsCallees t named cs (set cs t v)
-sets_callees cs t v named within p = record {
-  count = set_count cs t v;
-  this = subst (IsPermutation named) (sym (set_this cs t v within)) p;
-  others = λ u h. set_other cs t u v h;
-}
+sets_callees cs t v named within p = grind (arith, common_steps, set_count cs t v, set_this cs t v within, set_other cs t)
 
 -- the same terms in another order, and in another one again
 pub reordered : (xs ys zs : List TermId) → IsPermutation xs ys → IsPermutation ys zs → IsPermutation (map (λ u. u.0) xs) (map (λ u. u.0) zs)

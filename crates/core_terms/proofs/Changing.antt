@@ -1,13 +1,13 @@
 -- Changing what is known of one term, while all terms stand.
-use Rattle.std.proofs.Common.{◌≡◌, ℕ, zero, suc, ◌+◌, ◌<◌, ◌≤◌, true, false, cond, ◌||◌, List, [], ◌∷◌, ◌++◌, ◌⊎◌, length, get_or, map, slice_get, Option, None, Some, is_none, refl, sym, ap, subst, ◌∙◌, arith, inl, inr}
+use Rattle.std.proofs.Common.{◌≡◌, ℕ, zero, suc, ◌+◌, ◌<◌, ◌≤◌, true, false, cond, List, [], ◌∷◌, ◌++◌, ◌⊎◌, length, get_or, map, slice_get, Option, None, Some, is_none, refl, sym, ap, ◌∙◌, arith, inl, inr}
 use Rattle.std.specs.List.{flat_map, AllByRecursion}
 use Rattle.std.specs.Str.{bytes_eq}
 use Rattle.std.proofs.Math.ListN.{set}
-use Rattle.std.proofs.lemmas.Bool.{false≢true}
 use Rattle.std.proofs.lemmas.Option.{same_Some}
+use Rattle.std.proofs.lemmas.Grind.{common_steps}
 use Rattle.model.specs.lists.Syntax.{DeclTree}
 use Rattle.model.specs.lists.Names.{has_name, IsDistinct}
-use Rattle.model.specs.lists.Tables.{TypeEntry, builtin_type, primitive_type, enum_type, struct_type, VariantEntry, TermEntry}
+use Rattle.model.specs.lists.Tables.{TypeEntry, enum_type, struct_type, VariantEntry, TermEntry}
 use Rattle.model.specs.lists.TypeTable.{place_from}
 use Rattle.model.specs.lists.TermTable.{terms_made, variant_as_term}
 use Rattle.model.proofs.Bytes.{same_bytes}
@@ -22,9 +22,8 @@ use Rattle.core_terms.proofs.Rooting.{distinct_rest, distinct_first, one_before}
 
 -- a write of one term
 pub changes_one : (g : TermEntry → TermEntry) (ts : List Term) (k : ℕ) (t d : Term) → k < length ts → term_view t ≡ g (term_view (get_or ts k d)) → term_views (set ts k t) ≡ change g k (term_views ts)
-changes_one g [] k t d within is = absurd (omega (arith, within))
-changes_one g (u ∷ us) zero t d within is = ap (λ e. e ∷ map term_view us) is
 changes_one g (u ∷ us) (suc k) t d within is = ap (λ es. term_view u ∷ es) (changes_one g us k t d (omega (arith, within)) is)
+changes_one g ts k t d within is = grind arith
 
 abbrev text_of : DeclTree → List ℕ
 text_of d = d.term.text
@@ -33,22 +32,13 @@ text_of d = d.term.text
 module _ (x : List ℕ) (g : TermEntry → TermEntry) (f f' : DeclTree → ℕ → TermEntry) (same : (d : DeclTree) (i : ℕ) → bytes_eq d.term.text x ≡ false → f d i ≡ f' d i) (this : (d : DeclTree) (i : ℕ) → bytes_eq d.term.text x ≡ true → g (f d i) ≡ f' d i) (fs : List (ℕ → TermEntry)) where
   unchanged : (n : ℕ) (ds : List DeclTree) → has_name (map text_of ds) x ≡ false → with_ids n (map f ds ++ fs) ≡ with_ids n (map f' ds ++ fs)
   unchanged n [] e = refl
-  unchanged n (d ∷ ds) e =
-      elim (bytes_eq d.term.text x) as (λ b. bytes_eq d.term.text x ≡ b → b || has_name (map text_of ds) x ≡ false → with_ids n (map f (d ∷ ds) ++ fs) ≡ with_ids n (map f' (d ∷ ds) ++ fs)) [
-        | true ↦ λ _ h. absurd (false≢true (sym h))
-        | false ↦ λ other h. ap (λ y. y ∷ with_ids (n + 1) (map f ds ++ fs)) (same d n other) ∙ ap (λ l. f' d n ∷ l) (unchanged (n + 1) ds h)
-      ] refl e
+  unchanged n (d ∷ ds) e = grind (arith, common_steps, unchanged (n + 1) ds)
 
   pub changed : (n id : ℕ) (ds : List DeclTree) → IsDistinct (map text_of ds) → place_among (map text_of ds) x ≡ Some id → change g id (with_ids n (map f ds ++ fs)) ≡ with_ids n (map f' ds ++ fs)
   changed n id [] once e = absurd (cc)
   changed n id (d ∷ ds) once e =
       elim (bytes_eq d.term.text x) as (λ b. bytes_eq d.term.text x ≡ b → cond b (Some 0) (place_from 1 x (map text_of ds)) ≡ Some id → change g id (with_ids n (map f (d ∷ ds) ++ fs)) ≡ with_ids n (map f' (d ∷ ds) ++ fs)) [
-        | true ↦ λ here h.
-            let first : id ≡ 0 = cc in
-            let none : has_name (map text_of ds) x ≡ false = subst (λ y. has_name (map text_of ds) y ≡ false) (same_bytes d.term.text x here) (distinct_first d.term.text (map text_of ds) once) in
-            ap (λ m. change g m (with_ids n (map f (d ∷ ds) ++ fs))) first
-            ∙ ap (λ y. y ∷ with_ids (n + 1) (map f ds ++ fs)) (this d n here)
-            ∙ ap (λ l. f' d n ∷ l) (unchanged (n + 1) ds none)
+        | true ↦ grind (arith, common_steps, same_bytes d.term.text x, distinct_first d.term.text (map text_of ds) once, unchanged (n + 1) ds)
         | false ↦ λ other h.
             let before = one_before (place_among (map text_of ds) x) id (sym (place_next 0 x (map text_of ds)) ∙ h) in
             ap (λ m. change g m (with_ids n (map f (d ∷ ds) ++ fs))) before.1
@@ -65,10 +55,9 @@ variants_made ty [] = tt
 variants_made ty (v ∷ vs) = ((λ i. refl), variants_made ty vs)
 
 made_of : (t : TypeEntry) → AreMade (terms_made t)
-made_of (builtin_type place) = tt
-made_of (primitive_type id name at) = tt
 made_of (enum_type name id is_extern is_nodebug variants at) = variants_made id variants
 made_of (struct_type name id is_extern is_nodebug fields at) = ((λ i. refl), tt)
+made_of _ = tt
 
 pub all_made : (ts : List TypeEntry) → AreMade (flat_map terms_made ts)
 all_made [] = tt
@@ -84,28 +73,17 @@ pub entry_of : (f : DeclTree → ℕ → TermEntry) (fs : List (ℕ → TermEntr
     → ((d : DeclTree) × (slice_get ds id ≡ Some d) × (e ≡ f d (n + id))) ⊎ ((length ds ≤ id) × (is_declared_kind e.kind ≡ false))
 entry_of f fs m n id [] e h = inr (omega arith, not_declared n id fs e m h)
 entry_of f fs m n zero (d ∷ ds) e h = let k : n ≡ n + 0 = omega arith in inl (d, refl, sym (same_Some (f d n) e h) ∙ ap (f d) k)
-entry_of f fs m n (suc id) (d ∷ ds) e h =
-    elim (entry_of f fs m (n + 1) id ds e h) [
-      | inl r ↦ let k : (n + 1) + id ≡ n + suc id = omega arith in inl (r.0, r.1, r.2 ∙ ap (f r.0) k)
-      | inr r ↦ let l = r.0 in inr (omega arith, r.1)
-    ]
+entry_of f fs m n (suc id) (d ∷ ds) e h = grind (arith, common_steps, entry_of f fs m (n + 1) id ds e h)
 
 place_from_least : (n : ℕ) (x : List ℕ) (ys : List (List ℕ)) (k : ℕ) → place_from n x ys ≡ Some k → n + length {A = List ℕ} [] ≤ k
 place_from_least n x [] k h = absurd (cc)
-place_from_least n x (y ∷ ys) k h =
-    elim (bytes_eq y x) as (λ b. cond b (Some n) (place_from (suc n) x ys) ≡ Some k → n + length {A = List ℕ} [] ≤ k) [
-      | true ↦ λ g. let same : n ≡ k = same_Some n k g in omega arith
-      | false ↦ λ g. let l = place_from_least (suc n) x ys k g in omega arith
-    ] h
+place_from_least n x (y ∷ ys) k h = grind (arith, common_steps, place_from_least (suc n) x ys k, same_Some n k)
 
 pub place_at : (n m : ℕ) (x : List ℕ) (ts : List (List ℕ)) (k : ℕ) → n + m ≡ k → place_from n x ts ≡ Some k → slice_get ts m ≡ Some x
 place_at n m x [] k e h = absurd (cc)
 place_at n m x (y ∷ ts) k e h =
     elim (bytes_eq y x) as (λ b. bytes_eq y x ≡ b → cond b (Some n) (place_from (suc n) x ts) ≡ Some k → slice_get (y ∷ ts) m ≡ Some x) [
-      | true ↦ λ s g.
-          let same : n ≡ k = same_Some n k g in
-          let none : m ≡ 0 = omega arith in
-          ap (slice_get (y ∷ ts)) none ∙ ap Some (same_bytes y x s)
+      | true ↦ grind (arith, common_steps, same_Some n k, same_bytes y x)
       | false ↦ λ s g.
           let l = place_from_least (suc n) x ts k g in
           (elim m as (λ j. n + j ≡ k → slice_get (y ∷ ts) j ≡ Some x) [
@@ -117,22 +95,13 @@ place_at n m x (y ∷ ts) k e h =
 -- a place in a joined list is one in the first part, or past it
 pub place_split : (n : ℕ) (x : List ℕ) (xs ys : List (List ℕ)) (k : ℕ) → place_from n x (xs ++ ys) ≡ Some k → (place_from n x xs ≡ Some k) ⊎ ((place_from n x xs ≡ None) × (n + length xs ≤ k))
 place_split n x [] ys k h = inr (refl, place_from_least n x ys k h)
-place_split n x (y ∷ xs) ys k h =
-    elim (bytes_eq y x) as (λ b. cond b (Some n) (place_from (suc n) x (xs ++ ys)) ≡ Some k → (cond b (Some n) (place_from (suc n) x xs) ≡ Some k) ⊎ ((cond b (Some n) (place_from (suc n) x xs) ≡ None) × (n + length (y ∷ xs) ≤ k))) [
-      | true ↦ λ g. inl g
-      | false ↦ λ g. elim (place_split (suc n) x xs ys k g) [
-        | inl a ↦ inl a
-        | inr a ↦ let l = a.1 in inr (a.0, omega arith)
-      ]
-    ] h
+place_split n x (y ∷ xs) ys k h = grind (arith, common_steps, place_split (suc n) x xs ys k)
 
 -- the entry of a term
 pub view_at : (ts : List Term) (k : ℕ) (t d : Term) → k < length ts → t ≡ get_or ts k d → slice_get (term_views ts) k ≡ Some (term_view t)
-view_at [] k t d within e = absurd (omega (arith, within))
-view_at (u ∷ us) zero t d within e = ap (λ v. Some (term_view v)) (sym e)
 view_at (u ∷ us) (suc k) t d within e = view_at us k t d (omega (arith, within)) e
+view_at ts k t d within e = grind arith
 
 -- what isn't there, said twice
 pub not_there : {X : Type 0} (o : Option X) → ((x : X) → o ≡ Some x → ⊥) → is_none o ≡ true
-not_there None h = refl
-not_there (Some x) h = absurd (h x refl)
+not_there o h = grind (arith, common_steps)

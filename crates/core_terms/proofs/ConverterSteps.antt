@@ -1,5 +1,5 @@
 -- Reading converters by types that are handed in, one definition after another.
-use Rattle.std.proofs.Common.{◌≡◌, ◌==◌, ◌&&◌, ℕ, zero, suc, ◌+◌, ◌<◌, Bool, true, false, cond, List, [], ◌∷◌, ◌++◌, length, take, drop, get_or, map, slice_get, None, Some, is_some, unwrap_or, option_map, All, refl, sym, ap, subst, ◌∙◌, inl, inr, eqb-true, Contains, ⊎_elim}
+use Rattle.std.proofs.Common.{◌≡◌, ◌==◌, ◌&&◌, ℕ, suc, ◌+◌, ◌<◌, Bool, true, false, cond, List, [], ◌∷◌, ◌++◌, length, take, drop, get_or, map, slice_get, None, Some, is_some, unwrap_or, option_map, All, refl, sym, ap, subst, ◌∙◌, inl, inr, Contains, ⊎_elim, arith}
 use Rattle.std.proofs.Math.Path.{ap₂}
 use Rattle.std.proofs.lemmas.Bool.{false≢true}
 use Rattle.std.proofs.lemmas.Bool.Decides.{Decides-eqb}
@@ -7,6 +7,7 @@ use Rattle.std.proofs.lemmas.List.{append-nil, map-append}
 use Rattle.std.proofs.lemmas.List.Concat.{flat_map-append}
 use Rattle.std.proofs.lemmas.List.Elements.{All-contains, All-push, Contains-append_left, Contains-append_right, Contains-append_cases}
 use Rattle.std.proofs.lemmas.Option.{same_Some, slice_get-map}
+use Rattle.std.proofs.lemmas.Grind.{common_steps}
 use Rattle.model.proofs.Members.{in_alone, in_head, in_map, member_from_get, get_from_member, nothing_in}
 use Rattle.model.proofs.Mapped.{mapped_some}
 use Rattle.model.specs.lists.Syntax.{Name, ConverterTree, Definition, type_definition, declaration, extractor_definition, converter_definition, rule_definition, extern_definition, other_definition}
@@ -23,13 +24,12 @@ use Rattle.core_syntax.specs.Stable.{Entries, look_up}
 use Rattle.core_syntax.specs.Positions.{converter_positions, definition_positions}
 use Rattle.core_syntax.specs.SyntaxViews.{definition_view, definition_views}
 use Rattle.core_types.specs.declared.type_env.TypeEnv.{TypeEnv}
-use Rattle.core_types.specs.Envs.{same_symbol, symbol, type_of_name}
+use Rattle.core_types.specs.Envs.{type_of_name}
 use Rattle.core_types.specs.EnvViews.{environment_view}
 use Rattle.core_types.specs.declared.ids.TermId.{TermId}
 use Rattle.core_types.specs.declared.ids.TypeId.{TypeId}
 use Rattle.core_terms.specs.TermTables.{same_types}
 use Rattle.core_terms.specs.declared.term_table.TermTable.{TermTable}
-use Rattle.core_terms.specs.TermViews.{term_views}
 use Rattle.core_terms.specs.Reading.{IsWithin, term_of_name}
 use Rattle.core_terms.specs.TermBreaches.{of_converters, FirstStandsAt, BreaksConverter, unknown_converter, second_converter, by_converter}
 use Rattle.core_terms.specs.Stages.{constructor_after}
@@ -48,11 +48,7 @@ use Rattle.core_terms.proofs.TypesStaying.{left_interned, type_is}
 -- what is looked up in a list with one more entry
 look_push : {K V : Type 0} (p : K → Bool) (xs : List (K × V)) (x : K × V) → look p xs ≡ None → look p (xs ++ x ∷ []) ≡ cond (p x.0) (Some x.1) None
 look_push p [] x h = refl
-look_push p (y ∷ xs) x h =
-    elim (p y.0) as (λ b. cond b (Some y.1) (look p xs) ≡ None → cond b (Some y.1) (look p (xs ++ x ∷ [])) ≡ cond (p x.0) (Some x.1) None) [
-      | true ↦ λ g. absurd (cc)
-      | false ↦ λ g. look_push p xs x g
-    ] h
+look_push p (y ∷ xs) x h = grind (arith, common_steps, look_push p xs x)
 
 look_other : {K V : Type 0} (p : K → Bool) (xs : List (K × V)) (x : K × V) → p x.0 ≡ false → look p (xs ++ x ∷ []) ≡ look p xs
 look_other p [] x h = ap (λ b. cond b (Some x.1) None) h
@@ -60,16 +56,12 @@ look_other p (y ∷ xs) x h = ap (cond (p y.0) (Some y.1)) (look_other p xs x h)
 
 -- an entry that passes is found
 look_passes : {X K V : Type 0} (f : X → K × V) (p : K → Bool) (xs : List X) (j : ℕ) (x : X) → slice_get xs j ≡ Some x → p (f x).0 ≡ true → look p (map f xs) ≡ None → ⊥
-look_passes f p [] j x h t n = absurd (cc)
-look_passes f p (y ∷ xs) zero x h t n =
-    let here : p (f y).0 ≡ true = ap (λ z. p (f z).0) (same_Some y x h) ∙ t in
-    let some : Some (f y).1 ≡ None = sym (ap (λ b. cond b (Some (f y).1) (look p (map f xs))) here) ∙ n in
-    absurd (cc)
 look_passes f p (y ∷ xs) (suc j) x h t n =
     elim (p (f y).0) as (λ b. cond b (Some (f y).1) (look p (map f xs)) ≡ None → ⊥) [
       | true ↦ λ g. absurd (cc)
       | false ↦ λ g. look_passes f p xs j x h t g
     ] n
+look_passes f p xs j x h t n = grind (arith, same_Some)
 
 -- what is found is that of an entry that passes
 look_passed : {X K V : Type 0} (f : X → K × V) (p : K → Bool) (xs : List X) (v : V) → look p (map f xs) ≡ Some v → (j : ℕ) × (x : X) × (slice_get xs j ≡ Some x) × (p (f x).0 ≡ true)
@@ -87,11 +79,7 @@ same_pair : (i o : ℕ) → is_pair i o (i, o) ≡ true
 same_pair i o = ap₂ (λ a b. a && b) ((Decides-eqb i i).1 refl) ((Decides-eqb o o).1 refl)
 
 pair_is : (k : ℕ × ℕ) (i o : ℕ) → is_pair i o k ≡ true → (k.0 ≡ i) × (k.1 ≡ o)
-pair_is k i o h =
-    elim (k.0 == i) as (λ a. (k.0 == i) ≡ a → (a && (k.1 == o)) ≡ true → (k.0 ≡ i) × (k.1 ≡ o)) [
-      | true ↦ λ e g. (eqb-true k.0 i e, eqb-true k.1 o g)
-      | false ↦ λ e g. absurd (false≢true g)
-    ] refl h
+pair_is k i o h = grind (arith, common_steps)
 
 module _ (e : TypesRead) (readable : AreReadable e) (defs read : List Definition) (c : ConverterTree) (env : TypeEnv) (old : TermTable) (left : IsLeftByRefusal e (environment_view env)) (s : ConvertersRead e defs read env old) where
   more : converter_trees (read ++ converter_definition c ∷ []) ≡ converter_trees read ++ c ∷ []
@@ -134,10 +122,7 @@ module _ (e : TypesRead) (readable : AreReadable e) (defs read : List Definition
         look_passes entry (is_pair a.inner a.outer) (converter_trees read) j d.0 d.1 pass none_so_far
 
     same_entry : entry c ≡ ((a.inner, a.outer), a.term)
-    same_entry =
-        ap (λ n. ((n, known_type e.known c.outer_ty), known_term e.known defs c.term)) (inner).0
-        ∙ ap (λ n. ((a.inner, n), known_term e.known defs c.term)) (outer).0
-        ∙ ap (λ n. ((a.inner, a.outer), n)) (term).0
+    same_entry = grind (arith, common_steps, inner, outer, term)
 
     answers : (i o : ℕ) → converter_at new i o ≡ look (is_pair i o) (map entry (converter_trees read) ++ ((a.inner, a.outer), a.term) ∷ [])
     answers i o =
@@ -151,23 +136,14 @@ module _ (e : TypesRead) (readable : AreReadable e) (defs read : List Definition
 
     pub converter_right : ConvertersRead e defs (read ++ converter_definition c ∷ []) env new
     converter_right = record {
-      stand = record {
-        names = s.stand.names;
-        finds = record { ids = λ k. ap (λ m. option_map (λ t. t.0) (look_up same_symbol m (symbol k))) a.term_map ∙ s.stand.finds.ids k; known = s.stand.finds.known };
-        distinct = s.stand.distinct;
-        right = s.stand.right;
-        terms = ap (λ v. term_views v.items) a.terms ∙ s.stand.terms;
-      };
+      stand = grind (arith, common_steps);
       known = subst (All (IsKnownConverter e.known defs)) (sym more) (All-push (IsKnownConverter e.known defs) (converter_trees read) c s.known ((term).1, (inner).1, (outer).1));
       distinct = subst (λ cs. IsDistinct (map pair_of cs)) (sym more) (subst IsDistinct (sym (map-append pair_of (converter_trees read) (c ∷ []))) (distinct_push (converted_pairs read) (pair_of c) s.distinct fresh));
       conversions = λ i o. answers i o ∙ ap (λ x. look (is_pair i o) (map entry (converter_trees read) ++ x ∷ [])) (sym same_entry) ∙ ap (look (is_pair i o)) (sym (map-append entry (converter_trees read) (c ∷ [])) ∙ ap (map entry) (sym more));
     }
 
   named_is : (n : Name) → IsKnownType e.known.type_names n → type_named e.known n.text ≡ Some (known_type e.known n)
-  named_is n h = elim (type_named e.known n.text) as (λ o. is_some o ≡ true → o ≡ Some (unwrap_or o 0)) [
-    | None ↦ λ g. absurd (false≢true g)
-    | Some i ↦ λ _. refl
-  ] h
+  named_is n h = grind (arith, common_steps)
 
   -- types of one id have one name
   one_type : (a b : Name) (ty : ℕ) → IsKnownType e.known.type_names a → known_type e.known a ≡ ty → type_of_name env b.text ≡ Some ty → a.text ≡ b.text
@@ -192,19 +168,13 @@ module _ (e : TypesRead) (readable : AreReadable e) (defs read : List Definition
 
 -- what is noted of a converter, where it doesn't matter how much
 as_noted : (c : ConverterTree) (env : TypeEnv) (table table' : TermTable) (es es' : List Error) → ReadsIfConverter (converter_definition c) env table es table' es' → NotesIfWrong es es' (Converts c env table table') (IsWrongConverter c env table)
-as_noted c env table table' es es' (inl a) = inl a
-as_noted c env table table' es es' (inr a) = inr (some_noted 0 (converter_positions c) es es' a.0, a.2)
+as_noted c env table table' es es' h = grind (arith, common_steps, some_noted 0 (converter_positions c) es es')
 
 module _ (e : TypesRead) (readable : AreReadable e) (defs read rest : List Definition) (env : TypeEnv) (table table' : TermTable) (es es' : List Error) (w : IsWithin table') where
   other : (d : Definition) → converter_of d ≡ [] → (es' ≡ es) × (table' ≡ table) → ReadsTerms e of_converters defs (ConvertersRead e defs read) env table es → ReadsTerms e of_converters defs (ConvertersRead e defs (read ++ d ∷ [])) env table' es'
   other d none same s =
       let trees : converter_trees (read ++ d ∷ []) ≡ converter_trees read = flat_map-append converter_of read (d ∷ []) ∙ ap (λ l. converter_trees read ++ (l ++ [])) none ∙ append-nil (converter_trees read) in
-      let go : ConvertersRead e defs read env table → ConvertersRead e defs (read ++ d ∷ []) env table = λ h. record {
-        stand = h.stand;
-        known = subst (All (IsKnownConverter e.known defs)) (sym trees) h.known;
-        distinct = subst (λ cs. IsDistinct (map pair_of cs)) (sym trees) h.distinct;
-        conversions = λ i o. h.conversions i o ∙ ap (λ cs. look (λ k. (k.0 == i) && (k.1 == o)) (map (converter_entry e.known defs) cs)) (sym trees);
-      } in
+      let go : ConvertersRead e defs read env table → ConvertersRead e defs (read ++ d ∷ []) env table = grind (arith, common_steps) in
       step e of_converters defs (ConvertersRead e defs read) (ConvertersRead e defs (read ++ d ∷ [])) env env table table' es es' (Unit {0}) ⊥ s.left w (inl (same.0, tt))
       (λ h _. subst (ConvertersRead e defs (read ++ d ∷ []) env) (sym same.1) (go h))
       (λ h x. absurd x) s
@@ -303,8 +273,7 @@ module _ (e : TypesRead) (readable : AreReadable e) (defs before : List Definiti
         }
       where
         second : BreaksConverter e.known defs u.kept c → IsKnownConverter e.known defs c → Contains (converted_pairs u.kept) (pair_of c)
-        second (unknown_converter unknown) known = absurd (unknown known)
-        second (second_converter there) known = there
+        second h known = grind (arith, common_steps)
 
   up_to : (d : Definition) → ReadsIfConverter d env table es table' es' → ConvertsUpTo e defs (before ++ d ∷ []) env start table' es'
   up_to (converter_definition c) (inl a) = taken c a.0 a.1
@@ -325,13 +294,7 @@ told_converter e r defs i d within here env left start table table' es es' a u =
 
 -- before the first one
 pub told_start : (e : TypesRead) (defs : List Definition) (env : TypeEnv) (table : TermTable) (es : List Error) → es ≡ [] → ReadsTerms e of_converters defs (ConvertersRead e defs []) env table es → ConvertsUpTo e defs [] env es table es
-told_start e defs env table es none s = record {
-  kept = [];
-  reads = ⊎_elim (λ r. r.1) (λ f. absurd (let some = sym none ∙ f.is in cc)) s.so_far;
-  has = λ p h. absurd (nothing_in p h);
-  all = λ p b. absurd (nothing_in b.converter b.there);
-  told = noted_none (TellsOfConverter e.known defs) es;
-}
+told_start e defs env table es none s = grind (arith, common_steps, nothing_in, noted_none (TellsOfConverter e.known defs) es)
 
 -- all errors are those that are told of each, where there was none before
 pub all_new : (Says : List Definition → Definition → List Error → Type 0) (defs : List Definition) (es es' : List Error) → es ≡ [] → NotesEach Says defs es es' → T.Told Says defs es'
@@ -340,6 +303,4 @@ all_new Says defs es es' none n = subst (T.Told Says defs) (sym (n.added ∙ ap 
 -- what is looked up at a pair of types, after one more
 pub read_conversions : (old new : Entries (TypeId × TypeId) TermId) (a b : TypeId) (t : TermId) → ((x : TypeId × TypeId) → look_up same_types new x ≡ cond (same_types (a, b) x) (Some t) (look_up same_types old x))
     → (i o : ℕ) → option_map (λ u. u.0) (look_up same_types new (type_by_id i, type_by_id o)) ≡ cond ((a.0 == i) && (b.0 == o)) (Some t.0) (option_map (λ u. u.0) (look_up same_types old (type_by_id i, type_by_id o)))
-read_conversions old new a b t has i o =
-    ap (option_map (λ u. u.0)) (has (type_by_id i, type_by_id o))
-    ∙ (elim ((a.0 == i) && (b.0 == o)) as (λ q. option_map (λ u. u.0) (cond q (Some t) (look_up same_types old (type_by_id i, type_by_id o))) ≡ cond q (Some t.0) (option_map (λ u. u.0) (look_up same_types old (type_by_id i, type_by_id o)))) [ true ↦ refl | false ↦ refl ])
+read_conversions old new a b t has i o = grind (arith, common_steps)

@@ -1,16 +1,17 @@
 -- Reading declarations by types that are handed in, one definition after another.
-use Rattle.std.proofs.Common.{◌≡◌, ◌&&◌, ℕ, ◌+◌, ◌<◌, Bool, true, false, not, cond, nat_eq, Contains, List, [], ◌∷◌, ◌++◌, ◌⊎◌, length, take, drop, get_or, map, None, Some, is_some, unwrap_or, All, IsTrue, refl, sym, ap, subst, ◌∙◌, arith, inl, inr, ⊎_elim}
+use Rattle.std.proofs.Common.{◌≡◌, ◌&&◌, ℕ, ◌+◌, ◌<◌, Bool, true, false, not, cond, nat_eq, Contains, List, [], ◌∷◌, ◌++◌, ◌⊎◌, length, take, drop, get_or, map, None, Some, is_some, All, IsTrue, refl, sym, ap, subst, ◌∙◌, arith, inl, inr, ⊎_elim}
 use Rattle.std.specs.List.{enumerate_from, flat_map}
 use Rattle.std.proofs.lemmas.Bool.{false≢true}
 use Rattle.std.proofs.lemmas.List.{append_assoc, append-nil, at_drop_more, take_more, take-append-drop, length_push, length-map, map-append}
 use Rattle.std.proofs.lemmas.List.Concat.{flat_map-append}
 use Rattle.std.proofs.lemmas.List.FromFn.{length-enumerate_from}
-use Rattle.std.proofs.lemmas.List.Elements.{All-nil, All-cons, All-push, All-contains, All-weaker}
+use Rattle.std.proofs.lemmas.List.Elements.{All-nil, All-push, All-contains, All-weaker}
+use Rattle.std.proofs.lemmas.Grind.{common_steps}
 use Rattle.model.specs.lists.Syntax.{Name, DeclTree, Definition, type_definition, declaration, extractor_definition, converter_definition, rule_definition, extern_definition, other_definition}
 use Rattle.model.specs.lists.Names.{number, with_name, with_names}
 use Rattle.model.specs.lists.Tables.{TermEntry}
 use Rattle.model.specs.lists.TypeTable.{place_from, IsKnownType}
-use Rattle.model.specs.lists.KnownTypes.{KnownTypes, type_named, known_type}
+use Rattle.model.specs.lists.KnownTypes.{KnownTypes, known_type}
 use Rattle.model.specs.lists.TermTable.{decl_of, decl_trees, decl_names, function_of, term_names_met, HasKnownArguments, HasKnownResult, IsNotBothMultiAndPartial}
 use Rattle.model.specs.claims.Environments.{TypesRead, AreReadable, IsLeftByRefusal}
 use Rattle.model.proofs.FirstPlaces.{distinct_push, place_there}
@@ -94,20 +95,13 @@ module _ (e : TypesRead) (r : AreReadable e) (env : TypeEnv) (left : IsLeftByRef
   was_known n h = subst (λ o. IsTrue (is_some o)) (sym (type_is e r env left n.text)) h
 
   known_of : (n : Name) (ty : ℕ) → Some ty ≡ type_of_name env n.text → (ty ≡ known_type k n) × IsKnownType k.type_names n
-  known_of n ty h =
-      let at : Some ty ≡ type_named k n.text = h ∙ type_is e r env left n.text in
-      (ap (λ o. unwrap_or o 0) at, subst (λ o. IsTrue (is_some o)) at refl)
+  known_of n ty h = grind (arith, common_steps, type_is e r env left n.text)
 
   all_known_of : (ns : List Name) (tys : List ℕ) → HaveTypes env ns tys → (tys ≡ map (known_type k) ns) × All (IsKnownType k.type_names) ns
   all_known_of [] [] h = (refl, All-nil (IsKnownType k.type_names))
   all_known_of [] (t ∷ ts) h = absurd (cc)
   all_known_of (n ∷ ns) [] h = absurd (cc)
-  all_known_of (n ∷ ns) (t ∷ ts) h =
-      let first : Some t ≡ type_of_name env n.text = cc in
-      let rest : map Some ts ≡ map (λ n. type_of_name env n.text) ns = cc in
-      let one = known_of n t first in
-      let more = all_known_of ns ts rest in
-      (ap (λ z. z ∷ ts) one.0 ∙ ap (λ zs. known_type k n ∷ zs) more.0, All-cons (IsKnownType k.type_names) n ns one.1 more.1)
+  all_known_of (n ∷ ns) (t ∷ ts) h = grind (arith, common_steps, all_known_of ns ts, known_of n t)
 
   unknown_wrong : (before : List Definition) (d : DeclTree) → HasUnknown d env → BreaksDeclaration k before d
   unknown_wrong before d (inl a) = unknown_argument (λ args. a (All-weaker (IsKnownType k.type_names) (IsKnownInEnv env) was_known d.arg_tys args))
@@ -209,10 +203,7 @@ module _ (e : TypesRead) (r : AreReadable e) (defs read rest : List Definition) 
   other : (d : Definition) → decl_of d ≡ [] → (es' ≡ es) × (new ≡ old) × (table' ≡ table) → ReadsTerms e of_signatures defs (Declaring e defs read) old table es → ReadsTerms e of_signatures defs (Declaring e defs (read ++ d ∷ [])) new table' es'
   other d none same s =
       let trees : decl_trees (read ++ d ∷ []) ≡ decl_trees read = flat_map-append decl_of read (d ∷ []) ∙ ap (λ l. decl_trees read ++ (l ++ [])) none ∙ append-nil (decl_trees read) in
-      let go : Declaring e defs read old table → Declaring e defs (read ++ d ∷ []) old table = λ h. record {
-        has = subst (λ ds. HoldsTerms e (map (λ d. d.term.text) ds) (map (λ d. d.term.text) ds) (map (declared_alone e defs) ds) old table) (sym trees) h.has;
-        right = subst (AreRightDeclarations e.known) (sym trees) h.right;
-      } in
+      let go : Declaring e defs read old table → Declaring e defs (read ++ d ∷ []) old table = grind (arith, common_steps, right) in
       step e of_signatures defs (Declaring e defs read) (Declaring e defs (read ++ d ∷ [])) old new table table' es es' (Unit {0}) ⊥ (left_more e r old s.left new m) w (inl (same.0, tt))
       (λ h _. subst (λ env. Declaring e defs (read ++ d ∷ []) env table') (sym same.1) (subst (Declaring e defs (read ++ d ∷ []) old) (sym same.2) (go h)))
       (λ h x. absurd x) s

@@ -1,11 +1,8 @@
 -- What was noted, and what that says, one step after another.
-use Rattle.std.proofs.Common.{◌≡◌, Bool, true, false, OnOk, Result, Ok, Err, ℕ, suc, List, [], length, ◌⊎◌, refl, sym, ap, subst, ◌∙◌, inl, inr, ⊎_elim}
+use Rattle.std.proofs.Common.{◌≡◌, Bool, true, false, OnOk, Result, ℕ, suc, List, [], ◌⊎◌, sym, ◌∙◌, inl, inr, ⊎_elim, arith}
 use Rattle.model.specs.lists.Syntax.{Position, Definition}
-use Rattle.model.specs.claims.Refusals.{IsIllTyped}
-use Rattle.core_syntax.specs.ErrorViews.{error_view}
 use Rattle.core_types.specs.ToldErrors as T
-use Rattle.core_types.specs.ToldErrors.{IsToldAt}
-use Rattle.std.proofs.lemmas.List.Elements.{All-weaker}
+use Rattle.std.proofs.lemmas.Grind.{common_steps}
 use Rattle.model.specs.claims.Environments.{TypesRead, IsLeftByRefusal}
 use Rattle.core_syntax.specs.declared.syntax.Error.{Error}
 use Rattle.core_types.specs.declared.type_env.TypeEnv.{TypeEnv}
@@ -15,42 +12,31 @@ use Rattle.core_types.specs.VariantReading.{ReportsIf}
 use Rattle.core_syntax.proofs.NotedErrors.{both, still_ill_typed}
 use Rattle.core_terms.specs.declared.term_table.TermTable.{TermTable}
 use Rattle.core_terms.specs.Reading.{IsWithin}
-use Rattle.core_terms.specs.TermBreaches.{TermGroup, FirstBreaksGroup}
+use Rattle.core_terms.specs.TermBreaches.{TermGroup}
 use Rattle.core_terms.specs.Signing.{NotesIfWrong, ReadsTerms}
 use Rattle.core_terms.proofs.Breaches.{Breach, first_found, first_stays}
 
 -- one thing after another
 pub both_note : (A B W V : Type 0) (es mid es' : List Error) → NotesIfWrong es mid A W → NotesIfWrong mid es' B V → NotesIfWrong es es' (A × B) (W ⊎ V)
-both_note A B W V es mid es' (inl a) (inl b) = inl (b.0 ∙ a.0, (a.1, b.1))
-both_note A B W V es mid es' (inl a) (inr b) = inr (subst (λ xs. NotesMore xs es') a.0 b.0, inr b.1)
-both_note A B W V es mid es' (inr a) (inl b) = inr (subst (NotesMore es) (sym b.0) a.0, inl a.1)
-both_note A B W V es mid es' (inr a) (inr b) = inr (both es mid es' a.0 b.0, inl a.1)
+both_note A B W V es mid es' h k = grind (arith, both)
 
 -- the same, said in other words
 pub notes_as : (A B W V : Type 0) (es es' : List Error) → (A → B) → (W → V) → NotesIfWrong es es' A W → NotesIfWrong es es' B V
-notes_as A B W V es es' f g (inl a) = inl (a.0, f a.1)
-notes_as A B W V es es' f g (inr a) = inr (a.0, g a.1)
+notes_as A B W V es es' f g h = grind (arith, common_steps)
 
 -- something may have been noted
 pub may_note : (A W : Type 0) (es es' : List Error) → NotesIfWrong es es' A W → MayNoteMore es es'
-may_note A W es es' (inl a) = inl a.0
-may_note A W es es' (inr a) = inr a.0
+may_note A W es es' h = grind (arith, common_steps)
 
 pub if_noted : (b : Bool) (es es' : List Error) → ReportsIf b es es' → NotesIfWrong es es' (b ≡ false) (b ≡ true)
-if_noted true es es' h = inr (h, refl)
-if_noted false es es' h = inl (h, refl)
+if_noted b es es' h = grind (arith, common_steps)
 
 -- what was right so far makes the next thing right, or the first error stands where a condition is broken
 pub step : (e : TypesRead) (group : TermGroup) (defs : List Definition) (A B : TypeEnv → TermTable → Type 0) (old new : TypeEnv) (table table' : TermTable) (es es' : List Error) (Right Wrong : Type 0)
     → IsLeftByRefusal e (environment_view new) → IsWithin table' → NotesIfWrong es es' Right Wrong
     → (A old table → Right → B new table') → (A old table → Wrong → Breach e.known group defs es es')
     → ReadsTerms e group defs A old table es → ReadsTerms e group defs B new table' es'
-step e group defs A B old new table table' es es' Right Wrong left within (inl a) right wrong s = record {
-  left = left;
-  within = within;
-  ill_typed = rw a.0 s.ill_typed;
-  so_far = ⊎_elim (λ r. inl (a.0 ∙ r.0, right r.1 a.1)) (λ f. inr (subst (FirstBreaksGroup e.known group defs) (sym a.0) f)) s.so_far;
-}
+step e group defs A B old new table table' es es' Right Wrong left within (inl a) right wrong s = grind (arith, common_steps)
 step e group defs A B old new table table' es es' Right Wrong left within (inr a) right wrong s = record {
   left = left;
   within = within;
@@ -68,14 +54,8 @@ reads_next e group next defs A B env table es none f s = record { left = s.left;
 
 -- something was noted, where so much was
 pub some_noted : (n : ℕ) (ps : List Position) (es es' : List Error) → T.Notes (suc n) ps es es' → NotesMore es es'
-some_noted n ps es es' r = record {
-  more = r.more;
-  added = r.added;
-  some_more = λ none. let size : 0 ≡ suc n = ap length (sym none) ∙ r.tells.many in absurd (cc);
-  forms = All-weaker (IsToldAt ps) (λ e. IsIllTyped (error_view e)) (λ e t. t.form) r.more r.tells.each;
-}
+some_noted n ps es es' r = grind (arith, common_steps)
 
 -- two facts of what was answered
 pub both_ok : {T E : Type 0} (r : Result T E) (A B C : Type 0) → (A → B → C) → OnOk r A → OnOk r B → OnOk r C
-both_ok (Ok x) A B C f a b = f a b
-both_ok (Err x) A B C f a b = tt
+both_ok r A B C f a b = grind (arith, common_steps)

@@ -1,14 +1,15 @@
 -- Reading external constructors and extractors by types that are handed in, one definition after another.
-use Rattle.std.proofs.Common.{◌≡◌, ◌||◌, ℕ, ◌+◌, ◌<◌, not, Bool, true, false, cond, List, [], ◌∷◌, ◌++◌, ◌⊎◌, length, take, drop, get_or, map, slice_get, Option, None, Some, is_some, option_map, Contains, refl, sym, ap, subst, ◌∙◌, inl, inr}
+use Rattle.std.proofs.Common.{◌≡◌, ℕ, ◌+◌, ◌<◌, not, Bool, true, false, List, [], ◌∷◌, ◌++◌, ◌⊎◌, length, take, drop, get_or, map, slice_get, Option, None, Some, is_some, option_map, Contains, refl, sym, ap, subst, ◌∙◌, inl, inr, arith}
 use Rattle.std.specs.List.{find, flat_map}
 use Rattle.std.specs.Str.{bytes_eq}
 use Rattle.std.proofs.lemmas.Bool.{false≢true}
 use Rattle.std.proofs.lemmas.List.{append_assoc, append-nil, map-append}
 use Rattle.std.proofs.lemmas.List.Concat.{flat_map-append}
 use Rattle.std.proofs.lemmas.List.Elements.{All-push, Contains-append_left, Contains-append_right, Contains-append_cases}
+use Rattle.std.proofs.lemmas.Grind.{common_steps}
 use Rattle.model.specs.lists.Syntax.{Name, Position, ExtractorTree, Definition, type_definition, declaration, extractor_definition, converter_definition, rule_definition, extern_definition, other_definition, extern_constructor, extern_extractor, extern_const}
 use Rattle.model.specs.lists.Names.{number, has_name, with_name, with_names, IsDistinct}
-use Rattle.model.specs.lists.Tables.{ConstructorEntry, internal_constructor, external_constructor, ExtractorEntry, internal_extractor, external_extractor, TermKindEntry, variant_term, struct_term, declared_term, TermEntry}
+use Rattle.model.specs.lists.Tables.{ConstructorEntry, internal_constructor, external_constructor, ExtractorEntry, internal_extractor, external_extractor, TermKindEntry, declared_term, TermEntry}
 use Rattle.model.specs.lists.TermTable.{ConstructorTree, ExternalTree, decl_flags, decl_names, function_of, external_constructor_of, external_extractor_of, constructor_trees, external_trees, extractor_trees, internal_extractors, extractor_template, has_rules, term_names_met, IsDeclaredTerm, IsWithoutRules}
 use Rattle.model.specs.claims.Environments.{TypesRead, AreReadable, IsLeftByRefusal}
 use Rattle.model.proofs.Members.{member_from_get, get_from_member}
@@ -43,14 +44,10 @@ nothing_more f read d none = flat_map-append f read (d ∷ []) ∙ ap (λ l. fla
 
 -- a kind that passes is that of a declared term
 constructor_lacks : (k : TermKindEntry) → lacks_constructor k ≡ true → is_declared_kind k ≡ false → ⊥
-constructor_lacks (variant_term variant) h o = false≢true h
-constructor_lacks struct_term h o = false≢true h
-constructor_lacks (declared_term flags constructor_kind extractor_kind) h o = false≢true (sym o)
+constructor_lacks k h o = grind arith
 
 extractor_lacks : (k : TermKindEntry) → lacks_extractor k ≡ true → is_declared_kind k ≡ false → ⊥
-extractor_lacks (variant_term variant) h o = false≢true h
-extractor_lacks struct_term h o = false≢true h
-extractor_lacks (declared_term flags constructor_kind extractor_kind) h o = false≢true (sym o)
+extractor_lacks k h o = grind arith
 
 abbrev constructed_by : ConstructorTree → List ℕ
 constructed_by c = c.term.text
@@ -86,8 +83,7 @@ module _ (e : TypesRead) (defs : List Definition) (cs : List ConstructorTree) (c
       ]
 
   pub constructor_wrong : (term_of_name env table c.term ≡ None) ⊎ HasOtherKind lacks_constructor c.term env table → (before : List Definition) → constructor_trees before ≡ cs → BreaksConstructor defs before c
-  constructor_wrong (inl none) before so_far =
-      constructor_of_none (λ declared. false≢true (sym (ap is_some (nothing_found e defs met (function_after e defs cs) taken env table i s c.term none)) ∙ declared))
+  constructor_wrong (inl none) before so_far = grind (arith, common_steps, nothing_found e defs met (function_after e defs cs) taken env table i s c.term none)
   constructor_wrong (inr m) before so_far =
       elim (entry_found e defs met (function_after e defs cs) taken env table i s c.term m.id m.entry m.found m.at) [
         | inr q ↦ constructor_of_none (λ declared. false≢true (sym (ap is_some q.0) ∙ declared))
@@ -112,11 +108,7 @@ module _ (e : TypesRead) (defs : List Definition) (ts : List ExternalTree) (t : 
 
   template_there : (us : List ExtractorTree) (x : List ℕ) → has_name (map (λ u. u.term.text) us) x ≡ true → is_some (option_map (λ u. internal_extractor (extractor_template u)) (find (λ u. bytes_eq u.term.text x) us)) ≡ true
   template_there [] x h = absurd (false≢true h)
-  template_there (u ∷ us) x h =
-      elim (bytes_eq u.term.text x) as (λ b. b || has_name (map (λ u. u.term.text) us) x ≡ true → is_some (option_map (λ u. internal_extractor (extractor_template u)) (cond b (Some u) (find (λ u. bytes_eq u.term.text x) us))) ≡ true) [
-        | true ↦ λ _. refl
-        | false ↦ λ g. template_there us x g
-      ] h
+  template_there (u ∷ us) x h = grind (arith, common_steps, template_there us x)
 
   pub external_right : (new : TermTable) → ChangesKind lacks_extractor (taken_by_this (external_entry t)) t.term env table new
       → Stand e defs met made (external_after e defs (ts ++ t ∷ [])) env new × AreRightExternals defs (ts ++ t ∷ [])
@@ -145,8 +137,7 @@ module _ (e : TypesRead) (defs : List Definition) (ts : List ExternalTree) (t : 
           ]
 
   pub external_wrong : (term_of_name env table t.term ≡ None) ⊎ HasOtherKind lacks_extractor t.term env table → (before : List Definition) → external_trees before ≡ ts → BreaksExternal defs before t
-  external_wrong (inl none) before so_far =
-      external_of_none (λ declared. false≢true (sym (ap is_some (nothing_found e defs met made (external_after e defs ts) env table i s t.term none)) ∙ declared))
+  external_wrong (inl none) before so_far = grind (arith, common_steps, nothing_found e defs met made (external_after e defs ts) env table i s t.term none)
   external_wrong (inr m) before so_far =
       elim (entry_found e defs met made (external_after e defs ts) env table i s t.term m.id m.entry m.found m.at) [
         | inr q ↦ external_of_none (λ declared. false≢true (sym (ap is_some q.0) ∙ declared))
@@ -186,8 +177,7 @@ module _ (e : TypesRead) (readable : AreReadable e) (defs read rest : List Defin
   other d functions cs ts same s =
       let go : ExternsRead e defs read old table → ExternsRead e defs (read ++ d ∷ []) old table = λ h. record {
         stand = subst (λ fs. Stand e defs (decl_names defs ++ fs) (function_after e defs (constructor_trees (read ++ d ∷ []))) (external_after e defs (external_trees (read ++ d ∷ []))) old table) (sym (nothing_more function_of read d functions))
-            (subst (λ l. Stand e defs (decl_names defs ++ flat_map function_of read) (function_after e defs l) (external_after e defs (external_trees (read ++ d ∷ []))) old table) (sym (nothing_more external_constructor_of read d cs))
-            (subst (λ l. Stand e defs (decl_names defs ++ flat_map function_of read) (function_after e defs (constructor_trees read)) (external_after e defs l) old table) (sym (nothing_more external_extractor_of read d ts)) h.stand));
+            (grind (arith, common_steps, nothing_more external_constructor_of read d cs, nothing_more external_extractor_of read d ts));
         constructors = subst (AreRightConstructors defs) (sym (nothing_more external_constructor_of read d cs)) h.constructors;
         externals = subst (AreRightExternals defs) (sym (nothing_more external_extractor_of read d ts)) h.externals;
         conversions = h.conversions;
@@ -213,8 +203,7 @@ module _ (e : TypesRead) (readable : AreReadable e) (defs read rest : List Defin
       let y = subst (λ k. ChangesKind lacks_constructor (made_by_this (external_constructor k)) term new table table') (number_is h) x in
       let r = constructor_right e defs (constructor_trees read) c met taken new table a.0.inverse (stand h) h.constructors table' y in
       record {
-        stand = subst (λ l. Stand e defs met (function_after e defs l) (external_after e defs (external_trees (read ++ d ∷ []))) new table') (sym more)
-            (subst (λ l. Stand e defs met (function_after e defs (constructor_trees read ++ c ∷ [])) (external_after e defs l) new table') (sym same) r.0);
+        stand = grind (arith, common_steps);
         constructors = subst (AreRightConstructors defs) (sym more) r.1;
         externals = subst (AreRightExternals defs) (sym same) h.externals;
         conversions = λ i o. ap (λ m. option_map (λ t. t.0) (look_up same_types m (type_by_id i, type_by_id o))) x.changes.converters ∙ h.conversions i o;
@@ -238,8 +227,7 @@ module _ (e : TypesRead) (readable : AreReadable e) (defs read rest : List Defin
       let y = subst (λ k. ChangesKind lacks_extractor (taken_by_this (external_extractor k infallible at)) term new table table') (number_is h) x in
       let r = external_right e defs (external_trees read) t met made new table a.0.inverse (stand h) h.externals table' y in
       record {
-        stand = subst (λ l. Stand e defs met (function_after e defs (constructor_trees (read ++ d ∷ []))) (external_after e defs l) new table') (sym more)
-            (subst (λ l. Stand e defs met (function_after e defs l) (external_after e defs (external_trees read ++ t ∷ [])) new table') (sym same) r.0);
+        stand = grind (arith, common_steps);
         constructors = subst (AreRightConstructors defs) (sym same) h.constructors;
         externals = subst (AreRightExternals defs) (sym more) r.1;
         conversions = λ i o. ap (λ m. option_map (λ t. t.0) (look_up same_types m (type_by_id i, type_by_id o))) x.changes.converters ∙ h.conversions i o;

@@ -1,6 +1,7 @@
 -- What is found by names, after one more name, or one more thing with a name.
 use Rattle.std.proofs.Common.{◌≡◌, ℕ, true, false, cond, nat_eq, List, [], ◌∷◌, ◌++◌, length, Option, Some, None, option_and_then, slice_get, refl, sym, ap, subst, ◌∙◌, arith, eqb-true}
-use Rattle.model.specs.lists.Names.{number, has_name, with_name, IsDistinct, AreNumbersOf}
+use Rattle.std.proofs.lemmas.Grind.{common_steps}
+use Rattle.model.specs.lists.Names.{number, with_name, IsDistinct, AreNumbersOf}
 use Rattle.model.specs.rules.Outcome.{then_option}
 use Rattle.model.proofs.ByNumber.{by_text, of_text, others, then_with}
 use Rattle.model.proofs.FirstPlaces.{place_push_new, place_push_other}
@@ -18,10 +19,7 @@ module _ (names : List (List ℕ)) (at : ℕ → Option ℕ) (has : List ℕ →
 
   -- a name is met, and nothing else
   pub finds_more : (x : List ℕ) (names' : List (List ℕ)) → names' ≡ with_name names x → (at' : ℕ → Option ℕ) → ((k : ℕ) → at' k ≡ at k) → Finds names' at' has
-  finds_more x names' is at' same = record {
-    ids = λ k. same k ∙ f.ids k ∙ sym (ap (λ ns. then_option (slice_get ns k) has) is ∙ then_with names x has (f.known x) k);
-    known = λ y e. f.known y (with_missing names x y (subst (λ ns. has_name ns y ≡ false) is e)).0;
-  }
+  finds_more x names' is at' same = grind (arith, common_steps, then_with names x has (f.known x), with_missing names x)
 
 module _ (names : List (List ℕ)) (at : ℕ → Option ℕ) (ts : List (List ℕ)) (f : Finds names at (place_among ts)) (x : List ℕ) (names' : List (List ℕ)) (is : names' ≡ with_name names x) (look_up : List ℕ → Option ℕ) (i : AreNumbersOf names' look_up) (free : place_among ts x ≡ None) (at' : ℕ → Option ℕ) (adds : (k : ℕ) → at' k ≡ cond (nat_eq (number names x) k) (Some (length ts)) (at k)) where
   here_named : slice_get names' (number names x) ≡ Some x
@@ -39,10 +37,7 @@ module _ (names : List (List ℕ)) (at : ℕ → Option ℕ) (ts : List (List �
               let here : slice_get names' k ≡ Some x = subst (λ j. slice_get names' j ≡ Some x) (eqb-true (number names x) k e) here_named in
               let next : place_among (ts ++ x ∷ []) x ≡ Some (length ts) = place_push_new 0 ts x free ∙ ap Some (omega arith) in
               sym (ap (λ o. then_option o (place_among (ts ++ x ∷ []))) here ∙ next)
-          | false ↦ λ e.
-              f.ids k ∙ sym (ap (λ ns. then_option (slice_get ns k) (place_among ts)) is ∙ then_with names x (place_among ts) (f.known x) k) ∙ others names' once (number names x) x here_named ts k e
+          | false ↦ grind (arith, common_steps, then_with names x (place_among ts) (f.known x) k, others names' once (number names x) x here_named ts k)
         ] refl);
-    known = λ y e.
-        let r = with_missing names x y (subst (λ ns. has_name ns y ≡ false) is e) in
-        place_push_other 0 ts x y r.1 ∙ f.known y r.0;
+    known = grind (arith, common_steps, with_missing names x, place_push_other 0 ts x);
   }

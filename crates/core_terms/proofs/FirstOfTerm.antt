@@ -1,9 +1,10 @@
 -- What is known of a term by the first of the definitions of it, where something else may decide before them.
-use Rattle.std.proofs.Common.{◌≡◌, ℕ, zero, suc, not, Bool, true, false, cond, List, [], ◌∷◌, ◌++◌, ◌⊎◌, map, slice_get, Option, None, Some, is_some, option_map, refl, sym, ap, subst, ◌∙◌, inl, inr}
+use Rattle.std.proofs.Common.{◌≡◌, ℕ, suc, not, Bool, true, false, cond, List, [], ◌∷◌, ◌++◌, ◌⊎◌, map, slice_get, Option, None, Some, is_some, option_map, refl, sym, ap, subst, ◌∙◌, inl, inr, arith}
 use Rattle.std.specs.List.{find}
 use Rattle.std.specs.Str.{bytes_eq}
 use Rattle.std.proofs.lemmas.Bool.{false≢true}
 use Rattle.std.proofs.lemmas.Option.{same_Some}
+use Rattle.std.proofs.lemmas.Grind.{common_steps}
 use Rattle.model.proofs.Bytes.{same_bytes, same_self, differ}
 use Rattle.core_terms.proofs.Rooting.{turned_other}
 
@@ -20,11 +21,7 @@ module _ {T K : Type 0} (term_of : T → List ℕ) (before : List ℕ → Bool) 
 
   first_new : (ts : List T) (t : T) (x : List ℕ) → first_of ts x ≡ None → bytes_eq (term_of t) x ≡ true → first_of (ts ++ t ∷ []) x ≡ Some t
   first_new [] t x none e = ap (λ b. cond b (Some t) None) e
-  first_new (u ∷ us) t x none e =
-      elim (bytes_eq (term_of u) x) as (λ b. cond b (Some u) (first_of us x) ≡ None → cond b (Some u) (first_of (us ++ t ∷ []) x) ≡ Some t) [
-        | true ↦ λ h. absurd (cc)
-        | false ↦ λ h. first_new us t x h e
-      ] none
+  first_new (u ∷ us) t x none e = grind (arith, common_steps, first_new us t x)
 
   -- one more definition says nothing of other terms
   pub known_other : (ts : List T) (t : T) (x : List ℕ) → bytes_eq x (term_of t) ≡ false → known_by ts x ≡ known_by (ts ++ t ∷ []) x
@@ -40,15 +37,7 @@ module _ {T K : Type 0} (term_of : T → List ℕ) (before : List ℕ → Bool) 
 
   -- nothing decided so far
   pub not_known : (ts : List T) (x : List ℕ) → (before x ≡ true → is_some (other x) ≡ true) → not (is_some (known_by ts x)) ≡ true → (before x ≡ false) × (first_of ts x ≡ None)
-  not_known ts x some h =
-      elim (before x) as (λ b. (b ≡ true → is_some (other x) ≡ true) → not (is_some (cond b (other x) (option_map kind (first_of ts x)))) ≡ true → (b ≡ false) × (first_of ts x ≡ None)) [
-        | true ↦ λ s g. absurd (false≢true (sym (ap not (s refl)) ∙ g))
-        | false ↦ λ s g. (refl, nothing (first_of ts x) g)
-      ] some h
-    where
-      nothing : (o : Option T) → not (is_some (option_map kind o)) ≡ true → o ≡ None
-      nothing None g = refl
-      nothing (Some t) g = absurd (false≢true g)
+  not_known ts x some h = grind (arith, common_steps)
 
   -- something did
   pub was_known : (ts : List T) (x : List ℕ) → not (is_some (known_by ts x)) ≡ false → (before x ≡ true) ⊎ ((j : ℕ) × (slice_get (map term_of ts) j ≡ Some x))
@@ -68,14 +57,9 @@ module _ {T K : Type 0} (term_of : T → List ℕ) (before : List ℕ → Bool) 
 
   -- where none is found, none stands
   pub none_stands : (ts : List T) (x : List ℕ) → first_of ts x ≡ None → (j : ℕ) → slice_get (map term_of ts) j ≡ Some x → ⊥
-  none_stands [] x none j h = absurd (cc)
-  none_stands (u ∷ us) x none zero h =
-      elim (bytes_eq (term_of u) x) as (λ b. bytes_eq (term_of u) x ≡ b → cond b (Some u) (first_of us x) ≡ None → ⊥) [
-        | true ↦ λ _ g. absurd (cc)
-        | false ↦ λ e _. differ (term_of u) x e (same_Some (term_of u) x h)
-      ] refl none
   none_stands (u ∷ us) x none (suc j) h =
       elim (bytes_eq (term_of u) x) as (λ b. cond b (Some u) (first_of us x) ≡ None → ⊥) [
         | true ↦ λ g. absurd (cc)
         | false ↦ λ g. none_stands us x g j h
       ] none
+  none_stands ts x none j h = grind (arith, differ, same_Some)

@@ -1,30 +1,29 @@
 -- From one group of the reading of terms to the next one, and what stands at the end.
-use Rattle.std.proofs.Common.{◌≡◌, ◌==◌, ◌||◌, ℕ, suc, ◌+◌, ◌<◌, true, false, cond, List, [], ◌∷◌, ◌++◌, length, map, slice_get, Option, None, Some, option_map, Contains, refl, sym, ap, subst, ◌∙◌, arith, inl, ⊎_elim}
+use Rattle.std.proofs.Common.{◌≡◌, ◌==◌, ℕ, suc, ◌+◌, ◌<◌, true, false, List, [], ◌∷◌, ◌++◌, length, map, slice_get, Option, None, Some, option_map, Contains, refl, sym, ap, subst, ◌∙◌, arith, ⊎_elim}
 use Rattle.std.specs.List.{cons_option, enumerate_from, filter_map, find, flat_map}
 use Rattle.std.specs.Str.{bytes_eq}
-use Rattle.std.proofs.lemmas.Bool.{false≢true}
 use Rattle.std.proofs.lemmas.List.{append-nil}
 use Rattle.std.proofs.lemmas.List.Concat.{flat_map-append}
 use Rattle.std.proofs.lemmas.List.Elements.{All-nil, Contains-append_cases, recursion_from_All}
+use Rattle.std.proofs.lemmas.Grind.{common_steps}
 use Rattle.laws_typing.proofs.LooksByNumber.{nothing_then, numbered_from}
 use Rattle.model.specs.lists.Syntax.{DeclTree, ExtractorTree, Definition}
 use Rattle.model.specs.lists.Names.{number, has_name, with_names, IsDistinct}
 use Rattle.model.specs.rules.Meaning.{look}
 use Rattle.model.specs.rules.Outcome.{then_option}
-use Rattle.model.specs.lists.Tables.{TypeEntry, TermEntry, declared_term, internal_extractor}
+use Rattle.model.specs.lists.Tables.{TypeEntry, TermEntry}
 use Rattle.model.specs.lists.KnownTypes.{entry_numbers, IsWellFormed}
-use Rattle.model.specs.lists.TermTable.{decl_flags, decl_trees, decl_names, rule_trees, extractor_trees, extractor_template, internal_extractors, function_of, made_by, term_names, term_names_met, terms_made, term_table, converters, IsValidTerms}
+use Rattle.model.specs.lists.TermTable.{decl_trees, decl_names, extractor_trees, internal_extractors, function_of, made_by, term_names, term_names_met, terms_made, term_table, converters, IsValidTerms}
 use Rattle.model.specs.claims.Environments.{TypesRead, AreReadable, AreTermsOf, IsLeftByRefusal, IsReadAs, terms_by_name, with_read_names}
 use Rattle.model.specs.claims.Refusals.{RefusesTerms}
 use Rattle.model.proofs.Members.{in_cases, nothing_in, get_from_member}
 use Rattle.model.proofs.Names.{has_at, has_met, has_left, has_kept}
 use Rattle.laws_typing.proofs.TermLaws.{all_made_only, terms_have_names_lem, terms_stand_at_ids_lem}
 use Rattle.core_syntax.specs.ErrorViews.{error_views}
-use Rattle.core_syntax.specs.NotedErrors.{AreIllTyped}
 use Rattle.core_syntax.proofs.NotedErrors.{forms_of, some_views}
 use Rattle.core_syntax.specs.declared.syntax.Error.{Error}
 use Rattle.core_types.specs.declared.type_env.TypeEnv.{TypeEnv}
-use Rattle.core_types.specs.Envs.{names_of, IsInterned}
+use Rattle.core_types.specs.Envs.{IsInterned}
 use Rattle.core_types.specs.EnvViews.{environment_view}
 use Rattle.core_types.specs.TypePositions.{entry_positions}
 use Rattle.core_types.specs.TypeViews.{type_views}
@@ -32,13 +31,12 @@ use Rattle.core_terms.specs.declared.term_table.TermTable.{TermTable}
 use Rattle.core_terms.specs.TermBreaches.{TermGroup, of_signatures, of_definitions, of_converters, of_externs, by_made, FirstBreaksTerms, FirstBreaksGroup}
 use Rattle.core_terms.specs.TermErrors.{AreRightSignatures, AreRightDefinitions, AreRightConverters}
 use Rattle.core_terms.specs.TermTables.{term_at}
-use Rattle.core_terms.specs.TermViews.{term_view}
 use Rattle.core_terms.specs.Reading.{IsWithin}
-use Rattle.core_terms.specs.Stages.{HasNoConverter, constructor_after, place_among}
-use Rattle.core_terms.specs.Signing.{with_ids, declared_so_far, declared_alone, texts_at, AddsAllMade, Declaring, GrowsBy, NumbersAreMet, ReadsTerms, TakesNames}
+use Rattle.core_terms.specs.Stages.{HasNoConverter, place_among}
+use Rattle.core_terms.specs.Signing.{with_ids, declared_alone, texts_at, AddsAllMade, Declaring, GrowsBy, NumbersAreMet, ReadsTerms, TakesNames}
 use Rattle.core_terms.specs.ReadTerms.{RootsRead}
 use Rattle.core_terms.specs.Converting.{type_by_id, ConvertersRead, template_after}
-use Rattle.core_terms.specs.ExternStages.{external_after, function_after, ExternsRead}
+use Rattle.core_terms.specs.ExternStages.{external_after, ExternsRead}
 use Rattle.core_terms.specs.Recursion.{ExtractorsRead}
 use Rattle.core_terms.specs.ShownTables.{shown_by}
 use Rattle.core_terms.proofs.Breaches.{Breach}
@@ -49,25 +47,7 @@ use Rattle.core_terms.proofs.TypesStaying.{left_distinct, left_interned}
 
 -- before the first definition
 pub first_declared : (e : TypesRead) (defs : List Definition) (env : TypeEnv) (table : TermTable) (es : List Error) → IsReadAs (environment_view env) e → table.terms.items ≡ [] → ((k : ℕ) → term_at table k ≡ None) → HasNoConverter table → es ≡ [] → ReadsTerms e of_signatures defs (Declaring e defs []) env table es
-first_declared e defs env table es r terms ids converters none = record {
-  left = record { more = []; types = subst (λ ns. IsReadAs (environment_view env) (with_read_names e ns)) (sym (append-nil e.known.names)) r };
-  within = λ k n h. let a = ids k in absurd (cc);
-  ill_typed = subst AreIllTyped (sym none) (All-nil _);
-  so_far = inl (
-    none,
-    record {
-      has = record {
-        names = r.names;
-        finds = record { ids = λ k. ids k ∙ nothing_then (slice_get (names_of env) k); known = λ x e. refl };
-        distinct = λ j k x p q. absurd (cc);
-        terms = ap (map term_view) terms;
-        count = refl;
-        converters = converters;
-      };
-      right = record { arguments = All-nil _; results = All-nil _; marks = All-nil _ };
-    },
-  );
-}
+first_declared e defs env table es r terms ids converters none = grind (arith, common_steps, append-nil e.known.names, nothing_then)
 
 -- the names that make terms were met
 made_met : (e : TypesRead) → IsWellFormed e.known → NumbersAreMet e (flat_map made_by e.known.types)
@@ -129,18 +109,10 @@ same_entries f g fs h n (d ∷ ds) = ap (λ x. x ∷ with_ids (n + 1) (map f ds 
 
 no_template : (es : List ExtractorTree) (x : List ℕ) → has_name (map (λ e. e.term.text) es) x ≡ false → find (λ e. bytes_eq e.term.text x) es ≡ None
 no_template [] x h = refl
-no_template (t ∷ ts) x h =
-    elim (bytes_eq t.term.text x) as (λ b. b || has_name (map (λ e. e.term.text) ts) x ≡ false → cond b (Some t) (find (λ e. bytes_eq e.term.text x) ts) ≡ None) [
-      | true ↦ λ g. absurd (false≢true (sym g))
-      | false ↦ λ g. no_template ts x g
-    ] h
+no_template (t ∷ ts) x h = grind (arith, common_steps, no_template ts x)
 
 template_or : (e : TypesRead) (defs : List Definition) (x : List ℕ) → template_after (extractor_trees defs) x ≡ external_after e defs [] x
-template_or e defs x =
-    elim (has_name (internal_extractors defs) x) as (λ b. has_name (internal_extractors defs) x ≡ b → template_after (extractor_trees defs) x ≡ cond b (template_after (extractor_trees defs) x) None) [
-      | true ↦ λ _. refl
-      | false ↦ λ h. ap (option_map (λ t. internal_extractor (extractor_template t))) (no_template (extractor_trees defs) x h)
-    ] refl
+template_or e defs x = grind (arith, common_steps, no_template (extractor_trees defs) x)
 
 -- before the converters
 pub first_converter : (e : TypesRead) (defs : List Definition) (env : TypeEnv) (table : TermTable) (es : List Error) → es ≡ [] → ReadsTerms e of_definitions defs (ExtractorsRead e defs) env table es → ReadsTerms e of_converters defs (ConvertersRead e defs []) env table es
@@ -161,9 +133,7 @@ first_extern e defs env table es once none s =
         finds = h.stand.finds;
         distinct = h.stand.distinct;
         right = h.stand.right;
-        terms = h.stand.terms ∙ same_entries (declared_so_far e.known (term_names_met e.known defs) (constructor_after (rule_trees defs)) (template_after (extractor_trees defs)))
-            (declared_so_far e.known (term_names_met e.known defs) (function_after e defs []) (external_after e defs [])) (flat_map terms_made e.known.types)
-            (λ d i. ap (λ x. record (declared_so_far e.known (term_names_met e.known defs) (function_after e defs []) (external_after e defs []) d i) { kind = declared_term (decl_flags d) (constructor_after (rule_trees defs) d.term.text) x }) (template_or e defs d.term.text)) 0 (decl_trees defs);
+        terms = grind (arith, common_steps, same_entries, template_or e defs);
       };
       constructors = record { terms = All-nil _; without_rules = All-nil _; distinct = λ j k x p q. absurd (cc) };
       externals = record { terms = All-nil _; distinct = subst IsDistinct (sym (append-nil (internal_extractors defs))) once };
@@ -173,8 +143,6 @@ first_extern e defs env table es once none s =
 -- terms by name, where each stands at its id
 by_name_from : (n : ℕ) (ts : List TermEntry) (ns names : List (List ℕ)) → map (λ e. e.name) ts ≡ map (number names) ns → ((i : ℕ) (t : TermEntry) → slice_get ts i ≡ Some t → t.id ≡ n + i) → terms_by_name ts ≡ map (λ p. (number names p.1, p.0)) (enumerate_from n ns)
 by_name_from n [] [] names h ids = refl
-by_name_from n [] (x ∷ ns) names h ids = absurd (cc)
-by_name_from n (t ∷ ts) [] names h ids = absurd (cc)
 by_name_from n (t ∷ ts) (x ∷ ns) names h ids =
     let head : t.name ≡ number names x = cc in
     let tail : map (λ (e : TermEntry). e.name) ts ≡ map (number names) ns = cc in
@@ -184,10 +152,10 @@ by_name_from n (t ∷ ts) (x ∷ ns) names h ids =
     ap (λ k. (k, t.id) ∷ terms_by_name ts) head
     ∙ ap (λ k. (number names x, k) ∷ terms_by_name ts) id
     ∙ ap (λ l. (number names x, n) ∷ l) (by_name_from (n + 1) ts ns names tail (λ i u g. ids (suc i) u g ∙ next i))
+by_name_from n _ _ names h ids = absurd (cc)
 
 one_name_met : (ns rest : List (List ℕ)) (m : ℕ) (x : List ℕ) (o : Option (List ℕ)) → slice_get ns m ≡ o → (Contains rest x → has_name ns x ≡ true) → Contains (cons_option o rest) x → has_name ns x ≡ true
-one_name_met ns rest m x None e all c = all c
-one_name_met ns rest m x (Some y) e all c = ⊎_elim (λ s. has_at ns m x (e ∙ ap Some s)) all (in_cases y x rest c)
+one_name_met ns rest m x o e all c = grind (arith, common_steps, has_at ns m x, in_cases)
 
 made_names_met : (ns : List (List ℕ)) (ms : List ℕ) (x : List ℕ) → Contains (filter_map (slice_get ns) ms) x → has_name ns x ≡ true
 made_names_met ns [] x c = absurd (nothing_in x c)
@@ -199,26 +167,7 @@ pub all_read : (e : TypesRead) → AreReadable e → (defs : List Definition) (e
 all_read e readable defs env old table before left x cr s = (valid, record { valid = valid; rows = record { table = s.stand.terms; look_ups = look_ups; conversions = s.conversions }; types = types })
   where
     valid : IsValidTerms e.known defs
-    valid = record {
-      distinct = s.stand.distinct;
-      types_of_arguments = s.stand.right.arguments;
-      types_of_results = s.stand.right.results;
-      marks = s.stand.right.marks;
-      roots = x.roots;
-      terms_of_extractors = x.right.terms;
-      terms_of_externals = s.externals.terms;
-      terms_of_constructors = s.constructors.terms;
-      rules_or_function = s.constructors.without_rules;
-      one_constructor = s.constructors.distinct;
-      one_extractor = s.externals.distinct;
-      plain_terms = x.right.plain;
-      known_terms = x.right.known;
-      no_macro_args = x.right.no_macro_args;
-      declared_arguments = x.right.arguments;
-      acyclic = x.acyclic;
-      known_converters = cr.1.known;
-      one_converter = cr.1.distinct;
-    }
+    valid = grind (arith, common_steps)
 
     met : (y : List ℕ) → Contains (term_names e.known defs) y → has_name (term_names_met e.known defs) y ≡ true
     met y c =
@@ -248,9 +197,7 @@ module _ (e : TypesRead) (group : TermGroup) (defs : List Definition) (A : TypeE
   first_of_group = ⊎_elim (λ r. absurd (some (ap length r.0))) (λ f. f) s.so_far
 
   pub first_broken : FirstBreaksTerms e.known defs es
-  first_broken =
-      let f = first_of_group in
-      record { first = f.first; rest = f.rest; is = f.is; positions = f.positions; breaks = record { group = group; breaks = f.breaks }; stands = f.stands }
+  first_broken = grind (arith, common_steps, first_of_group)
 
   -- so there are some, and the definitions aren't valid
   pub not_read : (es ≡ [] → ⊥) × (IsValidTerms e.known defs → ⊥)

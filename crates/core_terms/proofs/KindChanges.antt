@@ -1,6 +1,7 @@
 -- What looking at the kind of one term, and changing it, comes to.
-use Rattle.std.proofs.Common.{◌≡◌, ℕ, Bool, true, false, not, List, get_or, Some, sym, ap, subst, ◌∙◌, inl, inr}
+use Rattle.std.proofs.Common.{◌≡◌, ℕ, Bool, true, false, not, List, get_or, Some, sym, ap, subst, ◌∙◌, inl, inr, arith}
 use Rattle.std.proofs.Math.ListN.{set}
+use Rattle.std.proofs.lemmas.Grind.{common_steps}
 use Rattle.model.specs.lists.Syntax.{Name}
 use Rattle.model.specs.lists.Tables.{TermKindEntry}
 use Rattle.core_syntax.specs.declared.syntax.Error.{Error}
@@ -9,7 +10,7 @@ use Rattle.core_types.specs.Envs.{symbol_of}
 use Rattle.core_types.specs.VariantReading.{ReportsIf}
 use Rattle.core_terms.specs.declared.term.Term.{Term}
 use Rattle.core_terms.specs.declared.term_table.TermTable.{TermTable}
-use Rattle.core_terms.specs.TermViews.{term_view, term_views}
+use Rattle.core_terms.specs.TermViews.{term_view}
 use Rattle.core_terms.specs.Reading.{IsWithin, term_of_name}
 use Rattle.core_terms.specs.Externing.{with_kind, ReadsKind}
 use Rattle.core_terms.proofs.Changing.{changes_one, view_at}
@@ -36,10 +37,6 @@ module _ (p : TermKindEntry → Bool) (g : TermKindEntry → TermKindEntry) (n :
           entry = term_view t;
           at = view_at old.terms.items id t t inside this;
           passes = sym free ∙ passes;
-          changes = record {
-            terms = ap term_views terms ∙ changes_one (with_kind g) old.terms.items id u d inside (changed ∙ ap (λ x. with_kind g (term_view x)) again);
-            term_map = term_map;
-            converters = converters;
-          };
+          changes = grind (arith, common_steps, changes_one (with_kind g) old.terms.items id u d inside (changed ∙ ap (λ x. with_kind g (term_view x)) again));
         },
       )

@@ -5,9 +5,10 @@ use Rattle.std.proofs.lemmas.List.{append_assoc, append-nil, at_drop_more, take_
 use Rattle.std.proofs.lemmas.List.Concat.{flat_map-append}
 use Rattle.std.proofs.lemmas.List.Elements.{Contains-append_left, filter_map-append}
 use Rattle.std.proofs.lemmas.Option.{same_Some, slice_get-get_or}
+use Rattle.std.proofs.lemmas.Grind.{common_steps}
 use Rattle.model.specs.lists.Names.{number, has_name, with_name, IsDistinct}
 use Rattle.model.specs.rules.Values.{field_types}
-use Rattle.model.specs.lists.Tables.{TypeEntry, FieldEntries, unit_entries, struct_entries, tuple_entries, TermEntry}
+use Rattle.model.specs.lists.Tables.{TypeEntry, FieldEntries, TermEntry}
 use Rattle.model.specs.lists.TermTable.{made_by, terms_made, variant_as_term}
 use Rattle.model.specs.claims.Environments.{TypesRead}
 use Rattle.model.proofs.Joined.{all_left, all_right}
@@ -37,13 +38,10 @@ use Rattle.core_terms.proofs.Declaring.{adds_term, place_member}
 use Rattle.core_terms.proofs.Finding.{at_number}
 
 pub types_of_fields : (fs : FieldEntries) → entry_field_types fs ≡ field_types fs
-types_of_fields unit_entries = refl
-types_of_fields (struct_entries fields) = refl
-types_of_fields (tuple_entries fields) = refl
+types_of_fields _ = refl
 
 pub none_mapped : {X Y : Type 0} (f : X → Y) (o : Option X) → is_some o ≡ false → option_map f o ≡ None
-none_mapped f None h = refl
-none_mapped f (Some x) h = absurd (cc)
+none_mapped f o h = grind (arith, common_steps)
 
 pub some_mapped : {X Y : Type 0} (f : X → Y) (o : Option X) → is_some o ≡ true → (y : Y) × (option_map f o ≡ Some y)
 some_mapped f None h = absurd (cc)
@@ -66,8 +64,7 @@ abbrev pub met_right : (e : TypesRead) (xs ys : List ℕ) → NumbersAreMet e (x
 met_right e xs ys m = all_right (λ n. n < length e.known.names) xs ys m
 
 pub grows_nothing : (a : TermTable) → GrowsBy [] [] a a
-grows_nothing a e met named fs env i m s =
-    subst (λ l. HoldsTerms e met l (fs ++ []) env a) (sym (append-nil named)) (subst (λ l. HoldsTerms e met named l env a) (sym (append-nil fs)) s)
+grows_nothing a e met named fs env i m s = grind (arith, common_steps, append-nil named, append-nil fs)
 
 pub grows_more : (xs ys : List ℕ) (gs hs : List (ℕ → TermEntry)) (a b c : TermTable) → GrowsBy xs gs a b → GrowsBy ys hs b c → GrowsBy (xs ++ ys) (gs ++ hs) a c
 grows_more xs ys gs hs a b c g h e met named fs env i m s =

@@ -1,5 +1,5 @@
 -- The steps of the search for recursion among templates.
-use Rattle.std.proofs.Common.{◌≡◌, ◌≢◌, ℕ, zero, suc, ◌+◌, ◌-◌, ◌<◌, ◌≤◌, true, false, List, [], ◌∷◌, ◌++◌, ◌⊎◌, length, get_or, map, take, slice_get, MatchOption, Option, None, Some, option_map, unwrap_or, All, Contains, Vec, refl, sym, ap, subst, ◌∙◌, eqb-true, arith, inl, inr, ⊎_elim}
+use Rattle.std.proofs.Common.{◌≡◌, ◌≢◌, ℕ, zero, suc, ◌+◌, ◌-◌, ◌<◌, ◌≤◌, true, false, List, [], ◌∷◌, ◌++◌, ◌⊎◌, length, get_or, map, take, slice_get, MatchOption, Option, None, Some, option_map, unwrap_or, All, Contains, Vec, refl, sym, ap, subst, ◌∙◌, arith, inl, inr, ⊎_elim}
 use Rattle.std.specs.List.{sum_by}
 use Rattle.std.specs.Option.{IfSome}
 use Rattle.std.specs.declared.alloc.Global.{Global}
@@ -10,6 +10,7 @@ use Rattle.std.proofs.lemmas.List.{length-set, length_push, take_all}
 use Rattle.std.proofs.lemmas.List.Elements.{All-cons, All-nil, All-push, All-contains, All-take, Contains-push_cases}
 use Rattle.std.proofs.lemmas.List.Sums.{sum_by-set}
 use Rattle.std.proofs.lemmas.Option.{same_Some, slice_get-map, slice_get-get_or, slice_get_within}
+use Rattle.std.proofs.lemmas.Grind.{common_steps}
 use Rattle.model.proofs.Mapped.{mapped_some}
 use Rattle.model.proofs.Members.{in_alone, in_cases, in_head, in_tail, member_from_get}
 use Rattle.core_types.specs.declared.ids.TermId.{TermId}
@@ -28,28 +29,20 @@ written [] t u x y h = absurd (cc)
 written (z ∷ zs) zero zero x y h = inl (refl, same_Some x y h)
 written (z ∷ zs) zero (suc u) x y h = inr (λ s. omega (arith, s), h)
 written (z ∷ zs) (suc t) zero x y h = inr (λ s. omega (arith, s), h)
-written (z ∷ zs) (suc t) (suc u) x y h =
-    elim (written zs t u x y h) [
-      | inl p ↦ inl (ap suc p.0, p.1)
-      | inr p ↦ inr (λ s. p.0 (omega (arith, s)), p.1)
-    ]
+written (z ∷ zs) (suc t) (suc u) x y h = grind (arith, common_steps, written zs t u x y h)
 
 get_at : {X : Type 0} (xs : List X) (t : ℕ) (x : X) → t < length xs → x ≡ get_or xs t x → slice_get xs t ≡ Some x
 get_at xs t x within here = slice_get-get_or xs t x within ∙ ap Some (sym here)
 
 -- where there is no value, nothing is made of it
 pub not_some : {X Y : Type 0} (f : X → Y) (o : Option X) (p : Option Y) → ((x : X) → o ≡ Some x → ⊥) → option_map f o ≡ p → p ≡ None
-not_some f None p none e = sym e
-not_some f (Some x) p none e = absurd (none x refl)
+not_some f o p none e = grind (arith, common_steps)
 
 -- a list with a last element is what stands before it, and it
 split_last : {X : Type 0} (xs : List X) (x : X) → slice_get xs (length xs - 1) ≡ Some x → xs ≡ take (length xs - 1) xs ++ x ∷ []
 split_last [] x h = absurd (cc)
 split_last (y ∷ []) x h = ap (λ z. z ∷ []) (same_Some y x h)
-split_last (y ∷ z ∷ zs) x h =
-    let e : length (y ∷ z ∷ zs) - 1 ≡ suc (length (z ∷ zs) - 1) = omega arith in
-    let rest = split_last (z ∷ zs) x (sym (ap (slice_get (y ∷ z ∷ zs)) e) ∙ h) in
-    ap (λ l. y ∷ l) rest ∙ ap (λ n. take n (y ∷ z ∷ zs) ++ x ∷ []) (sym e)
+split_last (y ∷ z ∷ zs) x h = grind (arith, common_steps, split_last (z ∷ zs) x)
 
 first_stays : {X : Type 0} (xs : List X) (x y : X) → slice_get xs 0 ≡ Some x → slice_get (xs ++ y ∷ []) 0 ≡ Some x
 first_stays [] x y h = absurd (cc)
@@ -90,14 +83,10 @@ same_root : (r : TermId) → is_on r.0 (Met r) ≡ true
 same_root r = (Decides-eqb r.0 r.0).1 refl
 
 on_is : (root : ℕ) (m : Mark) → is_on root m ≡ true → (by : TermId) × (m ≡ Met by) × (by.0 ≡ root)
-on_is root Unmet h = absurd (false≢true h)
-on_is root (Met by) h = (by, refl, eqb-true by.0 root h)
-on_is root Ends h = absurd (false≢true h)
+on_is root m h = grind arith
 
 end_is : (m : Mark) → is_end m ≡ true → m ≡ Ends
-end_is Unmet h = absurd (false≢true h)
-end_is (Met by) h = absurd (false≢true h)
-end_is Ends h = refl
+end_is m h = grind arith
 
 marked_on : (root : ℕ) (ms : List Mark) (t : ℕ) → slice_get (on_path root ms) t ≡ Some true → (m : Mark) × (slice_get ms t ≡ Some m) × (is_on root m ≡ true)
 marked_on root ms t h = mapped_some (is_on root) (slice_get ms t) true (sym (slice_get-map (is_on root) ms t) ∙ h)
@@ -106,9 +95,7 @@ on_marked : (root : ℕ) (ms : List Mark) (t : ℕ) (m : Mark) → slice_get ms 
 on_marked root ms t m h on = slice_get-map (is_on root) ms t ∙ ap (option_map (is_on root)) h ∙ ap Some on
 
 steps_ahead : (root : ℕ) (m : Mark) → is_on root m ≡ false → is_end m ≡ false → steps_of root m ≡ 2
-steps_ahead root Unmet off more = refl
-steps_ahead root (Met by) off more = rw off refl
-steps_ahead root Ends off more = absurd (false≢true (sym more))
+steps_ahead root m off more = grind arith
 
 steps_on : (r : TermId) → steps_of r.0 (Met r) ≡ 0
 steps_on r = rw (same_root r) refl
@@ -141,82 +128,36 @@ first_comes cs s (u ∷ us) t h = before_all cs h.0 (first_comes cs u us t h.1)
 -- each term of a chain is the last one, or comes to it
 comes_last : (cs : Callees) (ts : List TermId) (t : TermId) → IsChain cs (ts ++ t ∷ []) → (w : ℕ) → Contains (map (λ u. u.0) (ts ++ t ∷ [])) w → (w ≡ t.0) ⊎ Comes cs w t.0
 comes_last cs [] t h w c = inl (sym (in_alone t.0 w c))
-comes_last cs (s ∷ ss) t h w c =
-    elim (in_cases s.0 w (map (λ u. u.0) (ss ++ t ∷ [])) c) [
-      | inl e ↦ inr (subst (λ k. Comes cs k t.0) e (first_comes cs s ss t h))
-      | inr d ↦ comes_last cs ss t h.1 w d
-    ]
+comes_last cs (s ∷ ss) t h w c = grind (arith, common_steps, comes_last cs ss t h.1 w, in_cases s.0 w (map (λ u. u.0) (ss ++ t ∷ [])) c, first_comes cs s ss t h)
 
 -- uses that aren't known to end
 one_use_fewer : (vs : Callees) (ns : List ℕ) (t n : ℕ) (v : Vec TermId Global) → slice_get vs t ≡ Some v → slice_get ns t ≡ Some n → n < length v.items → uses_left vs (set ns t (n + 1)) + 1 ≡ uses_left vs ns
-one_use_fewer [] ns t n v h i l = absurd (cc)
-one_use_fewer (w ∷ vs) [] t n v h i l = absurd (cc)
-one_use_fewer (w ∷ vs) (m ∷ ns) zero n v h i l =
-    let size : length w.items ≡ length v.items = ap (λ (x : Vec TermId Global). length x.items) (same_Some w v h) in
-    let here : m ≡ n = same_Some m n i in
-    omega (arith, size, here, l)
 one_use_fewer (w ∷ vs) (m ∷ ns) (suc t) n v h i l = let r = one_use_fewer vs ns t n v h i l in omega (arith, r)
+one_use_fewer vs ns t n v h i l = grind (arith, same_Some)
 
 taken_more : (xs : List ℕ) (n u : ℕ) → slice_get xs n ≡ Some u → take (n + 1) xs ≡ take n xs ++ u ∷ []
-taken_more [] n u h = absurd (cc)
-taken_more (x ∷ xs) zero u h = ap (λ y. y ∷ []) (same_Some x u h)
 taken_more (x ∷ xs) (suc n) u h =
     let e : suc n + 1 ≡ suc (n + 1) = omega arith in
     ap (λ k. take k (x ∷ xs)) e ∙ ap (λ l. x ∷ l) (taken_more xs n u h)
+taken_more xs n u h = grind (arith, same_Some)
 
 past_all : {X : Type 0} (xs : List X) (n : ℕ) → slice_get xs n ≡ None → length xs ≤ n
-past_all [] n h = omega arith
-past_all (x ∷ xs) zero h = absurd (cc)
 past_all (x ∷ xs) (suc n) h = let r = past_all xs n h in omega (arith, r)
+past_all xs n h = grind arith
 
 -- findings
 findings_wider : (cs : Callees) (n : ℕ) (s : Search) → AreFindings cs n s → AreFindings cs (n + 1) s
-findings_wider cs n s f = record {
-  marks = record { count = f.marks.count; ends = f.marks.ends; roots_below = λ t by h. (let l = f.marks.roots_below t by h in omega (arith, l)) };
-  ended = f.ended;
-}
+findings_wider cs n s f = grind (arith, common_steps)
 
 met_marks : (cs : Callees) (root : TermId) (ms : List Mark) (t : ℕ) → AreMarks cs (root.0 + 1) ms → AreMarks cs (root.0 + 1) (set ms t (Met root))
-met_marks cs root ms t marks = record { count = length-set ms t (Met root) ∙ marks.count; ends = ends; roots_below = below }
-  where
-    ends : (u : ℕ) → slice_get (set ms t (Met root)) u ≡ Some Ends → HasEnd cs u
-    ends u h =
-        elim (written ms t u (Met root) Ends h) [
-          | inl p ↦ (let other : Met root ≡ Ends = p.1 in absurd (cc))
-          | inr p ↦ marks.ends u p.1
-        ]
-
-    below : (u : ℕ) (by : TermId) → slice_get (set ms t (Met root)) u ≡ Some (Met by) → by.0 < root.0 + 1
-    below u by h =
-        elim (written ms t u (Met root) (Met by) h) [
-          | inl p ↦ (let id : root.0 ≡ by.0 = ap (λ m. id_of (Some m)) p.1 in omega (arith, id))
-          | inr p ↦ marks.roots_below u by p.1
-        ]
+met_marks cs root ms t marks = grind (arith, common_steps, length-set ms t (Met root), set ms t (Met root), written ms t)
 
 ended_marks : (cs : Callees) (n : ℕ) (ms : List Mark) (t : ℕ) → HasEnd cs t → AreMarks cs n ms → AreMarks cs n (set ms t Ends)
-ended_marks cs n ms t end marks = record { count = length-set ms t Ends ∙ marks.count; ends = ends; roots_below = below }
-  where
-    ends : (u : ℕ) → slice_get (set ms t Ends) u ≡ Some Ends → HasEnd cs u
-    ends u h =
-        elim (written ms t u Ends Ends h) [
-          | inl p ↦ subst (HasEnd cs) (sym p.0) end
-          | inr p ↦ marks.ends u p.1
-        ]
-
-    below : (u : ℕ) (by : TermId) → slice_get (set ms t Ends) u ≡ Some (Met by) → by.0 < n
-    below u by h =
-        elim (written ms t u Ends (Met by) h) [
-          | inl p ↦ (let other : Ends ≡ Met by = p.1 in absurd (cc))
-          | inr p ↦ marks.roots_below u by p.1
-        ]
+ended_marks cs n ms t end marks = grind (arith, common_steps, length-set ms t Ends, set ms t Ends, written ms t)
 
 module _ (cs : Callees) (root : TermId) (s : Search) (findings : AreFindings cs root.0 s) (there : root.0 < length cs) where
   no_mark : (t : ℕ) (m : Mark) → slice_get s.marks.items t ≡ Some m → is_on root.0 m ≡ true → ⊥
-  no_mark t m h on =
-      let b = on_is root.0 m on in
-      let l = findings.marks.roots_below t b.0 (h ∙ ap Some b.1) in
-      let same = b.2 in
-      omega (arith, l, same)
+  no_mark t m h on = grind (arith, common_steps, on_is root.0 m on)
 
   -- the search begins
   pub begins : (old s' : Search) → old.marks.items ≡ s.marks.items → old.ended.items ≡ s.ended.items → old.path.items ≡ [] → Enters root root old s' → IsOnWay cs root s'
@@ -282,10 +223,7 @@ module _ (cs : Callees) (root : TermId) (s : Search) (way : IsOnWay cs root s) (
     pub goes_back : (s' : Search) → s'.marks.items ≡ set s.marks.items t.0 Ends → s'.ended.items ≡ s.ended.items → s'.path.items ≡ before → GoesOn cs root s s'
     goes_back s' marks_are same_ended path_left = record {
       way = record {
-        findings = record {
-          marks = subst (AreMarks cs (root.0 + 1)) (sym marks_are) (ended_marks cs (root.0 + 1) s.marks.items t.0 last_ends way.findings.marks);
-          ended = subst (AreEnded cs) (sym same_ended) way.findings.ended;
-        };
+        findings = grind (arith, common_steps, ended_marks cs (root.0 + 1) s.marks.items t.0 last_ends way.findings.marks);
         within = subst (All (λ (u : TermId). u.0 < length cs)) (sym path_left) (All-take (λ (u : TermId). u.0 < length cs) (length path - 1) path way.within);
         chain = subst (IsChain cs) (sym path_left) (chain_shorter cs before t (subst (IsChain cs) path_is way.chain));
         marked = marked;
@@ -384,20 +322,12 @@ module _ (cs : Callees) (root : TermId) (s : Search) (way : IsOnWay cs root s) (
                   (Contains-push_cases (take ended (callees_of cs t.0)) u.0 x d)
 
           fewer : steps_left cs root s' < steps_left cs root s
-          fewer =
-              let uses = one_use_fewer cs s.ended.items t.0 ended row.0 row.1 ended_at row.2 in
-              let uses' : uses_left cs s'.ended.items ≡ uses_left cs (set s.ended.items t.0 (ended + 1)) = ap (uses_left cs) ended_are in
-              let walks : sum_by (steps_of root.0) s'.marks.items ≡ sum_by (steps_of root.0) s.marks.items = ap (sum_by (steps_of root.0)) same_marks in
-              let size : length s'.path.items ≡ length path = ap length same_path in
-              omega (arith, uses, uses', walks, size)
+          fewer = grind (arith, common_steps, one_use_fewer cs s.ended.items t.0 ended row.0 row.1 ended_at row.2, set s.ended.items t.0 (ended + 1))
 
       -- it stands on the path
       pub comes_back : is_on root.0 mark ≡ true → (s' : Search) → s'.marks.items ≡ s.marks.items → s'.ended.items ≡ s.ended.items → s'.path.items ≡ path ++ u ∷ [] → IsWayBack cs root s' u
       comes_back on s' same_marks same_ended path_more = record {
-        findings = record {
-          marks = subst (AreMarks cs (root.0 + 1)) (sym same_marks) way.findings.marks;
-          ended = subst (AreEnded cs) (sym same_ended) way.findings.ended;
-        };
+        findings = grind (arith, common_steps);
         within = longer_within s' path_more;
         there = callee_there;
         comes = ⊎_elim
@@ -411,10 +341,7 @@ module _ (cs : Callees) (root : TermId) (s : Search) (way : IsOnWay cs root s) (
       pub goes_deeper : is_on root.0 mark ≡ false → is_end mark ≡ false → (s' : Search) → Enters root u s s' → GoesOn cs root s s'
       goes_deeper off more s' enters = record {
         way = record {
-          findings = record {
-            marks = subst (AreMarks cs (root.0 + 1)) (sym enters.marks) (met_marks cs root s.marks.items u.0 way.findings.marks);
-            ended = subst (AreEnded cs) (sym enters.ended) way.findings.ended;
-          };
+          findings = grind (arith, common_steps, met_marks cs root s.marks.items u.0 way.findings.marks);
           within = longer_within s' enters.path;
           chain = subst (IsChain cs) (sym (enters.path ∙ ap (λ l. l ++ u ∷ []) path_is)) (chain_longer cs before t u named (subst (IsChain cs) path_is way.chain));
           marked = marked;

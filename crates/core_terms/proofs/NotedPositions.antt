@@ -1,15 +1,15 @@
 -- Errors that stand at the positions of a definition or at those that a table keeps, and the positions that a table keeps
 -- after a step.
-use Rattle.std.proofs.Common.{◌≡◌, ◌⊎◌, ℕ, zero, suc, ◌<◌, Option, Some, None, Bor, OnOk, Result, Ok, Err, List, [], ◌∷◌, ◌++◌, Contains, length, get_or, map, slice_get, refl, sym, ap, subst, ◌∙◌, inl, inr}
+use Rattle.std.proofs.Common.{◌≡◌, ◌⊎◌, ℕ, zero, suc, ◌<◌, Option, Some, Bor, OnOk, Result, List, [], ◌∷◌, ◌++◌, Contains, length, get_or, map, slice_get, refl, sym, ap, subst, ◌∙◌, inl, inr, arith}
 use Rattle.std.proofs.Math.ListN.{set}
 use Rattle.std.proofs.lemmas.List.{map-append}
-use Rattle.std.proofs.lemmas.Option.{same_Some}
 use Rattle.std.proofs.lemmas.Result.{on_ok_weaker}
 use Rattle.std.proofs.lemmas.Simd.{map-map}
 use Rattle.std.proofs.lemmas.List.Concat.{flat_map-append}
 use Rattle.std.proofs.lemmas.List.Elements.{Contains-append_left, Contains-append_right, Contains-get_or}
+use Rattle.std.proofs.lemmas.Grind.{common_steps}
 use Rattle.model.specs.lists.Syntax.{Position, Name, PatternTree, PatternTrees, var_pattern, bind_pattern, bool_pattern, int_pattern, prim_pattern, term_pattern, wildcard_pattern, and_pattern, macro_arg, no_pattern, pattern_and, ConverterTree, DeclTree, ExtractorTree}
-use Rattle.model.specs.lists.Tables.{VariantEntry, ConstructorEntry, ExtractorEntry, internal_extractor, external_extractor, TermKindEntry, variant_term, struct_term, declared_term, TermEntry}
+use Rattle.model.specs.lists.Tables.{VariantEntry, ConstructorEntry, ExtractorEntry, TermKindEntry, TermEntry}
 use Rattle.model.specs.lists.TermTable.{variant_as_term, argument_or, binding_or, template, templates, extractor_template, terms_of, terms_of_all}
 use Rattle.model.proofs.Members.{in_head, in_tail, in_cases, in_map, in_flat_map, from_map, from_flat_map, member_from_get}
 use Rattle.core_syntax.specs.declared.syntax.Def.{Def}
@@ -29,7 +29,7 @@ use Rattle.core_terms.specs.declared.term_table.TermTable.{TermTable}
 use Rattle.core_terms.specs.Externing.{made_by_this, taken_by_this, with_kind}
 use Rattle.core_terms.specs.Reading.{internal_entry, internal_kind}
 use Rattle.core_terms.specs.Signing.{PushesTerm}
-use Rattle.core_terms.specs.TermPositions.{taken_positions, taker_template, template_place, variants_positions, argument_places, argument_places_all, entry_positions, kind_positions, table_positions, taker_positions, terms_positions, IsPlacedAmong}
+use Rattle.core_terms.specs.TermPositions.{template_place, variants_positions, argument_places, argument_places_all, entry_positions, kind_positions, table_positions, taker_positions, terms_positions, IsPlacedAmong}
 use Rattle.core_types.specs.TypePositions.{entry_positions as type_entry_positions, types_positions}
 use Rattle.core_terms.specs.TermViews.{term_view, term_views}
 
@@ -105,9 +105,7 @@ result_in_declaration d = among_one d.ret_ty.at (declaration_positions d) (in_ta
 
 -- those of one term are among those of its table
 pub entry_among : (ts : List Term) (i : ℕ) (t : Term) → i < length ts → t ≡ get_or ts i t → OccurAmong (entry_positions (term_view t)) (terms_positions (term_views ts))
-entry_among ts i t within here =
-    let member : Contains ts t = subst (Contains ts) (sym here) (Contains-get_or ts i t within) in
-    among_each entry_positions (term_views ts) (term_view t) (in_map term_view ts t member)
+entry_among ts i t within here = grind (arith, common_steps, among_each entry_positions (term_views ts) (term_view t), in_map term_view ts t)
 
 -- a term is added
 pub placed_push : (old new : TermTable) (e : TermEntry) (ps : List Position) → term_views new.terms.items ≡ term_views old.terms.items ++ e ∷ [] → OccurAmong (entry_positions e) ps → IsPlacedAmong (ps ++ table_positions old) new
@@ -122,11 +120,7 @@ placed_push old new e ps terms a =
 member_set : (ts : List Term) (k : ℕ) (t x : Term) → Contains (set ts k t) x → (t ≡ x) ⊎ Contains ts x
 member_set [] k t x c = inr c
 member_set (y ∷ ys) zero t x c = elim (in_cases t x ys c) [ inl e ↦ inl e | inr d ↦ inr (in_tail y x ys d) ]
-member_set (y ∷ ys) (suc k) t x c =
-    elim (in_cases y x (set ys k t) c) [
-      | inl e ↦ inr (subst (Contains (y ∷ ys)) e (in_head y ys))
-      | inr d ↦ elim (member_set ys k t x d) [ inl e ↦ inl e | inr m ↦ inr (in_tail y x ys m) ]
-    ]
+member_set (y ∷ ys) (suc k) t x c = grind (arith, common_steps, member_set ys k t x, in_cases y x (set ys k t) c, set ys k t, in_head y ys, in_tail y x ys)
 
 -- a term is changed
 pub set_among : (ts : List Term) (k : ℕ) (t d : Term) (ps : List Position) → k < length ts → d ≡ get_or ts k d → OccurAmong (entry_positions (term_view t)) (ps ++ entry_positions (term_view d))
@@ -146,9 +140,7 @@ set_among ts k t d ps within here a p c =
 
 pub placed_set : (old new : TermTable) (k : ℕ) (t d : Term) (ps : List Position) → k < length old.terms.items → d ≡ get_or old.terms.items k d → new.terms.items ≡ set old.terms.items k t
     → OccurAmong (entry_positions (term_view t)) (ps ++ entry_positions (term_view d)) → IsPlacedAmong (ps ++ table_positions old) new
-placed_set old new k t d ps within here is a = record {
-  each = subst (λ ts. OccurAmong (terms_positions (term_views ts)) (ps ++ table_positions old)) (sym is) (set_among old.terms.items k t d ps within here a);
-}
+placed_set old new k t d ps within here is a = grind (arith, common_steps, set_among old.terms.items k t d ps within here a)
 
 -- one name after another, each with its place
 pub next_place : {X : Type 0} (f : X → Position) (xs : List X) (i : ℕ) (x : X) → i < length xs → x ≡ get_or xs i x → (es mid es' : List Error) → NotesAt (f x ∷ []) mid es' → NotesAt (map f xs) es mid → NotesAt (map f xs) es es'
@@ -158,9 +150,7 @@ next_place f xs i x within here es mid es' second first =
 
 -- one type after another
 pub type_among : (types : List T.Type) (i : ℕ) (t : T.Type) → i < length types → t ≡ get_or types i t → OccurAmong (type_entry_positions (type_view t)) (types_positions (type_views types))
-type_among types i t within here =
-    let member : Contains types t = subst (Contains types) (sym here) (Contains-get_or types i t within) in
-    among_each type_entry_positions (type_views types) (type_view t) (in_map type_view types t member)
+type_among types i t within here = grind (arith, common_steps, among_each type_entry_positions (type_views types) (type_view t), in_map type_view types t)
 
 pub type_noted : (types : List T.Type) (i : ℕ) (t : T.Type) → i < length types → t ≡ get_or types i t → (es mid es' : List Error) → NotesAt (type_entry_positions (type_view t)) mid es' → NotesAt (types_positions (type_views types)) es mid → NotesAt (types_positions (type_views types)) es es'
 type_noted types i t within here es mid es' second first =
@@ -182,19 +172,13 @@ variant_placed ty vs i v within here rest table table' pushes first =
 
 -- what a change of a kind keeps
 internal_same : (k : TermKindEntry) → kind_positions (internal_kind k) ≡ kind_positions k
-internal_same (variant_term variant) = refl
-internal_same struct_term = refl
-internal_same (declared_term flags constructor_kind extractor_kind) = refl
+internal_same k = grind (arith, common_steps)
 
 made_same : (c : ConstructorEntry) (k : TermKindEntry) → kind_positions (made_by_this c k) ≡ kind_positions k
-made_same c (variant_term variant) = refl
-made_same c struct_term = refl
-made_same c (declared_term flags constructor_kind extractor_kind) = refl
+made_same c k = grind (arith, common_steps)
 
 taken_among : (x : ExtractorEntry) (k : TermKindEntry) → OccurAmong (kind_positions (taken_by_this x k)) (taker_positions x)
-taken_among x (variant_term variant) = among_none (taker_positions x)
-taken_among x struct_term = among_none (taker_positions x)
-taken_among x (declared_term flags constructor_kind extractor_kind) = among_same (taker_positions x)
+taken_among x k = grind (arith, among_none)
 
 pub internal_among : (new old : TermEntry) → new ≡ internal_entry old → OccurAmong (entry_positions new) (entry_positions old)
 internal_among new old is = among_as (entry_positions old) (entry_positions new) (entry_positions old) (ap (λ ps. old.at ∷ ps) (sym (internal_same old.kind)) ∙ ap entry_positions (sym is)) (among_same (entry_positions old))
@@ -211,19 +195,10 @@ taken_entry_among x new old ps a is =
 
 -- a template stands where its pattern does
 argument_among : (o : Option ℕ) (at : Position) (p : PatternTree) (qs : List Position) → Contains qs at → OccurAmong (pattern_positions p) qs → OccurAmong (pattern_positions (argument_or o at p)) qs
-argument_among None at p qs here a = a
-argument_among (Some i) at p qs here a = among_one at qs here
+argument_among o at p qs here a = grind (arith, common_steps)
 
 binding_among : (o : Option ℕ) (name : Name) (q : PatternTree) (at : Position) → OccurAmong (pattern_positions (binding_or o name q at)) (at ∷ name.at ∷ pattern_positions q)
-binding_among o name (wildcard_pattern w) at = argument_among o at (bind_pattern name (wildcard_pattern w) at) (at ∷ name.at ∷ w ∷ []) (in_head at (name.at ∷ w ∷ [])) (among_same (at ∷ name.at ∷ w ∷ []))
-binding_among o name (var_pattern n w) at = among_same (at ∷ name.at ∷ w ∷ n.at ∷ [])
-binding_among o name (bind_pattern n q w) at = among_same (at ∷ name.at ∷ w ∷ n.at ∷ pattern_positions q)
-binding_among o name (bool_pattern b w) at = among_same (at ∷ name.at ∷ w ∷ [])
-binding_among o name (int_pattern z w) at = among_same (at ∷ name.at ∷ w ∷ [])
-binding_among o name (prim_pattern n w) at = among_same (at ∷ name.at ∷ w ∷ n.at ∷ [])
-binding_among o name (term_pattern term ps w) at = among_same (at ∷ name.at ∷ w ∷ term.at ∷ patterns_positions ps)
-binding_among o name (and_pattern ps w) at = among_same (at ∷ name.at ∷ w ∷ patterns_positions ps)
-binding_among o name (macro_arg i w) at = among_same (at ∷ name.at ∷ w ∷ [])
+binding_among o name q at = grind (arith, argument_among, in_head, among_same)
 
 mutual
   pub template_among : (args : List (List ℕ)) (p : PatternTree) → OccurAmong (pattern_positions (template args p)) (pattern_positions p)
@@ -375,16 +350,8 @@ root_there (wildcard_pattern at) = in_head at []
 root_there (and_pattern ps at) = in_head at (patterns_positions ps)
 root_there (macro_arg i at) = in_head at []
 
--- a term keeps where the root of its template stands
-taker_keeps : (x : Option ExtractorEntry) (q : Position) → taker_template x ≡ Some q → Contains (taken_positions x) q
-taker_keeps None q e = absurd (cc)
-taker_keeps (Some (internal_extractor template)) q e = subst (Contains (pattern_positions template)) (same_Some (pattern_position template) q e) (root_there template)
-taker_keeps (Some (external_extractor name infallible at)) q e = absurd (cc)
-
 template_kept : (k : TermKindEntry) (q : Position) → template_place k ≡ Some q → Contains (kind_positions k) q
-template_kept (variant_term variant) q e = absurd (cc)
-template_kept struct_term q e = absurd (cc)
-template_kept (declared_term flags constructor_kind extractor_kind) q e = taker_keeps extractor_kind q e
+template_kept k q e = grind arith
 
 pub template_there : (table : TermTable) (i : ℕ) (t : Term) → i < length table.terms.items → t ≡ get_or table.terms.items i t → (q : Position) → template_place (term_view t).kind ≡ Some q → OccurAmong (q ∷ []) (table_positions table)
 template_there table i t within here q e =
@@ -392,13 +359,11 @@ template_there table i t within here q e =
 
 -- whatever a call answers, a table that it left stands where it stood
 pub placed_still : {R E : Type 0} (r : Result R E) (old new : TermTable) (ps : List Position) → new.terms ≡ old.terms → OnOk r (IsPlacedAmong (ps ++ table_positions old) new)
-placed_still (Ok x) old new ps same = placed_same old new ps same
-placed_still (Err e) old new ps same = tt
+placed_still r old new ps same = grind (arith, common_steps, placed_same old new ps same)
 
 -- what was noted before a call that notes nothing
 pub noted_before : {R E : Type 0} (r : Result R E) (ps : List Position) (old new : List Error) → NotesAt ps old new → OnOk r (NotesAt ps old new)
-noted_before (Ok x) ps old new n = n
-noted_before (Err e) ps old new n = tt
+noted_before r ps old new n = grind (arith, common_steps)
 
 -- an extractor that a term has already, or a term that can't have one
 pub entry_taken : (at : Position) (e : TermEntry) (qs : List Position) (old new : List Error) → NotesAt (at ∷ qs) old new → kind_positions e.kind ≡ qs → NotesAt (at ∷ entry_positions e) old new

@@ -1,10 +1,10 @@
 -- What is found while all terms stand, and how they stand after one of them is changed or a name is met.
-use Rattle.std.proofs.Common.{◌≡◌, ℕ, ◌+◌, true, false, List, [], ◌∷◌, ◌++◌, length, slice_get, Option, None, Some, cond, suc, ◌⊎◌, option_map, refl, sym, ap, ◌∙◌, arith, inl, inr}
+use Rattle.std.proofs.Common.{◌≡◌, ℕ, true, false, List, [], ◌∷◌, ◌++◌, length, slice_get, Option, None, Some, suc, ◌⊎◌, option_map, refl, sym, ap, ◌∙◌, arith, inl, inr}
 use Rattle.std.specs.List.{filter_map, flat_map}
 use Rattle.std.specs.Str.{bytes_eq}
-use Rattle.std.proofs.lemmas.Bool.{false≢true}
 use Rattle.std.proofs.lemmas.List.{length-map}
 use Rattle.std.proofs.lemmas.Option.{same_Some, slice_get_within, slice_get-map}
+use Rattle.std.proofs.lemmas.Grind.{common_steps}
 use Rattle.model.specs.lists.Syntax.{Name, DeclTree, Definition}
 use Rattle.model.specs.lists.Names.{with_name}
 use Rattle.model.specs.lists.Tables.{ConstructorEntry, ExtractorEntry, TermEntry}
@@ -28,11 +28,7 @@ use Rattle.core_terms.proofs.Making.{distinct_left}
 
 pub no_place : (n : ℕ) (x : List ℕ) (xs ys : List (List ℕ)) → place_from n x (xs ++ ys) ≡ None → place_from n x xs ≡ None
 no_place n x [] ys h = refl
-no_place n x (y ∷ xs) ys h =
-    elim (bytes_eq y x) as (λ b. cond b (Some n) (place_from (suc n) x (xs ++ ys)) ≡ None → cond b (Some n) (place_from (suc n) x xs) ≡ None) [
-      | true ↦ λ g. g
-      | false ↦ λ g. no_place (suc n) x xs ys g
-    ] h
+no_place n x (y ∷ xs) ys h = grind (arith, common_steps, no_place (suc n) x xs ys)
 
 -- what is found by a name while all terms stand
 module _ (e : TypesRead) (defs : List Definition) (met : List (List ℕ)) (made : List ℕ → Option ConstructorEntry) (taken : List ℕ → Option ExtractorEntry) (env : TypeEnv) (table : TermTable) (i : IsInterned env) (s : Stand e defs met made taken env table) where
@@ -56,25 +52,17 @@ module _ (e : TypesRead) (defs : List Definition) (met : List (List ℕ)) (made 
         | inl p ↦
             let here = place_at 0 id n.text (decl_names defs) id (omega arith) p in
             elim entry [
-              | inl q ↦
-                  let text : Some q.0.term.text ≡ Some n.text = sym (ap (option_map (λ d. d.term.text)) q.1) ∙ sym (slice_get-map (λ d. d.term.text) (decl_trees defs) id) ∙ here in
-                  let k : 0 + id ≡ id = omega arith in
-                  inl (q.0, q.1, same_Some q.0.term.text n.text text, p, q.2 ∙ ap (entry_so_far q.0) k)
+              | inl q ↦ grind (arith, common_steps, slice_get-map (λ d. d.term.text) (decl_trees defs) id, same_Some q.0.term.text n.text)
               | inr q ↦ let within = slice_get_within (decl_names defs) id n.text here in let past = q.0 in absurd (omega (arith, within, size, past))
             ]
-        | inr p ↦ elim entry [
-          | inl q ↦ let within = slice_get_within (decl_trees defs) id q.0 q.1 in let past = p.1 in absurd (omega (arith, within, size, past))
-          | inr q ↦ inr (p.0, q.1)
-        ]
+        | inr p ↦ grind (arith, common_steps, slice_get_within (decl_trees defs) id)
       ]
 
   pub declared_found : (n : Name) (id : ℕ) (t : TermEntry) → term_of_name env table n ≡ Some id → slice_get (term_views table.terms.items) id ≡ Some t → is_declared_kind t.kind ≡ true → term_id defs n.text ≡ Some id
-  declared_found n id t found at declared =
-      elim (entry_found n id t found at) [ inl q ↦ q.3 | inr q ↦ absurd (false≢true (sym q.1 ∙ declared)) ]
+  declared_found n id t found at declared = grind (arith, common_steps, entry_found n id t found at)
 
   pub made_found : (n : Name) (id : ℕ) (t : TermEntry) → term_of_name env table n ≡ Some id → slice_get (term_views table.terms.items) id ≡ Some t → is_declared_kind t.kind ≡ false → term_id defs n.text ≡ None
-  made_found n id t found at other =
-      elim (entry_found n id t found at) [ inl q ↦ absurd (false≢true (sym other ∙ ap (λ (u : TermEntry). is_declared_kind u.kind) q.4)) | inr q ↦ q.0 ]
+  made_found n id t found at other = grind (arith, common_steps, entry_found n id t found at)
 
   -- a name that is no term's is no declared one's
   pub nothing_found : (n : Name) → term_of_name env table n ≡ None → term_id defs n.text ≡ None

@@ -1,20 +1,19 @@
 -- What the search for recursion among templates says of a list of definitions.
-use Rattle.std.proofs.Common.{◌≡◌, ◌==◌, ℕ, zero, suc, ◌+◌, ◌<◌, Bool, true, false, cond, List, [], ◌∷◌, ◌⊎◌, length, map, slice_get, Option, None, Some, is_some, option_map, Contains, Vec, refl, sym, ap, subst, ◌∙◌, eqb-true, arith, inl, inr, ⊎_elim}
-use Rattle.std.specs.List.{find, filter_map, flat_map, position_from}
+use Rattle.std.proofs.Common.{◌≡◌, ℕ, zero, suc, ◌+◌, ◌<◌, Bool, true, false, cond, List, [], ◌∷◌, ◌⊎◌, length, map, slice_get, Option, None, Some, is_some, option_map, Contains, Vec, refl, sym, ap, subst, ◌∙◌, arith, inl, inr, ⊎_elim}
+use Rattle.std.specs.List.{find, filter_map, flat_map}
 use Rattle.std.specs.Str.{bytes_eq}
 use Rattle.std.specs.declared.alloc.Global.{Global}
 use Rattle.std.proofs.lemmas.Bool.{false≢true}
-use Rattle.std.proofs.lemmas.Bool.Decides.{Decides-eqb}
 use Rattle.std.proofs.lemmas.List.Elements.{All-nil, All-contains}
 use Rattle.std.proofs.lemmas.Option.{same_Some}
-use Rattle.model.specs.lists.Syntax.{Position, Name, PatternTree, var_pattern, bind_pattern, bool_pattern, int_pattern, prim_pattern, term_pattern, wildcard_pattern, and_pattern, macro_arg, ExtractorTree, Definition}
+use Rattle.std.proofs.lemmas.Grind.{common_steps}
+use Rattle.model.specs.lists.Syntax.{Position, Name, PatternTree, ExtractorTree, Definition}
 use Rattle.model.specs.lists.Tables.{ConstructorEntry, ExtractorEntry, internal_extractor, declared_term, TermEntry, Flags}
-use Rattle.model.specs.lists.TermTable.{argument_or, binding_or, decl_flags, decl_names, rule_trees, template, extractor_trees, extractor_template, terms_in, term_names, term_named, made_by, IsDeclaredTerm, IsKnownTerm, NamesKnownTerms, Uses, Reaches, directly, through, IsAcyclic}
+use Rattle.model.specs.lists.TermTable.{argument_or, decl_flags, decl_names, rule_trees, template, extractor_trees, extractor_template, terms_in, term_names, term_named, made_by, IsDeclaredTerm, IsKnownTerm, NamesKnownTerms, Uses, Reaches, directly, through, IsAcyclic}
 use Rattle.model.specs.claims.Environments.{TypesRead, AreReadable, IsLeftByRefusal}
 use Rattle.model.proofs.Bytes.{same_bytes, same_self}
 use Rattle.model.proofs.Members.{in_cases, in_head, in_tail, in_map, from_map}
 use Rattle.core_syntax.specs.declared.syntax.Error.{Error}
-use Rattle.core_syntax.specs.NotedErrors.{NotesMore}
 use Rattle.core_syntax.specs.Patterns.{pattern_position}
 use Rattle.core_types.specs.declared.ids.TermId.{TermId}
 use Rattle.core_types.specs.declared.type_env.TypeEnv.{TypeEnv}
@@ -63,21 +62,10 @@ back_calls cs c = let r = first_call cs c in (r.0, r.1)
 
 -- one more root
 next_ends : (table : TermTable) (cs : Callees) (n : ℕ) → EndsBelow table cs n → (HaveTemplates table cs → HasEnd cs n) → EndsBelow table cs (n + 1)
-next_ends table cs n below here h t l =
-    elim (t == n) as (λ b. (t == n) ≡ b → HasEnd cs t) [
-      | true ↦ λ e. subst (HasEnd cs) (sym (eqb-true t n e)) (here h)
-      | false ↦ λ e. below h t (other_below t n l e)
-    ] refl
-  where
-    other_below : (t n : ℕ) → t < n + 1 → (t == n) ≡ false → t < n
-    other_below t n l e = let d : (t ≡ n → ⊥) = λ s. false≢true (sym e ∙ (Decides-eqb t n).1 s) in omega (arith, l, d)
+next_ends table cs n below here h t l = grind (arith, common_steps)
 
 pub next_root_ends : (table : TermTable) (cs : Callees) (n : ℕ) (first es es' : List Error) → NotesIfWrong es es' (HaveTemplates table cs → HasEnd cs n) (NotesReturn table cs es es') → NotesIfWrong first es (EndsBelow table cs n) (NotesReturn table cs first es) → NotesIfWrong first es' (EndsBelow table cs (n + 1)) (NotesReturn table cs first es')
-next_root_ends table cs n first es es' (inl a) (inl s) = inl (a.0 ∙ s.0, next_ends table cs n s.1 a.1)
-next_root_ends table cs n first es es' (inl a) (inr s) = inr (subst (NotesMore first) (sym a.0) s.0, subst (NotesReturn table cs first) (sym a.0) s.1)
-next_root_ends table cs n first es es' (inr a) (inl s) = inr (subst (λ l. NotesMore l es') s.0 a.0, subst (λ l. NotesReturn table cs l es') s.0 a.1)
-next_root_ends table cs n first es es' (inr a) (inr s) =
-    inr (both first es es' s.0 a.0, record { at = s.1.at; back = s.1.back; begins = begins_before (s.1.at ∷ []) first es es' s.0 s.1.begins (inr a.0) })
+next_root_ends table cs n first es es' h k = grind (arith, common_steps, next_ends table cs n, both first es es', begins_before)
 
 -- what calls are, by names
 module _ (e : TypesRead) (defs : List Definition) (cs : Callees) (r : AreRightExtractors e defs (extractor_trees defs)) (c : CallsAreOf e defs (extractor_trees defs) cs) where
@@ -85,8 +73,7 @@ module _ (e : TypesRead) (defs : List Definition) (cs : Callees) (r : AreRightEx
   named = term_named e.known defs
 
   some_id : (o : Option ℕ) → is_some o ≡ true → (i : ℕ) × (o ≡ Some i)
-  some_id None h = absurd (false≢true h)
-  some_id (Some i) h = (i, refl)
+  some_id o h = grind (arith, common_steps)
 
   declared_named : (n : Name) → IsDeclaredTerm defs n → (i : ℕ) × (named n.text ≡ Some i)
   declared_named n d = elim (named n.text) as (λ o. named n.text ≡ o → (i : ℕ) × (o ≡ Some i)) [
@@ -108,11 +95,7 @@ module _ (e : TypesRead) (defs : List Definition) (cs : Callees) (r : AreRightEx
 
   reaches_comes : {t u : List ℕ} → Reaches defs t u → (i j : ℕ) × (named t ≡ Some i) × (named u ≡ Some j) × Comes cs i j
   reaches_comes {t} {u} (directly x) = let k = uses_call t u x in (k.0, k.1, k.2, k.3, by_one k.4)
-  reaches_comes {t} {u} (through {u = m} x y) =
-      let k = uses_call t m x in
-      let l = reaches_comes y in
-      let same : k.1 ≡ l.0 = same_Some k.1 l.0 (sym k.3 ∙ l.2) in
-      (k.0, l.1, k.2, l.3, before_all k.4 (subst (λ m. Comes cs m l.1) (sym same) l.4))
+  reaches_comes {t} {u} (through {u = m} x y) = grind (arith, common_steps, reaches_comes y, uses_call t m x, same_Some, before_all)
 
   ends_acyclic : ((t : ℕ) → t < length cs → HasEnd cs t) → IsAcyclic defs
   ends_acyclic ends t y =
@@ -156,30 +139,10 @@ module _ (e : TypesRead) (defs : List Definition) (cs : Callees) (r : AreRightEx
 
 -- a template stands where its pattern does
 argument_position : (o : Option ℕ) (at : Position) (p : PatternTree) → pattern_position p ≡ at → pattern_position (argument_or o at p) ≡ at
-argument_position None at p h = h
-argument_position (Some i) at p h = refl
-
-binding_position : (o : Option ℕ) (name : Name) (p : PatternTree) (at : Position) → pattern_position (binding_or o name p at) ≡ at
-binding_position o name (wildcard_pattern w) at = argument_position o at (bind_pattern name (wildcard_pattern w) at) refl
-binding_position o name (var_pattern v q) at = refl
-binding_position o name (bind_pattern v p q) at = refl
-binding_position o name (bool_pattern b q) at = refl
-binding_position o name (int_pattern z q) at = refl
-binding_position o name (prim_pattern v q) at = refl
-binding_position o name (term_pattern v ps q) at = refl
-binding_position o name (and_pattern ps q) at = refl
-binding_position o name (macro_arg i q) at = refl
+argument_position o at p h = grind (arith, common_steps)
 
 template_position : (args : List (List ℕ)) (p : PatternTree) → pattern_position (template args p) ≡ pattern_position p
-template_position args (var_pattern name at) = argument_position (position_from (bytes_eq name.text) 0 args) at (var_pattern name at) refl
-template_position args (bind_pattern name p at) = binding_position (position_from (bytes_eq name.text) 0 args) name (template args p) at
-template_position args (bool_pattern b at) = refl
-template_position args (int_pattern z at) = refl
-template_position args (prim_pattern name at) = refl
-template_position args (term_pattern term ps at) = refl
-template_position args (wildcard_pattern at) = refl
-template_position args (and_pattern ps at) = refl
-template_position args (macro_arg i at) = refl
+template_position args p = grind (arith, argument_position)
 
 -- the extractor whose pattern stands where the template of a term does
 template_at : (es : List ExtractorTree) (x : List ℕ) (at : Position) → taker_template (template_after es x) ≡ Some at → (y : ExtractorTree) × Contains es y × (y.term.text ≡ x) × (pattern_position y.template ≡ at)
@@ -254,5 +217,4 @@ searched e readable defs cs env table es es' b a s =
     (λ h r. return_broken e readable defs cs env table es es' s.left h.1 r) s
 
 pub no_some : {X : Type 0} (o : Option X) → ((x : X) → o ≡ Some x → ⊥) → is_some o ≡ true → ⊥
-no_some None h e = false≢true e
-no_some (Some x) h e = h x refl
+no_some o h e = grind (arith, common_steps)

@@ -1,9 +1,10 @@
 -- Reading which terms the rules are of, by types that are handed in, one definition after another.
-use Rattle.std.proofs.Common.{◌≡◌, ℕ, ◌+◌, ◌<◌, false, List, [], ◌∷◌, ◌++◌, length, take, drop, get_or, Option, None, Some, ◌⊎◌, is_some, All, refl, sym, ap, subst, ◌∙◌, inl, inr}
+use Rattle.std.proofs.Common.{◌≡◌, ℕ, ◌+◌, ◌<◌, false, List, [], ◌∷◌, ◌++◌, length, take, drop, get_or, Option, None, Some, ◌⊎◌, is_some, All, refl, sym, ap, subst, ◌∙◌, inl, inr, arith}
 use Rattle.std.proofs.lemmas.Bool.{false≢true}
 use Rattle.std.proofs.lemmas.List.{append-nil}
 use Rattle.std.proofs.lemmas.List.Concat.{flat_map-append}
 use Rattle.std.proofs.lemmas.List.Elements.{All-push}
+use Rattle.std.proofs.lemmas.Grind.{common_steps}
 use Rattle.model.specs.lists.Syntax.{Name, RuleTree, Definition, type_definition, declaration, extractor_definition, converter_definition, rule_definition, extern_definition, other_definition}
 use Rattle.model.specs.rules.Outcome.{then_option}
 use Rattle.model.specs.lists.Tables.{ConstructorEntry, ExtractorEntry, declared_term}
@@ -61,8 +62,7 @@ module _ (e : TypesRead) (defs read rest : List Definition) (r : RuleTree) (whol
       }
 
   unrooted : (o : Option Name) → then_option o (term_of_name env old) ≡ None → is_declared defs o ≡ false
-  unrooted None h = refl
-  unrooted (Some n) h = ap is_some (nothing_found e defs (decl_names defs) before nothing env old interned s.stand n h)
+  unrooted o h = grind (arith, common_steps, nothing_found e defs (decl_names defs) before nothing env old interned s.stand)
 
   pub rule_unrooted : (root_term_id env old r ≡ None) ⊎ IsOfMade r env old → HasDeclaredRoot defs r → ⊥
   rule_unrooted (inl none) rooted = false≢true (sym (unrooted (root_name r.pattern) none) ∙ rooted)
@@ -76,11 +76,7 @@ module _ (e : TypesRead) (readable : AreReadable e) (defs read rest : List Defin
   other : (d : Definition) → rule_of d ≡ [] → (es' ≡ es) × (table' ≡ table) → ReadsTerms e of_definitions defs (RootsRead e defs read) env table es → ReadsTerms e of_definitions defs (RootsRead e defs (read ++ d ∷ [])) env table' es'
   other d none same s =
       let trees : rule_trees (read ++ d ∷ []) ≡ rule_trees read = flat_map-append rule_of read (d ∷ []) ∙ ap (λ l. rule_trees read ++ (l ++ [])) none ∙ append-nil (rule_trees read) in
-      let go : RootsRead e defs read env table → RootsRead e defs (read ++ d ∷ []) env table = λ h. record {
-        stand = subst (λ rs. Stand e defs (decl_names defs) (constructor_after rs) (λ x. None) env table) (sym trees) h.stand;
-        roots = subst (All (HasDeclaredRoot defs)) (sym trees) h.roots;
-        converters = h.converters;
-      } in
+      let go : RootsRead e defs read env table → RootsRead e defs (read ++ d ∷ []) env table = grind (arith, common_steps) in
       step e of_definitions defs (RootsRead e defs read) (RootsRead e defs (read ++ d ∷ [])) env env table table' es es' (Unit {0}) ⊥ s.left w (inl (same.0, tt))
       (λ h _. subst (RootsRead e defs (read ++ d ∷ []) env) (sym same.1) (go h))
       (λ h x. absurd x) s

@@ -2,9 +2,10 @@
 use Rattle.std.proofs.Common.{◌≡◌, ℕ, ◌+◌, ◌<◌, ◌≤◌, List, [], ◌∷◌, ◌++◌, ◌⊎◌, length, take, get_or, map, Option, None, Some, is_some, All, Bor, Contains, IsTrue, sym, ap, subst, ◌∙◌, arith, ⊎_elim}
 use Rattle.std.proofs.lemmas.Bool.{false≢true}
 use Rattle.std.proofs.lemmas.List.{map-append, take_more}
-use Rattle.std.proofs.lemmas.List.Elements.{All-cons, All-nil, All-contains, All-map, All-weaker, Contains-get_or}
+use Rattle.std.proofs.lemmas.List.Elements.{All-nil, All-contains, All-map, All-weaker, Contains-get_or}
 use Rattle.std.proofs.lemmas.Option.{same_Some}
 use Rattle.std.proofs.lemmas.Simd.{map-map}
+use Rattle.std.proofs.lemmas.Grind.{common_steps}
 use Rattle.model.specs.lists.Syntax.{Position, Name, PatternTree}
 use Rattle.model.specs.lists.TermTable.{terms_of, terms_in}
 use Rattle.model.proofs.Members.{in_map, from_map}
@@ -49,23 +50,15 @@ next_found {X} f env table xs i x within here first es es' found found' a s =
 pub found_all : (f : Name → Option ℕ) (names : List Name) (ids : List ℕ) → map Some ids ≡ map f names → All (λ n. IsTrue (is_some (f n))) names
 found_all f [] ids h = All-nil (λ n. IsTrue (is_some (f n)))
 found_all f (n ∷ ns) [] h = absurd (cc)
-found_all f (n ∷ ns) (i ∷ is) h =
-    let head : Some i ≡ f n = cc in
-    let tail : map Some is ≡ map f ns = cc in
-    All-cons (λ m. IsTrue (is_some (f m))) n ns (ap is_some (sym head)) (found_all f ns is tail)
+found_all f (n ∷ ns) (i ∷ is) h = grind (arith, common_steps, found_all f ns is)
 
 -- the term of one of the names is one of those found
 pub found_one : (f : Name → Option ℕ) (names : List Name) (ids : List ℕ) (n : Name) (u : ℕ) → map Some ids ≡ map f names → Contains names n → f n ≡ Some u → Contains ids u
-found_one f names ids n u h there is =
-    let a = subst (λ l. Contains l (f n)) (sym h) (in_map f names n there) in
-    let b = from_map Some ids (f n) a in
-    subst (Contains ids) (same_Some b.0 u (b.2 ∙ is)) b.1
+found_one f names ids n u h there is = grind (arith, common_steps, in_map f names n there, from_map Some ids (f n), same_Some)
 
 -- one of those found is the term of one of the names
 pub name_found : (f : Name → Option ℕ) (names : List Name) (ids : List ℕ) (u : ℕ) → map Some ids ≡ map f names → Contains ids u → (n : Name) × Contains names n × (f n ≡ Some u)
-name_found f names ids u h there =
-    let a = subst (λ l. Contains l (Some u)) h (in_map Some ids u there) in
-    from_map f names (Some u) a
+name_found f names ids u h there = grind (arith, common_steps, in_map Some ids u there, from_map f names (Some u))
 
 -- the greatest argument is among so many
 pub greatest_below : (qs : List (Pos × ℕ)) (b : Pos × ℕ) (count : ℕ) (xs : List ℕ) → map (λ (a : Pos × ℕ). a.1) qs ≡ xs → All (λ (a : Pos × ℕ). a.1 ≤ b.1) qs → b.1 < count → AreArguments count xs
@@ -73,15 +66,11 @@ greatest_below qs b count xs e h l =
     subst (AreArguments count) e (All-map (λ i. i < count) (λ (a : Pos × ℕ). a.1) qs (All-weaker (λ (a : Pos × ℕ). a.1 ≤ b.1) (λ (a : Pos × ℕ). a.1 < count) (λ a k. omega arith) qs h))
 
 pub greatest_past : (qs : List (Pos × ℕ)) (b : Pos × ℕ) (count : ℕ) (xs : List ℕ) → map (λ (a : Pos × ℕ). a.1) qs ≡ xs → Contains qs b → count ≤ b.1 → AreArguments count xs → ⊥
-greatest_past qs b count xs e there l all =
-    let below : b.1 < count = All-contains (λ i. i < count) xs b.1 all (subst (λ ys. Contains ys b.1) e (in_map (λ (a : Pos × ℕ). a.1) qs b there)) in
-    absurd (omega (arith, below, l))
+greatest_past qs b count xs e there l all = grind (arith, common_steps, in_map (λ (a : Pos × ℕ). a.1) qs b there)
 
 pub none_used : (qs : List (Pos × ℕ)) (count : ℕ) (xs : List ℕ) → map (λ (a : Pos × ℕ). a.1) qs ≡ xs → qs ≡ [] → AreArguments count xs
 none_used qs count xs e none = subst (AreArguments count) (ap (map (λ (a : Pos × ℕ). a.1)) (sym none) ∙ e) (All-nil (λ i. i < count))
 
 -- the names of what was listed of a pattern
 pub named_terms : (ts old : List (Pos × Bor Ident)) (p : PatternTree) → map (λ (t : Pos × Bor Ident). term_view t.0 t.1.now) ts ≡ map (λ (t : Pos × Bor Ident). term_view t.0 t.1.now) old ++ terms_of p → old ≡ [] → map (λ (t : Pos × Bor Ident). name_view t.1.now) ts ≡ terms_in p
-named_terms ts old p h none =
-    sym (map-map (λ (t : Position × Name). t.1) (λ (t : Pos × Bor Ident). term_view t.0 t.1.now) ts)
-    ∙ ap (map (λ (t : Position × Name). t.1)) (h ∙ ap (λ l. map (λ (t : Pos × Bor Ident). term_view t.0 t.1.now) l ++ terms_of p) none)
+named_terms ts old p h none = grind (arith, common_steps, map-map (λ (t : Position × Name). t.1) (λ (t : Pos × Bor Ident). term_view t.0 t.1.now) ts)

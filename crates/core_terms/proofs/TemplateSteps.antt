@@ -10,9 +10,10 @@ use Rattle.std.proofs.lemmas.List.Concat.{flat_map-append}
 use Rattle.std.proofs.lemmas.List.Elements.{All-push, All-weaker, Contains-append_left, Contains-push, Contains-push_cases}
 use Rattle.std.proofs.lemmas.List.Sorted.{Contains-permutation, IsPermutation-sym}
 use Rattle.std.proofs.lemmas.Option.{same_Some}
+use Rattle.std.proofs.lemmas.Grind.{common_steps}
 use Rattle.model.specs.lists.Syntax.{Name, DeclTree, ExtractorTree, Definition, type_definition, declaration, extractor_definition, converter_definition, rule_definition, extern_definition, other_definition}
 use Rattle.model.specs.lists.Names.{IsDistinct}
-use Rattle.model.specs.lists.Tables.{ConstructorEntry, ExtractorEntry, internal_extractor, TermKindEntry, variant_term, struct_term, declared_term, TermEntry}
+use Rattle.model.specs.lists.Tables.{ConstructorEntry, ExtractorEntry, internal_extractor, TermKindEntry, declared_term, TermEntry}
 use Rattle.model.specs.lists.TypeTable.{place_from}
 use Rattle.model.specs.lists.KnownTypes.{known_type}
 use Rattle.model.specs.lists.TermTable.{decl_flags, decl_names, decl_named, decl_trees, rule_trees, extractor_of, extractor_trees, extractor_template, terms_in, arguments_in, argument_count, term_names, term_names_met, term_named, is_declared_multi, IsDeclaredTerm, IsKnownTerm, IsOfPlainTerm, NamesKnownTerms, HoldsNoMacroArg, UsesDeclaredArguments}
@@ -30,7 +31,7 @@ use Rattle.core_types.specs.Envs.{IsInterned}
 use Rattle.core_types.specs.EnvViews.{environment_view}
 use Rattle.core_terms.specs.declared.term_table.TermTable.{TermTable}
 use Rattle.core_terms.specs.Reading.{IsWithin, term_of_name}
-use Rattle.core_terms.specs.TermBreaches.{of_definitions, FirstStandsAt, BreaksExtractor, extractor_of_none, second_extractor, extractor_of_multi, unknown_term, holds_macro_arg, argument_past, by_extractor}
+use Rattle.core_terms.specs.TermBreaches.{of_definitions, FirstStandsAt, BreaksExtractor, extractor_of_none, second_extractor, extractor_of_multi, unknown_term, holds_macro_arg, by_extractor}
 use Rattle.core_terms.specs.Stages.{constructor_after, place_among}
 use Rattle.core_terms.specs.Signing.{ReadsTerms, declared_so_far}
 use Rattle.core_terms.specs.ReadTerms.{Stand, is_declared_kind}
@@ -67,30 +68,22 @@ decl_is [] x id d p at = absurd (cc)
 decl_is (c ∷ cs) x id d p at =
     elim (bytes_eq c.term.text x) as (λ b. cond b (Some 0) (place_from 1 x (map text_of cs)) ≡ Some id → cond b (Some c) (find (λ c. bytes_eq c.term.text x) cs) ≡ Some d) [
       | true ↦ λ h. let first : 0 ≡ id = same_Some 0 id h in ap (slice_get (c ∷ cs)) first ∙ at
-      | false ↦ λ h.
-          let before = one_before (place_among (map text_of cs) x) id (sym (place_next 0 x (map text_of cs)) ∙ h) in
-          decl_is cs x before.0 d before.2 (ap (slice_get (c ∷ cs)) (sym before.1) ∙ at)
+      | false ↦ grind (arith, common_steps, decl_is cs x, one_before (place_among (map text_of cs) x) id, place_next 0 x (map text_of cs))
     ] p
 
 and_both : (a b : Bool) → (a && b) ≡ true → (a ≡ true) × (b ≡ true)
-and_both true b h = (refl, h)
-and_both false b h = absurd (false≢true h)
+and_both a b h = grind (arith, common_steps)
 
 and_fails : (a b : Bool) → (a && b) ≡ false → (a ≡ false) ⊎ (b ≡ false)
-and_fails true b h = inr h
-and_fails false b h = inl refl
+and_fails a b h = grind (arith, common_steps)
 
 -- a term that may have a template is a declared one
 template_lacks : (k : TermKindEntry) → may_have_template k ≡ true → is_declared_kind k ≡ false → ⊥
-template_lacks (variant_term variant) h o = false≢true h
-template_lacks struct_term h o = false≢true h
-template_lacks (declared_term flags constructor_kind extractor_kind) h o = false≢true (sym o)
+template_lacks k h o = grind arith
 
 -- two names of one term are one
 pub one_name : (names : List (List ℕ)) (x y : List ℕ) (t : ℕ) → place_from 0 x names ≡ Some t → place_from 0 y names ≡ Some t → x ≡ y
-one_name names x y t h g =
-    let k : 0 + t ≡ t = omega arith in
-    same_Some x y (sym (place_at 0 t x names t k h) ∙ place_at 0 t y names t k g)
+one_name names x y t h g = grind (arith, common_steps, same_Some x y, place_at 0 t x names t, place_at 0 t y names t)
 
 module _ (e : TypesRead) (readable : AreReadable e) (defs read rest : List Definition) (x : ExtractorTree) (whole : defs ≡ read ++ extractor_definition x ∷ rest) (env : TypeEnv) (old : TermTable) (callees : List (Vec TermId Global)) (left : IsLeftByRefusal e (environment_view env)) (s : TemplatesRead e defs read callees env old) where
   abbrev seen : List ExtractorTree
@@ -130,11 +123,7 @@ module _ (e : TypesRead) (readable : AreReadable e) (defs read rest : List Defin
     here = sym (term_of x.term) ∙ a.found
 
     names : map Some a.is.named ≡ map (λ n. term_named e.known defs n.text) (terms_in x.template)
-    names = a.is.names ∙ map_same (terms_in x.template)
-      where
-        map_same : (ns : List Name) → map (term_of_name env old) ns ≡ map (λ n. term_named e.known defs n.text) ns
-        map_same [] = refl
-        map_same (n ∷ ns) = ap (λ o. o ∷ map (term_of_name env old) ns) (term_of n) ∙ ap (λ l. term_named e.known defs n.text ∷ l) (map_same ns)
+    names = grind (arith, common_steps, term_of)
 
     -- the terms that it names are told of its own term
     new_calls : find (λ y. bytes_eq y.term.text x.term.text) seen ≡ None → CallsAreOf e defs (seen ++ x ∷ []) callees'
@@ -225,9 +214,7 @@ module _ (e : TypesRead) (readable : AreReadable e) (defs read rest : List Defin
             ]
         | inr multi ↦ extractor_of_multi (λ plain. false≢true (sym (ap not (multi_is id d at place) ∙ multi) ∙ plain))
       ]
-  cant_take id entry d at text place is (inr past) =
-      let count : argument_count defs x.term.text ≡ length entry.arg_tys = count_is id d at place ∙ ap (λ (t : TermEntry). length t.arg_tys) (sym is) in
-      argument_past (λ all. past (subst (λ n. AreArguments n (arguments_in (extractor_template x))) count all))
+  cant_take id entry d at text place is (inr past) = grind (arith, common_steps, count_is id d at place)
 
   template_wrong : (term_of_name env old x.term ≡ None) ⊎ IsWrongOfTerm x env old → BreaksExtractor e.known defs read x
   template_wrong (inl none) = extractor_of_none (λ declared. false≢true (sym (ap is_some (nothing_found e defs (decl_names defs) made taken env old interned s.stand x.term none)) ∙ declared))
@@ -250,13 +237,7 @@ module _ (e : TypesRead) (readable : AreReadable e) (defs read rest : List Defin
   other : (d : Definition) → extractor_of d ≡ [] → (es' ≡ es) × (table' ≡ table) × (callees' ≡ callees) × (b ≡ true) → ReadsTerms e of_definitions defs (TemplatesRead e defs read callees) env table es → ReadsTerms e of_definitions defs (Goes d) env table' es'
   other d none same s =
       let trees : extractor_trees (read ++ d ∷ []) ≡ extractor_trees read = flat_map-append extractor_of read (d ∷ []) ∙ ap (λ l. extractor_trees read ++ (l ++ [])) none ∙ append-nil (extractor_trees read) in
-      let go : TemplatesRead e defs read callees env table → TemplatesRead e defs (read ++ d ∷ []) callees env table = λ h. record {
-        stand = subst (λ es. Stand e defs (decl_names defs) (constructor_after (rule_trees defs)) (template_after es) env table) (sym trees) h.stand;
-        roots = h.roots;
-        right = subst (AreRightExtractors e defs) (sym trees) h.right;
-        calls = subst (λ es. CallsAreOf e defs es callees) (sym trees) h.calls;
-        converters = h.converters;
-      } in
+      let go : TemplatesRead e defs read callees env table → TemplatesRead e defs (read ++ d ∷ []) callees env table = grind (arith, common_steps) in
       step e of_definitions defs (TemplatesRead e defs read callees) (Goes d) env env table table' es es' (Unit {0}) ⊥ s.left w (inl (same.0, tt))
       (λ h _. (same.3, subst (λ cs. TemplatesRead e defs (read ++ d ∷ []) cs env table') (sym same.2) (subst (TemplatesRead e defs (read ++ d ∷ []) callees env) (sym same.1) (go h))))
       (λ h x. absurd x) s

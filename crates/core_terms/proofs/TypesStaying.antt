@@ -1,8 +1,9 @@
 -- Names that are met leave the types that are read with.
-use Rattle.std.proofs.Common.{◌≡◌, ◌==◌, Result, Ok, Err, OnOk, OnErr, ℕ, true, false, cond, List, [], ◌∷◌, ◌++◌, None, slice_get, option_map, Contains, IsTrue, length, refl, sym, ap, subst, ◌∙◌}
+use Rattle.std.proofs.Common.{◌≡◌, ◌==◌, Result, Ok, Err, OnOk, OnErr, ℕ, true, false, cond, List, [], ◌∷◌, ◌++◌, None, slice_get, Contains, IsTrue, refl, sym, ap, subst, ◌∙◌, arith}
 use Rattle.std.proofs.lemmas.Bool.{false≢true}
 use Rattle.std.proofs.lemmas.List.{append_assoc, append-nil}
 use Rattle.std.proofs.lemmas.List.Elements.{All-contains}
+use Rattle.std.proofs.lemmas.Grind.{common_steps}
 use Rattle.model.specs.lists.Names.{number, has_name, with_name, with_names, IsDistinct}
 use Rattle.model.specs.rules.Meaning.{look}
 use Rattle.model.specs.rules.Outcome.{then_option}
@@ -16,11 +17,9 @@ use Rattle.model.proofs.Names.{found, has_left}
 use Rattle.model.proofs.NumbersOf.{environments_are_read}
 use Rattle.laws_typing.proofs.TypesStay.{types_are_shown_lem, types_stay_lem}
 use Rattle.core_types.specs.declared.type_env.TypeEnv.{TypeEnv}
-use Rattle.core_types.specs.Envs.{names_of, symbol_of, type_at, same_symbol, symbol, type_of_name, IsInterned}
+use Rattle.core_types.specs.Envs.{names_of, symbol_of, type_at, type_of_name, IsInterned}
 use Rattle.core_types.specs.EnvViews.{environment_view}
-use Rattle.core_types.specs.TypeViews.{type_views}
 use Rattle.core_types.proofs.Inverse.{inverse_distinct}
-use Rattle.core_syntax.specs.Stable.{look_up}
 use Rattle.laws_typing.proofs.LooksByNumber.{numbered_from}
 use Rattle.core_terms.specs.Reading.{Interns, MayIntern}
 
@@ -34,17 +33,10 @@ with_name_more ns x =
 -- names that were met go on
 pub with_names_more : (ns xs : List (List ℕ)) → (more : List (List ℕ)) × (with_names ns xs ≡ ns ++ more)
 with_names_more ns [] = ([], sym (append-nil ns))
-with_names_more ns (x ∷ xs) =
-    let f = with_name_more ns x in
-    let r = with_names_more (with_name ns x) xs in
-    (f.0 ++ r.0, r.1 ∙ ap (λ l. l ++ r.0) f.1 ∙ append_assoc ns f.0 r.0)
+with_names_more ns (x ∷ xs) = grind (arith, common_steps, with_names_more (with_name ns x) xs, with_name_more ns x, append_assoc ns)
 
 place_unmet : (ts : List (List ℕ)) (x : List ℕ) → (Contains ts x → ⊥) → place_from 0 x ts ≡ None
-place_unmet ts x never =
-    elim (has_name ts x) as (λ b. has_name ts x ≡ b → place_from 0 x ts ≡ None) [
-      | true ↦ λ h. absurd (never (member_from_get ts (number ts x) x (found ts x h)))
-      | false ↦ λ h. place_absent 0 ts x h
-    ] refl
+place_unmet ts x never = grind (arith, common_steps, member_from_get ts (number ts x) x, found ts x, place_absent 0 ts x)
 
 module _ (e : TypesRead) (r : AreReadable e) (env : TypeEnv) (left : IsLeftByRefusal e (environment_view env)) where
   names_are : names_of env ≡ e.known.names ++ left.more
@@ -78,14 +70,7 @@ module _ (e : TypesRead) (r : AreReadable e) (env : TypeEnv) (left : IsLeftByRef
       let after = (types_stay_lem e (environment_of e) (environment_of e') more r (types_are_shown_lem e r) (environments_are_read e' once)) in
       record {
         more = more;
-        types = record {
-          names = names;
-          inverse = record { numbered = m.inverse.numbered; named = m.inverse.named };
-          types = ap (λ v. type_views v.items) m.meets.types ∙ left.types.types;
-          look_ups = λ k. ap (λ t. option_map (λ t. t.0) (look_up same_symbol t (symbol k))) m.meets.type_map ∙ before.1 k ∙ sym (after.1 k);
-          constants = λ k. ap (λ t. option_map (λ t. t.0) (look_up same_symbol t (symbol k))) m.meets.const_types ∙ left.types.constants k;
-          no_errors = ap (λ v. length v.items) m.meets.errors ∙ left.types.no_errors;
-        };
+        types = grind (arith, common_steps);
       }
 
 -- meeting a name changes nothing else
@@ -95,11 +80,7 @@ interned (Ok s) x old new ok err i types type_map constants errors = record {
   meets = record { names = ok; types = types; type_map = type_map; const_types = constants; errors = errors };
   inverse = i;
 }
-interned (Err f) x old new ok err i types type_map constants errors = record {
-  met = [];
-  meets = record { names = err; types = types; type_map = type_map; const_types = constants; errors = errors };
-  inverse = i;
-}
+interned (Err f) x old new ok err i types type_map constants errors = grind (arith, common_steps)
 
 pub may_intern : (x : List ℕ) (old new : TypeEnv) → Interns x old new → MayIntern old new
 may_intern x old new n = record {
