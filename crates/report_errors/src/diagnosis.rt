@@ -32,15 +32,14 @@ pub const MOST_ERRORS: usize = 20;
 /// How many errors of a file are reported, if those of each file are wanted.
 pub const MOST_OF_FILE: usize = 100;
 
-// How many errors are explained. Of more, if all are wanted, only what is wrong is told, and where, and few of the rules that
-// overlap one, or that it shadows, are shown.
+// How many errors are explained. Of more, if all are wanted, only what is wrong is told, and where.
 const MOST_EXPLAINED: usize = 500;
 
 // How many rules' priorities a fix leaves out at most.
 const MOST_EDITS: usize = 1000;
 
-// How many of the rules that overlap one are shown, if not all are wanted, or the error isn't explained; then as many of those that
-// one shadows.
+// How many of the rules that overlap one are shown, if not all are wanted; and of those that overlap one, or that it shadows, if the
+// error isn't explained.
 const MOST_RULES: usize = 5;
 
 // How many of the rules that overlap one are shown with what both match.
@@ -63,25 +62,13 @@ struct Source<'a, 'd> {
     is_explained: bool,
 }
 
-impl<'a, 'd> Source<'a, 'd> {
-    // The same for the report of this number: of an error that isn't explained few rules are shown.
-    fn for_report(self, number: usize) -> Source<'a, 'd> {
-        if number < MOST_EXPLAINED {
-            return self;
-        }
-        Source {
-            most_rules: MOST_RULES,
-            is_explained: false,
-            ..self
-        }
-    }
-
-    // Those of the rules that another one shadows that are shown.
-    fn shadowed_shown<'s>(&self, shadowed: &'s [Span]) -> &'s [Span] {
+impl Source<'_, '_> {
+    // Those of some rules that are told of, if so many are at most of an error that isn't explained.
+    fn told<'s>(&self, rules: &'s [Span], most: usize) -> &'s [Span] {
         if self.is_explained {
-            return shadowed;
+            return rules;
         }
-        shadowed.get(..MOST_RULES).unwrap_or(shadowed)
+        rules.get(..most).unwrap_or(rules)
     }
 }
 
@@ -170,7 +157,10 @@ pub fn reports_of(
         match templates.told_with(*number) {
             Some(one) => reports.push(report_of_template(alloc, defs, &extractors, one)?)?,
             None => {
-                let source = source.for_report(reports.len());
+                let source = Source {
+                    is_explained: reports.len() < MOST_EXPLAINED,
+                    ..source
+                };
                 let conflict = conflict_told(&mut conflicts, errors, &before, *number)?;
                 add_report(
                     source,
@@ -534,12 +524,14 @@ fn overlap(source: Source<'_, '_>, rules: &[Span]) -> Result<Report, AllocError>
         "rules of the same priority match the same values",
     )?;
     add_suspect(source, &mut report, rules)?;
+    let told = source.told(rules, MOST_RULES + 1);
     let shown = source.most_rules.saturating_add(1);
-    let alike = add_overlapping(source, &mut report, rules, shown)?;
-    add_values(source, &mut report, rules)?;
-    let rest = rules.len().saturating_sub(shown);
-    add_rest(alloc, &mut report, "it overlaps", rest)?;
-    add_way_out(source, &mut report, rules, alike)?;
+    let alike = add_overlapping(source, &mut report, told, shown)?;
+    add_values(source, &mut report, told)?;
+    add_rest(alloc, &mut report, told.len().saturating_sub(shown))?;
+    let untold = rules.len().saturating_sub(told.len());
+    add_untold(alloc, &mut report, "overlaps", untold)?;
+    add_way_out(source, &mut report, told, alike)?;
     if !source.expand {
         add_help(alloc, &mut report, NO_TEMPLATES)?;
     }
@@ -651,18 +643,27 @@ fn add_way_out(
 // Why more rules overlap if internal extractors aren't expanded.
 const NO_TEMPLATES: &str = "--no-expand hides what internal extractors demand: check without it";
 
-// Adds how many of the rules that overlap one, or that it shadows, aren't shown.
-fn add_rest(
+// Adds how many of the rules that overlap one aren't shown.
+fn add_rest(alloc: Global, report: &mut Report, count: usize) -> Result<(), AllocError> {
+    if count == 0 {
+        return Ok(());
+    }
+    let text = format!(in alloc; "it overlaps {count} more")?;
+    report.add_counted("help", text)
+}
+
+// Adds how many of the rules that a rule overlaps or shadows aren't told of, since the error isn't explained.
+fn add_untold(
     alloc: Global,
     report: &mut Report,
-    before: &'static str,
+    does: &'static str,
     count: usize,
 ) -> Result<(), AllocError> {
     if count == 0 {
         return Ok(());
     }
-    let text = format!(in alloc; "{before} {count} more")?;
-    report.add_counted("help", text)
+    let text = format!(in alloc; "it {does} {count} more")?;
+    report.add_note("note", text)
 }
 
 // A report of rules that another one shadows.
@@ -670,8 +671,8 @@ fn shadow(source: Source<'_, '_>, shadowed: &[Span], mask: Span) -> Result<Repor
     let alloc = source.alloc;
     let mut report = begun(alloc, "shadow", "a rule is never taken")?;
     add_suspect(source, &mut report, slice::from_ref(&mask))?;
-    let shown = source.shadowed_shown(shadowed);
-    let alike = add_shadowed(source, &mut report, shown, mask)?;
+    let told = source.told(shadowed, MOST_RULES);
+    let alike = add_shadowed(source, &mut report, told, mask)?;
     add_rule(
         alloc,
         &mut report,
@@ -680,12 +681,12 @@ fn shadow(source: Source<'_, '_>, shadowed: &[Span], mask: Span) -> Result<Repor
         "",
         " matches these values too, and comes first",
     )?;
-    let rest = shadowed.len().saturating_sub(shown.len());
-    add_rest(alloc, &mut report, "it shadows", rest)?;
+    let untold = shadowed.len().saturating_sub(told.len());
+    add_untold(alloc, &mut report, "shadows", untold)?;
     if alike > 0 {
         add_help(alloc, &mut report, ONE_OF_ALIKE)?;
     }
-    if alike < shown.len() {
+    if alike < told.len() {
         add_help(alloc, &mut report, FIRST_TAKEN)?;
         add_first(alloc, &mut report, source.defs, mask.from)?;
     }
