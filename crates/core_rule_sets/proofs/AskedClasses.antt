@@ -1,9 +1,8 @@
 -- What the sites of a class are asked, one site after another.
-use Rattle.std.proofs.Common.{◌≡◌, ℕ, Bool, true, false, not, ◌&&◌, if◌then◌else◌, List, [], ◌∷◌, Option, Some, None, refl, sym, ap, ◌∙◌, subst, inl, inr, eqb-true}
+use Rattle.std.proofs.Common.{◌≡◌, ℕ, Bool, if◌then◌else◌, List, [], ◌∷◌, Option, Some, None, refl, ap, ◌∙◌, arith}
 use Rattle.std.specs.Prelude.{nat_eq}
-use Rattle.std.proofs.lemmas.Bool.{cases_Bool, cond-true, cond-false}
+use Rattle.std.proofs.lemmas.Grind.{common_steps}
 use Rattle.model.specs.sites.Sites.{Constraint}
-use Rattle.model.specs.visits.Demands.{constraint_eq}
 use Rattle.core_rule_sets.specs.Verdicts.{asked_in, first_other, with_asked}
 
 -- what a class is asked once some sites were met, and then others
@@ -12,8 +11,7 @@ asked_from class k had [] = had
 asked_from class k had (a ∷ rest) = asked_from class k (if nat_eq (class a.0) k then Some (with_asked had a.1) else had) rest
 
 either_way : {X : Type 0} (b : Bool) (x : X) → (if b then x else x) ≡ x
-either_way true x = refl
-either_way false x = refl
+either_way b x = grind (arith, common_steps)
 
 module _ (class : ℕ → ℕ) where
   -- two things that differ are all that is kept
@@ -24,25 +22,8 @@ module _ (class : ℕ → ℕ) where
   -- after the first site of a class comes the first that differs
   next_other : (a : ℕ × Constraint) (rest : List (ℕ × Constraint)) → asked_from class (class a.0) (Some (a.1, None)) rest ≡ Some (a.1, first_other class a rest)
   next_other a [] = refl
-  next_other a (b ∷ rest) = by (nat_eq (class b.0) (class a.0)) (constraint_eq a.1 b.1) (next_other a rest)
-    where
-      by : (in_class same : Bool) → asked_from class (class a.0) (Some (a.1, None)) rest ≡ Some (a.1, first_other class a rest)
-          → asked_from class (class a.0) (if in_class then Some (a.1, if same then None else Some b.1) else Some (a.1, None)) rest
-          ≡ Some (a.1, if in_class && not same then Some b.1 else first_other class a rest)
-      by true true e = e
-      by true false e = kept (class a.0) a.1 b.1 rest
-      by false same e = e
+  next_other a (b ∷ rest) = grind (arith, common_steps, next_other a rest, kept (class a.0) a.1 b.1 rest)
 
   pub asked_whole : (k : ℕ) (all : List (ℕ × Constraint)) → asked_from class k None all ≡ asked_in class k all
   asked_whole k [] = refl
-  asked_whole k (a ∷ rest) =
-      elim (cases_Bool (nat_eq (class a.0) k)) [
-        | inl t ↦
-            ap (λ h. asked_from class k h rest) (cond-true (nat_eq (class a.0) k) (Some (a.1, None)) None t)
-            ∙ subst (λ n. asked_from class n (Some (a.1, None)) rest ≡ Some (a.1, first_other class a rest)) (eqb-true (class a.0) k t) (next_other a rest)
-            ∙ sym (cond-true (nat_eq (class a.0) k) (Some (a.1, first_other class a rest)) (asked_in class k rest) t)
-        | inr f ↦
-            ap (λ h. asked_from class k h rest) (cond-false (nat_eq (class a.0) k) (Some (a.1, None)) None f)
-            ∙ asked_whole k rest
-            ∙ sym (cond-false (nat_eq (class a.0) k) (Some (a.1, first_other class a rest)) (asked_in class k rest) f)
-      ]
+  asked_whole k (a ∷ rest) = grind (arith, common_steps, asked_whole k rest, next_other a rest)

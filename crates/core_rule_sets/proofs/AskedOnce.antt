@@ -1,6 +1,6 @@
 -- What is asked of sites, of each once: what is found at a place, what one more site changes, and that the order tells nothing.
-use Rattle.std.proofs.Common.{◌≡◌, ◌==◌, ◌||◌, ℕ, zero, suc, ◌+◌, ◌<◌, Bool, true, false, cond, List, [], ◌∷◌, ◌++◌, length, get_or, Option, Some, None, is_some, slice_get, MatchOption, if◌then◌else◌, refl, sym, ap, ◌∙◌, inl, inr, eqb-true, eq-eqb, arith}
-use Rattle.std.specs.Prelude.{nat_eq, nat_lt, option_map}
+use Rattle.std.proofs.Common.{◌≡◌, ◌==◌, ◌||◌, ℕ, zero, suc, ◌+◌, ◌<◌, Bool, true, false, cond, List, [], ◌∷◌, ◌++◌, length, get_or, Option, Some, None, is_some, slice_get, if◌then◌else◌, refl, sym, ap, ◌∙◌, inl, inr, eqb-true, eq-eqb, arith}
+use Rattle.std.specs.Prelude.{nat_eq, nat_lt}
 use Rattle.std.specs.List.{AllByRecursion, IsDistinct}
 use Rattle.std.specs.List.Sorted.{IsPermutation, IsSortedByKey, IsStrictlyIncreasing, IsStrictlySortedBy}
 use Rattle.std.specs.declared.cmp.Ordering.TheVariants.{Less, Equal, Greater}
@@ -12,6 +12,7 @@ use Rattle.std.proofs.lemmas.List.{get_or-map, length-map}
 use Rattle.std.proofs.lemmas.List.Sorted.{Contains-permutation, IsPermutation-map, IsPermutation-sym}
 use Rattle.std.proofs.lemmas.Map.Keys.{IsDistinct-IsPermutation, IsDistinct-head, IsDistinct-tail, apart_from_distinct, sorted_from_strictly_increasing, sorted_head, sorted_tail}
 use Rattle.std.proofs.lemmas.Option.{get_or_from_slice_get, none-some, same_Some}
+use Rattle.std.proofs.lemmas.Grind.{common_steps}
 use Rattle.core_containers.specs.Places.{is_in}
 use Rattle.model.specs.trees.Places.{constraint_at}
 use Rattle.model.specs.sites.Sites as Sites
@@ -31,8 +32,7 @@ at cs s = constraint_at (constraint_views cs) s
 
 -- 1. where a site stands
 some_or : {X : Type 0} (c : Bool) (x : X) (o : Option X) → is_some (cond c (Some x) o) ≡ (c || is_some o)
-some_or true x o = refl
-some_or false x o = refl
+some_or c x o = grind (arith, common_steps)
 
 asked_if_in : (cs : List Asked) (s : ℕ) → is_some (at cs s) ≡ is_in s (sites_of cs)
 asked_if_in [] s = refl
@@ -43,16 +43,11 @@ pub not_there : (cs : List Asked) (s : ℕ) → at cs s ≡ None → is_in s (si
 not_there cs s e = sym (asked_if_in cs s) ∙ ap is_some e
 
 pub none_asked : (cs : List Asked) (s : ℕ) → is_in s (sites_of cs) ≡ false → None ≡ at cs s
-none_asked cs s e = by (at cs s) (asked_if_in cs s ∙ e)
-  where
-    by : (o : Option Sites.Constraint) → is_some o ≡ false → None ≡ o
-    by None f = refl
-    by (Some c) f = absurd (false≢true (sym f))
+none_asked cs s e = grind (arith, common_steps, asked_if_in cs s)
 
 pub within : (cs : List Asked) (i s : ℕ) → slice_get (sites_of cs) i ≡ Some s → i < length cs
-within [] i s e = absurd (none-some s e)
-within (c ∷ cs) zero s e = omega arith
 within (c ∷ cs) (suc i) s e = let l : i < length cs = within cs i s e in omega arith
+within cs i s e = grind (arith, none-some)
 
 pub asked_at : (cs : List Asked) (i s : ℕ) (d : Asked) → IsDistinct nat_eq (sites_of cs) → slice_get (sites_of cs) i ≡ Some s → Some (constraint_view (get_or cs i d).1) ≡ at cs s
 asked_at [] i s d once e = absurd (none-some s e)
@@ -75,8 +70,7 @@ apart_more m n [] a e = (e, tt)
 apart_more m n (k ∷ ns) a e = (a.0, apart_more m n ns a.1 e)
 
 neither : (a b : Bool) → (a || b) ≡ false → (a ≡ false) × (b ≡ false)
-neither true b e = absurd (false≢true (sym e))
-neither false b e = (refl, e)
+neither a b e = grind (arith, common_steps)
 
 -- a number that isn't there stands once behind the others
 pub once_more : (n : ℕ) (ns : List ℕ) → IsDistinct nat_eq ns → is_in n ns ≡ false → IsDistinct nat_eq (ns ++ n ∷ [])
@@ -89,42 +83,17 @@ asked_more cs s c none t = grown cs none t ∙ ap (λ o. if nat_eq s t then Some
   where
     grown : (ds : List Asked) → at ds s ≡ None → (u : ℕ) → at (ds ++ (s, c) ∷ []) u ≡ (if nat_eq s u then Some (constraint_view c) else at ds u)
     grown [] e u = refl
-    grown (d ∷ ds) e u =
-        elim (cases_Bool (d.0 == s)) [
-          | inl y ↦ absurd (none-some (constraint_view d.1) (sym e ∙ cond-true (d.0 == s) (Some (constraint_view d.1)) (at ds s) y))
-          | inr n ↦
-              let rest : at ds s ≡ None = sym (cond-false (d.0 == s) (Some (constraint_view d.1)) (at ds s) n) ∙ e in
-              elim (cases_Bool (d.0 == u)) [
-                | inl y ↦
-                    let same : d.0 ≡ u = eqb-true d.0 u y in
-                    let apart : nat_eq s u ≡ false = elim (cases_Bool (nat_eq s u)) [ inl z ↦ absurd (false≢true (sym n ∙ eq-eqb d.0 s (same ∙ sym (eqb-true s u z)))) | inr z ↦ z ] in
-                    cond-true (d.0 == u) (Some (constraint_view d.1)) (at (ds ++ (s, c) ∷ []) u) y
-                    ∙ sym (cond-true (d.0 == u) (Some (constraint_view d.1)) (at ds u) y)
-                    ∙ sym (cond-false (nat_eq s u) (Some (constraint_view c)) (at (d ∷ ds) u) apart)
-                | inr m ↦
-                    cond-false (d.0 == u) (Some (constraint_view d.1)) (at (ds ++ (s, c) ∷ []) u) m
-                    ∙ grown ds rest u
-                    ∙ ap (λ o. if nat_eq s u then Some (constraint_view c) else o) (sym (cond-false (d.0 == u) (Some (constraint_view d.1)) (at ds u) m))
-              ]
-        ]
+    grown (d ∷ ds) e u = grind (arith, common_steps, grown ds, none-some (constraint_view d.1))
 
 -- 3. in another order
 asked_in : (cs : List Asked) (s : ℕ) (c : Sites.Constraint) → at cs s ≡ Some c → (k : Constraint) × In cs (s, k) × (constraint_view k ≡ c)
 asked_in [] s c e = absurd (none-some c e)
-asked_in (d ∷ ds) s c e =
-    elim (cases_Bool (d.0 == s)) [
-      | inl y ↦ (d.1, inl (ap (λ n. (n, d.1)) (eqb-true d.0 s y)), same_Some (constraint_view d.1) c (sym (cond-true (d.0 == s) (Some (constraint_view d.1)) (at ds s) y) ∙ e))
-      | inr n ↦ let r = asked_in ds s c (sym (cond-false (d.0 == s) (Some (constraint_view d.1)) (at ds s) n) ∙ e) in (r.0, inr r.1, r.2)
-    ]
+asked_in (d ∷ ds) s c e = grind (arith, common_steps, asked_in ds s c, same_Some (constraint_view d.1) c)
 
 site_in : (cs : List Asked) (s : ℕ) (k : Constraint) → In cs (s, k) → is_in s (sites_of cs) ≡ true
 site_in [] s k i = absurd i
 site_in (d ∷ ds) s k (inl e) = rw (eq-eqb d.0 s (ap (λ a. a.0) e)) refl
-site_in (d ∷ ds) s k (inr i) = by (d.0 == s) (site_in ds s k i)
-  where
-    by : (b : Bool) → is_in s (sites_of ds) ≡ true → (b || is_in s (sites_of ds)) ≡ true
-    by true h = refl
-    by false h = h
+site_in (d ∷ ds) s k (inr i) = grind (arith, common_steps, site_in ds s k i)
 
 without_second : (n m : ℕ) (ns : List ℕ) → IsDistinct nat_eq (n ∷ m ∷ ns) → IsDistinct nat_eq (n ∷ ns)
 unfolding IsDistinct
@@ -151,11 +120,7 @@ module _ (xs ys : List Asked) (once : IsDistinct nat_eq (sites_of xs)) (mixed : 
   still_once = IsDistinct-IsPermutation nat_eq flips (sites_of xs) (sites_of ys) (IsPermutation-map (λ a. a.0) xs ys mixed) once
     where
       flips : (x y : ℕ) → nat_eq x y ≡ nat_eq y x
-      flips x y =
-          elim (cases_Bool (nat_eq x y)) [
-            | inl t ↦ t ∙ sym (eq-eqb y x (sym (eqb-true x y t)))
-            | inr n ↦ elim (cases_Bool (nat_eq y x)) [ inl t ↦ eq-eqb x y (sym (eqb-true y x t)) ∙ sym t | inr m ↦ n ∙ sym m ]
-          ]
+      flips x y = grind (arith, common_steps)
 
   -- the order tells nothing
   pub same_asked : (s : ℕ) → at ys s ≡ at xs s
@@ -185,15 +150,13 @@ is_below x y e =
     ]
   where
     not_less : (b : Bool) → is_lt (cond b Equal Greater) ≡ false
-    not_less true = refl
-    not_less false = refl
+    not_less b = grind (arith, common_steps)
 
 -- numbers that are sorted ascend
 pub sorted_ascend : (ns : List ℕ) → IsStrictlySortedBy nat_cmp ns → ascends ns ≡ true
-sorted_ascend [] s = refl
-sorted_ascend (n ∷ []) s = refl
 sorted_ascend (n ∷ m ∷ ns) s =
     and_from (is_below_first n (m ∷ ns)) (ascends (m ∷ ns)) (is_below n m (sorted_head nat_cmp n (m ∷ ns) s).0) (sorted_ascend (m ∷ ns) (sorted_tail nat_cmp n (m ∷ ns) s))
+sorted_ascend _ s = refl
 
 not_less : (x y : ℕ) → is_lt (nat_cmp x y) ≡ false → nat_eq y x ≡ false → y < x
 not_less x y f n = by_ranked (x < y) (x ≡ y) (y < x) (nat_cmp x y) (ranks x y) (λ e l. absurd (false≢true (sym f ∙ ap is_lt e))) (λ e q. absurd (false≢true (sym n ∙ eq-eqb y x (sym q)))) (λ e l. l)
@@ -210,8 +173,3 @@ listed_ascend ys once sorted = sorted_ascend (sites_of ys) (sorted_from_strictly
         let next : get_or (sites_of ys) (k + 1) 0 ≡ (get_or ys (k + 1) d).0 = get_or-map (λ a. a.0) ys (k + 1) d 0 m in
         let no_less : is_lt (nat_cmp (get_or (sites_of ys) (k + 1) 0) (get_or (sites_of ys) k 0)) ≡ false = rw (here, next) (sorted k d (omega arith) m) in
         not_less (get_or (sites_of ys) (k + 1) 0) (get_or (sites_of ys) k 0) no_less (apart_from_distinct nat_eq (sites_of ys) k (k + 1) 0 once (omega arith) l)
-
--- 5. as one asks of an option
-pub found_or_not : (o : Option Constraint) (now : Option Sites.Constraint) → option_map constraint_view o ≡ now → MatchOption o (is_some now ≡ false) (λ c. now ≡ Some (constraint_view c))
-found_or_not None now e = ap is_some (sym e)
-found_or_not (Some c) now e = sym e

@@ -1,18 +1,18 @@
 -- Parts of which those whose class has none are left out, until each that is left has some.
-use Rattle.std.proofs.Common.{◌≡◌, ◌≢◌, ◌⊎◌, ℕ, zero, suc, ◌+◌, ◌-◌, ◌<◌, ◌≤◌, Bool, true, false, cond, not, if◌then◌else◌, List, [], ◌∷◌, ◌++◌, length, map, take, Contains, refl, sym, ap, ◌∙◌, subst, inl, inr, eqb-true, eq-eqb, arith}
+use Rattle.std.proofs.Common.{◌≡◌, ◌≢◌, ◌⊎◌, ℕ, ◌+◌, ◌-◌, ◌<◌, ◌≤◌, Bool, true, false, cond, not, if◌then◌else◌, List, [], ◌∷◌, ◌++◌, length, map, take, Contains, refl, sym, ap, ◌∙◌, subst, inl, inr, eqb-true, eq-eqb, arith}
 use Rattle.std.specs.Prelude.{nat_eq, Some}
-use Rattle.std.specs.BTreeMap.{BTreeMap, get, Updates}
-use Rattle.std.specs.Cmp.{unsigned_tied}
+use Rattle.std.specs.BTreeMap.{BTreeMap, Updates}
 use Rattle.std.specs.Global.{Vec}
 use Rattle.std.specs.List.{filter}
-use Rattle.std.specs.Ordering.{nat_cmp, is_eq}
-use Rattle.std.proofs.lemmas.Bool.{cases_Bool, cond-true, cond-false, false≢true}
+use Rattle.std.specs.Ordering.{nat_cmp}
+use Rattle.std.proofs.lemmas.Bool.{cases_Bool}
 use Rattle.std.proofs.lemmas.List.{length-map, length-append, length-take, append-nil}
 use Rattle.std.proofs.lemmas.List.Filters.{length-filter_both}
 use Rattle.std.proofs.lemmas.List.Elements.{filter-append}
 use Rattle.std.proofs.lemmas.List.Sums.{length-filter, count_by-le-length}
+use Rattle.std.proofs.lemmas.Grind.{common_steps}
 use Rattle.model.proofs.Elements.{In, contains_from_in, in_from_contains, in_left, in_right, in_either, in_filter, filter_from, passed_filter}
-use Rattle.core_rule_sets.specs.Endings.{class_ends, ClassEnds, ClassIsTaken, count_in, GoOnForEver, items_of, listed_at, PartsAreTaken, number_count, wholes_in}
+use Rattle.core_rule_sets.specs.Endings.{class_ends, ClassEnds, ClassIsTaken, count_in, GoOnForEver, listed_at, PartsAreTaken, number_count, wholes_in}
 use Rattle.core_rule_sets.specs.Verdicts.{class_head}
 use Rattle.core_rule_sets.specs.declared.closure_classes.Part.{Part}
 
@@ -24,53 +24,23 @@ module _ {X : Type 0} (p q : X → Bool) where
   -- how many pass one test: of those that pass another one, and of the others
   split_filter : (xs : List X) → length (filter p xs) ≡ length (filter p (others xs)) + length (filter p (filter q xs))
   split_filter [] = refl
-  split_filter (x ∷ xs) = by (q x) (split_filter xs)
-    where
-      both : (b : Bool) (f g h : List X) → length f ≡ length g + length h
-          → (length (cond b (x ∷ f) f) ≡ length g + length (cond b (x ∷ h) h)) × (length (cond b (x ∷ f) f) ≡ length (cond b (x ∷ g) g) + length h)
-      both true f g h e = (omega (arith, e), omega (arith, e))
-      both false f g h e = (e, e)
-
-      by : (b : Bool) → length (filter p xs) ≡ length (filter p (others xs)) + length (filter p (filter q xs))
-          → length (filter p (x ∷ xs)) ≡ length (filter p (cond (not b) (x ∷ others xs) (others xs))) + length (filter p (cond b (x ∷ filter q xs) (filter q xs)))
-      by true e = (both (p x) (filter p xs) (filter p (others xs)) (filter p (filter q xs)) e).0
-      by false e = (both (p x) (filter p xs) (filter p (others xs)) (filter p (filter q xs)) e).1
+  split_filter (x ∷ xs) = grind (arith, common_steps, split_filter xs)
 
   left_whole : (xs : List X) → ((x : X) → q x ≡ true → p x ≡ false) → filter p (others xs) ≡ filter p xs
   left_whole [] apart = refl
-  left_whole (x ∷ xs) apart =
-      elim (cases_Bool (q x)) [
-        | inl t ↦ ap (filter p) (cond-false (not (q x)) (x ∷ others xs) (others xs) (ap not t)) ∙ left_whole xs apart ∙ sym (cond-false (p x) (x ∷ filter p xs) (filter p xs) (apart x t))
-        | inr f ↦ ap (filter p) (cond-true (not (q x)) (x ∷ others xs) (others xs) (ap not f)) ∙ ap (λ l. cond (p x) (x ∷ l) l) (left_whole xs apart)
-      ]
+  left_whole (x ∷ xs) apart = grind (arith, common_steps, left_whole xs apart)
 
   left_none : (xs : List X) → ((x : X) → p x ≡ true → q x ≡ true) → filter p (others xs) ≡ []
   left_none [] within = refl
-  left_none (x ∷ xs) within =
-      elim (cases_Bool (q x)) [
-        | inl t ↦ ap (filter p) (cond-false (not (q x)) (x ∷ others xs) (others xs) (ap not t)) ∙ left_none xs within
-        | inr f ↦
-            ap (filter p) (cond-true (not (q x)) (x ∷ others xs) (others xs) (ap not f))
-            ∙ cond-false (p x) (x ∷ filter p (others xs)) (filter p (others xs)) (not_passed f)
-            ∙ left_none xs within
-      ]
-    where
-      not_passed : q x ≡ false → p x ≡ false
-      not_passed f = elim (cases_Bool (p x)) [ inl t ↦ absurd (false≢true (sym f ∙ within x t)) | inr g ↦ g ]
+  left_none (x ∷ xs) within = grind (arith, common_steps, left_none xs within)
 
 -- how many images pass
 filter_images : {X Y : Type 0} (f : X → Y) (p : Y → Bool) (xs : List X) → length (filter p (map f xs)) ≡ length (filter (λ x. p (f x)) xs)
 filter_images f p [] = refl
-filter_images f p (x ∷ xs) = by (p (f x)) (filter_images f p xs)
-  where
-    by : (b : Bool) → length (filter p (map f xs)) ≡ length (filter (λ x. p (f x)) xs)
-        → length (cond b (f x ∷ filter p (map f xs)) (filter p (map f xs))) ≡ length (cond b (x ∷ filter (λ x. p (f x)) xs) (filter (λ x. p (f x)) xs))
-    by true e = ap suc e
-    by false e = e
+filter_images f p (x ∷ xs) = grind (arith, common_steps, filter_images f p xs)
 
 none_in : {X : Type 0} (xs : List X) (x : X) → length xs ≡ 0 → In xs x → ⊥
-none_in [] x e i = i
-none_in (y ∷ xs) x e i = omega (arith, e)
+none_in xs x e i = grind (arith, common_steps)
 
 one_in : {X : Type 0} (xs : List X) → length xs ≢ 0 → (x : X) × In xs x
 one_in [] n = absurd (n refl)
@@ -80,29 +50,14 @@ one_in (y ∷ xs) n = (y, inl refl)
 -- the list of a class has one more
 pub listed_more : {X : Type 0} (old mid new : BTreeMap ℕ (Vec X)) (class : ℕ) (whole : X) (listed : Vec X) → listed.items ≡ listed_at old class ++ whole ∷ [] → ((k : ℕ) → listed_at mid k ≡ (if nat_eq class k then [] else listed_at old k))
     → Updates nat_cmp mid new class (Some listed) → (k : ℕ) → listed_at new k ≡ listed_at old k ++ (if nat_eq class k then whole ∷ [] else [])
-listed_more old mid new class whole listed e rest u k =
-    elim (cases_Bool (nat_eq class k)) [
-      | inl t ↦
-          ap items_of (u.0 k ∙ cond-true (is_eq (nat_cmp class k)) (Some listed) (get nat_cmp mid k) (unsigned_tied class k ∙ t))
-          ∙ e ∙ ap (λ q. listed_at old q ++ whole ∷ []) (eqb-true class k t) ∙ sym (ap (λ l. listed_at old k ++ l) (cond-true (nat_eq class k) (whole ∷ []) [] t))
-      | inr f ↦
-          ap items_of (u.0 k ∙ cond-false (is_eq (nat_cmp class k)) (Some listed) (get nat_cmp mid k) (unsigned_tied class k ∙ f))
-          ∙ rest k ∙ cond-false (nat_eq class k) [] (listed_at old k) f
-          ∙ sym (append-nil (listed_at old k)) ∙ sym (ap (λ l. listed_at old k ++ l) (cond-false (nat_eq class k) (whole ∷ []) [] f))
-    ]
+listed_more old mid new class whole listed e rest u k = grind (arith, common_steps, append-nil (listed_at old k))
 
 -- no more parts are counted than there are
 pub few_counted : (ks : List (List ℕ)) (parts : List Part) (i class : ℕ) → i < length parts → count_in ks (take i parts) class < length parts
-few_counted ks parts i class l =
-    let test = λ (p : Part). nat_eq (class_head ks p.source) class in
-    let one = length-filter test (take i parts) in
-    let two = count_by-le-length test (take i parts) in
-    let three = length-take i parts in
-    omega (arith, one, two, three, l)
+few_counted ks parts i class l = grind (arith, common_steps, length-filter, count_by-le-length, length-take i parts)
 
 pub no_items : (xs : List ℕ) (n : ℕ) → n ≡ length xs → (0 < n → ⊥) → xs ≡ []
-no_items [] n e none = refl
-no_items (x ∷ xs) n e none = absurd (none (omega (arith, e)))
+no_items xs n e none = grind (arith, common_steps)
 
 -- the classes of some parts, of those that have no parts themselves
 pub record AreLast (ks : List (List ℕ)) (parts : List Part) (counts : ℕ → ℕ) (last : List ℕ) : Type 0 where
@@ -135,15 +90,10 @@ last_more ks parts p counts last next k is e had = record {
     still c i = subst (λ l. Contains l c) (sym e) (contains_from_in (last ++ more) c i)
 
     here : (q : Part) → counts (class_head ks q.field) ≡ 0 → In (p ∷ []) q → In more (class_head ks q.field)
-    here q none (inl same) =
-        let one = is ∙ ap (λ (x : Part). class_head ks x.field) same in
-        subst (λ l. In l (class_head ks q.field)) (sym (cond-true (nat_eq (counts k) 0) (k ∷ []) [] (eq-eqb (counts k) 0 (ap counts one ∙ none)))) (inl one)
-    here q none (inr other) = absurd other
+    here q none h = grind (arith, common_steps)
 
     of : (b : Bool) → nat_eq (counts k) 0 ≡ b → (c : ℕ) → In (cond b (k ∷ []) []) c → counts c ≡ 0
-    of true t c (inl same) = ap counts (sym same) ∙ eqb-true (counts k) 0 t
-    of true t c (inr other) = absurd other
-    of false f c other = absurd other
+    of b t c other = grind (arith, common_steps)
 
 -- 3. one part of each of some classes is left out
 
@@ -167,8 +117,7 @@ taken_more before after next wholes ended now then' whole t e f = record {
     last = if nat_eq (next whole) 0 then whole ∷ [] else []
 
     last_few : (b : Bool) → length (cond b (whole ∷ []) []) ≤ 1
-    last_few true = omega arith
-    last_few false = omega arith
+    last_few b = grind (arith, common_steps)
 
     times_more : (k : ℕ) → number_count k (wholes ++ whole ∷ []) ≡ number_count k wholes + cond (nat_eq whole k) 1 0
     times_more k =
@@ -184,16 +133,10 @@ taken_more before after next wholes ended now then' whole t e f = record {
     still k i = subst (λ l. Contains l k) (sym f) (contains_from_in (now ++ last) k (in_left now last k (in_from_contains now k i)))
 
     cases_nat : (n : ℕ) → (n ≡ 0) ⊎ (n ≢ 0)
-    cases_nat zero = inl refl
-    cases_nat (suc n) = inr (λ e. omega (arith, e))
+    cases_nat n = grind (arith, common_steps)
 
     pushed : (k : ℕ) → after k ≢ 0 → next k ≡ 0 → (nat_eq whole k ≡ true) ⊎ (nat_eq whole k ≡ false) → Contains then' k
-    pushed k n none (inl t) =
-        let one = eqb-true whole k t in
-        subst (λ l. Contains l k) (sym f)
-        (contains_from_in (now ++ last) k (in_right now last k (subst (λ l. In l k) (sym (cond-true (nat_eq (next whole) 0) (whole ∷ []) [] (eq-eqb (next whole) 0 (ap next one ∙ none)))) (inl one))))
-    pushed k n none (inr g) =
-        let is = e k ∙ ap (λ b. after k - cond b 1 0) g in absurd (n (omega (arith, is, none)))
+    pushed k n none h = grind (arith, common_steps, contains_from_in, in_right now)
 
     in_last : (k : ℕ) → In last k → next k ≡ 0
     in_last k i = of (nat_eq (next whole) 0) refl i
@@ -256,12 +199,7 @@ module _ (ks : List (List ℕ)) (parts : List Part) where
     -- leaving out a class that ends makes less of what is left to be done
     pub fewer_left : (rest : List ℕ) (k : ℕ) → AreCounted left wholes counts (rest ++ k ∷ []) number → (wholes' : ℕ → List ℕ) (counts' : ℕ → ℕ) (now : List ℕ) (many : ℕ)
         → ClassIsTaken wholes wholes' counts counts' k rest now many → (number - many) + (number - many) + length now < number + number + length (rest ++ k ∷ [])
-    fewer_left rest k a wholes' counts' now many t =
-        let few = few_kept (rest ++ k ∷ []) a k in
-        let is = t.many in
-        let more = t.parts.few in
-        let all = length-append rest (k ∷ []) in
-        omega (arith, few, is, more, all)
+    fewer_left rest k a wholes' counts' now many t = grind (arith, common_steps, few_kept (rest ++ k ∷ []) a k, length-append rest (k ∷ []))
 
     -- the parts whose class ends are left out
     pub one_taken : (rest : List ℕ) (k : ℕ) → AreCounted left wholes counts (rest ++ k ∷ []) number → (wholes' : ℕ → List ℕ) (counts' : ℕ → ℕ) (now : List ℕ) (many : ℕ)
@@ -278,13 +216,7 @@ module _ (ks : List (List ℕ)) (parts : List Part) where
           | inr done ↦ inr done
         ];
       };
-      many =
-          let is = ap length (a.kept k) in
-          let images = length-map (filter (λ p. nat_eq (class p) k) left) whole in
-          let two = length-filter_both (λ p. nat_eq (class p) k) other (λ p. refl) left in
-          let all = a.many in
-          let most = taken.many in
-          omega (arith, is, images, two, all, most);
+      many = grind (arith, common_steps, length-map (filter (λ p. nat_eq (class p) k) left) whole, length-filter_both (λ p. nat_eq (class p) k));
       kept = λ q. taken.rest q ∙ kept_still q (cases_Bool (nat_eq k q));
       counted = λ q.
           let was = a.counted q in
@@ -302,30 +234,21 @@ module _ (ks : List (List ℕ)) (parts : List Part) where
                 ]
             | inr n ↦ in_from_contains now (class p) (taken.parts.met (class p) (omega (arith, n)) none)
           ];
-      only = λ q i. elim (taken.parts.only q (contains_from_in now q i)) [
-        | inl r ↦ let z = a.only q (in_left rest (k ∷ []) q (in_from_contains rest q r)) in let is = taken.parts.counts q in omega (arith, z, is)
-        | inr z ↦ z
-      ];
+      only = grind (arith, common_steps, contains_from_in now, in_left rest (k ∷ []), in_from_contains rest);
     }
       where
         other : Part → Bool
         other p = not (nat_eq (class p) k)
 
         cases_nat : (n : ℕ) → (n ≡ 0) ⊎ (n ≢ 0)
-        cases_nat zero = inl refl
-        cases_nat (suc n) = inr (λ e. omega (arith, e))
+        cases_nat n = grind (arith, common_steps)
 
         another : (p : Part) → In (filter other left) p → In (k ∷ []) (class p) → ⊥
-        another p i (inl e) = false≢true (sym (ap not (eq-eqb (class p) k (sym e))) ∙ passed_filter other left p i)
-        another p i (inr none) = none
+        another p i h = grind (arith, common_steps, passed_filter)
 
         kept_still : (q : ℕ) → (nat_eq k q ≡ true) ⊎ (nat_eq k q ≡ false) → (if nat_eq k q then [] else wholes q) ≡ wholes_in ks (filter other left) q
-        kept_still q (inl t) =
-            cond-true (nat_eq k q) [] (wholes q) t
-            ∙ sym (ap (map whole) (left_none (λ p. nat_eq (class p) q) (λ p. nat_eq (class p) k) left (λ p h. eq-eqb (class p) k (eqb-true (class p) q h ∙ sym (eqb-true k q t)))))
-        kept_still q (inr f) =
-            cond-false (nat_eq k q) [] (wholes q) f ∙ a.kept q
-            ∙ sym (ap (map whole) (left_whole (λ p. nat_eq (class p) q) (λ p. nat_eq (class p) k) left (λ p h. subst (λ j. nat_eq j q ≡ false) (sym (eqb-true (class p) k h)) f)))
+        kept_still q (inl t) = grind (arith, common_steps, left_none (λ p. nat_eq (class p) q) (λ p. nat_eq (class p) k) left)
+        kept_still q (inr f) = grind (arith, common_steps, left_whole (λ p. nat_eq (class p) q) (λ p. nat_eq (class p) k) left)
 
   pub none_left : (left : List Part) (wholes : ℕ → List ℕ) (counts : ℕ → ℕ) (ends : List ℕ) → AreCounted left wholes counts ends 0 → (k : ℕ) → ClassEnds ks parts k
   none_left [] wholes counts ends a k = ended [] a.are_left k refl

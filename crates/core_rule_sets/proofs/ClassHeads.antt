@@ -1,8 +1,9 @@
 -- The members that classes go by: sites are of one class exactly where they go by one.
-use Rattle.std.proofs.Common.{◌≡◌, ◌⊎◌, ℕ, Bool, true, ◌&&◌, List, [], ◌∷◌, slice_get, refl, sym, ap, ◌∙◌, subst, inl, inr, eqb-true, eq-eqb}
+use Rattle.std.proofs.Common.{◌≡◌, ◌⊎◌, ℕ, Bool, true, ◌&&◌, List, [], ◌∷◌, slice_get, refl, sym, ap, ◌∙◌, inl, inr, eq-eqb, arith}
 use Rattle.std.specs.Prelude.{nat_eq}
 use Rattle.std.specs.Option.{unwrap_or}
 use Rattle.std.proofs.lemmas.Bool.{and_parts, and_from, false≢true}
+use Rattle.std.proofs.lemmas.Grind.{common_steps}
 use Rattle.core_containers.specs.Partition.{set_of, in_set, together, joined, merged, together_after, IsPartition}
 use Rattle.model.proofs.Elements.{or_split, or_left, or_right}
 use Rattle.core_rule_sets.specs.FieldParts.{HaveOneName}
@@ -34,15 +35,7 @@ module _ (ks : List (List ℕ)) (p : IsPartition nat_eq ks) where
 
   -- sites that go by one are one, or together
   pub same_head : (a b : ℕ) → class_head ks a ≡ class_head ks b → (a ≡ b) ⊎ (together nat_eq ks a b ≡ true)
-  same_head a b e =
-      elim (own_head a) [
-        | inl f ↦ elim (own_head b) [ inl g ↦ inl (sym f ∙ e ∙ g) | inr k ↦ inr (swap b a (subst (λ x. together nat_eq ks b x ≡ true) (sym e ∙ f) k)) ]
-        | inr h ↦
-            elim (own_head b) [
-              | inl g ↦ inr (subst (λ x. together nat_eq ks a x ≡ true) (e ∙ g) h)
-              | inr k ↦ inr (p.transitive a (class_head ks b) b (subst (λ x. together nat_eq ks a x ≡ true) e h) (swap b (class_head ks b) k))
-            ]
-      ]
+  same_head a b e = grind (arith, common_steps, own_head a, own_head b, swap b a, swap b (class_head ks b))
 
   pub head_again : (a : ℕ) → class_head ks (class_head ks a) ≡ class_head ks a
   head_again a = elim (own_head a) [ inl e ↦ ap (class_head ks) e | inr h ↦ sym (one_head a (class_head ks a) h) ]
@@ -70,18 +63,10 @@ module _ (before after : List (List ℕ)) (p : IsPartition nat_eq before) (q : I
 
   module _ {X : Type 0} (name : ℕ → X) (before_named : HaveOneName before name) (same : name x ≡ name y) where
     joined_named : (z a : ℕ) → joined nat_eq before z a ≡ true → name z ≡ name a
-    joined_named z a h =
-        elim (or_split (nat_eq z a) (together nat_eq before z a) h) [
-          | inl t ↦ ap name (eqb-true z a t)
-          | inr t ↦ before_named z a (one_head before p z a t)
-        ]
+    joined_named z a h = grind (arith, common_steps, or_split (nat_eq z a) (together nat_eq before z a) h, one_head before p z a)
 
     beside_named : (a : ℕ) → Beside a ≡ true → name x ≡ name a
-    beside_named a h =
-        elim (or_split (joined nat_eq before x a) (joined nat_eq before y a) h) [
-          | inl t ↦ joined_named x a t
-          | inr t ↦ same ∙ joined_named y a t
-        ]
+    beside_named a h = grind (arith, common_steps, or_split (joined nat_eq before x a) (joined nat_eq before y a) h, joined_named x a, joined_named y a)
 
     pub merged_named : HaveOneName after name
     merged_named a b e =

@@ -1,6 +1,7 @@
 -- Which sites are in one class, as a test: once a class is taken away, and once classes become one.
-use Rattle.std.proofs.Common.{◌≡◌, ◌⊎◌, Bool, true, false, not, ◌&&◌, ◌||◌, if◌then◌else◌, List, [], ◌∷◌, refl, sym, ap, ◌∙◌, subst, inl, inr}
+use Rattle.std.proofs.Common.{◌≡◌, ◌⊎◌, Bool, true, false, not, ◌&&◌, ◌||◌, if◌then◌else◌, List, [], ◌∷◌, refl, sym, ◌∙◌, subst, inl, inr, arith}
 use Rattle.std.proofs.lemmas.Bool.{cases_Bool, cond-true, cond-false, and_parts, and_from, false_from_ne_true, not_from_false, both_ways, not-true}
+use Rattle.std.proofs.lemmas.Grind.{common_steps}
 use Rattle.model.specs.sites.Sites.{SiteTerm}
 use Rattle.model.specs.visits.Demands.{site_term_eq, has_site}
 use Rattle.model.specs.sites.Closure.{class_at, without_class_of, merged_classes, merged_all}
@@ -12,10 +13,7 @@ use Rattle.laws_sites.proofs.overlaps.Overlaps.{bool_same}
 use Rattle.core_rule_sets.specs.Closings.{are_in_one_class}
 
 pub in_one : (ks : List (List SiteTerm)) (a b : SiteTerm) → are_in_one_class ks a b ≡ true → InOne ks a b
-in_one ks a b h =
-    let r = in_any (λ k. has_site k a && has_site k b) ks h in
-    let p = and_parts (has_site r.0 a) (has_site r.0 b) r.2 in
-    record { class = r.0; there = r.1; first = has_in r.0 a p.0; second = has_in r.0 b p.1 }
+in_one ks a b h = grind (arith, common_steps, in_any (λ k. has_site k a && has_site k b) ks h, and_parts, has_in)
 
 pub one_in : (ks : List (List SiteTerm)) (a b : SiteTerm) → InOne ks a b → are_in_one_class ks a b ≡ true
 one_in ks a b o =
@@ -24,15 +22,10 @@ one_in ks a b o =
 
 -- a class has its site, and those that are in one with it
 pub in_class_means : (ks : List (List SiteTerm)) (s x : SiteTerm) → In (class_at ks s) x → (s ≡ x) ⊎ InOne ks s x
-in_class_means ks s x i =
-    elim (class_cases ks s) [
-      | inl j ↦ inr (record { class = class_at ks s; there = j; first = own_class ks s; second = i })
-      | inr e ↦ inl (elim (subst (λ l. In l x) e i) [ inl p ↦ p | inr n ↦ absurd n ])
-    ]
+in_class_means ks s x i = grind (arith, common_steps, class_cases ks s, own_class ks s)
 
 pub class_has : (ks : List (List SiteTerm)) → IsApart ks → (s x : SiteTerm) → (s ≡ x) ⊎ InOne ks s x → In (class_at ks s) x
-class_has ks apart s x (inl e) = subst (In (class_at ks s)) e (own_class ks s)
-class_has ks apart s x (inr o) = subst (λ l. In l x) (sym (class_is ks apart o.class s o.there o.first)) o.second
+class_has ks apart s x h = grind (arith, common_steps, own_class ks s, class_is ks apart)
 
 -- 1. without the class of a site
 pub one_without : (ks : List (List SiteTerm)) → IsApart ks → (s a b : SiteTerm)
@@ -44,9 +37,7 @@ one_without ks apart s a b =
     let w = without_in ks s o.class o.there in
     and_from (are_in_one_class ks a b) (not (are_in_one_class ks s a))
     (one_in ks a b (record { class = o.class; there = w.0; first = o.first; second = o.second }))
-    (not_from_false (are_in_one_class ks s a) (false_from_ne_true (are_in_one_class ks s a) (λ t.
-    let q = in_one ks s a t in
-    w.1 (subst (λ l. In l s) (apart q.class o.class a q.there w.0 q.second o.first) q.first)))))
+    (grind (arith, common_steps, not_from_false (are_in_one_class ks s a), false_from_ne_true (are_in_one_class ks s a), in_one ks s a)))
     (λ h.
     let p = and_parts (are_in_one_class ks a b) (not (are_in_one_class ks s a)) h in
     let o = in_one ks a b p.0 in
@@ -120,12 +111,7 @@ module _ (ks : List (List SiteTerm)) (apart : IsApart ks) (e : SiteTerm × SiteT
         ]
 
     in_first : (a : SiteTerm) → In (joint ks e) a → In together_before.class a
-    in_first a i =
-        let o = together_before in
-        elim (in_either (class_at ks e.0) (class_at ks e.1) a i) [
-          | inl j ↦ subst (λ l. In l a) (class_is ks apart o.class e.0 o.there o.first) j
-          | inr j ↦ subst (λ l. In l a) (class_is ks apart o.class e.1 o.there o.second) j
-        ]
+    in_first a i = grind (arith, common_steps, together_before, in_either (class_at ks e.0) (class_at ks e.1) a i, class_is ks apart)
 
   from_merged : (a b : SiteTerm) → InOne (merged_classes ks e) a b
       → (((Beside e.0 a || Beside e.1 a) && (Beside e.0 b || Beside e.1 b)) || are_in_one_class ks a b) ≡ true
@@ -156,9 +142,7 @@ module _ (ks : List (List SiteTerm)) (apart : IsApart ks) (e : SiteTerm × SiteT
             let i = beside_in_joint a p.0 in
             let j = beside_in_joint b p.1 in
             elim (cases_Bool HasSecond) [
-              | inl u ↦
-                  subst (λ l. InOne l a b) (sym (merged_if u))
-                  (record { class = (together_before two u).class; there = (together_before two u).there; first = in_first two u a i; second = in_first two u b j })
+              | inl u ↦ grind (arith, common_steps, merged_if u, together_before two u, in_first two u a i, in_first two u b j)
               | inr f ↦ subst (λ l. InOne l a b) (sym (merged_else f)) (record { class = joint ks e; there = inl refl; first = i; second = j })
             ]
         | inr t ↦ each_keeps_one (e ∷ []) ks apart a b (in_one ks a b t)
@@ -169,9 +153,7 @@ module _ (ks : List (List SiteTerm)) (apart : IsApart ks) (e : SiteTerm × SiteT
       let left = are_in_one_class ks a b in
       let right = ((Beside e.0 a || Beside e.1 a) && (Beside e.0 b || Beside e.1 b)) || are_in_one_class ks a b in
       elim (cases_Bool (site_term_eq e.0 e.1)) [
-        | inl t ↦
-            let has : HasSecond ≡ true = in_has (class_at ks e.0) e.1 (subst (In (class_at ks e.0)) (term_means e.0 e.1 t) (own_class ks e.0)) in
-            ap (λ l. are_in_one_class l a b) (merged_if has) ∙ sym (cond-true (site_term_eq e.0 e.1) left right t)
+        | inl t ↦ grind (arith, common_steps, in_has (class_at ks e.0) e.1, term_means e.0 e.1 t, own_class ks e.0, merged_if)
         | inr f ↦
             bool_same (are_in_one_class (merged_classes ks e) a b) right
             (λ h. from_merged a b (in_one (merged_classes ks e) a b h)) (λ h. one_in (merged_classes ks e) a b (to_merged f a b h))

@@ -1,12 +1,12 @@
 -- A class is taken, over numbers and over what they stand for; and the closing, step by step.
-use Rattle.std.proofs.Common.{◌≡◌, ℕ, suc, ◌+◌, ◌<◌, ◌≤◌, true, false, not, ◌&&◌, if◌then◌else◌, List, [], ◌∷◌, ◌++◌, length, map, flat_map, drop, get_or, All, Some, None, is_some, slice_get, refl, sym, ap, ◌∙◌, subst, inl, inr, arith, eqb-true, eq-eqb}
+use Rattle.std.proofs.Common.{◌≡◌, ℕ, suc, ◌+◌, ◌<◌, ◌≤◌, true, false, not, ◌&&◌, if◌then◌else◌, List, [], ◌∷◌, ◌++◌, length, map, flat_map, drop, get_or, All, Some, None, is_some, slice_get, refl, sym, ap, ◌∙◌, subst, inl, inr, arith, eq-eqb}
 use Rattle.std.specs.Prelude.{nat_eq}
 use Rattle.std.specs.List.{zip}
 use Rattle.std.specs.Ordering.{nat_cmp}
 use Rattle.std.specs.List.Sorted.{IsStrictlySortedBy}
 use Rattle.std.proofs.lemmas.Bool.{and_parts, false_from_ne_true}
-use Rattle.std.proofs.lemmas.List.Elements.{All-weaker}
 use Rattle.std.proofs.lemmas.Option.{same_Some, slice_get_within}
+use Rattle.std.proofs.lemmas.Grind.{common_steps}
 use Rattle.core_containers.specs.Partition.{in_set}
 use Rattle.model.specs.sites.Sites.{Site, Constraint, SiteTerm, unfold_site, field_terms}
 use Rattle.model.specs.visits.Demands.{has_site, with_sites}
@@ -28,23 +28,10 @@ use Rattle.core_rule_sets.proofs.SitesAdded.{same_all}
 
 -- 1. the same demands, whatever is kept to look at
 pub same_demands : (sites : List Site) (d e : Demanded) (k : Closed) → AreDemandsOf sites d k → e.constraints ≡ d.constraints → e.equals ≡ d.equals → AreDemandsOf sites e k
-same_demands sites d e k h asked equated = record {
-  stand = h.stand;
-  once = h.once;
-  asked = λ s l. held_same d e asked s ∙ h.asked s l;
-  asked_within = λ s t. h.asked_within s (sym (ap is_some (held_same d e asked s)) ∙ t);
-  asked_made = h.asked_made;
-  equated = λ a b l m. equated_same d e equated a b ∙ h.equated a b l m;
-  equated_within = λ a b t. h.equated_within a b (sym (equated_same d e equated a b) ∙ t);
-  equated_made = h.equated_made;
-  apart = h.apart;
-}
+same_demands sites d e k h asked equated = grind (arith, common_steps, held_same d e asked, equated_same d e equated)
 
 pub goes_on_from : (first before after : List Site) (d e : Demanded) (j k : Closed) → GoOn first before d j → GoOn before after e k → GoOn first after e k
-goes_on_from first before after d e j k g h =
-    let l = g.longer in
-    let m = h.longer in
-    record { demands = h.demands; kept = λ s q. h.kept s (omega arith) ∙ g.kept s q; longer = omega arith }
+goes_on_from first before after d e j k g h = grind (arith, common_steps)
 
 -- 2. fields of members, one after another
 abbrev pub with_members : Constraint → SiteTerm → Closed → List SiteTerm → Closed
@@ -99,9 +86,7 @@ module _ (sites : List Site) (d : Demanded) (k : Closed) (h : AreDemandsOf sites
 
   module _ (members : List ℕ) (exact : (y : ℕ) → in_set nat_eq members y ≡ are_equated d s y) where
     number_in : (y : ℕ) → are_equated d s y ≡ true → In members y
-    number_in y t =
-        let r = in_any (nat_eq y) members (exact y ∙ t) in
-        subst (In members) (sym (eqb-true y r.0 r.2)) r.1
+    number_in y t = grind (arith, common_steps, in_any (nat_eq y) members (exact y ∙ t))
 
     in_number : (y : ℕ) → In members y → are_equated d s y ≡ true
     in_number y i = sym (exact y) ∙ any_in (nat_eq y) members y i (eq-eqb y y refl)
@@ -150,9 +135,7 @@ module _ (sites : List Site) (d : Demanded) (k : Closed) (h : AreDemandsOf sites
 
   pub class_taken : IsStrictlySortedBy nat_cmp members → (after : List Site) (last : Demanded) → GoOn sites after last (with_field_terms c Asked (map (unfold_site sites) members))
       → GoOn sites after last (taken k (unfold_site sites s, c) (ascending k.made (class_at k.classes (unfold_site sites s))))
-  class_taken sorted after last goes =
-      let u = unfold_site sites s in
-      subst (λ ms. GoOn sites after last (taken k (u, c) ms)) (sym (members_ascend sites d k h s due members exact sorted)) goes
+  class_taken sorted after last goes = grind (arith, common_steps, members_ascend sites d k h s due members exact sorted)
 
 -- 4. what is due next
 module _ (sites : List Site) (d : Demanded) (k : Closed) (h : AreDemandsOf sites d k) where
@@ -161,16 +144,10 @@ module _ (sites : List Site) (d : Demanded) (k : Closed) (h : AreDemandsOf sites
   due_same s l = λ i. is_some (h.asked s l i) && (h.equated s s l l ∙ sym (in_class_same k.classes (unfold_site sites s))) i
 
   number_of : (j : ℕ) (v : SiteTerm) → slice_get k.made j ≡ Some v → (j < length sites) × (unfold_site sites j ≡ v)
-  number_of j v e =
-      let count = h.stand.count in
-      let r = slice_get_within k.made j v e in
-      let l : j < length sites = omega (arith, count, r) in
-      (l, same_Some (unfold_site sites j) v (sym (h.stand.exact j l) ∙ e))
+  number_of j v e = grind (arith, common_steps, slice_get_within k.made j v e, same_Some (unfold_site sites j) v)
 
   not_due : (j : ℕ) (v : SiteTerm) → slice_get k.made j ≡ Some v → is_due d j ≡ false → (is_some (constraint_of k.constraints v) && is_in_class k.classes v) ≡ false
-  not_due j v e f =
-      let m = number_of j v e in
-      subst (λ w. (is_some (constraint_of k.constraints w) && is_in_class k.classes w) ≡ false) m.1 (sym (due_same j m.0) ∙ f)
+  not_due j v e f = grind (arith, common_steps, number_of j v e, due_same j)
 
   pub none_next : ((s : ℕ) → is_due d s ≡ false) → next_constrained k.classes k.constraints k.made ≡ None
   none_next none = next_nowhere k.classes k.constraints k.made (λ j v e. not_due j v e (none j))
@@ -186,9 +163,7 @@ module _ (sites : List Site) (d : Demanded) (k : Closed) (h : AreDemandsOf sites
 -- 5. one step of the closing
 pub one_step : (m n : ℕ) (k : Closed) (c : SiteTerm × Constraint) → m ≡ suc n → next_constrained k.classes k.constraints k.made ≡ Some c
     → closing m k ≡ closing n (taken k c (ascending k.made (class_at k.classes c.0)))
-one_step m n k c e next =
-    ap (λ q. closing q k) e
-    ∙ ap (λ o. elim o as (λ _. Closed) [ None ↦ k | Some c ↦ closing n (taken k c (ascending k.made (class_at k.classes c.0))) ]) next
+one_step m n k c e next = grind (arith, common_steps)
 
 -- 6. fields of members, as far as they are joined
 pub record JoinedSoFar (first now : List Site) (d : Demanded) (c : Constraint) (least : SiteTerm) (k : Closed) (fields : List ℕ) (all left : List SiteTerm) : Type 0 where
@@ -221,16 +196,12 @@ joined_next first now after d e c least k fields rest i m all l is within j next
       so_far = with_member c least j.so_far (unfold_site first m);
       goes = goes_on_from first now after d e j.so_far (with_member c least j.so_far (unfold_site first m)) j.goes g;
       whole = ap (λ left. with_members c least j.so_far (map (unfold_site first) left)) (sym (rest_is rest i m l is)) ∙ j.whole;
-      of_least = record {
-        within = All-weaker (λ x. x < length now) (λ x. x < length after) (λ x b. omega (arith, b)) fields j.of_least.within;
-        of_site = same_all (unfold_site after) (unfold_site now) (length now) fields g.kept j.of_least.within ∙ j.of_least.of_site;
-      };
+      of_least = grind (arith, common_steps, same_all (unfold_site after) (unfold_site now) (length now) fields g.kept j.of_least.within);
     }
 
 pub joined_last : (first now : List Site) (d : Demanded) (c : Constraint) (least : SiteTerm) (k : Closed) (fields : List ℕ) (all left : List SiteTerm) → left ≡ []
     → JoinedSoFar first now d c least k fields all left → GoOn first now d (with_field_terms c k (least ∷ all))
-joined_last first now d c least k fields all left none j =
-    subst (GoOn first now d) (ap (with_members c least j.so_far) (sym none) ∙ j.whole ∙ fields_at_once c least all k) j.goes
+joined_last first now d c least k fields all left none j = grind (arith, common_steps, fields_at_once c least all k)
 
 -- 7. the closing, as far as it went
 pub record ClosedSoFar (first now : List Site) (d : Demanded) (k : Closed) (n m : ℕ) : Type 0 where
@@ -255,11 +226,7 @@ one_closed first now after d e last k n m s c j due asked equal next =
 
 pub all_closed : (first now : List Site) (d e : Demanded) (k : Closed) (n m : ℕ) → ClosedSoFar first now d k n m → ((s : ℕ) → is_due d s ≡ false)
     → e.constraints ≡ d.constraints → e.equals ≡ d.equals → GoOn first now e (closing n k)
-all_closed first now d e k n m j none asked equal =
-    let h = j.goes.demands in
-    let is : j.so_far ≡ closing n k = sym (closing_ends m j.so_far (none_next now d j.so_far h none)) ∙ j.whole in
-    subst (GoOn first now e) is
-    (record { demands = same_demands now d e j.so_far h asked equal; kept = j.goes.kept; longer = j.goes.longer })
+all_closed first now d e k n m j none asked equal = grind (arith, common_steps, closing_ends m j.so_far, none_next now d j.so_far, same_demands now d e j.so_far)
 
 -- 8. the first of some members, and the rest
 pub same_first : (x y : ℕ) (xs ys : List ℕ) → x ∷ xs ≡ y ∷ ys → x ≡ y

@@ -1,5 +1,5 @@
 -- Tests and constraints over numbers of sites, beside those over what the numbers stand for.
-use Rattle.std.proofs.Common.{◌≡◌, ℕ, zero, suc, ◌+◌, ◌<◌, ◌≤◌, Bool, true, false, ◌&&◌, ◌||◌, if◌then◌else◌, List, [], ◌∷◌, ◌++◌, length, map, filter, drop, get_or, All, Option, Some, None, is_some, slice_get, refl, sym, ap, ap₂, ◌∙◌, subst, inl, inr, arith, eqb-true, eq-eqb}
+use Rattle.std.proofs.Common.{◌≡◌, ℕ, suc, ◌+◌, ◌<◌, ◌≤◌, Bool, true, false, ◌&&◌, ◌||◌, if◌then◌else◌, List, [], ◌∷◌, ◌++◌, length, map, filter, drop, get_or, All, Option, Some, None, is_some, slice_get, refl, sym, ap, ◌∙◌, subst, inl, inr, arith, eqb-true, eq-eqb}
 use Rattle.std.specs.Prelude.{nat_eq}
 use Rattle.std.specs.List.{zip, AllByRecursion}
 use Rattle.std.specs.Ordering.{nat_cmp}
@@ -7,8 +7,9 @@ use Rattle.std.specs.declared.cmp.Ordering.TheVariants.{Less}
 use Rattle.std.proofs.lemmas.Cmp.{ranked}
 use Rattle.std.proofs.lemmas.Map.Keys.{sorted_head, sorted_tail}
 use Rattle.std.specs.List.Sorted.{IsStrictlySortedBy}
-use Rattle.std.proofs.lemmas.Bool.{cases_Bool, cond-true, cond-false, false≢true, and_parts, and_from}
+use Rattle.std.proofs.lemmas.Bool.{cases_Bool, cond-false, and_parts, and_from}
 use Rattle.std.proofs.lemmas.List.Elements.{All-nil, All-cons}
+use Rattle.std.proofs.lemmas.Grind.{common_steps}
 use Rattle.model.specs.sites.Sites.{Constraint, SiteTerm}
 use Rattle.model.specs.visits.Demands.{site_term_eq, has_site}
 use Rattle.model.specs.sites.Closure.{constraint_of, with_constraint, with_constraints, is_in_class, next_constrained}
@@ -39,13 +40,8 @@ more_at : (o : Option Constraint) (cs : List (SiteTerm × Constraint)) (d : Site
 more_at o [] d u e = ap (λ (w : Option Constraint). elim w as (λ _. Option Constraint) [ None ↦ if site_term_eq d.0 u then Some d.1 else None | Some b ↦ Some b ]) e
 more_at o (c ∷ cs) d u e =
     elim (cases_Bool (site_term_eq c.0 u)) [
-      | inl t ↦
-          cond-true (site_term_eq c.0 u) (Some c.1) (constraint_of (cs ++ d ∷ []) u) t
-          ∙ ap (λ (w : Option Constraint). elim w as (λ _. Option Constraint) [ None ↦ if site_term_eq d.0 u then Some d.1 else None | Some b ↦ Some b ])
-          (sym (cond-true (site_term_eq c.0 u) (Some c.1) (constraint_of cs u) t) ∙ e)
-      | inr f ↦
-          cond-false (site_term_eq c.0 u) (Some c.1) (constraint_of (cs ++ d ∷ []) u) f
-          ∙ more_at o cs d u (sym (cond-false (site_term_eq c.0 u) (Some c.1) (constraint_of cs u) f) ∙ e)
+      | inl t ↦ grind (arith, common_steps)
+      | inr f ↦ grind (arith, common_steps, more_at o cs d u)
     ]
 
 module _ (cs : List (SiteTerm × Constraint)) (d : SiteTerm × Constraint) (u : SiteTerm) where
@@ -56,14 +52,7 @@ module _ (cs : List (SiteTerm × Constraint)) (d : SiteTerm × Constraint) (u : 
   Wanted = if site_term_eq d.0 u then Some (first_kept (constraint_of cs d.0) d.1) else constraint_of cs u
 
   where_had : (b : Constraint) → constraint_of cs d.0 ≡ Some b → constraint_of (with_constraint cs d) u ≡ Wanted
-  where_had b e =
-      ap (λ l. constraint_of l u) (ap (λ (o : Option Constraint). if is_some o then cs else WithOne) e)
-      ∙ elim (cases_Bool (site_term_eq d.0 u)) [
-        | inl t ↦
-            ap (constraint_of cs) (sym (term_means d.0 u t)) ∙ e ∙ sym (ap (λ o. Some (first_kept o d.1)) e)
-            ∙ sym (cond-true (site_term_eq d.0 u) (Some (first_kept (constraint_of cs d.0) d.1)) (constraint_of cs u) t)
-        | inr f ↦ sym (cond-false (site_term_eq d.0 u) (Some (first_kept (constraint_of cs d.0) d.1)) (constraint_of cs u) f)
-      ]
+  where_had b e = grind (arith, common_steps, term_means d.0 u)
 
   other_site : site_term_eq d.0 u ≡ false → (o : Option Constraint) → constraint_of cs u ≡ o → constraint_of WithOne u ≡ o
   other_site f None e = more_at None cs d u e ∙ cond-false (site_term_eq d.0 u) (Some d.1) None f
@@ -73,21 +62,12 @@ module _ (cs : List (SiteTerm × Constraint)) (d : SiteTerm × Constraint) (u : 
   where_none e =
       ap (λ l. constraint_of l u) (ap (λ (o : Option Constraint). if is_some o then cs else WithOne) e)
       ∙ elim (cases_Bool (site_term_eq d.0 u)) [
-        | inl t ↦
-            more_at None cs d u (ap (constraint_of cs) (sym (term_means d.0 u t)) ∙ e) ∙ cond-true (site_term_eq d.0 u) (Some d.1) None t
-            ∙ sym (ap (λ o. Some (first_kept o d.1)) e)
-            ∙ sym (cond-true (site_term_eq d.0 u) (Some (first_kept (constraint_of cs d.0) d.1)) (constraint_of cs u) t)
-        | inr f ↦
-            other_site f (constraint_of cs u) refl
-            ∙ sym (cond-false (site_term_eq d.0 u) (Some (first_kept (constraint_of cs d.0) d.1)) (constraint_of cs u) f)
+        | inl t ↦ grind (arith, common_steps, more_at None cs d u (ap (constraint_of cs) (sym (term_means d.0 u t)) ∙ e), term_means d.0 u t)
+        | inr f ↦ grind (arith, common_steps, other_site f (constraint_of cs u) refl)
       ]
 
   pub constraint_with : constraint_of (with_constraint cs d) u ≡ Wanted
-  constraint_with = by_had (constraint_of cs d.0) refl
-    where
-      by_had : (o : Option Constraint) → constraint_of cs d.0 ≡ o → constraint_of (with_constraint cs d) u ≡ Wanted
-      by_had None e = where_none e
-      by_had (Some b) e = where_had b e
+  constraint_with = grind (arith, common_steps, where_none, where_had)
 
 -- 2. numbers that are told apart by what they stand for
 module _ (n : ℕ) (f : ℕ → SiteTerm) (one : (a b : ℕ) → a < n → b < n → f a ≡ f b → a ≡ b) where
@@ -112,11 +92,10 @@ module _ (n : ℕ) (f : ℕ → SiteTerm) (one : (a b : ℕ) → a < n → b < n
 
   pub each_agree : (xs ys : List ℕ) → AreBelow n xs → AreBelow n ys → (T : ℕ → ℕ → Bool) (U : SiteTerm → SiteTerm → Bool) → Agree T U
       → Agree (equated_each T (zip xs ys)) (joined_each U (zip (map f xs) (map f ys)))
-  each_agree [] ys k l T U h = h
-  each_agree (x ∷ xs) [] k l T U h = h
   each_agree (x ∷ xs) (y ∷ ys) k l T U h =
       each_agree xs ys (λ z i. k z (inr i)) (λ z i. l z (inr i)) (equated_too T x y) (joined_too U (f x) (f y))
       (too_agree T U h x y (k x (inl refl)) (l y (inl refl)))
+  each_agree _ _ k l T U h = h
 
   pub asked_agree : (xs : List ℕ) → AreBelow n xs → (c : Constraint) (h : ℕ → Option Constraint) (cs : List (SiteTerm × Constraint))
       → ((s : ℕ) → s < n → h s ≡ constraint_of cs (f s)) → (s : ℕ) → s < n
@@ -124,9 +103,7 @@ module _ (n : ℕ) (f : ℕ → SiteTerm) (one : (a b : ℕ) → a < n → b < n
   asked_agree [] k c h cs e s l = e s l
   asked_agree (x ∷ xs) k c h cs e s l =
       asked_agree xs (λ z i. k z (inr i)) c (asked_too h x c) (with_constraint cs (f x, c))
-      (λ r m.
-      let lx = k x (inl refl) in
-      (λ i. if same_numbers x r lx m i then Some (first_kept (e x lx i) c) else e r m i) ∙ sym (constraint_with cs (f x, c) (f r)))
+      (λ r m. grind (arith, common_steps, same_numbers x r, constraint_with cs (f x, c) (f r), k x (inl refl), e x, e r m, f x, f r))
       s l
 
 -- 3. only the numbers of pairs become equal
@@ -137,45 +114,18 @@ each_within n (x ∷ xs) [] k l T w a b h = w a b h
 each_within n (x ∷ xs) (y ∷ ys) k l T w a b h = each_within n xs ys (λ z i. k z (inr i)) (λ z i. l z (inr i)) (equated_too T x y) too a b h
   where
     beside : (z : ℕ) → z < n → (q : ℕ) → is_or_equals T z q ≡ true → q < n
-    beside z m q g =
-        elim (cases_Bool (nat_eq z q)) [
-          | inl t ↦ subst (λ o. o < n) (eqb-true z q t) m
-          | inr f ↦ (w z q (sym (ap (λ o. o || T z q) f) ∙ g)).1
-        ]
+    beside z m q g = grind (arith, common_steps)
 
     either : (q : ℕ) → (is_or_equals T x q || is_or_equals T y q) ≡ true → q < n
-    either q g =
-        elim (cases_Bool (is_or_equals T x q)) [
-          | inl t ↦ beside x (k x (inl refl)) q t
-          | inr f ↦ beside y (l y (inl refl)) q (sym (ap (λ o. o || is_or_equals T y q) f) ∙ g)
-        ]
+    either q g = grind (arith, common_steps, beside x (k x (inl refl)) q, beside y (l y (inl refl)) q)
 
     too : (p q : ℕ) → equated_too T x y p q ≡ true → (p < n) × (q < n)
-    too p q g =
-        let left = (is_or_equals T x p || is_or_equals T y p) && (is_or_equals T x q || is_or_equals T y q) in
-        elim (cases_Bool (nat_eq x y)) [
-          | inl t ↦ w p q (sym (cond-true (nat_eq x y) (T p q) (left || T p q) t) ∙ g)
-          | inr f ↦
-              let c : (left || T p q) ≡ true = sym (cond-false (nat_eq x y) (T p q) (left || T p q) f) ∙ g in
-              elim (cases_Bool left) [
-                | inl t ↦
-                    let d = and_parts (is_or_equals T x p || is_or_equals T y p) (is_or_equals T x q || is_or_equals T y q) t in
-                    (either p d.0, either q d.1)
-                | inr e ↦ w p q (sym (ap (λ z. z || T p q) e) ∙ c)
-              ]
-        ]
+    too p q g = grind (arith, common_steps, either p, either q, and_parts (is_or_equals T x p || is_or_equals T y p) (is_or_equals T x q || is_or_equals T y q))
 
 pub asked_within : (n : ℕ) (xs : List ℕ) → AreBelow n xs → (c : Constraint) (h : ℕ → Option Constraint) → ((s : ℕ) → is_some (h s) ≡ true → s < n)
     → (s : ℕ) → is_some (asked_each h xs c s) ≡ true → s < n
 asked_within n [] k c h w s e = w s e
-asked_within n (x ∷ xs) k c h w s e = asked_within n xs (λ z i. k z (inr i)) c (asked_too h x c) too s e
-  where
-    too : (a : ℕ) → is_some (asked_too h x c a) ≡ true → a < n
-    too a d =
-        elim (cases_Bool (nat_eq x a)) [
-          | inl t ↦ subst (λ z. z < n) (eqb-true x a t) (k x (inl refl))
-          | inr f ↦ w a (sym (ap is_some (cond-false (nat_eq x a) (Some (first_kept (h x) c)) (h a) f)) ∙ d)
-        ]
+asked_within n (x ∷ xs) k c h w s e = grind (arith, common_steps, asked_within n xs (λ z i. k z (inr i)) c (asked_too h x c), k x (inl refl), h x)
 
 -- 4. the members of a class, ascending
 -- each number is below those after it
@@ -203,32 +153,11 @@ module _ (f : ℕ → SiteTerm) (p : SiteTerm → Bool) where
   with_first : (u : SiteTerm) (us : List SiteTerm) (i : ℕ) (xs : List ℕ) → u ≡ f i → Rises xs → IsIn i (length (u ∷ us)) xs → In xs i
       → ((ys : List ℕ) → Rises ys → IsIn (suc i) (length us) ys → filter p us ≡ map f ys) → u ∷ filter p us ≡ map f xs
   with_first u us i [] first s h m rest = absurd m
-  with_first u us i (y ∷ ys) first s h m rest =
-      let is : y ≡ i = elim m [ inl e ↦ e | inr j ↦ let a = s.0 i j in let b = (h.0 y (inl refl)).0 in absurd (omega (arith, a, b)) ] in
-      ap₂ ◌∷◌ (first ∙ ap f (sym is))
-      (rest ys s.1 (
-        λ x j.
-            let a = s.0 x j in
-            let b = (h.0 x (inr j)).1 in
-            let c : suc i ≤ x = omega (arith, a, is) in
-            let d : x < suc i + length us = omega (arith, b) in
-            (c, d),
-        λ z a b t. elim (h.1 z (omega (arith, a)) (omega (arith, b)) t) [ inl e ↦ absurd (omega (arith, a, e, is)) | inr j ↦ j ],
-        λ z j. h.2 z (inr j),
-      ))
+  with_first u us i (y ∷ ys) first s h m rest = grind (arith, common_steps)
 
   -- the first is none
   without_first : (u : SiteTerm) (n i : ℕ) (xs : List ℕ) → u ≡ f i → p u ≡ false → IsIn i (suc n) xs → IsIn (suc i) n xs
-  without_first u n i xs first q h = (
-    λ x m.
-        let r = h.0 x m in
-        let d : x ≡ i → ⊥ = λ (e : x ≡ i). false≢true (sym q ∙ ap p first ∙ ap (λ k. p (f k)) (sym e) ∙ h.2 x m) in
-        let a : suc i ≤ x = omega (arith, r.0) in
-        let b : x < suc i + n = omega (arith, r.1) in
-        (a, b),
-    λ s a b. h.1 s (omega (arith, a)) (omega (arith, b)),
-    h.2,
-  )
+  without_first u n i xs first q h = grind (arith, common_steps)
 
   pub members_same : (us : List SiteTerm) (i : ℕ) (xs : List ℕ) → StandsFrom i us → Rises xs → IsIn i (length us) xs → filter p us ≡ map f xs
   members_same [] i [] at s h = refl
@@ -238,9 +167,7 @@ module _ (f : ℕ → SiteTerm) (p : SiteTerm → Bool) where
       let first : u ≡ f i = some_is u (f i) (at 0 (omega arith) ∙ ap (λ k. Some (f k)) z) in
       let later : StandsFrom (suc i) us = λ j l. let e : i + suc j ≡ suc i + j = omega arith in at (suc j) (omega (arith, l)) ∙ ap (λ k. Some (f k)) e in
       elim (cases_Bool (p u)) [
-        | inl t ↦
-            cond-true (p u) (u ∷ filter p us) (filter p us) t
-            ∙ with_first u us i xs first s h (h.1 i (omega arith) (omega arith) (ap p (sym first) ∙ t)) (λ ys r g. members_same us (suc i) ys later r g)
+        | inl t ↦ grind (arith, common_steps, members_same us (suc i), with_first u us i xs first s h)
         | inr q ↦ cond-false (p u) (u ∷ filter p us) (filter p us) q ∙ members_same us (suc i) xs later s (without_first u (length us) i xs first q h)
       ]
 
@@ -256,8 +183,7 @@ next_by ks v later o = elim o as (λ _. Option (SiteTerm × Constraint)) [ None 
 
 -- a site that isn't due is passed over
 passed_over : (ks : List (List SiteTerm)) (v : SiteTerm) (later : Option (SiteTerm × Constraint)) (o : Option Constraint) → (is_some o && is_in_class ks v) ≡ false → next_by ks v later o ≡ later
-passed_over ks v later None h = refl
-passed_over ks v later (Some c) h = cond-false (is_in_class ks v) (Some (v, c)) later h
+passed_over ks v later o h = grind (arith, common_steps)
 
 module _ (ks : List (List SiteTerm)) (cs : List (SiteTerm × Constraint)) where
   abbrev pub IsDue : SiteTerm → Bool
@@ -269,15 +195,10 @@ module _ (ks : List (List SiteTerm)) (cs : List (SiteTerm × Constraint)) where
 
   pub next_is : (us : List SiteTerm) (s : ℕ) (u : SiteTerm) (c : Constraint) → slice_get us s ≡ Some u → constraint_of cs u ≡ Some c → is_in_class ks u ≡ true
       → ((j : ℕ) (v : SiteTerm) → j < s → slice_get us j ≡ Some v → IsDue v ≡ false) → next_constrained ks cs us ≡ Some (u, c)
-  next_is [] s u c at has there before = absurd (none_some u at)
-  next_is (v ∷ us) zero u c at has there before =
-      let same : u ≡ v = sym (some_is v u at) in
-      subst (λ w. next_by ks v (next_constrained ks cs us) (constraint_of cs v) ≡ Some (w, c)) (sym same)
-      (ap (next_by ks v (next_constrained ks cs us)) (ap (constraint_of cs) (sym same) ∙ has)
-      ∙ cond-true (is_in_class ks v) (Some (v, c)) (next_constrained ks cs us) (ap (is_in_class ks) (sym same) ∙ there))
   next_is (v ∷ us) (suc s) u c at has there before =
       passed_over ks v (next_constrained ks cs us) (constraint_of cs v) (before 0 v (omega arith) refl)
       ∙ next_is us s u c at has there (λ j w l e. before (suc j) w (omega arith) e)
+  next_is us s u c at has there before = grind (arith, none_some, some_is)
 
 -- 6. one more site is asked
 pub one_more_asked : (held next : ℕ → Option Constraint) (xs : List ℕ) (i x : ℕ) (c : Constraint) → i < length xs → x ≡ get_or xs i x

@@ -5,8 +5,9 @@ use Rattle.std.specs.List.{zip}
 use Rattle.std.proofs.lemmas.Bool.{cases_Bool, and_parts, both_ways, false_from_ne_true, ltb-true, ltb-false}
 use Rattle.std.proofs.lemmas.List.{length-map}
 use Rattle.std.proofs.lemmas.Option.{same_Some, slice_get_within}
+use Rattle.std.proofs.lemmas.Grind.{common_steps}
 use Rattle.core_containers.specs.Partition.{together}
-use Rattle.model.specs.sites.Sites.{Site, Constraint, is_variant, is_struct, is_bool, is_int, is_prim, is_present, SiteTerm, variant_field, struct_field, unfold_site, fields_from, field_terms}
+use Rattle.model.specs.sites.Sites.{Site, Constraint, SiteTerm, unfold_site, fields_from, field_terms}
 use Rattle.model.specs.visits.Demands.{with_sites}
 use Rattle.model.specs.sites.Closure.{Closed, constraint_of, without_class_of, merged_all, with_constraints}
 use Rattle.model.specs.sites.RuleSets.{StandFor}
@@ -71,8 +72,7 @@ module _ (sites : List Site) (d : Demanded) (k : Closed) (h : AreDemandsOf sites
     asked = λ a m. held_same d e same a ∙ h.asked a m;
     asked_within = λ a t. h.asked_within a (sym (ap is_some (held_same d e same a)) ∙ t);
     asked_made = h.asked_made;
-    equated = λ a b m o.
-        new a b ∙ (λ i. h.equated a b m o i && not (h.equated s a l m i)) ∙ sym (one_without k.classes apart_of (f s) (f a) (f b));
+    equated = grind (arith, common_steps, one_without k.classes apart_of (f s));
     equated_within = λ a b t. h.equated_within a b (and_parts (are_equated d a b) (not (are_equated d s a)) (sym (new a b) ∙ t)).0;
     equated_made = λ class u i j. h.equated_made class u (from_without class (f s) i) j;
     apart = λ l m u i j. h.apart l m u (from_without l (f s) i) (from_without m (f s) j);
@@ -103,11 +103,7 @@ module _ (sites : List Site) (d : Demanded) (k : Closed) (h : AreDemandsOf sites
   }
     where
       of_members : (u : SiteTerm) (b : Constraint) → In {X = SiteTerm × Constraint} (map (λ m. (m, c)) (map f xs)) (u, b) → In k.made u
-      of_members u b j =
-          let m = in_map (λ (v : SiteTerm). (v, c)) (map f xs) (u, b) j in
-          let x = in_map f xs m.0 m.1 in
-          let is : m.0 ≡ u = ap (λ (w : SiteTerm × Constraint). w.0) m.2 in
-          subst (In k.made) (x.2 ∙ is) (stands_made x.0 (below x.0 x.1))
+      of_members u b j = grind (arith, common_steps, in_map (λ (v : SiteTerm). (v, c)) (map f xs) (u, b) j, in_map f xs, stands_made)
 
   -- 3. sites are made equal
   pub equated_more : (e : Demanded) (xs ys : List ℕ) → AreBelow n xs → AreBelow n ys → e.constraints ≡ d.constraints
@@ -165,8 +161,7 @@ module _ (sites : List Site) (d : Demanded) (k : Closed) (h : AreDemandsOf sites
         absurd (is_new s l new (in_from_contains k.made (g s) (h.asked_made (g s) c (contains_from_in k.constraints (g s, c) (found_constraint k.constraints (g s) c e)))))
 
     not_held : (s : ℕ) (o : Option Constraint) → nat_lt s n ≡ false → constraint_held d s ≡ o → constraint_held d s ≡ None
-    not_held s None new e = e
-    not_held s (Some c) new e = absurd (let l = h.asked_within s (ap is_some e) in let m = ltb-false s n new in omega (arith, l, m))
+    not_held s o new e = grind (arith, common_steps, ltb-false s n new)
 
     not_one : (a b x : ℕ) → x < length after → nat_lt x n ≡ false → (x ≡ a) ⊎ (x ≡ b) → are_in_one_class k.classes (g a) (g b) ≡ false
     not_one a b x l new which = false_from_ne_true (are_in_one_class k.classes (g a) (g b)) spoken_of
@@ -174,20 +169,11 @@ module _ (sites : List Site) (d : Demanded) (k : Closed) (h : AreDemandsOf sites
         spoken_of : are_in_one_class k.classes (g a) (g b) ≡ true → ⊥
         spoken_of t =
             let o = in_one k.classes (g a) (g b) t in
-            let has : Contains o.class (g x) = elim which [
-              | inl e ↦ subst (λ y. Contains o.class (g y)) (sym e) (contains_from_in o.class (g a) o.first)
-              | inr e ↦ subst (λ y. Contains o.class (g y)) (sym e) (contains_from_in o.class (g b) o.second)
-            ] in
+            let has : Contains o.class (g x) = grind (arith, common_steps, contains_from_in o.class (g a) o.first, contains_from_in o.class (g b) o.second) in
             is_new x l new (in_from_contains k.made (g x) (h.equated_made o.class (g x) (contains_from_in k.classes o.class o.there) has))
 
     not_equated : (a b x : ℕ) → nat_lt x n ≡ false → (x ≡ a) ⊎ (x ≡ b) → are_equated d a b ≡ false
-    not_equated a b x new which = false_from_ne_true (are_equated d a b) spoken_of
-      where
-        spoken_of : are_equated d a b ≡ true → ⊥
-        spoken_of t =
-            let w = h.equated_within a b t in
-            let m = ltb-false x n new in
-            elim which [ inl e ↦ omega (arith, e, m, w.0) | inr e ↦ omega (arith, e, m, w.1) ]
+    not_equated a b x new which = grind (arith, common_steps, false_from_ne_true (are_equated d a b), ltb-false x n new)
 
     pub grown : AreDemandsOf after d (with_made k us)
     grown = record {
@@ -202,14 +188,7 @@ module _ (sites : List Site) (d : Demanded) (k : Closed) (h : AreDemandsOf sites
       asked_made = λ u c i. contains_from_in (with_sites k.made us) u (still u (in_from_contains k.made u (h.asked_made u c i)));
       equated = λ a b l m.
           elim (cases_Bool (nat_lt a n)) [
-            | inl t ↦
-                elim (cases_Bool (nat_lt b n)) [
-                  | inl u ↦
-                      let x = ltb-true a n t in
-                      let y = ltb-true b n u in
-                      h.equated a b x y ∙ (λ i. are_in_one_class k.classes (sym (kept a x) i) (sym (kept b y) i))
-                  | inr q ↦ not_equated a b b q (inr refl) ∙ sym (not_one a b b m q (inr refl))
-                ]
+            | inl t ↦ grind (arith, common_steps, ltb-true a n t, ltb-true b n, not_equated a b b, not_one a b b m)
             | inr q ↦ not_equated a b a q (inl refl) ∙ sym (not_one a b a l q (inl refl))
           ];
       equated_within = λ a b t. let w = h.equated_within a b t in let x : a < length after = omega (arith, w.0) in let y : b < length after = omega (arith, w.1) in (x, y);
@@ -218,13 +197,7 @@ module _ (sites : List Site) (d : Demanded) (k : Closed) (h : AreDemandsOf sites
     }
       where
         still : (u : SiteTerm) → In k.made u → In (with_sites k.made us) u
-        still u i =
-            let at = slice_in k.made u i in
-            let count = h.stand.count in
-            let r = slice_get_within k.made at.0 u at.1 in
-            let old : at.0 < n = omega (arith, count, r) in
-            let is : g at.0 ≡ u = kept at.0 old ∙ same_Some (f at.0) u (sym (h.stand.exact at.0 old) ∙ at.1) in
-            in_slice (with_sites k.made us) at.0 u (stand.exact at.0 (omega arith) ∙ ap Some is)
+        still u i = grind (arith, common_steps, slice_in k.made u i, slice_get_within k.made, same_Some, in_slice (with_sites k.made us))
 
 -- 5. a member's fields
 from_as_many : (f g : ℕ → SiteTerm) (i n : ℕ) → length (fields_from f i n) ≡ length (fields_from g i n)
@@ -232,12 +205,7 @@ from_as_many f g i zero = refl
 from_as_many f g i (suc n) = ap suc (from_as_many f g (suc i) n)
 
 as_many_fields : (c : Constraint) (a b : SiteTerm) → length (field_terms c a) ≡ length (field_terms c b)
-as_many_fields (is_variant ty variant fields) a b = from_as_many (variant_field a variant) (variant_field b variant) 0 fields
-as_many_fields (is_struct ty fields) a b = from_as_many (struct_field a) (struct_field b) 0 fields
-as_many_fields (is_bool x ty) a b = refl
-as_many_fields (is_int x ty) a b = refl
-as_many_fields (is_prim x) a b = refl
-as_many_fields is_present a b = refl
+as_many_fields c a b = grind (arith, from_as_many)
 
 module _ (sites : List Site) (d : Demanded) (k : Closed) (h : AreDemandsOf sites d k) (after : List Site) (c : Constraint) (member : ℕ) (fields others : List ℕ) (least : SiteTerm)
     (adds : AddsFields sites after c member others) (of_least : AreFieldsOf sites c fields least) where

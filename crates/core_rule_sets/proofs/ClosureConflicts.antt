@@ -2,9 +2,10 @@
 use Rattle.std.proofs.Common.{◌≡◌, ◌==◌, ℕ, suc, ◌+◌, ◌<◌, ◌≤◌, true, not, ◌&&◌, if◌then◌else◌, List, [], ◌∷◌, ◌++◌, map, length, Option, Some, None, is_some, slice_get, refl, sym, ap, ap₂, ◌∙◌, subst, inl, inr, eqb-true, eq-eqb, arith}
 use Rattle.std.proofs.lemmas.Bool.{cases_Bool, cond-true, cond-false, and_parts, both_ways, false_from_ne_true}
 use Rattle.std.proofs.lemmas.Option.{slice_get_within}
+use Rattle.std.proofs.lemmas.Grind.{common_steps}
 use Rattle.model.specs.trees.Places.{constraint_at}
 use Rattle.model.specs.sites.Sites.{Site, Constraint, SiteTerm, unfold_site}
-use Rattle.model.specs.visits.Demands.{Demands, has_site, with_sites, constraint_eq}
+use Rattle.model.specs.visits.Demands.{Demands, with_sites, constraint_eq}
 use Rattle.model.specs.sites.Closure.{Unreachability, conflict, constraint_of, constraint_at_site, in_site_order, with_constrained, same_class, class_names, spoken_of, differs_in_class, first_differing, first_conflict, with_constraints}
 use Rattle.model.proofs.Elements.{In, contains_from_in, in_from_contains, some_is, in_map, map_in}
 use Rattle.model.proofs.SitesMade.{in_has}
@@ -21,8 +22,7 @@ use Rattle.core_rule_sets.proofs.ListedParts.{above, each_once, there_listed, th
 -- 1. sites that are there change nothing
 all_there : (ts ss : List SiteTerm) → ((s : SiteTerm) → In ss s → In ts s) → with_sites ts ss ≡ ts
 all_there ts [] h = refl
-all_there ts (s ∷ ss) h =
-    ap (λ l. with_sites l ss) (cond-true (has_site ts s) ts (ts ++ s ∷ []) (in_has ts s (h s (inl refl)))) ∙ all_there ts ss (λ x i. h x (inr i))
+all_there ts (s ∷ ss) h = grind (arith, common_steps, all_there ts ss (λ x i. h x (inr i)), in_has ts s (h s (inl refl)))
 
 -- 2. constraints ascending by number are those in the order of the sites
 abbrev of_numbers : (ℕ → SiteTerm) → ℕ × Constraint → SiteTerm × Constraint
@@ -34,10 +34,7 @@ listed_with u o = elim o as (λ _. List (SiteTerm × Constraint)) [ None ↦ [] 
 module _ (term : ℕ → SiteTerm) (asked : List (SiteTerm × Constraint)) where
   none_below : (cs : List (ℕ × Constraint)) (i : ℕ) → ((x : ℕ × Constraint) → In cs x → i < x.0) → constraint_at cs i ≡ None
   none_below [] i h = refl
-  none_below (d ∷ ds) i h =
-      let l : i < d.0 = h d (inl refl) in
-      cond-false (d.0 == i) (Some d.1) (constraint_at ds i) (false_from_ne_true (d.0 == i) (λ t. let e = eqb-true d.0 i t in absurd (omega (arith, e, l))))
-      ∙ none_below ds i (λ x m. h x (inr m))
+  none_below (d ∷ ds) i h = grind (arith, common_steps, none_below ds i (λ x m. h x (inr m)), false_from_ne_true (d.0 == i), d.0, h d (inl refl))
 
   later : (u : SiteTerm) (us : List SiteTerm) (i : ℕ) → ((k : ℕ) (v : SiteTerm) → slice_get (u ∷ us) k ≡ Some v → v ≡ term (i + k)) → (k : ℕ) (v : SiteTerm) → slice_get us k ≡ Some v → v ≡ term ((i + 1) + k)
   later u us i stand k v e = let m : i + suc k ≡ (i + 1) + k = omega arith in stand (suc k) v e ∙ ap term m
@@ -86,8 +83,7 @@ module _ (term : ℕ → SiteTerm) (asked : List (SiteTerm × Constraint)) where
       at_first o e = ap (listed_with u) (ap (constraint_of asked) here ∙ e)
 
       beyond : i < d.0 → (x : ℕ × Constraint) → In (d ∷ ds) x → i < x.0
-      beyond l x (inl e) = subst (λ (y : ℕ × Constraint). i < y.0) e l
-      beyond l x (inr m) = let b : d.0 < x.0 = above d.0 (sites_of ds) rise x.0 (map_in (λ (y : ℕ × Constraint). y.0) ds x m) in omega (arith, l, b)
+      beyond l x h = grind (arith, common_steps, above d.0 (sites_of ds) rise x.0, map_in (λ (y : ℕ × Constraint). y.0) ds x)
 
 -- 3. the first conflict, where classes agree
 module _ (rs : List (SiteTerm × SiteTerm)) (class : ℕ → ℕ) (term : ℕ → SiteTerm) where
@@ -104,8 +100,7 @@ module _ (rs : List (SiteTerm × SiteTerm)) (class : ℕ → ℕ) (term : ℕ �
   same_conflict : (all as' : List (ℕ × Constraint)) → ((a b : ℕ × Constraint) → In as' a → In all b → Agree a b)
       → first_conflict rs (map (of_numbers term) all) (map (of_numbers term) as') ≡ conflict_in class all as'
   same_conflict all [] h = refl
-  same_conflict all (a ∷ as') h =
-      ap₂ (λ rest o. found_at a.1 rest o) (same_conflict all as' (λ x b i. h x b (inr i))) (same_other a all (λ b. h a b (inl refl)))
+  same_conflict all (a ∷ as') h = grind (arith, common_steps, same_conflict all as' (λ x b i. h x b (inr i)), same_other a all (λ b. h a b (inl refl)))
 
 -- 4. of a closure
 module _ (sites : List Site) (before : List SiteTerm) (d : Demands) (h : Demanded) (v : AreVisited sites before d h) (cs : List (ℕ × Constraint)) (ascend : ascends (sites_of cs) ≡ true)
@@ -149,12 +144,7 @@ module _ (sites : List Site) (before : List SiteTerm) (d : Demands) (h : Demande
       (λ s l m. let c = v.held.stand.count in let w : s < length sites = omega (arith, m, c) in first_is_kept (term s) ∙ sym (v.held.asked s w) ∙ sym (asked s))
     where
       stands : (k : ℕ) (u : SiteTerm) → slice_get order k ≡ Some u → u ≡ term (0 + k)
-      stands k u e =
-          let w = slice_get_within order k u e in
-          let c = v.held.stand.count in
-          let l : k < length sites = omega (arith, w, c) in
-          let z : k ≡ 0 + k = omega arith in
-          some_is u (term k) (sym e ∙ v.held.stand.exact k l) ∙ ap term z
+      stands k u e = grind (arith, common_steps, slice_get_within order k u e, some_is u (term k))
 
   spoken : (x : ℕ × Constraint) → In cs x → In d.constraints (term x.0, x.1)
   spoken x i =

@@ -3,9 +3,10 @@ use Rattle.std.proofs.Common.{◌≡◌, ℕ, suc, ◌<◌, ◌==◌, true, fals
 use Rattle.std.specs.Prelude.{nat_eq}
 use Rattle.std.specs.List.{AllByRecursion}
 use Rattle.std.specs.List as Std
-use Rattle.std.proofs.lemmas.Bool.{cases_Bool, cond-true, cond-false, and_parts, false≢true}
+use Rattle.std.proofs.lemmas.Bool.{cond-true, and_parts, false≢true}
 use Rattle.std.proofs.lemmas.List.Elements.{All-cons, All-tail}
 use Rattle.std.proofs.lemmas.Option.{get_or_from_slice_get}
+use Rattle.std.proofs.lemmas.Grind.{common_steps}
 use Rattle.core_containers.specs.Partition.{in_set, IsPartition}
 use Rattle.laws_sites.specs.RuleByRule.{AreListedAs}
 use Rattle.model.specs.lists.Names.{IsDistinct}
@@ -32,11 +33,7 @@ asked_here : (d : ℕ × Sites.Constraint) (ds : List (ℕ × Sites.Constraint))
 asked_here d ds = ap is_some (cond-true (d.0 == d.0) (Some d.1) (constraint_at ds d.0) (eq-eqb d.0 d.0 refl))
 
 asked_later : (d : ℕ × Sites.Constraint) (ds : List (ℕ × Sites.Constraint)) (s : ℕ) → is_some (constraint_at ds s) ≡ true → is_some (constraint_at (d ∷ ds) s) ≡ true
-asked_later d ds s h =
-    elim (cases_Bool (d.0 == s)) [
-      | inl t ↦ ap is_some (cond-true (d.0 == s) (Some d.1) (constraint_at ds s) t)
-      | inr f ↦ ap is_some (cond-false (d.0 == s) (Some d.1) (constraint_at ds s) f) ∙ h
-    ]
+asked_later d ds s h = grind (arith, common_steps)
 
 each_asked : (ds : List (ℕ × Sites.Constraint)) (n : ℕ) → ((s : ℕ) → is_some (constraint_at ds s) ≡ true → s < n) → All (λ d. d.0 < n) ds
 each_asked [] n h = λ k d l. absurd (omega (arith, l))

@@ -1,11 +1,11 @@
 -- The sites that are due are kept as those to look at.
-use Rattle.std.proofs.Common.{◌≡◌, ℕ, ◌≤◌, true, false, cond, ◌&&◌, ◌||◌, if◌then◌else◌, List, Option, Some, None, is_some, sym, ap, ◌∙◌, subst, inl, inr, arith, Bor}
-use Rattle.std.specs.Prelude.{nat_eq, nat_lt, IfSome}
+use Rattle.std.proofs.Common.{◌≡◌, ℕ, ◌≤◌, true, false, ◌&&◌, ◌||◌, if◌then◌else◌, List, Option, Some, None, is_some, sym, ap, ◌∙◌, subst, inl, inr, arith, Bor}
+use Rattle.std.specs.Prelude.{nat_eq, IfSome}
 use Rattle.std.specs.Option.{option_copied}
-use Rattle.std.specs.Ordering.{nat_cmp, is_gt, is_eq}
-use Rattle.std.specs.declared.cmp.Ordering.TheVariants.{Less, Equal, Greater}
+use Rattle.std.specs.Ordering.{nat_cmp}
 use Rattle.std.specs.BTreeSet.{BTreeSet, contains, Updates, IsLowerBound}
-use Rattle.std.proofs.lemmas.Bool.{cases_Bool, cond-true, cond-false, and_parts, and_from, both_ways, false_from_ne_true, true≢false, ltb-true, eqb-true}
+use Rattle.std.proofs.lemmas.Bool.{cases_Bool, cond-true, cond-false, and_parts, and_from, both_ways, false_from_ne_true, ltb-true, eqb-true}
+use Rattle.std.proofs.lemmas.Grind.{common_steps}
 use Rattle.core_containers.specs.Partition.{together, IsPartition}
 use Rattle.model.specs.sites.Sites.{Constraint}
 use Rattle.model.proofs.Elements.{or_split, none_some, some_is}
@@ -16,12 +16,7 @@ use Rattle.core_rule_sets.proofs.ClosingSteps.{held_same, equated_same}
 
 -- 1. what is open stays so with one more, and it is open too
 pub still_open : (s n : BTreeSet ℕ) (x : ℕ) → Updates nat_cmp s n x true → (q : ℕ) → contains nat_cmp s q ≡ true → contains nat_cmp n q ≡ true
-still_open s n x u q h =
-    u.0 q
-    ∙ elim (cases_Bool (is_eq (nat_cmp x q))) [
-      | inl t ↦ cond-true (is_eq (nat_cmp x q)) true (contains nat_cmp s q) t
-      | inr f ↦ cond-false (is_eq (nat_cmp x q)) true (contains nat_cmp s q) f ∙ h
-    ]
+still_open s n x u q h = grind (arith, common_steps)
 
 now_open : (s n : BTreeSet ℕ) (x q : ℕ) → Updates nat_cmp s n x true → nat_eq x q ≡ true → contains nat_cmp n q ≡ true
 now_open s n x q u t = subst (λ y. contains nat_cmp n y ≡ true) (eqb-true x q t) u.1
@@ -35,14 +30,8 @@ due_asked d e x c keeps equal asked opened still r s h =
     let p = and_parts (is_some (constraint_held e s)) (are_equated e r s) h in
     let joined : are_equated d r s ≡ true = sym (equated_same d e equal r s) ∙ p.1 in
     elim (cases_Bool (nat_eq x s)) [
-      | inl t ↦
-          let same : x ≡ s = eqb-true x s t in
-          subst (λ y. is_open e y ≡ true) same (opened r (subst (λ y. are_equated d r y ≡ true) (sym same) joined))
-      | inr f ↦
-          still s
-          (keeps r s
-          (and_from (is_some (constraint_held d s)) (are_equated d r s)
-          (sym (ap is_some (asked s ∙ cond-false (nat_eq x s) c (constraint_held d s) f)) ∙ p.0) joined))
+      | inl t ↦ grind (arith, common_steps, eqb-true x s t)
+      | inr f ↦ grind (arith, common_steps, and_from (is_some (constraint_held d s)) (are_equated d r s))
     ]
 
 -- 3. two sites are made equal
@@ -55,11 +44,7 @@ module _ (d e : Demanded) (x y : ℕ) (keeps : KeepsDue d) (asked : e.constraint
       (still_open d.open mid x first s (keeps r s (and_from (is_some (constraint_held d s)) (are_equated d r s) (sym (ap is_some (held_same d e asked s)) ∙ h) t)))
 
   due_beside : (z s : ℕ) → is_some (constraint_held e s) ≡ true → (nat_eq z s ≡ true → contains nat_cmp e.open s ≡ true) → is_or_equals (are_equated d) z s ≡ true → contains nat_cmp e.open s ≡ true
-  due_beside z s h here t =
-      elim (or_split (nat_eq z s) (are_equated d z s) t) [
-        | inl q ↦ here q
-        | inr q ↦ due_before z s h q
-      ]
+  due_beside z s h here t = grind (arith, common_steps, or_split (nat_eq z s) (are_equated d z s) t, due_before z s h)
 
   pub due_equated : KeepsDue e
   due_equated r s h =
@@ -90,24 +75,11 @@ due_removed d e keeps asked opened equal r s h =
 
 -- 5. a site that isn't due is passed over
 pub not_in_class : (sets : List (List ℕ)) (r s : ℕ) → IsPartition nat_eq sets → together nat_eq sets s s ≡ false → together nat_eq sets r s ≡ false
-not_in_class sets r s p none =
-    false_from_ne_true (together nat_eq sets r s) (λ t. both_ways (together nat_eq sets s s) none (p.transitive s r s (p.symmetric s r ∙ t) t))
+not_in_class sets r s p none = grind (arith, common_steps, false_from_ne_true (together nat_eq sets r s), both_ways (together nat_eq sets s s) none)
 
 -- the least of what is open is no greater than any site that is due
 pub least_due : (d : Demanded) (s r : ℕ) → KeepsDue d → IsLowerBound nat_cmp d.open s → is_due_with d r r ≡ true → s ≤ r
-least_due d s r keeps least due = no_greater s r (least r (keeps r r due))
-  where
-    no_greater : (a b : ℕ) → is_gt (nat_cmp a b) ≡ false → a ≤ b
-    no_greater a b f =
-        elim (cases_Bool (nat_lt a b)) [
-          | inl l ↦ let m = ltb-true a b l in omega (arith, m)
-          | inr m ↦
-              elim (cases_Bool (nat_eq a b)) [
-                | inl q ↦ let e = eqb-true a b q in omega (arith, e)
-                | inr q ↦
-                    absurd (true≢false (sym (ap is_gt (cond-false (nat_lt a b) Less (cond (nat_eq a b) Equal Greater) m ∙ cond-false (nat_eq a b) Equal Greater q)) ∙ f))
-              ]
-        ]
+least_due d s r keeps least due = grind (arith, common_steps, ltb-true, eqb-true)
 
 -- 6. the same demands
 pub due_again : (d e : Demanded) → e.constraints ≡ d.constraints → e.equals ≡ d.equals → (r s : ℕ) → is_due_with e r s ≡ is_due_with d r s

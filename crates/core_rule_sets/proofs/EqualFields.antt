@@ -3,6 +3,7 @@
 use Rattle.std.proofs.Common.{◌≡◌, ℕ, zero, suc, ◌<◌, Bool, true, false, ◌&&◌, ◌||◌, if◌then◌else◌, List, [], ◌∷◌, length, Option, Some, None, slice_get, Contains, refl, sym, ap, ◌∙◌, subst, inl, inr, eqb-true, eq-eqb, arith}
 use Rattle.std.specs.Prelude.{nat_eq}
 use Rattle.std.proofs.lemmas.Bool.{cases_Bool, cond-true, cond-false, and_parts, and_from, false≢true, both_ways}
+use Rattle.std.proofs.lemmas.Grind.{common_steps}
 use Rattle.core_containers.specs.Partition.{IsPartition}
 use Rattle.laws_sites.specs.FieldLaws.{GivesField}
 use Rattle.model.specs.sites.Sites.{Site, Constraint, is_variant, is_struct, is_bool, is_int, is_prim, is_present, SiteTerm, bool_term, int_term, prim_term, argument, extractor_call, constructor_call, pick_of, variant_made, variant_field, struct_made, struct_field, some_made, some_part, tuple_part, no_site, unfold_site, fields_from, field_terms}
@@ -41,9 +42,8 @@ in_fields f g j (suc n) x (inl e) = (0, j, sym e, refl, refl)
 in_fields f g j (suc n) x (inr i) = let r = in_fields f g (suc j) n x i in (suc r.0, r.1, r.2, r.3, r.4)
 
 at_fields : (f g : ℕ → SiteTerm) (j n i : ℕ) (x y : SiteTerm) → slice_get (fields_from f j n) i ≡ Some x → slice_get (fields_from g j n) i ≡ Some y → (m : ℕ) × (x ≡ f m) × (y ≡ g m)
-at_fields f g j zero i x y e k = absurd (none_some x e)
-at_fields f g j (suc n) zero x y e k = (j, sym (some_is (f j) x e), sym (some_is (g j) y k))
 at_fields f g j (suc n) (suc i) x y e k = at_fields f g (suc j) n i x y e k
+at_fields f g j n i x y e k = grind (arith, none_some, some_is)
 
 -- the same field of another site stands at its place
 pub moved_field : (c : Constraint) (u w : SiteTerm) (v : Option VariantId) (place : ℕ) → In (field_terms c u) (field_term v u place)
@@ -61,27 +61,14 @@ moved_field (is_struct ty n) u w None place h =
     (r.0, r.4 ∙ (λ i. Some (struct_field w (b i))), r.3 ∙ (λ i. Some (struct_field u (b i))))
 moved_field (is_struct ty n) u w (Some v) place h =
     let r = in_fields (struct_field u) (struct_field w) 0 n (variant_field u v.0 place) h in let e = r.2 in absurd (cc)
-moved_field (is_bool b ty) u w v place h = absurd h
-moved_field (is_int z ty) u w v place h = absurd h
-moved_field (is_prim name) u w v place h = absurd h
-moved_field is_present u w v place h = absurd h
+moved_field _ u w v place h = absurd h
 
 -- a field is of the site that has it
 field_owner : (c : Constraint) (s w : SiteTerm) (k i : ℕ) → In (field_terms c s) (variant_field w k i) → s ≡ w
-field_owner (is_variant ty v n) s w k i h = let r = in_fields (variant_field s v) (variant_field s v) 0 n (variant_field w k i) h in let e = r.2 in cc
-field_owner (is_struct ty n) s w k i h = let r = in_fields (struct_field s) (struct_field s) 0 n (variant_field w k i) h in let e = r.2 in absurd (cc)
-field_owner (is_bool b ty) s w k i h = absurd h
-field_owner (is_int z ty) s w k i h = absurd h
-field_owner (is_prim name) s w k i h = absurd h
-field_owner is_present s w k i h = absurd h
+field_owner c s w k i h = grind (arith, in_fields)
 
 struct_owner : (c : Constraint) (s w : SiteTerm) (i : ℕ) → In (field_terms c s) (struct_field w i) → s ≡ w
-struct_owner (is_variant ty v n) s w i h = let r = in_fields (variant_field s v) (variant_field s v) 0 n (struct_field w i) h in let e = r.2 in absurd (cc)
-struct_owner (is_struct ty n) s w i h = let r = in_fields (struct_field s) (struct_field s) 0 n (struct_field w i) h in let e = r.2 in cc
-struct_owner (is_bool b ty) s w i h = absurd h
-struct_owner (is_int z ty) s w i h = absurd h
-struct_owner (is_prim name) s w i h = absurd h
-struct_owner is_present s w i h = absurd h
+struct_owner c s w i h = grind (arith, in_fields)
 
 -- 2. classes of equalities
 abbrev beside : (SiteTerm → SiteTerm → Bool) → SiteTerm → SiteTerm → SiteTerm → Bool
@@ -121,11 +108,7 @@ module _ {X : Type 0} (name : SiteTerm → X) where
 
 -- what is joined stays so, and each equality of different sites joins them
 more_joined : (test : SiteTerm → SiteTerm → Bool) (x y a b : SiteTerm) → test a b ≡ true → joined_too test x y a b ≡ true
-more_joined test x y a b t =
-    elim (cases_Bool (site_term_eq x y)) [
-      | inl e ↦ cond-true (site_term_eq x y) (test a b) (both_beside test x y a b || test a b) e ∙ t
-      | inr f ↦ cond-false (site_term_eq x y) (test a b) (both_beside test x y a b || test a b) f ∙ or_right (both_beside test x y a b) (test a b) t
-    ]
+more_joined test x y a b t = grind (arith, common_steps, or_right (both_beside test x y a b) (test a b) t)
 
 now_joined : (test : SiteTerm → SiteTerm → Bool) (x y : SiteTerm) → site_term_eq x y ≡ false → joined_too test x y x y ≡ true
 now_joined test x y f =
@@ -288,13 +271,10 @@ module _ (sites : List Site) (before : List SiteTerm) (d : Demands) (h : Demande
       subst (λ u. GivesField d u (struct_field w i)) (struct_owner c s w i (in_from_contains (field_terms c s) (struct_field w i) there)) (c, asked, there)
 
   variant_is : (o : Option VariantId) (u w : SiteTerm) (k i place n : ℕ) → variant_field w k i ≡ field_term o u place → B.MatchVariant n (record { 0 = k }) i ≡ field_binding o n place
-  variant_is (Some x) u w k i place n e =
-      let a : k ≡ x.0 = cc in let b : i ≡ place = cc in λ j. B.MatchVariant n (record { 0 = a j }) (b j)
-  variant_is None u w k i place n e = absurd (cc)
+  variant_is o u w k i place n e = grind (arith, common_steps)
 
   struct_is : (o : Option VariantId) (u w : SiteTerm) (i place n : ℕ) → struct_field w i ≡ field_term o u place → B.ExtractStruct n i ≡ field_binding o n place
-  struct_is None u w i place n e = let b : i ≡ place = cc in λ j. B.ExtractStruct n (b j)
-  struct_is (Some x) u w i place n e = absurd (cc)
+  struct_is o u w i place n e = grind (arith, common_steps)
 
   part_of_term : (u w : SiteTerm) (a : ℕ) (q : ℕ → Binding) → a < length sites → term a ≡ u → (g : GivesField d w u)
       → ((b : ℕ) → b < length sites → term b ≡ w → class_of_term w ≡ class_head ks b)

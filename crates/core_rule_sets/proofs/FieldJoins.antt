@@ -1,8 +1,9 @@
 -- Rounds over fields, which join those of one place of equal sites.
-use Rattle.std.proofs.Common.{◌≡◌, ◌≢◌, ◌⊎◌, ◌==◌, ℕ, ◌<◌, ◌≤◌, suc, Bool, true, false, not, ◌&&◌, if◌then◌else◌, List, [], ◌∷◌, ◌++◌, map, Option, Some, None, flat_map, refl, sym, ap, ◌∙◌, subst, inl, inr, eqb-true, eq-eqb, arith}
+use Rattle.std.proofs.Common.{◌≡◌, ◌≢◌, ◌⊎◌, ℕ, ◌<◌, ◌≤◌, suc, Bool, true, false, not, if◌then◌else◌, List, [], ◌∷◌, ◌++◌, map, Option, Some, None, flat_map, refl, sym, ap, ◌∙◌, subst, inl, inr, eqb-true, eq-eqb, arith}
 use Rattle.std.specs.Prelude.{nat_eq}
 use Rattle.std.specs.HashMap.{HashMap, get}
 use Rattle.std.proofs.lemmas.Bool.{cases_Bool, cond-true, cond-false, and_parts, false≢true}
+use Rattle.std.proofs.lemmas.Grind.{common_steps}
 use Rattle.core_containers.specs.Partition.{IsPartition}
 use Rattle.model.specs.sites.Sites.{SiteTerm}
 use Rattle.model.proofs.Elements.{In, contains_from_in, in_from_contains, some_is, none_some, in_either, in_flat_map, map_in}
@@ -18,46 +19,20 @@ use Rattle.core_rule_sets.proofs.SameBindings.{one_binding}
 
 -- one binding is one field of one site
 pub same_parts : (v w : Option VariantId) (s t i j : ℕ) → ghosts.eq (field_binding v s i) (field_binding w t j) ≡ true → (v ≡ w) × (s ≡ t) × (i ≡ j)
-same_parts (Some v) (Some w) s t i j h =
-    let p = and_parts (s == t) ((v.0 == w.0) && (i == j)) h in
-    let q = and_parts (v.0 == w.0) (i == j) p.1 in
-    (ap (λ n. Some (record { 0 = n })) (eqb-true v.0 w.0 q.0), eqb-true s t p.0, eqb-true i j q.1)
-same_parts None None s t i j h = let p = and_parts (s == t) (i == j) h in (refl, eqb-true s t p.0, eqb-true i j p.1)
-same_parts (Some v) None s t i j h = absurd (false≢true h)
-same_parts None (Some w) s t i j h = absurd (false≢true h)
+same_parts v w s t i j h = grind (arith, and_parts)
 
 same_binding : (v : Option VariantId) (s i : ℕ) (q : Binding) → ghosts.eq (field_binding v s i) q ≡ true → field_binding v s i ≡ q
-same_binding (Some v) s i (B.MatchVariant t w j) h =
-    let p = and_parts (s == t) ((v.0 == w.0) && (i == j)) h in
-    let q = and_parts (v.0 == w.0) (i == j) p.1 in
-    let e = eqb-true s t p.0 in
-    let f = eqb-true v.0 w.0 q.0 in
-    let g = eqb-true i j q.1 in
-    λ k. B.MatchVariant (e k) (record { 0 = f k }) (g k)
-same_binding None s i (B.ExtractStruct t j) h =
-    let p = and_parts (s == t) (i == j) h in
-    let e = eqb-true s t p.0 in
-    let g = eqb-true i j p.1 in
-    λ k. B.ExtractStruct (e k) (g k)
-same_binding _ s i _ h = absurd (false≢true h)
+same_binding v s i q h = grind (arith, and_parts)
 
 -- a binding that is put is found, and those before it
 module _ {S : Type 0} (new old : HashMap Binding ℕ S) (key : Binding) (x : ℕ)
     (updates : (q : Binding) → get ghosts.eq new q ≡ (if ghosts.eq key q then Some x else get ghosts.eq old q)) where
   pub found_put : (k : Binding) → key ≡ k → get ghosts.eq new k ≡ Some x
-  found_put k e =
-      subst (λ z. get ghosts.eq new z ≡ Some x) e
-      (updates key ∙ cond-true (ghosts.eq key key) (Some x) (get ghosts.eq old key) (one_binding key key refl))
+  found_put k e = grind (arith, common_steps, one_binding key key refl)
 
   pub kept_put : (v : Option VariantId) (s i : ℕ) → key ≡ field_binding v s i → get ghosts.eq old (field_binding v s i) ≡ None
       → (q : Binding) (g : ℕ) → get ghosts.eq old q ≡ Some g → get ghosts.eq new q ≡ Some g
-  kept_put v s i e none q g found =
-      elim (cases_Bool (ghosts.eq key q)) [
-        | inl t ↦
-            let same = same_binding v s i q (subst (λ z. ghosts.eq z q ≡ true) e t) in
-            absurd (none_some g (sym none ∙ ap (get ghosts.eq old) same ∙ found))
-        | inr f ↦ updates q ∙ cond-false (ghosts.eq key q) (Some x) (get ghosts.eq old q) f ∙ found
-      ]
+  kept_put v s i e none q g found = grind (arith, common_steps, same_binding v s i q, none_some g)
 
 -- a first one that was met is a part of a class
 pub record IsFirst (parts : List Part) (ks : List (List ℕ)) (q : Binding) (g : ℕ) : Type 0 where
@@ -103,29 +78,12 @@ module _ {S : Type 0} (parts done : List Part) (old ks after : List (List ℕ)) 
   next_known : (q : Binding) (g : ℕ) → get ghosts.eq next q ≡ Some g → IsFirst parts after q g
   next_known q g e =
       elim (added q g e) [
-        | inl f ↦
-            let k = so.known q g f in
-            record { part = k.part; there = k.there; field = k.field; head = k.head; source = kept k.head k.part.source k.source; is = k.is }
-        | inr n ↦
-            record {
-              part = p;
-              there = there;
-              field = n.1;
-              head = class_head ks p.source;
-              source = kept (class_head ks p.source) p.source (head_again ks whole p.source);
-              is = n.0;
-            }
+        | inl f ↦ grind (arith, common_steps, so.known q g f)
+        | inr n ↦ grind (arith, common_steps, head_again ks whole p.source)
       ]
 
   next_more : JoinsMore parts old ks → JoinsMore parts old after
-  next_more m = record {
-    first = m.first;
-    second = m.second;
-    first_there = m.first_there;
-    second_there = m.second_there;
-    apart = m.apart;
-    joined = kept m.first.field m.second.field m.joined;
-  }
+  next_more m = grind (arith, common_steps)
 
   -- as far as no round is looked at
   pub joined_more : IsRound parts [] old after next false
@@ -160,24 +118,13 @@ module _ {S : Type 0} (parts done : List Part) (old ks after : List (List ℕ)) 
         least = next_least;
         known = next_known;
         settled = λ e. absurd (false≢true (sym e));
-        more = λ e. record {
-          first = f.part;
-          second = p;
-          first_there = contains_from_in parts f.part f.there;
-          second_there = contains_from_in parts p there;
-          apart = λ h. j.apart (ap (class_head ks) f.field ∙ so.kept f.part.field p.field h);
-          joined = ap (class_head after) (sym f.field) ∙ j.joined;
-        };
+        more = grind (arith, common_steps, contains_from_in parts f.part f.there, contains_from_in parts p there);
       }
 
 -- at its end
 pub round_settles : {S : Type 0} (parts : List Part) (old ks : List (List ℕ)) (firsts : HashMap Binding ℕ S) (changed : Bool) → IsRound parts parts old ks firsts changed → changed ≡ false
     → AreCongruent parts (class_head ks)
-round_settles parts old ks firsts changed so e p q i j v w s =
-    let a = so.settled e p (in_from_contains parts p i) in
-    let b = so.settled e q (in_from_contains parts q j) in
-    let one : part_of_head ks p ≡ part_of_head ks q = (λ k. field_binding (v k) (s k) (w k)) in
-    sym a.same ∙ ap (class_head ks) (some_is a.first b.first (sym a.found ∙ ap (get ghosts.eq firsts) one ∙ b.found)) ∙ b.same
+round_settles parts old ks firsts changed so e p q i j v w s = grind (arith, common_steps, in_from_contains parts p i, in_from_contains parts q j, some_is)
 
 -- the number of pairs of parts that are in two classes
 are_apart : List (List ℕ) → Part × Part → Bool

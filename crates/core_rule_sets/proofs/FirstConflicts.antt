@@ -1,8 +1,9 @@
 -- The first conflict of classes: that of the first site whose class has one, by what its class is asked.
-use Rattle.std.proofs.Common.{◌≡◌, ◌⊎◌, ℕ, Bool, true, false, not, ◌&&◌, List, [], ◌∷◌, ◌++◌, Option, Some, None, refl, sym, ap, ◌∙◌, subst, inl, inr, eqb-true, eq-eqb}
+use Rattle.std.proofs.Common.{◌≡◌, ◌⊎◌, ℕ, false, not, List, [], ◌∷◌, ◌++◌, Option, Some, None, refl, sym, ap, ◌∙◌, subst, inl, inr, eqb-true, eq-eqb, arith}
 use Rattle.std.specs.Prelude.{nat_eq}
-use Rattle.std.proofs.lemmas.Bool.{cases_Bool, cond-true, cond-false, and_from, false≢true}
+use Rattle.std.proofs.lemmas.Bool.{cases_Bool, cond-true, and_from, false≢true}
 use Rattle.std.proofs.Math.Bool.{and-false}
+use Rattle.std.proofs.lemmas.Grind.{common_steps}
 use Rattle.model.specs.sites.Sites.{Constraint}
 use Rattle.model.specs.visits.Demands.{constraint_eq}
 use Rattle.model.specs.sites.Closure.{Unreachability, conflict, first_filled}
@@ -23,25 +24,14 @@ module _ (class : ℕ → ℕ) where
 
   pub no_other : (a : ℕ × Constraint) (bs : List (ℕ × Constraint)) → Agree a bs → first_other class a bs ≡ None
   no_other a [] h = refl
-  no_other a (b ∷ bs) h = cond-false (differ_in class a b) (Some b.1) (first_other class a bs) agreed ∙ no_other a bs (λ c i. h c (inr i))
-    where
-      agreed : differ_in class a b ≡ false
-      agreed = by (nat_eq (class b.0) (class a.0)) refl
-        where
-          by : (t : Bool) → nat_eq (class b.0) (class a.0) ≡ t → (nat_eq (class b.0) (class a.0) && not (constraint_eq a.1 b.1)) ≡ false
-          by true e = ap (λ x. x && not (constraint_eq a.1 b.1)) e ∙ ap not (same_constraint a.1 b.1 (h b (inl refl) (eqb-true (class b.0) (class a.0) e)))
-          by false e = ap (λ x. x && not (constraint_eq a.1 b.1)) e
+  no_other a (b ∷ bs) h = grind (arith, common_steps, no_other a bs (λ c i. h c (inr i)), same_constraint a.1 b.1)
 
   pub agree_where : (a : ℕ × Constraint) (bs : List (ℕ × Constraint)) → first_other class a bs ≡ None → Agree a bs
   agree_where a [] e b i c = absurd i
   agree_where a (b ∷ bs) e x i c =
       elim (cases_Bool (differ_in class a b)) [
         | inl t ↦ absurd (none_some b.1 (sym e ∙ cond-true (differ_in class a b) (Some b.1) (first_other class a bs) t))
-        | inr f ↦
-            elim i [
-              | inl p ↦ subst (λ (y : ℕ × Constraint). a.1 ≡ y.1) p (same f (ap (λ (y : ℕ × Constraint). class y.0) p ∙ c))
-              | inr j ↦ agree_where a bs (sym (cond-false (differ_in class a b) (Some b.1) (first_other class a bs) f) ∙ e) x j c
-            ]
+        | inr f ↦ grind (arith, common_steps, same f, agree_where a bs)
       ]
     where
       same : differ_in class a b ≡ false → class b.0 ≡ class a.0 → a.1 ≡ b.1
@@ -52,45 +42,24 @@ module _ (class : ℕ → ℕ) where
           ]
 
   none_asked : (c : Constraint) (o : Option Constraint) → conflict_asked (Some (c, o)) ≡ [] → o ≡ None
-  none_asked c None e = refl
-  none_asked c (Some d) e = absurd (not_empty (conflict c d) [] e)
+  none_asked c o e = grind (arith, common_steps, not_empty)
 
   -- where a class has no conflict its sites are asked one thing
   one_asked : (k : ℕ) (all : List (ℕ × Constraint)) → conflict_asked (asked_in class k all) ≡ [] → (a b : ℕ × Constraint) → In all a → In all b → class a.0 ≡ k → class b.0 ≡ k → a.1 ≡ b.1
   one_asked k [] e a b i j c d = absurd i
-  one_asked k (x ∷ rest) e a b i j c d =
-      elim (cases_Bool (nat_eq (class x.0) k)) [
-        | inl t ↦
-            let is_k = eqb-true (class x.0) k t in
-            let others = agree_where x rest (none_asked x.1 (first_other class x rest) (sym (ap conflict_asked (cond-true (nat_eq (class x.0) k) (Some (x.1, first_other class x rest)) (asked_in class k rest) t)) ∙ e)) in
-            sym (with_first is_k others a i c) ∙ with_first is_k others b j d
-        | inr f ↦
-            one_asked k rest (sym (ap conflict_asked (cond-false (nat_eq (class x.0) k) (Some (x.1, first_other class x rest)) (asked_in class k rest) f)) ∙ e) a b (not_first f a i c) (not_first f b j d) c d
-      ]
-    where
-      with_first : class x.0 ≡ k → Agree x rest → (y : ℕ × Constraint) → In (x ∷ rest) y → class y.0 ≡ k → x.1 ≡ y.1
-      with_first h others y (inl p) g = ap (λ (z : ℕ × Constraint). z.1) p
-      with_first h others y (inr m) g = others y m (g ∙ sym h)
-
-      not_first : nat_eq (class x.0) k ≡ false → (y : ℕ × Constraint) → In (x ∷ rest) y → class y.0 ≡ k → In rest y
-      not_first f y (inl p) g = absurd (false≢true (sym f ∙ eq-eqb (class x.0) k (ap (λ (z : ℕ × Constraint). class z.0) p ∙ g)))
-      not_first f y (inr m) g = m
+  one_asked k (x ∷ rest) e a b i j c d = grind (arith, common_steps, one_asked k rest, agree_where x rest, none_asked x.1 (first_other class x rest))
 
   -- sites of other classes before don't matter
   asked_after : (k : ℕ) (pre rest : List (ℕ × Constraint)) → ((x : ℕ × Constraint) → In pre x → nat_eq (class x.0) k ≡ false) → asked_in class k (pre ++ rest) ≡ asked_in class k rest
   asked_after k [] rest h = refl
-  asked_after k (x ∷ pre) rest h =
-      cond-false (nat_eq (class x.0) k) (Some (x.1, first_other class x (pre ++ rest))) (asked_in class k (pre ++ rest)) (h x (inl refl)) ∙ asked_after k pre rest (λ y i. h y (inr i))
+  asked_after k (x ∷ pre) rest h = grind (arith, common_steps, asked_after k pre rest (λ y i. h y (inr i)))
 
   other_after : (a : ℕ × Constraint) (pre rest : List (ℕ × Constraint)) → ((x : ℕ × Constraint) → In pre x → nat_eq (class x.0) (class a.0) ≡ false) → first_other class a (pre ++ rest) ≡ first_other class a rest
   other_after a [] rest h = refl
-  other_after a (x ∷ pre) rest h =
-      cond-false (differ_in class a x) (Some x.1) (first_other class a (pre ++ rest)) (ap (λ t. t && not (constraint_eq a.1 x.1)) (h x (inl refl))) ∙ other_after a pre rest (λ y i. h y (inr i))
+  other_after a (x ∷ pre) rest h = grind (arith, common_steps, other_after a pre rest (λ y i. h y (inr i)))
 
   not_itself : (a : ℕ × Constraint) (rest : List (ℕ × Constraint)) → first_other class a (a ∷ rest) ≡ first_other class a rest
-  not_itself a rest =
-      cond-false (differ_in class a a) (Some a.1) (first_other class a rest)
-      (ap (λ t. nat_eq (class a.0) (class a.0) && not t) (same_constraint a.1 a.1 refl) ∙ and-false (nat_eq (class a.0) (class a.0)))
+  not_itself a rest = grind (arith, common_steps, same_constraint a.1 a.1 refl, and-false (nat_eq (class a.0) (class a.0)))
 
   asked_here : (a : ℕ × Constraint) (rest : List (ℕ × Constraint)) → asked_in class (class a.0) (a ∷ rest) ≡ Some (a.1, first_other class a rest)
   asked_here a rest = cond-true (nat_eq (class a.0) (class a.0)) (Some (a.1, first_other class a rest)) (asked_in class (class a.0) rest) (eq-eqb (class a.0) (class a.0) refl)
@@ -105,8 +74,7 @@ module _ (class : ℕ → ℕ) where
       ]
     where
       either : nat_eq (class x.0) k ≡ false → ((y : ℕ × Constraint) → In pre y → nat_eq (class y.0) k ≡ false) → (y : ℕ × Constraint) → In (x ∷ pre) y → nat_eq (class y.0) k ≡ false
-      either f n y (inl p) = subst (λ (z : ℕ × Constraint). nat_eq (class z.0) k ≡ false) p f
-      either f n y (inr i) = n y i
+      either f n y h = grind (arith, common_steps)
 
   joined_on : (pre rest : List (ℕ × Constraint)) (a : ℕ × Constraint) → (pre ++ a ∷ rest) ≡ ((pre ++ a ∷ []) ++ rest)
   joined_on [] rest a = refl
@@ -117,11 +85,7 @@ module _ (class : ℕ → ℕ) where
   Quiet all pre = (x : ℕ × Constraint) → In pre x → conflict_asked (asked_in class (class x.0) all) ≡ []
 
   quiet_more : (all pre : List (ℕ × Constraint)) (a : ℕ × Constraint) → Quiet all pre → conflict_asked (asked_in class (class a.0) all) ≡ [] → Quiet all (pre ++ a ∷ [])
-  quiet_more all pre a q e x i =
-      elim (in_either pre (a ∷ []) x i) [
-        | inl j ↦ q x j
-        | inr j ↦ elim j [ inl p ↦ subst (λ (z : ℕ × Constraint). conflict_asked (asked_in class (class z.0) all) ≡ []) p e | inr n ↦ absurd n ]
-      ]
+  quiet_more all pre a q e x i = grind (arith, common_steps, in_either pre (a ∷ []) x i)
 
   abbrev found_at : ℕ × Constraint → List Unreachability → Option Constraint → List Unreachability
   found_at a rest o = elim o as (λ _. List Unreachability) [ None ↦ rest | Some b ↦ conflict a.1 b ∷ [] ]
@@ -146,24 +110,20 @@ module _ (class : ℕ → ℕ) where
       agreed quiet here b i h = one_asked (class a.0) all quiet a b here i refl h
 
       go_on : (conflict_asked (asked_in class (class a.0) all) ≡ [] → conflict_from class all rest ≡ conflict_in class all rest) → conflict_asked (asked_in class (class a.0) all) ≡ [] → first_other class a all ≡ None → conflict_from class all (a ∷ rest) ≡ conflict_in class all (a ∷ rest)
-      go_on later quiet none =
-          ap (λ u. first_filled u (conflict_from class all rest)) quiet ∙ later quiet ∙ sym (ap (found_at a (conflict_in class all rest)) none)
+      go_on later quiet none = grind (arith, common_steps)
 
       by : (conflict_asked (asked_in class (class a.0) all) ≡ [] → conflict_from class all rest ≡ conflict_in class all rest) → (o : Option Constraint) → asked_in class (class a.0) all ≡ Some (a.1, o) → first_other class a all ≡ o → conflict_from class all (a ∷ rest) ≡ conflict_in class all (a ∷ rest)
       by later None asked other = go_on later (ap conflict_asked asked) other
-      by later (Some b) asked other =
-          ap (λ o. first_filled (conflict_asked o) (conflict_from class all rest)) asked ∙ sym (ap (found_at a (conflict_in class all rest)) other)
+      by later (Some b) asked other = grind (arith, common_steps)
 
   pub conflict_is_first : (all : List (ℕ × Constraint)) → conflict_from class all all ≡ conflict_in class all all
   conflict_is_first all = from_is all [] all refl (λ x i. absurd i)
 
   found_none : (a : ℕ × Constraint) (rest : List Unreachability) (o : Option Constraint) → found_at a rest o ≡ [] → (o ≡ None) × (rest ≡ [])
-  found_none a rest None e = (refl, e)
-  found_none a rest (Some b) e = absurd (not_empty (conflict a.1 b) [] e)
+  found_none a rest o e = grind (arith, common_steps, not_empty)
 
   -- where there is none, no site's class is asked another thing
   pub none_differs : (all list : List (ℕ × Constraint)) → conflict_in class all list ≡ [] → (a : ℕ × Constraint) → In list a → first_other class a all ≡ None
   none_differs all [] e a i = absurd i
-  none_differs all (x ∷ list) e a (inl p) =
-      subst (λ (y : ℕ × Constraint). first_other class y all ≡ None) p (found_none x (conflict_in class all list) (first_other class x all) e).0
+  none_differs all (x ∷ list) e a (inl p) = grind (arith, common_steps, found_none x (conflict_in class all list) (first_other class x all) e)
   none_differs all (x ∷ list) e a (inr j) = none_differs all list (found_none x (conflict_in class all list) (first_other class x all) e).1 a j

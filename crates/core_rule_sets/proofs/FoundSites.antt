@@ -1,10 +1,11 @@
 -- Where a site of a set is found.
-use Rattle.std.proofs.Common.{◌≡◌, ℕ, ◌+◌, ◌<◌, ◌≤◌, ◌==◌, List, length, get_or, Some, None, slice_get, option_map, refl, sym, ap, ◌∙◌, subst, inl, inr, arith, eqb-true, eq-eqb}
-use Rattle.std.specs.Prelude.{Option, Result, Ok, Err}
+use Rattle.std.proofs.Common.{◌≡◌, ℕ, ◌+◌, ◌<◌, ◌≤◌, ◌==◌, List, length, get_or, Some, None, slice_get, refl, sym, ap, ◌∙◌, inl, inr, arith, eqb-true, eq-eqb}
+use Rattle.std.specs.Prelude.{Option, Result}
 use Rattle.std.specs.Result.{OkIff, result_ok}
 use Rattle.std.proofs.lemmas.Bool.{cases_Bool, both_ways}
 use Rattle.std.proofs.lemmas.List.{length-map}
 use Rattle.std.proofs.lemmas.Option.{none-some, same_Some, slice_get_within, slice_get_read, slice_get-map}
+use Rattle.std.proofs.lemmas.Grind.{common_steps}
 use Rattle.model.specs.lists.Names.{IsDistinct}
 use Rattle.model.specs.sites.Sites.{Site}
 use Rattle.core_rule_sets.specs.SiteViews.{site_view, site_views}
@@ -17,9 +18,7 @@ module _ (bs : List Binding) (v : Site) where
 
   module _ (cs : List Binding) (n : ℕ) (x : Binding) (same : cs ≡ bs) (l : n < length cs) (e : x ≡ get_or cs n x) where
     pub seen_here : slice_get (site_views bs) n ≡ Some (site_view x)
-    seen_here =
-        subst (λ xs. slice_get (site_views xs) n ≡ Some (site_view x)) same
-        (slice_get-map site_view cs n ∙ ap (option_map site_view) (slice_get_read cs (length cs) n x refl l e))
+    seen_here = grind (arith, common_steps, slice_get-map site_view cs n, slice_get_read cs (length cs) n x refl l e)
 
     pub not_before_next : NotBefore n → (site_view x ≡ v → ⊥) → NotBefore (n + 1)
     not_before_next before other k m at =
@@ -30,23 +29,11 @@ module _ (bs : List Binding) (v : Site) where
 
     pub found_here : site_view x ≡ v → IsDistinct (site_views bs) → (o : Option ℕ) → o ≡ Some n → (s : ℕ)
         → (o ≡ Some s → slice_get (site_views bs) s ≡ Some v) × (slice_get (site_views bs) s ≡ Some v → o ≡ Some s)
-    found_here is distinct o found s =
-        let at : slice_get (site_views bs) n ≡ Some v = seen_here ∙ ap Some is in (
-          λ g. subst (λ k. slice_get (site_views bs) k ≡ Some v) (same_Some n s (sym found ∙ g)) at,
-          λ h. found ∙ ap Some (distinct n s v at h),
-        )
+    found_here is distinct o found s = grind (arith, common_steps, seen_here, same_Some n s)
 
   pub found_nowhere : (n : ℕ) (cs : List Binding) → cs ≡ bs → length cs ≤ n → NotBefore n → (s : ℕ)
       → (◌≡◌ {A = Option ℕ} None (Some s) → slice_get (site_views bs) s ≡ Some v) × (slice_get (site_views bs) s ≡ Some v → ◌≡◌ {A = Option ℕ} None (Some s))
-  found_nowhere n cs same l none s = (
-    λ e. absurd (none-some s e),
-    λ h.
-        let m = slice_get_within (site_views bs) s v h in
-        let k = length-map bs site_view in
-        let j : length cs ≡ length bs = ap length same in
-        absurd (none s (omega arith) h),
-  )
+  found_nowhere n cs same l none s = grind (arith, common_steps, none-some s, slice_get_within (site_views bs) s v, length-map bs site_view)
 
 pub number_fits : {E : Type 0} (r : Result ℕ E) (n : ℕ) → OkIff r (n < 65536) n → n < 65536 → result_ok r ≡ Some n
-number_fits (Ok x) n h l = ap Some h.1
-number_fits (Err e) n h l = absurd (h l)
+number_fits r n h l = grind (arith, common_steps)

@@ -1,14 +1,14 @@
 -- Tables that have no room: their sites stand for the first of those that more would make.
 use Rattle.std.proofs.Common.{◌≡◌, ℕ, zero, suc, ◌+◌, ◌<◌, ◌≤◌, true, List, [], ◌∷◌, ◌++◌, length, map, flat_map, drop, get_or, Contains, refl, sym, ap, ◌∙◌, subst, inl, inr, arith}
-use Rattle.std.specs.Prelude.{Result, Ok, Err, IfErr, IsErr, IsErrAnd, nat_eq}
+use Rattle.std.specs.Prelude.{Result, IfErr, IsErr, IsErrAnd, nat_eq}
 use Rattle.std.specs.Ordering.{nat_cmp}
 use Rattle.std.specs.List.Sorted.{IsStrictlySortedBy}
 use Rattle.core_containers.specs.Partition.{in_set}
-use Rattle.std.proofs.lemmas.Bool.{cases_Bool, cond-true, cond-false}
+use Rattle.std.proofs.lemmas.Bool.{cases_Bool}
 use Rattle.std.proofs.lemmas.List.{append-nil, append_assoc, length-append, map-append, take-append-le, take_all}
+use Rattle.std.proofs.lemmas.Grind.{common_steps}
 use Rattle.core_syntax.specs.declared.syntax.Limit.TheVariants as Limits
 use Rattle.core_syntax.specs.declared.visit_fault.VisitFault.{VisitFault}
-use Rattle.core_syntax.specs.declared.visit_fault.VisitFault.TheVariants.{Memory, Limit, Stopped}
 use Rattle.model.specs.lists.Names.{IsDistinct}
 use Rattle.model.specs.sites.Sites.{Site, Constraint, sources_of, SiteTerm, layer, unfold_site, field_terms}
 use Rattle.model.specs.visits.Demands.{has_site, with_sites}
@@ -33,93 +33,46 @@ use Rattle.core_rule_sets.proofs.SitesGrown.{not_there}
 
 -- a fault that is passed on
 pub passed_on : {A : Type 0} (r : Result A VisitFault) (e : VisitFault) (P : VisitFault → Type 0) → IsErr r × IsErrAnd r (λ y. y ≡ e) → P e → IfErr r P
-passed_on (Ok a) e P h p = tt
-passed_on (Err y) e P h p = subst P (sym h.1) p
+passed_on r e P h p = grind (arith, common_steps)
 
 -- 1. what is made stays, and more may follow
 pub grows : (xs ts : List SiteTerm) → (more : List SiteTerm) × (with_sites ts xs ≡ ts ++ more)
 grows [] ts = ([], sym (append-nil ts))
 grows (x ∷ xs) ts =
     elim (cases_Bool (has_site ts x)) [
-      | inl t ↦
-          let r = grows xs ts in
-          (r.0, ap (λ l. with_sites l xs) (cond-true (has_site ts x) ts (ts ++ x ∷ []) t) ∙ r.1)
-      | inr f ↦
-          let r = grows xs (ts ++ x ∷ []) in
-          (x ∷ r.0, ap (λ l. with_sites l xs) (cond-false (has_site ts x) ts (ts ++ x ∷ []) f) ∙ r.1 ∙ append_assoc ts (x ∷ []) r.0)
+      | inl t ↦ grind (arith, common_steps, grows xs ts)
+      | inr f ↦ grind (arith, common_steps, grows xs (ts ++ x ∷ []), append_assoc ts (x ∷ []))
     ]
 
 first_more : (sites : List Site) (us more : List SiteTerm) → AreFirst sites us → AreFirst sites (us ++ more)
-first_more sites us more h =
-    let many = h.many in
-    let long = length-append us more in
-    record {
-      stand = subst (StandFor sites) (sym (take-append-le most_sites us more (omega (arith, many)))) h.stand;
-      many = omega (arith, many, long);
-    }
+first_more sites us more h = grind (arith, common_steps, length-append us more, take-append-le most_sites us more)
 
 pub first_with : (sites : List Site) (us xs : List SiteTerm) → AreFirst sites us → AreFirst sites (with_sites us xs)
 first_with sites us xs h = let g = grows xs us in subst (AreFirst sites) (sym g.1) (first_more sites us g.0 h)
 
 -- 2. a site that isn't there has no room
 full_now : (sites : List Site) (terms : List SiteTerm) (t : SiteTerm) → StandFor sites terms → length sites ≡ most_sites → AreFirst sites (terms ++ t ∷ [])
-full_now sites terms t stand full =
-    let count = stand.count in
-    let long = length-append terms (t ∷ []) in
-    let within : most_sites ≤ length terms = omega (arith, count, full) in
-    let all : length terms ≤ most_sites = omega (arith, count, full) in
-    record {
-      stand = subst (StandFor sites) (sym (take-append-le most_sites terms (t ∷ []) within ∙ take_all most_sites terms all)) stand;
-      many = omega (arith, count, full, long);
-    }
+full_now sites terms t stand full = grind (arith, common_steps, length-append terms (t ∷ []), take-append-le most_sites terms (t ∷ []), take_all most_sites terms)
 
 module _ (before : List Site) (first : SourcesFirst before) (b : Site) (below : (a : ℕ) → Contains (sources_of b) a → a < length before) where
   no_room : length before ≡ most_sites → IsAbsent before b → (terms : List SiteTerm) → IsDistinct terms → StandFor before terms
       → AreFirst before (with_sites terms (layer (unfold_site before) b ∷ []))
-  no_room full absent terms once stand =
-      let t = layer (unfold_site before) b in
-      subst (AreFirst before) (sym (cond-false (has_site terms t) terms (terms ++ t ∷ []) (not_there before terms first once stand b below absent)))
-      (full_now before terms t stand full)
+  no_room full absent terms once stand = grind (arith, common_steps, not_there before terms first once stand b below absent, full_now before terms)
 
   pub site_lacks : (after : List Site) (e : VisitFault) → HasNoRoom before after b e → LacksRoom before after (layer (unfold_site before) b ∷ []) e
-  site_lacks after (Memory a) h = tt
-  site_lacks after (Limit Limits.Sites) h = λ terms once stand.
-      subst (λ l. AreFirst l (with_sites terms (layer (unfold_site before) b ∷ []))) (sym h.2) (no_room h.0 h.1 terms once stand)
-  site_lacks after (Limit Limits.Fields) h = absurd h
-  site_lacks after (Limit Limits.Outputs) h = absurd h
-  site_lacks after (Limit Limits.Arguments) h = absurd h
-  site_lacks after (Limit Limits.Nesting) h = absurd h
-  site_lacks after (Limit Limits.Expansions) h = absurd h
-  site_lacks after Stopped h = absurd h
+  site_lacks after e h = grind (arith, no_room)
 
 pub want_weaker : (P Q : Type 0) (e : VisitFault) → (P → Q) → ForWantOfRoom P e → ForWantOfRoom Q e
-want_weaker P Q (Memory a) f h = tt
-want_weaker P Q (Limit Limits.Sites) f h = f h
-want_weaker P Q (Limit Limits.Fields) f h = absurd h
-want_weaker P Q (Limit Limits.Outputs) f h = absurd h
-want_weaker P Q (Limit Limits.Arguments) f h = absurd h
-want_weaker P Q (Limit Limits.Nesting) f h = absurd h
-want_weaker P Q (Limit Limits.Expansions) f h = absurd h
-want_weaker P Q Stopped f h = absurd h
+want_weaker P Q e f h = grind arith
 
 pub both_want : (P Q : Type 0) (e : VisitFault) → ForWantOfRoom P e → ForWantOfRoom Q e → ForWantOfRoom (P × Q) e
-both_want P Q (Memory a) h k = tt
-both_want P Q (Limit Limits.Sites) h k = (h, k)
-both_want P Q (Limit Limits.Fields) h k = absurd h
-both_want P Q (Limit Limits.Outputs) h k = absurd h
-both_want P Q (Limit Limits.Arguments) h k = absurd h
-both_want P Q (Limit Limits.Nesting) h k = absurd h
-both_want P Q (Limit Limits.Expansions) h k = absurd h
-both_want P Q Stopped h k = absurd h
+both_want P Q e h k = grind arith
 
 -- 3. a field among fields has no room
 place_split : (f : ℕ → Site) (i k n : ℕ) → i < n → (rest : List Site) × (each_place f k n ≡ each_place f k i ++ f (k + i) ∷ rest)
 place_split f i k zero l = absurd (omega arith)
 place_split f zero k (suc n) l = let z : k + 0 ≡ k = omega arith in (each_place f (suc k) n, ap (λ j. f j ∷ each_place f (suc k) n) (sym z))
-place_split f (suc i) k (suc n) l =
-    let r = place_split f i (suc k) n (omega arith) in
-    let e : suc k + i ≡ k + suc i = omega arith in
-    (r.0, ap (λ t. f k ∷ t) (r.1 ∙ ap (λ j. each_place f (suc k) i ++ f j ∷ r.0) e))
+place_split f (suc i) k (suc n) l = grind (arith, common_steps, place_split f i (suc k) n)
 
 pub field_lacks : (f : ℕ → Site) (before mid after : List Site) (i n : ℕ) (ns : List ℕ) (e : VisitFault) → i < n → AddsSites before mid (each_place f 0 i) ns
     → HasSources before (f i) → SourcesFirst mid → length before ≤ length mid → HasNoRoom mid after (f i) e
@@ -149,9 +102,7 @@ same_lack before after us vs e same h = subst (λ l. LacksRoom before after l e)
 -- 4. fields of a member, and of members, have no room
 pub member_full : (before after : List Site) (k : Closed) (us : List SiteTerm) (e : VisitFault) → IsDistinct k.made → StandFor before k.made → LacksRoom before after us e
     → EndsFull after (with_made k us) e
-member_full before after k us e once stand lacks =
-    want_weaker ((terms : List SiteTerm) → IsDistinct terms → StandFor before terms → AreFirst after (with_sites terms us)) (AreFirst after (with_sites k.made us)) e
-    (λ h. h k.made once stand) lacks
+member_full before after k us e once stand lacks = grind (arith, common_steps, want_weaker)
 
 pub least_full : (before after : List Site) (k : Closed) (c : Constraint) (least : SiteTerm) (rest : List SiteTerm) (e : VisitFault) → EndsFull after (with_made k (field_terms c least)) e
     → EndsFull after (with_field_terms c k (least ∷ rest)) e
@@ -169,8 +120,7 @@ members_full first now after d c least k fields rest i m all e l is j full =
     let whole : with_members c least next others ≡ with_field_terms c k (least ∷ all) =
     ap (λ left. with_members c least j.so_far (map (unfold_site first) left)) (sym (rest_is rest i m l is)) ∙ j.whole ∙ fields_at_once c least all k in
     want_weaker (AreFirst after next.made) (AreFirst after (with_field_terms c k (least ∷ all)).made) e
-    (λ h. subst (AreFirst after) (ap (λ (q : Closed). q.made) (sym (members_at_once c least others next) ∙ whole))
-    (first_with after next.made (flat_map (field_terms c) others) h)) full
+    (λ h. grind (arith, common_steps, members_at_once c least others next, first_with after next.made (flat_map (field_terms c) others) h)) full
 
 -- 5. nor do the classes that are taken later
 closing_made : (n : ℕ) (k : Closed) → (more : List SiteTerm) × ((closing n k).made ≡ k.made ++ more)
@@ -181,17 +131,14 @@ closing_made n k =
     (h.0 ++ made.0, made.1 ∙ ap (λ l. l ++ made.0) h.1 ∙ append_assoc k.made h.0 made.0)) n k ([], sym (append-nil k.made))
 
 pub closing_full : (after : List Site) (n : ℕ) (k : Closed) (e : VisitFault) → EndsFull after k e → EndsFull after (closing n k) e
-closing_full after n k e full =
-    let g = closing_made n k in
-    want_weaker (AreFirst after k.made) (AreFirst after (closing n k).made) e (λ h. subst (AreFirst after) (sym g.1) (first_more after k.made g.0 h)) full
+closing_full after n k e full = grind (arith, common_steps, closing_made n k, want_weaker (AreFirst after k.made), first_more after k.made)
 
 -- 6. steps of the closing
 pub class_full : (sites after : List Site) (d : Demanded) (k : Closed) (h : AreDemandsOf sites d k) (s : ℕ) (due : is_due d s ≡ true) (c : Constraint) (members : List ℕ)
     → ((y : ℕ) → in_set nat_eq members y ≡ are_equated d s y) → IsStrictlySortedBy nat_cmp members → (e : VisitFault)
     → EndsFull after (with_field_terms c (with_asked (without_class k (unfold_site sites s)) (map (unfold_site sites) members) c) (map (unfold_site sites) members)) e
     → EndsFull after (taken k (unfold_site sites s, c) (ascending k.made (class_at k.classes (unfold_site sites s)))) e
-class_full sites after d k h s due c members exact sorted e full =
-    subst (λ ms. EndsFull after (taken k (unfold_site sites s, c) ms) e) (sym (members_ascend sites d k h s due members exact sorted)) full
+class_full sites after d k h s due c members exact sorted e full = grind (arith, common_steps, members_ascend sites d k h s due members exact sorted)
 
 pub one_full : (first now after : List Site) (d e : Demanded) (k : Closed) (n m s : ℕ) (c : C.Constraint) (fault : VisitFault) → ClosedSoFar first now d k n (suc m) → IsNextDue d s c
     → e.constraints ≡ d.constraints → e.equals ≡ d.equals

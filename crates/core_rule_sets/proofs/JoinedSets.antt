@@ -1,17 +1,14 @@
 -- The sets of a partition as classes that join their members.
-use Rattle.std.proofs.Common.{◌≡◌, ℕ, zero, suc, ◌==◌, true, ◌&&◌, ◌||◌, List, [], ◌∷◌, slice_index_or, refl, sym, ap, ◌∙◌, subst, inl, inr, eqb-true, eq-eqb}
+use Rattle.std.proofs.Common.{◌≡◌, ℕ, zero, suc, ◌==◌, true, ◌&&◌, ◌||◌, List, [], ◌∷◌, slice_index_or, refl, sym, ap, ◌∙◌, subst, inl, inr, arith}
 use Rattle.std.specs.Prelude.{nat_eq}
 use Rattle.std.proofs.lemmas.Bool.{cases_Bool, cond-true, cond-false, and_parts, and_from, or_cases, or_left, or_right, false_from_ne_true, false≢true}
+use Rattle.std.proofs.lemmas.Grind.{common_steps}
 use Rattle.laws_sites.proofs.overlaps.Overlaps.{bool_same}
 use Rattle.core_containers.specs.Partition.{in_set, set_of, together, IsPartition}
 use Rattle.model.specs.trees.Places.{is_in, joins_in}
 
 turned : (a b : ℕ) → nat_eq a b ≡ (b == a)
-turned a b =
-    elim (cases_Bool (nat_eq a b)) [
-      | inl t ↦ t ∙ sym (eq-eqb b a (sym (eqb-true a b t)))
-      | inr f ↦ f ∙ sym (false_from_ne_true (b == a) (λ t. false≢true (sym f ∙ eq-eqb a b (sym (eqb-true b a t)))))
-    ]
+turned a b = grind (arith, common_steps, false_from_ne_true (b == a))
 
 -- members, by either test
 pub in_set_in : (s : List ℕ) (a : ℕ) → in_set nat_eq s a ≡ is_in a s

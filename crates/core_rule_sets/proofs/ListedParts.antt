@@ -1,13 +1,14 @@
 -- The fields that are listed of the constraints of sites are all that the demands ask for.
-use Rattle.std.proofs.Common.{◌≡◌, ◌↔◌, ◌==◌, ℕ, zero, suc, ◌+◌, ◌<◌, true, ◌&&◌, nat_lt, List, [], ◌∷◌, ◌++◌, length, Option, Some, None, is_some, slice_get, Contains, refl, sym, ap, ◌∙◌, subst, inl, inr, eqb-true, eq-eqb, ltb-true, arith}
-use Rattle.std.proofs.lemmas.Bool.{cases_Bool, cond-true, cond-false, and_parts, both_ways, false_from_ne_true}
+use Rattle.std.proofs.Common.{◌≡◌, ◌↔◌, ◌==◌, ℕ, zero, suc, ◌+◌, ◌<◌, true, ◌&&◌, nat_lt, List, [], ◌∷◌, ◌++◌, length, Option, Some, None, is_some, slice_get, Contains, refl, sym, ap, ◌∙◌, subst, inl, inr, eqb-true, arith}
+use Rattle.std.proofs.lemmas.Bool.{cond-false, and_parts, both_ways, false_from_ne_true}
 use Rattle.std.proofs.lemmas.List.{append-nil, append_assoc}
 use Rattle.std.proofs.lemmas.Option.{slice_get_within}
+use Rattle.std.proofs.lemmas.Grind.{common_steps}
 use Rattle.laws_sites.proofs.Reports.{joined_empty}
 use Rattle.laws_sites.specs.FieldLaws.{GivesField}
 use Rattle.model.specs.trees.Places.{constraint_at}
-use Rattle.model.specs.sites.Sites.{Site, bool_site, int_site, prim_site, argument_site, extractor_site, constructor_site, iterator_site, make_variant_site, match_variant_site, make_struct_site, extract_struct_site, make_some_site, match_some_site, match_tuple_site, Constraint, is_variant, is_struct, is_bool, is_int, is_prim, is_present, sources_of, sources_at, SiteTerm, variant_field, struct_field, no_site, layer, layer_at, unfold_site, fields_from, field_terms}
-use Rattle.model.specs.visits.Demands.{Demands, site_term_eq, constraint_eq}
+use Rattle.model.specs.sites.Sites.{Site, Constraint, is_variant, is_struct, is_bool, is_int, is_prim, is_present, sources_of, sources_at, SiteTerm, variant_field, struct_field, no_site, layer, layer_at, unfold_site, fields_from, field_terms}
+use Rattle.model.specs.visits.Demands.{Demands, site_term_eq}
 use Rattle.model.specs.sites.Closure.{constraint_of, conflict, conflict_with, conflicts_met, before_closing, with_constraints}
 use Rattle.model.proofs.Elements.{In, contains_from_in, in_from_contains, slice_in, some_is, none_some, in_either, map_in}
 use Rattle.model.proofs.FewElements.{not_empty, in_one}
@@ -28,22 +29,10 @@ use Rattle.core_rule_sets.specs.declared.closure_classes.Part.{Part}
 -- 1. where no conflict is met each site has one constraint
 pub there_not_none : (cs : List (SiteTerm × Constraint)) (s : SiteTerm) (a : Constraint) → In cs (s, a) → constraint_of cs s ≡ None → ⊥
 there_not_none [] s a i e = i
-there_not_none (c ∷ cs) s a i e =
-    elim (cases_Bool (site_term_eq c.0 s)) [
-      | inl t ↦ none_some c.1 (sym e ∙ cond-true (site_term_eq c.0 s) (Some c.1) (constraint_of cs s) t)
-      | inr f ↦
-          elim i [
-            | inl p ↦ both_ways (site_term_eq c.0 s) f (same_term c.0 s (ap (λ (x : SiteTerm × Constraint). x.0) p))
-            | inr j ↦ there_not_none cs s a j (sym (cond-false (site_term_eq c.0 s) (Some c.1) (constraint_of cs s) f) ∙ e)
-          ]
-    ]
+there_not_none (c ∷ cs) s a i e = grind (arith, common_steps, there_not_none cs s a, none_some c.1, both_ways (site_term_eq c.0 s), same_term c.0 s)
 
 no_clash_same : (b c : Constraint) → conflict_with (Some b) c ≡ [] → b ≡ c
-no_clash_same b c e =
-    elim (cases_Bool (constraint_eq b c)) [
-      | inl t ↦ constraint_means b c t
-      | inr f ↦ absurd (not_empty (conflict b c) [] (sym (cond-false (constraint_eq b c) [] (conflict b c ∷ []) f) ∙ e))
-    ]
+no_clash_same b c e = grind (arith, common_steps, constraint_means b c, not_empty (conflict b c) [])
 
 same_as_had : (had : List (SiteTerm × Constraint)) (c : SiteTerm × Constraint) → OneEach had → conflict_with (constraint_of had c.0) c.1 ≡ [] → (a : Constraint) → In had (c.0, a) → a ≡ c.1
 same_as_had had c once e a i = by (constraint_of had c.0) refl
@@ -56,16 +45,11 @@ once_more : (had : List (SiteTerm × Constraint)) (c : SiteTerm × Constraint) �
 once_more had c once e s a b i j =
     elim (in_either had (c ∷ []) (s, a) i) [
       | inl k ↦ elim (in_either had (c ∷ []) (s, b) j) [ inl m ↦ once s a b k m | inr m ↦ against a b k (in_one c (s, b) m) ]
-      | inr k ↦
-          elim (in_either had (c ∷ []) (s, b) j) [
-            | inl m ↦ sym (against b a m (in_one c (s, a) k))
-            | inr m ↦ ap (λ (x : SiteTerm × Constraint). x.1) (sym (in_one c (s, a) k) ∙ in_one c (s, b) m)
-          ]
+      | inr k ↦ grind (arith, common_steps, against b a, in_either had (c ∷ []) (s, b) j, in_one c (s, a) k, in_one c (s, b))
     ]
   where
     against : (x y : Constraint) → In had (s, x) → c ≡ (s, y) → x ≡ y
-    against x y k p =
-        same_as_had had c once e x (subst (λ t. In had (t, x)) (sym (ap (λ (z : SiteTerm × Constraint). z.0) p)) k) ∙ ap (λ (z : SiteTerm × Constraint). z.1) p
+    against x y k p = grind (arith, common_steps, same_as_had had c once e x)
 
 pub each_once : (had cs : List (SiteTerm × Constraint)) → OneEach had → conflicts_met had cs ≡ [] → OneEach (had ++ cs)
 each_once had [] once e = subst OneEach (sym (append-nil had)) once
@@ -76,13 +60,7 @@ each_once had (c ∷ cs) once e =
 -- 2. lists that ascend
 pub above : (n : ℕ) (ns : List ℕ) → (is_below_first n ns && ascends ns) ≡ true → (m : ℕ) → In ns m → n < m
 above n [] h m i = absurd i
-above n (x ∷ xs) h m i =
-    let p = and_parts (nat_lt n x) (is_below_first x xs && ascends xs) h in
-    let l : n < x = ltb-true n x p.0 in
-    elim i [
-      | inl e ↦ subst (λ y. n < y) e l
-      | inr j ↦ let k : x < m = above x xs p.1 m j in omega (arith, l, k)
-    ]
+above n (x ∷ xs) h m i = grind (arith, common_steps, above x xs, and_parts (nat_lt n x) (is_below_first x xs && ascends xs) h)
 
 pub views_sites : (cs : List (ℕ × Code)) → sites_of (constraint_views cs) ≡ sites_of cs
 views_sites [] = refl
@@ -90,19 +68,11 @@ views_sites (c ∷ cs) = ap (λ l. c.0 ∷ l) (views_sites cs)
 
 pub listed_there : (cs : List (ℕ × Constraint)) (s : ℕ) (c : Constraint) → constraint_at cs s ≡ Some c → In cs (s, c)
 listed_there [] s c e = absurd (none_some c e)
-listed_there (d ∷ ds) s c e =
-    elim (cases_Bool (d.0 == s)) [
-      | inl t ↦
-          let same = some_is d.1 c (sym (cond-true (d.0 == s) (Some d.1) (constraint_at ds s) t) ∙ e) in
-          let at = eqb-true d.0 s t in
-          inl (λ k. (at k, same k))
-      | inr f ↦ inr (listed_there ds s c (sym (cond-false (d.0 == s) (Some d.1) (constraint_at ds s) f) ∙ e))
-    ]
+listed_there (d ∷ ds) s c e = grind (arith, common_steps, listed_there ds s c, some_is d.1 c)
 
 pub there_listed : (cs : List (ℕ × Constraint)) → ascends (sites_of cs) ≡ true → (s : ℕ) (c : Constraint) → In cs (s, c) → constraint_at cs s ≡ Some c
 there_listed [] h s c i = absurd i
-there_listed (d ∷ ds) h s c (inl p) =
-    cond-true (d.0 == s) (Some d.1) (constraint_at ds s) (eq-eqb d.0 s (ap (λ (x : ℕ × Constraint). x.0) p)) ∙ ap (λ (x : ℕ × Constraint). Some x.1) p
+there_listed (d ∷ ds) h s c (inl p) = grind (arith, common_steps)
 there_listed (d ∷ ds) h s c (inr i) =
     let l : d.0 < s = above d.0 (sites_of ds) h s (map_in (λ (x : ℕ × Constraint). x.0) ds (s, c) i) in
     cond-false (d.0 == s) (Some d.1) (constraint_at ds s) (false_from_ne_true (d.0 == s) (λ t. let e = eqb-true d.0 s t in absurd (omega (arith, e, l))))
@@ -127,8 +97,7 @@ first_field : (f : ℕ → SiteTerm) (n i : ℕ) → i < n → In (fields_from f
 first_field f n i l = let e : 0 + i ≡ i = omega arith in subst (λ m. In (fields_from f 0 n) (f m)) e (field_in f 0 n i l)
 
 layer_field : (f : ℕ → SiteTerm) (v : Option VariantId) (s i : ℕ) → layer f (site_view (field_binding v s i)) ≡ field_term v (f s) i
-layer_field f (Some v) s i = refl
-layer_field f None s i = refl
+layer_field f v s i = grind (arith, common_steps)
 
 -- what a part by a constraint is
 record IsGivenPart (sites : List Site) (s : ℕ) (c : Constraint) (p : Part) : Type 0 where
@@ -142,11 +111,7 @@ part_by sites s (is_variant ty k n) p h = record {
   field = subst (λ o. slice_get sites p.field ≡ Some (site_view (field_binding o s p.place))) (sym h.variant) h.field;
   there = λ u. subst (λ o. In (fields_from (variant_field u k) 0 n) (field_term o u p.place)) (sym h.variant) (first_field (variant_field u k) n p.place h.place);
 }
-part_by sites s (is_struct ty n) p h = record {
-  source = h.source;
-  field = subst (λ o. slice_get sites p.field ≡ Some (site_view (field_binding o s p.place))) (sym h.variant) h.field;
-  there = λ u. subst (λ o. In (fields_from (struct_field u) 0 n) (field_term o u p.place)) (sym h.variant) (first_field (struct_field u) n p.place h.place);
-}
+part_by sites s (is_struct ty n) p h = grind (arith, common_steps, first_field)
 part_by sites s (is_bool b ty) p h = absurd h
 part_by sites s (is_int z ty) p h = absurd h
 part_by sites s (is_prim name) p h = absurd h
@@ -157,45 +122,10 @@ abbrev IsFieldSite : (ℕ → SiteTerm) → Option VariantId → SiteTerm → �
 IsFieldSite f v u i b = (s : ℕ) × (b ≡ site_view (field_binding v s i)) × (f s ≡ u) × In (sources_of b) s
 
 field_site : (f : ℕ → SiteTerm) (v : Option VariantId) (u : SiteTerm) (i : ℕ) (b : Site) → layer f b ≡ field_term v u i → IsFieldSite f v u i b
-field_site f (Some v) u i (match_variant_site s k j) e =
-    let a : f s ≡ u = cc in
-    let b : k ≡ v.0 = cc in
-    let c : j ≡ i = cc in
-    (s, (λ t. match_variant_site s (b t) (c t)), a, inl refl)
-field_site f None u i (extract_struct_site s j) e =
-    let a : f s ≡ u = cc in
-    let c : j ≡ i = cc in
-    (s, (λ t. extract_struct_site s (c t)), a, inl refl)
-field_site f (Some v) u i (bool_site b ty) e = absurd (cc)
-field_site f (Some v) u i (int_site z ty) e = absurd (cc)
-field_site f (Some v) u i (prim_site n) e = absurd (cc)
-field_site f (Some v) u i (argument_site n) e = absurd (cc)
-field_site f (Some v) u i (extractor_site t s) e = absurd (cc)
-field_site f (Some v) u i (constructor_site t ss n) e = absurd (cc)
-field_site f (Some v) u i (iterator_site s) e = absurd (cc)
-field_site f (Some v) u i (make_variant_site ty k ss) e = absurd (cc)
-field_site f (Some v) u i (make_struct_site ty ss) e = absurd (cc)
-field_site f (Some v) u i (make_some_site s) e = absurd (cc)
-field_site f (Some v) u i (match_some_site s) e = absurd (cc)
-field_site f (Some v) u i (match_tuple_site s j) e = absurd (cc)
-field_site f (Some v) u i (extract_struct_site s j) e = absurd (cc)
-field_site f None u i (bool_site b ty) e = absurd (cc)
-field_site f None u i (int_site z ty) e = absurd (cc)
-field_site f None u i (prim_site n) e = absurd (cc)
-field_site f None u i (argument_site n) e = absurd (cc)
-field_site f None u i (extractor_site t s) e = absurd (cc)
-field_site f None u i (constructor_site t ss n) e = absurd (cc)
-field_site f None u i (iterator_site s) e = absurd (cc)
-field_site f None u i (make_variant_site ty k ss) e = absurd (cc)
-field_site f None u i (make_struct_site ty ss) e = absurd (cc)
-field_site f None u i (make_some_site s) e = absurd (cc)
-field_site f None u i (match_some_site s) e = absurd (cc)
-field_site f None u i (match_tuple_site s j) e = absurd (cc)
-field_site f None u i (match_variant_site s k j) e = absurd (cc)
+field_site f v u i b e = grind arith
 
 no_field : (v : Option VariantId) (u : SiteTerm) (i : ℕ) → no_site ≡ field_term v u i → ⊥
-no_field (Some v) u i e = absurd (cc)
-no_field None u i e = absurd (cc)
+no_field v u i e = grind (arith, common_steps)
 
 -- the sites of a visit that stand for one term are one
 pub one_number : (sites : List Site) (before : List SiteTerm) (d : Demands) (h : Demanded) → AreVisited sites before d h

@@ -1,9 +1,10 @@
 -- Where no sites must be equal, nothing is reported: a site is equal to itself alone and asked one thing, and fields lie deeper than their sites.
-use Rattle.std.proofs.Common.{◌≡◌, ℕ, suc, ◌<◌, ◌≤◌, List, [], ◌∷◌, Contains, length, slice_get, sum_by, refl, sym, ap, ◌∙◌, subst, inl, inr, arith}
+use Rattle.std.proofs.Common.{◌≡◌, ℕ, suc, ◌<◌, ◌≤◌, List, [], ◌∷◌, Contains, length, sum_by, refl, sym, ap, ◌∙◌, inl, inr, arith}
 use Rattle.std.specs.Prelude.{nat_eq}
 use Rattle.std.proofs.lemmas.Bool.{cases_Bool, false≢true}
 use Rattle.std.proofs.lemmas.List.Elements.{All-head}
 use Rattle.std.proofs.lemmas.List.Sums.{sum_by-cons}
+use Rattle.std.proofs.lemmas.Grind.{common_steps}
 use Rattle.core_containers.specs.Partition.{IsPartition, together}
 use Rattle.laws_sites.specs.ClosureLaws.{RespectsDemands}
 use Rattle.laws_sites.proofs.Classes.{classes_bound}
@@ -42,10 +43,7 @@ field_deeper is_present s x i = absurd i
 -- demands that hold no equality of two sites, and met no conflict
 module _ (d : Demands) (alone : (a b : SiteTerm) → Contains d.equalities (a, b) → a ≡ b) (agreed : conflicts_met [] d.constraints ≡ []) where
   each_by_itself : RespectsDemands d (λ s. s)
-  each_by_itself = record {
-    given = alone;
-    fields = λ a b t x y c i e of_class asked f g. some_is x y (sym f ∙ ap (λ s. slice_get (field_terms c s) i) e ∙ g);
-  }
+  each_by_itself = grind (arith, common_steps, alone, some_is)
 
   same_site : (a b : SiteTerm) → Joined d a b → a ≡ b
   same_site = classes_bound d (λ s. s) each_by_itself
@@ -65,11 +63,7 @@ module _ (d : Demands) (alone : (a b : SiteTerm) → Contains d.equalities (a, b
 
   can_be_met : IsUnreachable d → ⊥
   can_be_met (two_at_a_site s a b i j differ) = differ (one_constraint s a b i j)
-  can_be_met (two_in_a_class s a b h k differ) =
-      differ
-      (one_constraint s a b
-      (subst (λ u. Contains d.constraints (u, a)) (same_site h.source s h.joined) h.asked)
-      (subst (λ u. Contains d.constraints (u, b)) (same_site k.source s k.joined) k.asked))
+  can_be_met (two_in_a_class s a b h k differ) = grind (arith, common_steps, one_constraint s a b, same_site h.source s h.joined, same_site k.source s k.joined)
   can_be_met (part_of_itself s p) = let l = proper_deeper s s p in absurd (omega (arith, l))
 
   none_unmet : (order : List SiteTerm) → reported order d ≡ []

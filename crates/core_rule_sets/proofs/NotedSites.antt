@@ -1,9 +1,10 @@
 -- All sites that are in a set stay noted.
-use Rattle.std.proofs.Common.{◌≡◌, ℕ, true, false, ◌&&◌, List, [], refl, sym, ap, ◌∙◌, subst, inl, inr, eqb-true}
+use Rattle.std.proofs.Common.{◌≡◌, ℕ, true, false, ◌&&◌, List, [], refl, sym, ap, ◌∙◌, inl, inr, arith}
 use Rattle.std.specs.Prelude.{nat_eq}
 use Rattle.std.specs.Ordering.{nat_cmp}
 use Rattle.std.specs.BTreeSet.{BTreeSet, contains, IsUnchanged, Updates}
 use Rattle.std.proofs.lemmas.Bool.{and_parts}
+use Rattle.std.proofs.lemmas.Grind.{common_steps}
 use Rattle.core_containers.specs.Partition.{joined, merged, set_of, together, together_after}
 use Rattle.model.proofs.Elements.{or_split}
 use Rattle.core_rule_sets.specs.SetLists.{AreNoted}
@@ -24,11 +25,7 @@ noted_unchanged sets s n noted same a b h = ap (λ ks. contains nat_cmp (record 
 module _ (before after : List (List ℕ)) (x y : ℕ) (n : BTreeSet ℕ) (noted : AreNoted before n) (first : contains nat_cmp n x ≡ true) (second : contains nat_cmp n y ≡ true)
     (merges : (a b : ℕ) → together nat_eq after a b ≡ together_after nat_eq before x y a b) where
   beside : (z b : ℕ) → contains nat_cmp n z ≡ true → joined nat_eq before z b ≡ true → contains nat_cmp n b ≡ true
-  beside z b there h =
-      elim (or_split (nat_eq z b) (together nat_eq before z b) h) [
-        | inl t ↦ subst (λ q. contains nat_cmp n q ≡ true) (eqb-true z b t) there
-        | inr t ↦ noted z b t
-      ]
+  beside z b there h = grind (arith, common_steps, or_split (nat_eq z b) (together nat_eq before z b) h)
 
   pub noted_merged : AreNoted after n
   noted_merged a b h =

@@ -1,11 +1,12 @@
 -- Equal bindings are one site, and the other way round.
-use Rattle.std.proofs.Common.{◌≡◌, ◌==◌, ◌&&◌, ℕ, true, List, sym, ap, ap₂, ◌∙◌, eqb-true, eq-eqb}
+use Rattle.std.proofs.Common.{◌≡◌, ◌==◌, ◌&&◌, ℕ, true, List, sym, ap, ap₂, ◌∙◌, eqb-true, eq-eqb, arith}
 use Rattle.std.specs.Ordering.{int_eq}
 use Rattle.std.specs.Cmp.Lexicographic.{pointwise, same_text}
 use Rattle.std.proofs.lemmas.Cmp.{nat_list_eq_equiv}
 use Rattle.std.proofs.lemmas.Bool.{and_parts, and_from, false≢true}
 use Rattle.std.proofs.lemmas.Bool.Decides.{Decides-int_eq}
 use Rattle.std.proofs.Math.Bool.{beq}
+use Rattle.std.proofs.lemmas.Grind.{common_steps}
 use Rattle.model.specs.sites.Sites.{bool_site, int_site, prim_site, argument_site, extractor_site, constructor_site, iterator_site, make_variant_site, match_variant_site, make_struct_site, extract_struct_site, make_some_site, match_some_site, match_tuple_site}
 use Rattle.model.proofs.SameSites.{beq_means, beq_same}
 use Rattle.core_rule_sets.specs.SiteViews.{site_view}
@@ -56,14 +57,11 @@ one_view (B.MatchTuple x i) (B.MatchTuple y j) h = let p = and_parts (x == y) (i
 one_view _ _ h = absurd (false≢true h)
 
 pub one_binding : (a b : Binding) → site_view a ≡ site_view b → ghosts.eq a b ≡ true
-one_binding (B.ConstBool x s) (B.ConstBool y t) h =
-    let e : x ≡ y = cc in let f : s.0 ≡ t.0 = cc in and_from (beq x y) (s.0 == t.0) (ap (beq x) (sym e) ∙ beq_same x) (eq-eqb s.0 t.0 f)
-one_binding (B.ConstInt x s) (B.ConstInt y t) h =
-    let e : x ≡ y = cc in let f : s.0 ≡ t.0 = cc in and_from (int_eq x y) (s.0 == t.0) ((Decides-int_eq x y).1 e) (eq-eqb s.0 t.0 f)
+one_binding (B.ConstBool x s) (B.ConstBool y t) h = grind (arith, common_steps, and_from (beq x y) (s.0 == t.0), beq x y, beq_same x)
+one_binding (B.ConstInt x s) (B.ConstInt y t) h = grind (arith, common_steps, and_from (int_eq x y) (s.0 == t.0))
 one_binding (B.ConstPrim s) (B.ConstPrim t) h = let f : s.0 ≡ t.0 = cc in eq-eqb s.0 t.0 f
 one_binding (B.Argument i) (B.Argument j) h = let e : i ≡ j = cc in eq-eqb i j e
-one_binding (B.Extractor s x) (B.Extractor t y) h =
-    let e : s.0 ≡ t.0 = cc in let f : x ≡ y = cc in and_from (s.0 == t.0) (x == y) (eq-eqb s.0 t.0 e) (eq-eqb x y f)
+one_binding (B.Extractor s x) (B.Extractor t y) h = grind (arith, common_steps, and_from (s.0 == t.0) (x == y))
 one_binding (B.Constructor s xs i) (B.Constructor t ys j) h =
     let e : s.0 ≡ t.0 = cc in
     let f : xs.items ≡ ys.items = cc in
@@ -86,10 +84,8 @@ one_binding (B.MakeStruct s xs) (B.MakeStruct t ys) h =
     let e : s.0 ≡ t.0 = cc in
     let g : xs.items ≡ ys.items = cc in
     and_from (s.0 == t.0) (pointwise ◌==◌ xs.items ys.items) (eq-eqb s.0 t.0 e) (list_same xs.items ys.items g)
-one_binding (B.ExtractStruct x i) (B.ExtractStruct y j) h =
-    let e : x ≡ y = cc in let f : i ≡ j = cc in and_from (x == y) (i == j) (eq-eqb x y e) (eq-eqb i j f)
+one_binding (B.ExtractStruct x i) (B.ExtractStruct y j) h = grind (arith, common_steps, and_from (x == y) (i == j))
 one_binding (B.MakeSome x) (B.MakeSome y) h = let e : x ≡ y = cc in eq-eqb x y e
 one_binding (B.MatchSome x) (B.MatchSome y) h = let e : x ≡ y = cc in eq-eqb x y e
-one_binding (B.MatchTuple x i) (B.MatchTuple y j) h =
-    let e : x ≡ y = cc in let f : i ≡ j = cc in and_from (x == y) (i == j) (eq-eqb x y e) (eq-eqb i j f)
+one_binding (B.MatchTuple x i) (B.MatchTuple y j) h = grind (arith, common_steps, and_from (x == y) (i == j))
 one_binding _ _ h = cc

@@ -1,14 +1,15 @@
 -- Disjoint sets are listed one after another, by their least members.
-use Rattle.std.proofs.Common.{◌≡◌, ℕ, ◌<◌, ◌==◌, nat_lt, Bool, true, false, not, ◌&&◌, ◌||◌, List, [], ◌∷◌, ◌++◌, length, refl, sym, ap, ◌∙◌, subst, inl, inr, arith, eqb-true, eq-eqb, ltb-true}
+use Rattle.std.proofs.Common.{◌≡◌, ℕ, ◌<◌, ◌==◌, nat_lt, Bool, true, false, not, ◌&&◌, ◌||◌, List, [], ◌∷◌, ◌++◌, length, refl, sym, ap, ◌∙◌, subst, inl, inr, arith, eq-eqb}
 use Rattle.std.specs.Prelude.{nat_eq, take}
-use Rattle.std.specs.List.{flat_map, list_all, list_any}
+use Rattle.std.specs.List.{flat_map, list_all}
 use Rattle.std.specs.List.Sorted.{IsStrictlySortedBy}
-use Rattle.std.specs.Ordering.{nat_cmp, is_eq}
+use Rattle.std.specs.Ordering.{nat_cmp}
 use Rattle.std.specs.BTreeSet.{BTreeSet, contains}
 use Rattle.std.proofs.lemmas.Bool.{cases_Bool, and_parts, and_from, or_left, or_cases, false_from_ne_true, false≢true, lt-ltb}
 use Rattle.std.proofs.lemmas.Grind.{flat_map-append}
 use Rattle.std.proofs.lemmas.List.Folds.{list_all-append, list_any-append}
 use Rattle.std.proofs.Math.Bool.{or-false, and-true, and-false, or_assoc}
+use Rattle.std.proofs.lemmas.Grind.{common_steps}
 use Rattle.core_containers.specs.Partition.{in_set, together, IsPartition}
 use Rattle.model.specs.trees.Places.{is_in, joins_in}
 use Rattle.core_rule_sets.specs.Listings.{are_listed, ascends, is_below_first, is_listed_class}
@@ -19,30 +20,19 @@ use Rattle.core_rule_sets.proofs.AskedOnce.{sorted_ascend}
 
 -- 1. members of a set
 contains_in : (s : BTreeSet ℕ) (a : ℕ) → contains nat_cmp s a ≡ is_in a s.keys
-contains_in s a = of s.keys
-  where
-    of : (ks : List ℕ) → list_any (λ k. is_eq (nat_cmp a k)) ks ≡ is_in a ks
-    of [] = refl
-    of (k ∷ ks) = let e = tied a k in let r = of ks in λ i. e i || r i
+contains_in s a = grind (arith, common_steps, tied a)
 
 -- 2. numbers that ascend: the first is below the others
 pub below_rest : (x : ℕ) (xs : List ℕ) (a : ℕ) → ascends (x ∷ xs) ≡ true → is_in a xs ≡ true → x < a
 below_rest x [] a h i = absurd (false≢true i)
-below_rest x (y ∷ xs) a h i =
-    let p = and_parts (nat_lt x y) (ascends (y ∷ xs)) h in
-    let first : x < y = ltb-true x y p.0 in
-    elim (or_cases (y == a) (is_in a xs) i) [
-      | inl t ↦ let e = eqb-true y a t in omega (arith, first, e)
-      | inr t ↦ let r = below_rest y xs a p.1 t in omega (arith, first, r)
-    ]
+below_rest x (y ∷ xs) a h i = grind (arith, common_steps, below_rest y xs a, and_parts (nat_lt x y) (ascends (y ∷ xs)) h, or_cases (y == a) (is_in a xs) i)
 
 -- one more, above all
 ascends_push : (xs : List ℕ) (n : ℕ) → ascends xs ≡ true → list_all (λ x. nat_lt x n) xs ≡ true → ascends (xs ++ n ∷ []) ≡ true
-ascends_push [] n h l = refl
-ascends_push (x ∷ []) n h l = and_from (nat_lt x n) true (and_parts (nat_lt x n) true l).0 refl
 ascends_push (x ∷ y ∷ xs) n h l =
     let p = and_parts (nat_lt x y) (ascends (y ∷ xs)) h in
     and_from (nat_lt x y) (ascends (y ∷ xs ++ n ∷ [])) p.0 (ascends_push (y ∷ xs) n p.1 (and_parts (nat_lt x n) (list_all (λ x. nat_lt x n) (y ∷ xs)) l).1)
+ascends_push xs n h l = grind (arith, and_parts)
 
 -- 3. one more class
 joins_push : (cs : List (List ℕ)) (c : List ℕ) (a b : ℕ) → joins_in (cs ++ c ∷ []) a b ≡ (joins_in cs a b || (is_in a c && is_in b c))
@@ -63,11 +53,7 @@ listed_push cs x xs h l above =
 
 two_members : (set : List ℕ) (a b : ℕ) → is_in a set ≡ true → is_in b set ≡ true → nat_eq a b ≡ false → nat_lt 1 (length set) ≡ true
 two_members [] a b h k e = absurd (false≢true h)
-two_members (x ∷ []) a b h k e =
-    absurd (false≢true (sym e ∙ eq-eqb a b (sym (one a h) ∙ one b k)))
-  where
-    one : (c : ℕ) → ((x == c) || false) ≡ true → x ≡ c
-    one c t = elim (or_cases (x == c) false t) [ inl q ↦ eqb-true x c q | inr q ↦ absurd (false≢true q) ]
+two_members (x ∷ []) a b h k e = grind (arith, common_steps, or_cases)
 two_members (x ∷ y ∷ set) a b h k e = let l : 1 < length (x ∷ y ∷ set) = omega arith in lt-ltb 1 (length (x ∷ y ∷ set)) l
 
 -- 4. the set of the next site, if it is in one
@@ -78,17 +64,10 @@ module _ (whole rest after listed : List (List ℕ)) (s : ℕ) (later set : List
   R a b = together nat_eq rest a b
 
   stayed : (a : ℕ) → together nat_eq after a a ≡ true → (R a a ≡ true) × (R s a ≡ false)
-  stayed a t =
-      let p = and_parts (R a a) (not (R s a)) (sym (rests a a) ∙ t) in
-      (p.0, false_from_ne_true (R s a) (λ g. false≢true (sym (ap not g) ∙ p.1)))
+  stayed a t = grind (arith, common_steps, and_parts (R a a) (not (R s a)) (sym (rests a a) ∙ t), false_from_ne_true (R s a))
 
   still_left : (a : ℕ) → together nat_eq after a a ≡ true → is_in a later ≡ true
-  still_left a t =
-      let p = stayed a t in
-      elim (or_cases (s == a) (is_in a later) (h.left a p.0)) [
-        | inl e ↦ absurd (false≢true (sym p.1 ∙ ap (λ x. R x a) (eqb-true s a e) ∙ p.0))
-        | inr i ↦ i
-      ]
+  still_left a t = grind (arith, common_steps, stayed a t, or_cases (s == a) (is_in a later))
 
   later_ascend : ascends later ≡ true
   later_ascend = (and_parts (is_below_first s later) (ascends later) h.ascending).1
@@ -110,23 +89,15 @@ module _ (whole rest after listed : List (List ℕ)) (s : ℕ) (later set : List
     in_one a = sym (ap (is_in a) e) ∙ sym (in_set_in set a) ∙ members a
 
     not_above : (a : ℕ) → s < a → x < a
-    not_above a l =
-        elim (or_cases (x == s) (is_in s xs) (in_one s ∙ own)) [
-          | inl t ↦ let q = eqb-true x s t in omega (arith, q, l)
-          | inr t ↦ let r = below_rest x xs s set_ascends t in omega (arith, r, l)
-        ]
+    not_above a l = grind (arith, common_steps, or_cases (x == s) (is_in s xs) (in_one s ∙ own), in_one s, own, below_rest x xs s set_ascends)
 
     long : nat_lt 1 (length (x ∷ xs)) ≡ true
-    long =
-        let other = h.partition.another s own in
-        two_members (x ∷ xs) s other.0 (in_one s ∙ own) (in_one other.0 ∙ other.2) other.1
+    long = grind (arith, common_steps, two_members (x ∷ xs) s, in_one s, own)
 
     split : (a b : ℕ) → R a b ≡ ((is_in a (x ∷ xs) && is_in b (x ∷ xs)) || together nat_eq after a b)
     split a b =
         elim (cases_Bool (R s a)) [
-          | inl t ↦
-              let same : R a b ≡ R s b = ap (λ l. in_set nat_eq l b) (h.partition.one_set s a t) in
-              same ∙ sym (or-false (R s b)) ∙ sym (λ i. ((in_one a ∙ t) i && in_one b i) || (rests a b ∙ ap (λ g. R a b && not g) t ∙ and-false (R a b)) i)
+          | inl t ↦ grind (arith, common_steps, or-false (R s b), in_one a, in_one b, and-false (R a b), h.partition.one_set s a t, rests a b)
           | inr f ↦ sym (λ i. ((in_one a ∙ f) i && in_one b i) || (rests a b ∙ ap (λ g. R a b && not g) f ∙ and-true (R a b)) i)
         ]
 
@@ -158,17 +129,7 @@ module _ (whole rest after listed : List (List ℕ)) (s : ℕ) (later set : List
 
 -- 5. at the start none are listed, at the end all
 pub listing_starts : (sets : List (List ℕ)) (noted : BTreeSet ℕ) → IsPartition nat_eq sets → AreNoted sets noted → IsStrictlySortedBy nat_cmp noted.keys → IsListedBefore sets sets [] noted.keys
-listing_starts sets noted p all sorted = record {
-  partition = p;
-  parts = λ a b. refl;
-  in_order = refl;
-  ascending = sorted_ascend noted.keys sorted;
-  left = λ a t. sym (contains_in noted a) ∙ all a a t;
-  above = λ a t. refl;
-}
+listing_starts sets noted p all sorted = grind (arith, common_steps, sorted_ascend noted.keys sorted, contains_in noted)
 
 pub listing_ends : (whole rest listed : List (List ℕ)) → IsListedBefore whole rest listed [] → (a b : ℕ) → joins_in listed a b ≡ together nat_eq whole a b
-listing_ends whole rest listed h a b =
-    let none : together nat_eq rest a b ≡ false =
-    false_from_ne_true (together nat_eq rest a b) (λ t. false≢true (h.left a (h.partition.transitive a b a t (h.partition.symmetric b a ∙ t)))) in
-    sym (h.parts a b ∙ ap (λ t. joins_in listed a b || t) none ∙ or-false (joins_in listed a b))
+listing_ends whole rest listed h a b = grind (arith, common_steps, false_from_ne_true (together nat_eq rest a b), or-false (joins_in listed a b))

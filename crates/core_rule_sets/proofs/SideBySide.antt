@@ -1,9 +1,10 @@
 -- Two rules' constraints side by side: what is found by going on at the lesser site, where both ascend.
-use Rattle.std.proofs.Common.{◌≡◌, ◌==◌, ℕ, zero, suc, ◌+◌, ◌<◌, ◌≤◌, Bool, true, false, not, ◌&&◌, ◌||◌, List, [], ◌∷◌, length, drop, get_or, inl, inr, refl, sym, ap, ◌∙◌, subst, arith, nat_lt, eqb-true, ◌⊎◌}
+use Rattle.std.proofs.Common.{◌≡◌, ◌==◌, ℕ, suc, ◌+◌, ◌<◌, ◌≤◌, Bool, true, false, ◌&&◌, ◌||◌, List, [], ◌∷◌, length, drop, get_or, refl, sym, ap, ◌∙◌, subst, arith, nat_lt, ◌⊎◌}
 use Rattle.std.specs.List.{list_any}
-use Rattle.std.proofs.lemmas.Bool.{and_parts, cases_Bool, both_ways, eq-eqb, ne_eqb}
+use Rattle.std.proofs.lemmas.Bool.{and_parts, both_ways, eq-eqb, ne_eqb}
 use Rattle.std.proofs.lemmas.Bool.Decides.{Decides-ltb}
 use Rattle.std.proofs.Math.Bool.{and-false}
+use Rattle.std.proofs.lemmas.Grind.{common_steps}
 use Rattle.model.specs.sites.Sites as Sites
 use Rattle.model.specs.visits.Demands.{constraint_eq}
 use Rattle.model.specs.sites.SetRules.{differs_at, sites_differ, agrees_at, all_agree}
@@ -45,34 +46,20 @@ rest_ascends c cs a = (and_parts (is_below_first c.0 (sites_of cs)) (ascends (si
 
 none_differs : (x : Demand) (ys : List Demand) → AllAbove x.0 ys → list_any (differs_at x) ys ≡ false
 none_differs x [] h = refl
-none_differs x (y ∷ ys) h =
-    let l : x.0 < y.0 = h.0 in
-    let e = ne_eqb x.0 y.0 (λ s. omega arith) in
-    ap (λ b. (b && not (constraint_eq x.1 y.1)) || list_any (differs_at x) ys) e ∙ none_differs x ys h.1
+none_differs x (y ∷ ys) h = grind (arith, common_steps, none_differs x ys h.1, ne_eqb x.0 y.0)
 
 none_agrees : (x : Demand) (ys : List Demand) → AllAbove x.0 ys → list_any (agrees_at x) ys ≡ false
 none_agrees x [] h = refl
-none_agrees x (y ∷ ys) h =
-    let l : x.0 < y.0 = h.0 in
-    let e = ne_eqb x.0 y.0 (λ s. omega arith) in
-    ap (λ b. (b && constraint_eq x.1 y.1) || list_any (agrees_at x) ys) e ∙ none_agrees x ys h.1
+none_agrees x (y ∷ ys) h = grind (arith, common_steps, none_agrees x ys h.1, ne_eqb x.0 y.0)
 
 -- a site below all of the others' tells nothing
 difference_skipped : (y : Demand) (xs ys : List Demand) → AllAbove y.0 xs → sites_differ xs (y ∷ ys) ≡ sites_differ xs ys
 difference_skipped y [] ys h = refl
-difference_skipped y (x ∷ xs) ys h =
-    let l : y.0 < x.0 = h.0 in
-    let e = ne_eqb x.0 y.0 (λ s. omega arith) in
-    ap (λ b. ((b && not (constraint_eq x.1 y.1)) || list_any (differs_at x) ys) || sites_differ xs (y ∷ ys)) e
-    ∙ ap (λ b. list_any (differs_at x) ys || b) (difference_skipped y xs ys h.1)
+difference_skipped y (x ∷ xs) ys h = grind (arith, common_steps, difference_skipped y xs ys h.1, ne_eqb x.0 y.0)
 
 agreement_skipped : (y : Demand) (xs ys : List Demand) → AllAbove y.0 xs → all_agree xs (y ∷ ys) ≡ all_agree xs ys
 agreement_skipped y [] ys h = refl
-agreement_skipped y (x ∷ xs) ys h =
-    let l : y.0 < x.0 = h.0 in
-    let e = ne_eqb x.0 y.0 (λ s. omega arith) in
-    ap (λ b. ((b && constraint_eq x.1 y.1) || list_any (agrees_at x) ys) && all_agree xs (y ∷ ys)) e
-    ∙ ap (λ b. list_any (agrees_at x) ys && b) (agreement_skipped y xs ys h.1)
+agreement_skipped y (x ∷ xs) ys h = grind (arith, common_steps, agreement_skipped y xs ys h.1, ne_eqb x.0 y.0)
 
 -- 2. what is left of both, and what was met so far
 pub record IsMetSoFar (as' bs xs ys : List Demand) (first second : Bool) : Type 0 where
@@ -126,19 +113,9 @@ module _ (as' bs : List Demand) (x y : Demand) (xs ys : List Demand) (first seco
         record {
           ascending = rest_ascends x xs m.ascending;
           others_ascending = rest_ascends y ys m.others_ascending;
-          differ =
-              m.differ
-              ∙ (λ k. ((e k && not (g k)) || list_any (differs_at x) ys) || sites_differ xs (y ∷ ys))
-              ∙ ap (λ b. b || sites_differ xs (y ∷ ys)) (none_differs x ys above_other)
-              ∙ difference_skipped y xs ys other_above;
-          among =
-              m.among
-              ∙ (λ k. first && (((e k && g k) || list_any (agrees_at x) ys) && all_agree xs (y ∷ ys)))
-              ∙ ap (λ b. first && b) (agreement_skipped y xs ys other_above);
-          others_among =
-              m.others_among
-              ∙ (λ k. second && (((f k && h k) || list_any (agrees_at y) xs) && all_agree ys (x ∷ xs)))
-              ∙ ap (λ b. second && b) (agreement_skipped x ys xs above_other);
+          differ = grind (arith, common_steps, none_differs x ys above_other, difference_skipped y xs ys other_above);
+          among = grind (arith, common_steps, agreement_skipped y xs ys other_above);
+          others_among = grind (arith, common_steps, agreement_skipped x ys xs above_other);
         }
 
 -- 3. at an end: whether nothing is left
@@ -147,8 +124,7 @@ is_at_end [] = true
 is_at_end (c ∷ cs) = false
 
 among_none : (xs : List Demand) → all_agree xs [] ≡ is_at_end xs
-among_none [] = refl
-among_none (x ∷ xs) = refl
+among_none xs = grind (arith, common_steps)
 
 none_differ : (xs : List Demand) → sites_differ xs [] ≡ false
 none_differ [] = refl
@@ -156,20 +132,7 @@ none_differ (x ∷ xs) = none_differ xs
 
 -- one of the two lists is walked whole
 pub met_at_end : (as' bs xs ys : List Demand) (first second : Bool) → (xs ≡ []) ⊎ (ys ≡ []) → IsMetSoFar as' bs xs ys first second → IsComparedAs as' bs (first && is_at_end xs) (second && is_at_end ys)
-met_at_end as' bs xs ys first second (inl e) m =
-    let n = subst (λ l. IsMetSoFar as' bs l ys first second) e m in
-    record {
-      differ = n.differ;
-      among = ap (λ l. first && is_at_end l) e ∙ sym n.among;
-      others_among = ap (λ b. second && b) (sym (among_none ys)) ∙ sym n.others_among;
-    }
-met_at_end as' bs xs ys first second (inr e) m =
-    let n = subst (λ l. IsMetSoFar as' bs xs l first second) e m in
-    record {
-      differ = n.differ ∙ none_differ xs;
-      among = ap (λ b. first && b) (sym (among_none xs)) ∙ sym n.among;
-      others_among = ap (λ l. second && is_at_end l) e ∙ sym n.others_among;
-    }
+met_at_end as' bs xs ys first second h m = grind (arith, common_steps, among_none ys, none_differ xs, among_none xs)
 
 -- 4. the same by places of the lists as code holds them
 module _ (as' bs : List (ℕ × Constraint)) (i j : ℕ) (x y : ℕ × Constraint) (p q : Bool) (l : i < length as') (k : j < length bs) (e : x ≡ get_or as' i x) (f : y ≡ get_or bs j y) where
@@ -209,24 +172,16 @@ module _ (as' bs : List (ℕ × Constraint)) (i j : ℕ) (x y : ℕ × Constrain
       both_go_on (constraint_views as') (constraint_views bs) this other (constraint_views (drop (i + 1) as')) (constraint_views (drop (j + 1) bs)) p q (here m) h c
 
 suc_same : (i n : ℕ) → (suc i == suc n) ≡ (i == n)
-suc_same i n =
-    elim (cases_Bool (i == n)) [
-      | inl t ↦ eq-eqb (suc i) (suc n) (ap suc (eqb-true i n t)) ∙ sym t
-      | inr f ↦ ne_eqb (suc i) (suc n) (λ e. both_ways (i == n) f (eq-eqb i n (omega arith))) ∙ sym f
-    ]
+suc_same i n = grind (arith, common_steps, eq-eqb (suc i) (suc n), ne_eqb (suc i) (suc n), both_ways (i == n), eq-eqb i n)
 
 -- both walked as far as one of them goes
 at_end_by_place : (cs : List (ℕ × Constraint)) (i : ℕ) → i ≤ length cs → is_at_end (constraint_views (drop i cs)) ≡ (i == length cs)
-at_end_by_place [] zero l = refl
-at_end_by_place [] (suc i) l = absurd (omega arith)
-at_end_by_place (c ∷ cs) zero l = sym (ne_eqb 0 (length (c ∷ cs)) (λ e. omega arith))
 at_end_by_place (c ∷ cs) (suc i) l = at_end_by_place cs i (omega arith) ∙ sym (suc_same i (length cs))
+at_end_by_place cs i l = grind (arith, ne_eqb)
 
 nothing_left : (cs : List (ℕ × Constraint)) (i : ℕ) → length cs ≤ i → constraint_views (drop i cs) ≡ []
-nothing_left [] zero l = refl
-nothing_left [] (suc i) l = refl
-nothing_left (c ∷ cs) zero l = absurd (omega arith)
 nothing_left (c ∷ cs) (suc i) l = nothing_left cs i (omega arith)
+nothing_left cs i l = grind (arith, common_steps)
 
 pub walked_whole : (as' bs : List (ℕ × Constraint)) (i j : ℕ) (p q r s : Bool) → i ≤ length as' → j ≤ length bs → (length as' ≤ i) ⊎ (length bs ≤ j)
     → IsMetSoFar (constraint_views as') (constraint_views bs) (constraint_views (drop i as')) (constraint_views (drop j bs)) p q
@@ -241,5 +196,4 @@ walked_whole as' bs i j p q r s l k done m e f =
     }
   where
     one_done : (as' bs : List (ℕ × Constraint)) (i j : ℕ) → (length as' ≤ i) ⊎ (length bs ≤ j) → (constraint_views (drop i as') ≡ []) ⊎ (constraint_views (drop j bs) ≡ [])
-    one_done as' bs i j (inl h) = inl (nothing_left as' i h)
-    one_done as' bs i j (inr h) = inr (nothing_left bs j h)
+    one_done as' bs i j k = grind (arith, common_steps, nothing_left as' i, nothing_left bs j)

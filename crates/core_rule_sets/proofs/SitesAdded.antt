@@ -1,8 +1,9 @@
 -- Sites that are added one after another, and the fields that a constraint gives a site.
-use Rattle.std.proofs.Common.{◌≡◌, ℕ, zero, suc, ◌+◌, ◌<◌, ◌≤◌, List, [], ◌∷◌, ◌++◌, length, map, All, Contains, inl, inr, refl, sym, ap, ap₂, ◌∙◌, subst, arith}
-use Rattle.std.specs.Prelude.{Result, IfOk, Ok, Err, if◌then◌else◌}
+use Rattle.std.proofs.Common.{◌≡◌, ℕ, zero, suc, ◌+◌, ◌<◌, ◌≤◌, List, [], ◌∷◌, ◌++◌, length, map, All, Contains, refl, sym, ap, ap₂, ◌∙◌, subst, arith}
+use Rattle.std.specs.Prelude.{Result, IfOk, if◌then◌else◌}
 use Rattle.std.proofs.lemmas.List.{length_push, map-append}
 use Rattle.std.proofs.lemmas.List.Elements.{All-push, All-weaker}
+use Rattle.std.proofs.lemmas.Grind.{common_steps}
 use Rattle.model.specs.lists.Names.{IsDistinct}
 use Rattle.model.specs.sites.Sites.{Site, match_variant_site, extract_struct_site, Constraint, is_variant, is_struct, sources_of, SiteTerm, variant_field, struct_field, layer, unfold_site, fields_from, field_terms}
 use Rattle.model.specs.visits.Demands.{has_site, with_sites}
@@ -59,15 +60,7 @@ pub struct_terms : (f : ℕ → SiteTerm) (ty fields s : ℕ) → map (layer f) 
 struct_terms f ty fields s = fields_are_from f (λ t i. struct_field t i) (extract_struct_site s) (f s) (λ i. refl) 0 fields
 
 fields_added : (before after bs : List Site) (c : Constraint) (s : ℕ) (ns : List ℕ) → map (layer (unfold_site before)) bs ≡ field_terms c (unfold_site before s) → AddsSites before after bs ns → AddsFields before after c s ns
-fields_added before after bs c s ns e h terms once stand =
-    let k = h terms once stand in
-    record {
-      stand = subst (λ l. StandFor after (with_sites terms l)) e k.stand;
-      numbers = k.numbers ∙ e;
-      within = k.within;
-      kept = k.kept;
-      longer = k.longer;
-    }
+fields_added before after bs c s ns e h terms once stand = grind (arith, common_steps)
 
 pub variant_fields_added : (before after : List Site) (ty variant fields s : ℕ) (ns : List ℕ) → AddsSites before after (each_place (match_variant_site s variant) 0 fields) ns → AddsFields before after (is_variant ty variant fields) s ns
 variant_fields_added before after ty variant fields s ns =
@@ -80,8 +73,7 @@ struct_fields_added before after ty fields s ns =
     (struct_terms (unfold_site before) ty fields s)
 
 pub no_shorter_by : (mid after : List Site) (b : Site) (n : ℕ) → AddsSite mid after b n → length mid ≤ length after
-no_shorter_by mid after b n (inl x) = let e : length after ≡ length mid = ap length x.1 in omega arith
-no_shorter_by mid after b n (inr x) = let e : length after ≡ length (mid ++ b ∷ []) = ap length x.2 in let k = length_push mid b in omega arith
+no_shorter_by mid after b n h = grind (arith, common_steps, length_push mid b)
 
 -- one more field
 pub field_added : (f : ℕ → Site) (before mid after : List Site) (i : ℕ) (ns ns' : List ℕ) (n : ℕ) → AddsSites before mid (each_place f 0 i) ns → SourcesFirst mid
@@ -97,5 +89,4 @@ field_added f before mid after i ns ns' n added first below longer adds new =
     )
 
 pub weaker_ok : {T E : Type 0} (P Q : T → Type 0) (r : Result T E) → ((x : T) → P x → Q x) → IfOk r P → IfOk r Q
-weaker_ok P Q (Ok x) h p = h x p
-weaker_ok P Q (Err e) h p = tt
+weaker_ok P Q r h p = grind (arith, common_steps)

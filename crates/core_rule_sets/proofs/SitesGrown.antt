@@ -1,8 +1,9 @@
 -- A list of sites with one more: what its numbers stand for, where sources have smaller numbers.
-use Rattle.std.proofs.Common.{◌≡◌, ◌⊎◌, ℕ, zero, suc, ◌<◌, ◌==◌, false, List, [], ◌∷◌, ◌++◌, length, Some, None, slice_get, Contains, inl, inr, refl, sym, ap, ap₂, ◌∙◌, subst, arith, eqb-true, eq-eqb}
+use Rattle.std.proofs.Common.{◌≡◌, ◌⊎◌, ℕ, zero, suc, ◌<◌, ◌==◌, false, List, [], ◌∷◌, ◌++◌, length, Some, None, slice_get, Contains, inl, inr, refl, sym, ap, ap₂, ◌∙◌, subst, arith, eq-eqb}
 use Rattle.std.proofs.lemmas.Bool.{cases_Bool, cond-true, cond-false, both_ways}
 use Rattle.std.proofs.lemmas.List.{length_push}
 use Rattle.std.proofs.lemmas.Option.{none-some, same_Some, slice_get_within}
+use Rattle.std.proofs.lemmas.Grind.{common_steps}
 use Rattle.model.specs.lists.Names.{IsDistinct}
 use Rattle.model.specs.sites.Sites.{Site, bool_site, int_site, prim_site, argument_site, extractor_site, constructor_site, iterator_site, make_variant_site, match_variant_site, make_struct_site, extract_struct_site, make_some_site, match_some_site, match_tuple_site, sources_of, sources_at, SiteTerm, each_term, layer, layer_at, unfolded, unfold_site}
 use Rattle.model.specs.visits.Demands.{has_site}
@@ -19,15 +20,12 @@ front : (sites : List Site) (b : Site) (s : ℕ) → s < length sites → slice_
 front sites b s l = let g = get_within sites s l in get_front sites (b ∷ []) s g.0 g.1 ∙ sym g.1
 
 sources_cases : (sites : List Site) (b : Site) (s a : ℕ) → Contains (sources_at (sites ++ b ∷ []) s) a → Contains (sources_at sites s) a ⊎ ((s ≡ length sites) × Contains (sources_of b) a)
-sources_cases [] b zero a c = inr (refl, c)
-sources_cases [] b (suc s) a c = absurd (let l = c.1 in omega arith)
-sources_cases (x ∷ sites) b zero a c = inl c
 sources_cases (x ∷ sites) b (suc s) a c =
     elim (sources_cases sites b s a c) [ inl d ↦ inl d | inr d ↦ inr (ap suc d.0, d.1) ]
+sources_cases sites b s a c = grind arith
 
 pub sources_first_grown : (sites : List Site) (b : Site) → SourcesFirst sites → ((a : ℕ) → Contains (sources_of b) a → a < length sites) → SourcesFirst (sites ++ b ∷ [])
-sources_first_grown sites b first h s a c =
-    elim (sources_cases sites b s a c) [ inl d ↦ first s a d | inr d ↦ let l : a < length sites = h a d.1 in let e : s ≡ length sites = d.0 in omega arith ]
+sources_first_grown sites b first h s a c = grind (arith, common_steps, sources_cases sites b s a c, first s a, h a)
 
 -- 2. what a number stands for stays
 module _ (sites : List Site) (b : Site) (first : SourcesFirst sites) where
@@ -54,12 +52,11 @@ module _ (f : ℕ → SiteTerm) (n : ℕ) (one : (j k : ℕ) → j < n → k < n
 
   one_list : (xs ys : List ℕ) → Below xs → Below ys → each_term f xs ≡ each_term f ys → xs ≡ ys
   one_list [] [] h k e = refl
-  one_list [] (y ∷ ys) h k e = cc
-  one_list (x ∷ xs) [] h k e = cc
   one_list (x ∷ xs) (y ∷ ys) h k e =
       let p : f x ≡ f y = cc in
       let q : each_term f xs ≡ each_term f ys = cc in
       ap₂ ◌∷◌ (one x y (h x (inl refl)) (k y (inl refl)) p) (one_list xs ys (λ a i. h a (inr i)) (λ a i. k a (inr i)) q)
+  one_list _ _ h k e = cc
 
   pub one_layer : (a b : Site) → Below (sources_of a) → Below (sources_of b) → layer f a ≡ layer f b → a ≡ b
   one_layer (bool_site x s) (bool_site y t) h k e = cc
@@ -68,16 +65,13 @@ module _ (f : ℕ → SiteTerm) (n : ℕ) (one : (j k : ℕ) → j < n → k < n
   one_layer (argument_site i) (argument_site j) h k e = cc
   one_layer (extractor_site t x) (extractor_site u y) h k e =
       let p : f x ≡ f y = cc in let q = one x y (h x (inl refl)) (k y (inl refl)) p in cc
-  one_layer (constructor_site t xs i) (constructor_site u ys j) h k e =
-      let p : each_term f xs ≡ each_term f ys = cc in let q = one_list xs ys h k p in cc
+  one_layer (constructor_site t xs i) (constructor_site u ys j) h k e = grind (arith, common_steps, one_list xs ys h k)
   one_layer (iterator_site x) (iterator_site y) h k e =
       let p : f x ≡ f y = cc in let q = one x y (h x (inl refl)) (k y (inl refl)) p in cc
-  one_layer (make_variant_site s v xs) (make_variant_site t w ys) h k e =
-      let p : each_term f xs ≡ each_term f ys = cc in let q = one_list xs ys h k p in cc
+  one_layer (make_variant_site s v xs) (make_variant_site t w ys) h k e = grind (arith, common_steps, one_list xs ys h k)
   one_layer (match_variant_site x v i) (match_variant_site y w j) h k e =
       let p : f x ≡ f y = cc in let q = one x y (h x (inl refl)) (k y (inl refl)) p in cc
-  one_layer (make_struct_site s xs) (make_struct_site t ys) h k e =
-      let p : each_term f xs ≡ each_term f ys = cc in let q = one_list xs ys h k p in cc
+  one_layer (make_struct_site s xs) (make_struct_site t ys) h k e = grind (arith, common_steps, one_list xs ys h k)
   one_layer (extract_struct_site x i) (extract_struct_site y j) h k e =
       let p : f x ≡ f y = cc in let q = one x y (h x (inl refl)) (k y (inl refl)) p in cc
   one_layer (make_some_site x) (make_some_site y) h k e =
@@ -114,9 +108,8 @@ module _ (sites : List Site) (terms : List SiteTerm) (first : SourcesFirst sites
     site_as_term s e = unfolds sites first s ∙ ap (layer_at (unfold_site sites)) e
 
 in_of_get : (ts : List SiteTerm) (s : ℕ) (t : SiteTerm) → slice_get ts s ≡ Some t → In ts t
-in_of_get [] s t e = absurd (none-some t e)
-in_of_get (x ∷ ts) zero t e = inl (same_Some x t e)
 in_of_get (x ∷ ts) (suc s) t e = inr (in_of_get ts s t e)
+in_of_get ts s t e = grind (arith, none-some, same_Some)
 
 get_of_in : (ts : List SiteTerm) (t : SiteTerm) → In ts t → (s : ℕ) × (slice_get ts s ≡ Some t)
 get_of_in [] t i = absurd i
@@ -161,9 +154,7 @@ module _ (before : List Site) (terms : List SiteTerm) (first : SourcesFirst befo
       record {
         stand = subst (StandFor (before ++ b ∷ [])) (sym made) (record {
           exact = λ s l. elim (cases_Bool (s == length before)) [
-            | inl t ↦ let e = eqb-true s (length before) t in
-                subst (λ k. slice_get (terms ++ new_term ∷ []) k ≡ Some (unfold_site (before ++ b ∷ []) k)) (sym e)
-                (subst (λ k. slice_get (terms ++ new_term ∷ []) k ≡ Some (unfold_site (before ++ b ∷ []) (length before))) (sym c) (get_middle terms new_term [] ∙ ap Some (sym new_is)))
+            | inl t ↦ grind (arith, common_steps, get_middle terms new_term [])
             | inr f ↦
                 let d : s ≡ length before → ⊥ = λ (d : s ≡ length before). both_ways (s == length before) f (eq-eqb s (length before) d) in
                 let k : s < length before = omega arith in
@@ -177,6 +168,4 @@ module _ (before : List Site) (terms : List SiteTerm) (first : SourcesFirst befo
       }
 
   pub added_stands : (after : List Site) (n : ℕ) → AddsSite before after b n → StandsFor before after terms b n
-  added_stands after n (inl x) = subst (λ l. StandsFor before l terms b n) (sym x.1) (known_stands n x.0)
-  added_stands after n (inr x) =
-      subst (λ l. StandsFor before l terms b n) (sym x.2) (subst (StandsFor before (before ++ b ∷ []) terms b) (sym x.1) (new_stands x.0))
+  added_stands after n h = grind (arith, common_steps, known_stands n, new_stands)

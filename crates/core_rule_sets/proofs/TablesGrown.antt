@@ -1,9 +1,10 @@
 -- A table of sites with one more.
-use Rattle.std.proofs.Common.{◌≡◌, ℕ, ◌<◌, true, false, cond, List, [], ◌∷◌, ◌++◌, length, Option, Some, slice_get, Contains, inl, inr, sym, ap, ◌∙◌, subst, arith}
+use Rattle.std.proofs.Common.{◌≡◌, ℕ, ◌<◌, true, false, cond, List, [], ◌∷◌, ◌++◌, length, Option, Some, Contains, inl, inr, sym, ap, ◌∙◌, subst, arith}
 use Rattle.std.specs.HashMap.{get}
-use Rattle.std.proofs.lemmas.Bool.{cases_Bool, cond-true, cond-false, false≢true}
+use Rattle.std.proofs.lemmas.Bool.{cases_Bool}
 use Rattle.std.proofs.lemmas.List.{length_push, map-append}
 use Rattle.std.proofs.lemmas.Option.{same_Some}
+use Rattle.std.proofs.lemmas.Grind.{common_steps}
 use Rattle.model.specs.sites.Sites.{Site, sources_at, sources_of}
 use Rattle.model.proofs.Positions.{get_front, get_middle, get_push_cases}
 use Rattle.core_rule_sets.specs.SiteViews.{site_view, site_views}
@@ -20,20 +21,10 @@ module _ (sites : List Site) (f g : Binding → Option ℕ) (copy : Binding) (b 
   IsFound q = IsSiteNumber (sites ++ b ∷ []) (site_view q) (g q)
 
   found_new : (q : Binding) → ghosts.eq copy q ≡ true → IsFound q
-  found_new q t s =
-      let is : g q ≡ Some n = updates q ∙ cond-true (ghosts.eq copy q) (Some n) (f q) t in
-      let v : b ≡ site_view q = sym e ∙ one_view copy q t in
-      let at : slice_get (sites ++ b ∷ []) n ≡ Some (site_view q) = subst (λ m. slice_get (sites ++ b ∷ []) m ≡ Some (site_view q)) (sym len) (get_middle sites b [] ∙ ap Some v) in (
-        λ h. subst (λ m. slice_get (sites ++ b ∷ []) m ≡ Some (site_view q)) (same_Some n s (sym is ∙ h)) at,
-        λ h. elim (get_push_cases sites b (site_view q) s h) [ inl x ↦ absurd (absent s (x ∙ ap Some (sym v))) | inr y ↦ is ∙ ap Some (len ∙ sym y.0) ],
-      )
+  found_new q t s = grind (arith, common_steps, one_view copy q t, get_middle sites b [], same_Some n s, get_push_cases sites b (site_view q) s)
 
   found_old : (q : Binding) → ghosts.eq copy q ≡ false → IsFound q
-  found_old q t s =
-      let is : g q ≡ f q = updates q ∙ cond-false (ghosts.eq copy q) (Some n) (f q) t in (
-        λ h. get_front sites (b ∷ []) s (site_view q) ((found q s).0 (sym is ∙ h)),
-        λ h. elim (get_push_cases sites b (site_view q) s h) [ inl x ↦ is ∙ (found q s).1 x | inr y ↦ absurd (false≢true (sym t ∙ one_binding copy q (e ∙ y.1))) ],
-      )
+  found_old q t s = grind (arith, common_steps, get_front sites (b ∷ []) s (site_view q), get_push_cases sites b (site_view q) s, one_binding copy q)
 
   pub found_grown : (q : Binding) → IsFound q
   found_grown q = elim (cases_Bool (ghosts.eq copy q)) [ inl t ↦ found_new q t | inr t ↦ found_old q t ]
