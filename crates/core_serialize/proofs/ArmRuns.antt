@@ -1,15 +1,16 @@
 -- The rules of a match in the order of its arms: how a sort puts them there, and that an arm's rules stand at the head.
-use Rattle.std.proofs.Common.{◌≡◌, ℕ, zero, suc, ◌+◌, ◌≤◌, ◌<◌, Bool, true, false, not, cond, List, [], ◌∷◌, ◌++◌, length, Option, Some, None, is_some, get_or, slice_get, take, drop, Contains, filter, refl, sym, ap, ◌∙◌, subst, inl, inr, arith}
+use Rattle.std.proofs.Common.{◌≡◌, ℕ, suc, ◌+◌, ◌≤◌, ◌<◌, Bool, true, false, not, List, [], ◌∷◌, ◌++◌, length, Some, None, get_or, slice_get, take, drop, Contains, filter, refl, sym, ap, ◌∙◌, subst, inl, inr, arith}
 use Rattle.std.specs.Prelude.{IsPermutation}
 use Rattle.std.specs.Cmp.{IsStrictWeakOrder}
 use Rattle.std.specs.List.{take_while, prefix_len}
 use Rattle.std.specs.List.Sorted.{ties, IsSortedBy, IsStableBy}
 use Rattle.std.proofs.lemmas.Bool.{cases_Bool, cond-true, cond-false, and_parts, and_from, not-true, false≢true, false_from_ne_true}
 use Rattle.std.proofs.lemmas.List.{append-nil, length-map, map_push}
-use Rattle.std.proofs.lemmas.List.Elements.{filter_agree, filter_more, Contains-append_cases}
+use Rattle.std.proofs.lemmas.List.Elements.{filter_agree, filter_more}
 use Rattle.std.proofs.lemmas.List.Sorted.{sorted_far, Contains-permutation, IsPermutation-map, IsPermutation-sym}
 use Rattle.std.proofs.lemmas.List.Sums.{take_while-cons}
 use Rattle.std.proofs.lemmas.Option.{none-some, same_Some}
+use Rattle.std.proofs.lemmas.Grind.{common_steps}
 use Rattle.model.specs.sites.Sites.{Constraint, SetRule}
 use Rattle.model.specs.trees.Judge.{is_that}
 use Rattle.model.specs.trees.Sound.{comes_before}
@@ -37,10 +38,7 @@ not_before_chain x y z h k =
     false_from_ne_true (comes_before x z) (λ t.
     elim (before_total y x h) [
       | inl e ↦ false≢true (sym k ∙ ap (λ w. comes_before w z) e ∙ t)
-      | inr b ↦ elim (before_total z y k) [
-        | inl e ↦ false≢true (sym h ∙ ap (comes_before x) (sym e) ∙ t)
-        | inr d ↦ before_itself x (before_chain x z x t (before_chain z y x d b))
-      ]
+      | inr b ↦ grind (arith, common_steps, before_total z y k, before_itself x, before_chain x z x, before_chain z y x)
     ])
 
 pub order : IsStrictWeakOrder is_ahead
@@ -53,9 +51,7 @@ order = record {
 ask_alike : (a b : AskingRule) → asks_that (asked_constraint a) b ≡ ties is_ahead a b
 ask_alike a b =
     bool_same (asks_that (asked_constraint a) b) (ties is_ahead a b)
-    (λ h. let e = same_as (asked_constraint a) b h in
-    and_from (not (is_ahead a b)) (not (is_ahead b a)) (ap not (ap (comes_before (asked_constraint a)) e ∙ not_itself (asked_constraint a)))
-    (ap not (ap (λ c. comes_before c (asked_constraint a)) e ∙ not_itself (asked_constraint a))))
+    (λ h. grind (arith, common_steps, same_as (asked_constraint a) b h, and_from (not (is_ahead a b)) (not (is_ahead b a)), not_itself (asked_constraint a)))
     (λ h. let both = and_parts (not (is_ahead a b)) (not (is_ahead b a)) h in
     elim (before_total (asked_constraint b) (asked_constraint a) (not-true (is_ahead a b) both.0)) [
       | inl e ↦ from_same (asked_constraint a) b e
@@ -71,14 +67,12 @@ ascends (a ∷ ys) far = (
 )
 
 ascend_drop : (k : ℕ) (xs : List AskingRule) → Ascend xs → Ascend (drop k xs)
-ascend_drop zero xs h = h
-ascend_drop (suc k) [] h = tt
 ascend_drop (suc k) (a ∷ xs) h = ascend_drop k xs h.1
+ascend_drop k xs h = grind arith
 
 in_drop : (k : ℕ) (xs : List AskingRule) (a : AskingRule) → Contains (drop k xs) a → Contains xs a
-in_drop zero xs a c = c
-in_drop (suc k) [] a c = c
 in_drop (suc k) (x ∷ xs) a c = in_tail x a xs (in_drop k xs a c)
+in_drop _ _ a c = c
 
 -- none asks what comes before c
 abbrev NoneBefore : Constraint → List AskingRule → Type 0
@@ -93,12 +87,7 @@ module _ (c : Constraint) where
 
   -- behind one that asks another constraint no one asks c
   no_more : (b : AskingRule) (xs : List AskingRule) → is_c b ≡ false → comes_before (asked_constraint b) c ≡ false → ((a : AskingRule) → Contains xs a → is_ahead a b ≡ false) → (a : AskingRule) → Contains xs a → is_c a ≡ false
-  no_more b xs f n later a k =
-      false_from_ne_true (is_c a) (λ t.
-      elim (before_total c (asked_constraint b) n) [
-        | inl e ↦ false≢true (sym f ∙ from_same c b (sym e))
-        | inr d ↦ false≢true (sym (later a k) ∙ ap (λ w. comes_before w (asked_constraint b)) (same_as c a t) ∙ d)
-      ])
+  no_more b xs f n later a k = grind (arith, common_steps, false_from_ne_true (is_c a), before_total c (asked_constraint b) n, from_same c b, same_as c a)
 
   -- those that ask c stand at the head
   run_first : (xs : List AskingRule) → Ascend xs → NoneBefore c xs → take_while is_c xs ≡ filter is_c xs
@@ -106,9 +95,7 @@ module _ (c : Constraint) where
   run_first (x ∷ xs) up none =
       take_while-cons is_c x xs
       ∙ elim (cases_Bool (is_c x)) [
-        | inl t ↦
-            cond-true (is_c x) (x ∷ take_while is_c xs) [] t ∙ ap (λ l. x ∷ l) (run_first xs up.1 (none_before_rest c x xs none))
-            ∙ sym (cond-true (is_c x) (x ∷ filter is_c xs) (filter is_c xs) t)
+        | inl t ↦ grind (arith, common_steps, run_first xs up.1 (none_before_rest c x xs none), none_before_rest c x xs none)
         | inr f ↦
             cond-false (is_c x) (x ∷ take_while is_c xs) [] f
             ∙ sym (cond-false (is_c x) (x ∷ filter is_c xs) (filter is_c xs) f ∙ none_kept is_c xs (no_more x xs f (none x (in_head x xs)) up.0))
@@ -118,9 +105,7 @@ module _ (c : Constraint) where
   run_rest [] up none = refl
   run_rest (x ∷ xs) up none =
       elim (cases_Bool (is_c x)) [
-        | inl t ↦
-            ap (λ l. drop (length l) (x ∷ xs)) (cond-true (is_c x) (x ∷ filter is_c xs) (filter is_c xs) t) ∙ run_rest xs up.1 (none_before_rest c x xs none)
-            ∙ sym (cond-false (not (is_c x)) (x ∷ others xs) (others xs) (ap not t))
+        | inl t ↦ grind (arith, common_steps, run_rest xs up.1 (none_before_rest c x xs none), others xs, none_before_rest c x xs none)
         | inr f ↦ let no = no_more x xs f (none x (in_head x xs)) up.0 in
             ap (λ l. drop (length l) (x ∷ xs)) (cond-false (is_c x) (x ∷ filter is_c xs) (filter is_c xs) f ∙ none_kept is_c xs no)
             ∙ sym (cond-true (not (is_c x)) (x ∷ others xs) (others xs) (ap not f) ∙ ap (λ l. x ∷ l) (all_kept (λ a. not (is_c a)) xs (λ a k. ap not (no a k))))
@@ -132,23 +117,11 @@ module _ (c : Constraint) where
 -- 3. the rules that ask
 numbers_kept : (f : ℕ → Bool) (p : AskingRule → Bool) (xs : List AskingRule) → ((a : AskingRule) → Contains xs a → f a.number ≡ p a) → filter f (asked_numbers xs) ≡ asked_numbers (filter p xs)
 numbers_kept f p [] h = refl
-numbers_kept f p (a ∷ xs) h =
-    let rest = numbers_kept f p xs (λ b c. h b (in_tail a b xs c)) in
-    let this = h a (in_head a xs) in
-    (λ i. cond (this i) (a.number ∷ rest i) (rest i)) ∙ of (p a)
-  where
-    of : (b : Bool) → cond b (a.number ∷ asked_numbers (filter p xs)) (asked_numbers (filter p xs)) ≡ asked_numbers (cond b (a ∷ filter p xs) (filter p xs))
-    of true = refl
-    of false = refl
+numbers_kept f p (a ∷ xs) h = grind (arith, common_steps, numbers_kept f p xs (λ b c. h b (in_tail a b xs c)), in_tail a, in_head a xs)
 
 kept_within : (p q : ℕ → Bool) (xs : List ℕ) → ((x : ℕ) → q x ≡ false → p x ≡ false) → filter p (filter q xs) ≡ filter p xs
 kept_within p q [] h = refl
-kept_within p q (x ∷ xs) h =
-    let rest = kept_within p q xs h in
-    elim (cases_Bool (q x)) [
-      | inl t ↦ ap (filter p) (cond-true (q x) (x ∷ filter q xs) (filter q xs) t) ∙ (λ i. cond (p x) (x ∷ rest i) (rest i))
-      | inr f ↦ ap (filter p) (cond-false (q x) (x ∷ filter q xs) (filter q xs) f) ∙ rest ∙ sym (cond-false (p x) (x ∷ filter p xs) (filter p xs) (h x f))
-    ]
+kept_within p q (x ∷ xs) h = grind (arith, common_steps, kept_within p q xs h)
 
 module _ (rules : List SetRule) (s : ℕ) where
   asks_told : (c : Constraint) (xs : List AskingRule) → AreAsked rules s xs → filter (asks rules s c) (asked_numbers xs) ≡ asked_numbers (filter (asks_that c) xs)
@@ -158,33 +131,15 @@ module _ (rules : List SetRule) (s : ℕ) where
   others_told c xs each = numbers_kept (λ i. not (asks rules s c i)) (λ a. not (asks_that c a)) xs (λ a k. ap (λ o. not (is_that o c)) (each a k))
 
   some_asked : (c : Constraint) (i : ℕ) → asks_some rules s i ≡ false → asks rules s c i ≡ false
-  some_asked c i = of (asked_at rules s i)
-    where
-      of : (o : Option Constraint) → is_some o ≡ false → is_that o c ≡ false
-      of None e = refl
-      of (Some d) e = absurd (false≢true (sym e))
+  some_asked c i = grind (arith, common_steps)
 
   -- one rule more
   pub asked_more : (here : List ℕ) (k : ℕ) (xs ys : List AskingRule) (a : AskingRule) → k < length here → a.number ≡ get_or here k 0 → asked_at rules s (get_or here k 0) ≡ Some (asked_constraint a) → ys ≡ xs ++ a ∷ []
       → AreAsked rules s xs → asked_numbers xs ≡ filter (asks_some rules s) (take k here) → AreAsked rules s ys × (asked_numbers ys ≡ filter (asks_some rules s) (take (k + 1) here))
-  asked_more here k xs ys a l n e is each h = (
-    subst (AreAsked rules s) (sym is) (λ b m. elim (Contains-append_cases xs (a ∷ []) b m) [
-      | inl q ↦ each b q
-      | inr q ↦ subst (λ x. asked_at rules s x.number ≡ Some (asked_constraint x)) (in_alone a b q) (ap (asked_at rules s) n ∙ e)
-    ]),
-    (
-        let this : asks_some rules s (get_or here k 0) ≡ true = ap is_some e in
-        ap asked_numbers is ∙ map_push (λ x. x.number) xs a ∙ (λ i. h i ++ n i ∷ [])
-        ∙ ap (λ m. filter (asks_some rules s) (take k here) ++ m) (sym (cond-true (asks_some rules s (get_or here k 0)) (get_or here k 0 ∷ []) [] this))
-        ∙ sym (filter_more (asks_some rules s) here k 0 l)),
-  )
+  asked_more here k xs ys a l n e is each h = grind (arith, common_steps, in_alone a, map_push (λ x. x.number) xs a, filter_more (asks_some rules s) here k 0 l)
 
   pub asked_none : (here : List ℕ) (k : ℕ) → k < length here → asked_at rules s (get_or here k 0) ≡ None → filter (asks_some rules s) (take k here) ≡ filter (asks_some rules s) (take (k + 1) here)
-  asked_none here k l e =
-      let this : asks_some rules s (get_or here k 0) ≡ false = ap is_some e in
-      sym (append-nil (filter (asks_some rules s) (take k here)))
-      ∙ ap (λ m. filter (asks_some rules s) (take k here) ++ m) (sym (cond-false (asks_some rules s (get_or here k 0)) (get_or here k 0 ∷ []) [] this))
-      ∙ sym (filter_more (asks_some rules s) here k 0 l)
+  asked_none here k l e = grind (arith, common_steps, append-nil (filter (asks_some rules s) (take k here)), filter_more (asks_some rules s) here k 0 l)
 
   -- a stable sort puts them in turn
   pub in_turn : (here : List ℕ) (xs ys : List AskingRule) → AreAsked rules s xs → asked_numbers xs ≡ filter (asks_some rules s) here → IsPermutation xs ys → IsSortedBy is_ahead ys → IsStableBy is_ahead xs ys → AreInTurn rules s here ys
@@ -219,10 +174,7 @@ module _ (rules : List SetRule) (s : ℕ) where
   )
     where
       none : (b : AskingRule) → Contains (a ∷ xs) b → is_ahead b a ≡ false
-      none b k = elim (in_cases a b xs k) [
-        | inl e ↦ subst (λ w. is_ahead w a ≡ false) e (not_itself (asked_constraint a))
-        | inr m ↦ t.ascend.0 b m
-      ]
+      none b k = grind (arith, common_steps, in_cases a b xs k, not_itself (asked_constraint a))
 
   pub least_of : (xs : List AskingRule) (a : AskingRule) → slice_get xs 0 ≡ Some a → AreTurns rules s xs → IsLeastAsked rules s (asked_numbers xs) (asked_constraint a)
   least_of [] a e t = absurd (none-some a e)

@@ -1,11 +1,12 @@
 -- The arms of a match: which comes next, and how they grow by one.
-use Rattle.std.proofs.Common.{◌≡◌, ◌≢◌, ℕ, zero, suc, ◌<◌, Bool, true, false, not, cond, List, [], ◌∷◌, ◌++◌, length, drop, Option, Some, None, is_some, slice_get, Contains, filter, refl, sym, ap, ◌∙◌, subst, inl, inr, arith}
+use Rattle.std.proofs.Common.{◌≡◌, ◌≢◌, ℕ, zero, suc, ◌<◌, Bool, true, not, List, [], ◌∷◌, ◌++◌, length, drop, Option, Some, None, is_some, slice_get, Contains, filter, refl, sym, ap, ◌∙◌, subst, inl, inr, arith}
 use Rattle.std.proofs.lemmas.Bool.{false≢true}
 use Rattle.std.specs.Prelude.{IsPermutation}
 use Rattle.std.proofs.lemmas.List.{length-drop, length-map}
 use Rattle.std.proofs.lemmas.List.Sorted.{IsPermutation-trans}
+use Rattle.std.proofs.lemmas.Grind.{common_steps}
 use Rattle.model.specs.sites.Sites.{Constraint, SetRule, SiteSet}
-use Rattle.model.specs.trees.Trees.{Tree, Arms, no_arm, arm, marks_arms}
+use Rattle.model.specs.trees.Trees.{Tree, Arms, arm, marks_arms}
 use Rattle.model.specs.trees.Best.{descend}
 use Rattle.model.specs.trees.Places as Places
 use Rattle.model.specs.trees.Places.{constraint_at, field_sites, in_arm}
@@ -60,11 +61,7 @@ pub record ArmsGrow (set : SiteSet) (now : Places.Around) (s : ℕ) (here : List
 ordered_behind : (rules : List SetRule) (p : ℕ → Bool) (k : ℕ) (xs : List AskingRule) → descend rules (filter p (asked_numbers xs)) ≡ true → descend rules (filter p (asked_numbers (drop k xs))) ≡ true
 ordered_behind rules p zero xs h = h
 ordered_behind rules p (suc k) [] h = refl
-ordered_behind rules p (suc k) (a ∷ xs) h = ordered_behind rules p k xs (of (p a.number) h)
-  where
-    of : (b : Bool) → descend rules (cond b (a.number ∷ filter p (asked_numbers xs)) (filter p (asked_numbers xs))) ≡ true → descend rules (filter p (asked_numbers xs)) ≡ true
-    of true e = descend_rest rules a.number (filter p (asked_numbers xs)) e
-    of false e = e
+ordered_behind rules p (suc k) (a ∷ xs) h = grind (arith, common_steps, ordered_behind rules p k xs, descend_rest rules a.number (filter p (asked_numbers xs)))
 
 module _ (set : SiteSet) (around : Around) (s : ℕ) (here : List ℕ) where
   abbrev now : Places.Around
@@ -75,8 +72,7 @@ module _ (set : SiteSet) (around : Around) (s : ℕ) (here : List ℕ) where
   all_ask step = all_kept (asks_some set.rules s) here (λ i k. of (slice_get set.rules i) (step.need i k))
     where
       of : (o : Option SetRule) → is_needed (match_test s) o ≡ true → is_some (constraint_asked s o) ≡ true
-      of None n = n
-      of (Some r) n = n
+      of o n = grind (arith, common_steps)
 
   pub arms_start : (turns : List AskingRule) → descend set.rules here ≡ true → IsStepOf set now (match_test s) here → AreInTurn set.rules s here turns → ArmsGrow set now s here turns []
   arms_start turns o step t = record {
@@ -116,8 +112,7 @@ module _ (set : SiteSet) (around : Around) (s : ℕ) (here : List ℕ) where
         omega (arith, e, l, m, n)
       where
         some_length : (xs : List ℕ) → xs ≢ [] → 0 < length xs
-        some_length [] g = absurd (g refl)
-        some_length (x ∷ xs) g = omega arith
+        some_length xs g = grind (arith, common_steps)
 
     pub asking_ordered : {arms : List MatchArm} → ArmsGrow set now s here left arms → descend set.rules next.asking.items ≡ true
     asking_ordered g = ap (descend set.rules) h.asking ∙ g.ordered (record { number = 0; constraint = next.constraint })
@@ -149,5 +144,4 @@ module _ (set : SiteSet) (around : Around) (s : ℕ) (here : List ℕ) where
 
   -- where no rule is left, all arms are made
   pub arms_whole : (left : List AskingRule) (arms : List MatchArm) → asked_numbers left ≡ [] → ArmsGrow set now s here left arms → (ar : Places.Around) → IsAfterTest set ar (match_test s) now → AreBestArms set ar s None here (arms_view arms)
-  arms_whole left arms none g ar after =
-      subst (AreBestArms set ar s None here) (arms_end arms) (g.far ar after no_arm (subst (λ l. AreBestArms set ar s g.last l no_arm) (sym none) (no_arms set ar s g.last)))
+  arms_whole left arms none g ar after = grind (arith, common_steps, arms_end arms, no_arms set ar s g.last)

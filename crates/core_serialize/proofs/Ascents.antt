@@ -1,7 +1,7 @@
 -- Numbers that ascend: those that a filter keeps do, and so do all numbers below n.
 use Rattle.std.proofs.Common.{◌≡◌, ℕ, zero, suc, ◌<◌, ◌≤◌, Bool, true, nat_lt, List, [], ◌∷◌, ◌++◌, drop, get_or, length, Contains, filter, refl, ap, ◌∙◌, subst, inl, inr, arith, ltb-true, lt-ltb}
 use Rattle.std.proofs.lemmas.Bool.{cases_Bool, cond-true, cond-false, and_parts, and_from}
-use Rattle.std.proofs.lemmas.List.Elements.{Contains-append_cases}
+use Rattle.std.proofs.lemmas.Grind.{common_steps}
 use Rattle.model.specs.trees.Tests.{up_to}
 use Rattle.model.proofs.Members.{nothing_in, in_head, in_tail, in_cases, in_alone, from_filter, from_up_to}
 use Rattle.core_rule_sets.specs.Listings.{is_below_first, ascends}
@@ -38,21 +38,14 @@ ascends_kept p (x ∷ xs) h =
 -- none behind a place is below the number that stands there
 pub ascends_behind : (xs : List ℕ) (k x y : ℕ) → ascends xs ≡ true → k < length xs → x ≡ get_or xs k x → Contains (drop k xs) y → x ≤ y
 ascends_behind [] k x y a l e m = omega (arith, l)
-ascends_behind (z ∷ zs) zero x y a l e m =
-    elim (in_cases z y zs m) [
-      | inl i ↦ let j : x ≡ y = e ∙ i in omega (arith, j)
-      | inr n ↦ let g = ascends_head z zs a y n in omega (arith, g, e)
-    ]
+ascends_behind (z ∷ zs) zero x y a l e m = grind (arith, common_steps, in_cases z y zs m, ascends_head z zs a y)
 ascends_behind (z ∷ zs) (suc k) x y a l e m = ascends_behind zs k x y (ascends_tail z zs a) (omega (arith, l)) e m
 
 ascends_push : (xs : List ℕ) (n : ℕ) → ascends xs ≡ true → ((y : ℕ) → Contains xs y → y < n) → ascends (xs ++ n ∷ []) ≡ true
 ascends_push [] n h f = refl
 ascends_push (x ∷ xs) n h f =
     and_from (is_below_first x (xs ++ n ∷ [])) (ascends (xs ++ n ∷ []))
-    (below_first x (xs ++ n ∷ []) (λ y c. elim (Contains-append_cases xs (n ∷ []) y c) [
-      | inl d ↦ ascends_head x xs h y d
-      | inr d ↦ subst (λ w. x < w) (in_alone n y d) (f x (in_head x xs))
-    ]))
+    (grind (arith, common_steps, below_first x (xs ++ n ∷ []), ascends_head x xs h, in_alone n, in_head x xs, f x (in_head x xs)))
     (ascends_push xs n (ascends_tail x xs h) (λ y c. f y (in_tail x y xs c)))
 
 pub ascends_up_to : (n : ℕ) → ascends (up_to n) ≡ true

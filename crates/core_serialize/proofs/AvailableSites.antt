@@ -1,9 +1,10 @@
 -- A site is available exactly where it was brought, or needs not be and all its sources are available.
-use Rattle.std.proofs.Common.{◌≡◌, ℕ, zero, suc, ◌+◌, ◌<◌, Bool, true, false, not, ◌&&◌, ◌||◌, List, [], ◌∷◌, ◌++◌, length, take, get_or, Contains, slice_get, refl, sym, ap, ◌∙◌, subst, inl, inr, arith, eqb-true, ◌==◌, if◌then◌else◌}
+use Rattle.std.proofs.Common.{◌≡◌, ℕ, zero, suc, ◌+◌, ◌<◌, Bool, true, false, not, ◌&&◌, ◌||◌, List, [], ◌∷◌, ◌++◌, length, take, get_or, Contains, slice_get, refl, sym, ap, ◌∙◌, inl, inr, arith, ◌==◌, if◌then◌else◌}
 use Rattle.std.specs.List.{list_all}
-use Rattle.std.proofs.lemmas.Bool.{cases_Bool, cond-true, cond-false, or_cases, or_left, or_right, false≢true}
+use Rattle.std.proofs.lemmas.Bool.{cases_Bool, cond-true, or_cases, or_left, or_right}
 use Rattle.std.proofs.lemmas.List.{take_more}
 use Rattle.std.proofs.lemmas.List.Folds.{list_all-append}
+use Rattle.std.proofs.lemmas.Grind.{common_steps}
 use Rattle.model.specs.sites.Sites.{Site, sources_at}
 use Rattle.model.specs.trees.Places.{Around, available, is_in, waits, is_available}
 use Rattle.model.proofs.Members.{nothing_in, in_head, in_tail, in_cases}
@@ -17,10 +18,7 @@ module _ (sites : List Site) (sources : (s a : ℕ) → Contains (sources_at sit
     where
       each : (n m : ℕ) (xs : List ℕ) → ((x : ℕ) → Contains xs x → is_available n sites brought x ≡ is_available m sites brought x) → list_all (is_available n sites brought) xs ≡ list_all (is_available m sites brought) xs
       each n m [] h = refl
-      each n m (x ∷ xs) h =
-          let e = h x (in_head x xs) in
-          let r = each n m xs (λ y c. h y (in_tail x y xs c)) in
-          λ i. e i && r i
+      each n m (x ∷ xs) h = grind (arith, common_steps, each n m xs (λ y c. h y (in_tail x y xs c)), in_head x xs, in_tail x)
 
       levels : (n m s : ℕ) → s < n → s < m → is_available n sites brought s ≡ is_available m sites brought s
       levels zero m s l k = absurd (omega arith)
@@ -37,24 +35,17 @@ module _ (sites : List Site) (sources : (s a : ℕ) → Contains (sources_at sit
 
   alike : (f g : ℕ → Bool) (xs : List ℕ) → ((x : ℕ) → Contains xs x → f x ≡ g x) → list_all f xs ≡ list_all g xs
   alike f g [] h = refl
-  alike f g (x ∷ xs) h =
-      let e = h x (in_head x xs) in
-      let r = alike f g xs (λ y c. h y (in_tail x y xs c)) in
-      λ i. e i && r i
+  alike f g (x ∷ xs) h = grind (arith, common_steps, alike f g xs (λ y c. h y (in_tail x y xs c)), in_head x xs, in_tail x)
 
   by_sources : (s : ℕ) → at_hand s ≡ (is_in s brought || (comes s && list_all at_hand (sources_at sites s)))
   by_sources s = ap (λ b. is_in s brought || (comes s && b)) (alike (is_available s sites brought) at_hand (sources_at sites s) (λ a c. layers s a (sources s a c)))
 
   both_false : (b : Bool) → (b && false) ≡ false
-  both_false true = refl
-  both_false false = refl
+  both_false b = grind (arith, common_steps)
 
   each_member : (f : ℕ → Bool) (xs : List ℕ) (x : ℕ) → Contains xs x → f x ≡ false → list_all f xs ≡ false
   each_member f [] x c h = absurd (nothing_in x c)
-  each_member f (y ∷ xs) x c h = elim (in_cases y x xs c) [
-    | inl e ↦ ap (λ b. b && list_all f xs) (ap f e ∙ h)
-    | inr d ↦ ap (λ b. f y && b) (each_member f xs x d h) ∙ both_false (f y)
-  ]
+  each_member f (y ∷ xs) x c h = grind (arith, common_steps, each_member f xs x, in_cases y x xs c, both_false (f y))
 
   -- what was brought is at hand
   pub brought_at_hand : (s : ℕ) → is_in s brought ≡ true → at_hand s ≡ true
@@ -66,8 +57,7 @@ module _ (sites : List Site) (sources : (s a : ℕ) → Contains (sources_at sit
 
   -- nor is what wasn't brought and has a source that isn't at hand
   pub lacking : (s a : ℕ) → is_in s brought ≡ false → Contains (sources_at sites s) a → at_hand a ≡ false → at_hand s ≡ false
-  lacking s a b c h =
-      by_sources s ∙ ap (λ x. x || (comes s && list_all at_hand (sources_at sites s))) b ∙ ap (λ x. comes s && x) (each_member at_hand (sources_at sites s) a c h) ∙ both_false (comes s)
+  lacking s a b c h = grind (arith, common_steps, by_sources s, each_member at_hand (sources_at sites s) a c h, both_false (comes s))
 
   -- what needs not be brought is at hand where all its sources are
   pub made_at_hand : (s : ℕ) → waits (slice_get sites s) ≡ false → list_all at_hand (sources_at sites s) ≡ true → at_hand s ≡ true
@@ -75,26 +65,15 @@ module _ (sites : List Site) (sources : (s a : ℕ) → Contains (sources_at sit
 
   -- one source more
   pub source_more : (xs : List ℕ) (i x : ℕ) → i < length xs → x ≡ get_or xs i x → at_hand x ≡ true → list_all at_hand (take i xs) ≡ true → list_all at_hand (take (i + 1) xs) ≡ true
-  source_more xs i x l e h k =
-      ap (list_all at_hand) (take_more xs i x l ∙ ap (λ y. take i xs ++ y ∷ []) (sym e))
-      ∙ list_all-append at_hand (take i xs) (x ∷ [])
-      ∙ ap (λ b. b && (at_hand x && true)) k
-      ∙ ap (λ b. b && true) h
+  source_more xs i x l e h k = grind (arith, common_steps, take_more xs i x l, list_all-append at_hand (take i xs) (x ∷ []))
 
 pub neither : (a b : Bool) → (a || b) ≡ false → a ≡ false
-neither true b h = h
-neither false b h = refl
+neither a b h = grind (arith, common_steps)
 
 -- a site that is found is noted
 pub found_more : (sites : List Site) (ar : Around) (x : ℕ) (old new : List ℕ) → new ≡ (if is_in x old then old else old ++ x ∷ []) → available sites ar x ≡ true → AreAtHand sites ar old → AreAtHand sites ar new
 found_more sites ar x old new e k a s h =
     elim (cases_Bool (is_in x old)) [
       | inl t ↦ a s (sym (ap (is_in s) (e ∙ cond-true (is_in x old) old (old ++ x ∷ []) t)) ∙ h)
-      | inr f ↦ elim (or_cases (is_in s old) ((x == s) || false) (sym (ap (is_in s) (e ∙ cond-false (is_in x old) old (old ++ x ∷ []) f) ∙ is_in_append s old (x ∷ [])) ∙ h)) [
-        | inl o ↦ a s o
-        | inr o ↦ elim (or_cases (x == s) false o) [
-          | inl t ↦ subst (λ y. available sites ar y ≡ true) (eqb-true x s t) k
-          | inr t ↦ absurd (false≢true t)
-        ]
-      ]
+      | inr f ↦ grind (arith, common_steps, or_cases (is_in s old) ((x == s) || false), is_in_append s old (x ∷ []), or_cases (x == s) false)
     ]

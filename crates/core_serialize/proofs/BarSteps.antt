@@ -1,11 +1,12 @@
 -- The bar of a test, and what it says of the test's cover.
-use Rattle.std.proofs.Common.{◌≡◌, ℕ, Bool, true, false, not, ◌&&◌, ◌||◌, cond, List, [], ◌∷◌, Option, Some, Contains, refl, sym, ap, ◌∙◌, subst, inl, inr, slice_get, length, take, drop, suc, ◌+◌, ◌-◌, ◌<◌, ◌≤◌, get_or, arith}
+use Rattle.std.proofs.Common.{◌≡◌, ℕ, Bool, true, false, not, ◌&&◌, ◌||◌, List, [], ◌∷◌, Option, Some, Contains, refl, sym, ap, ◌∙◌, subst, inl, inr, slice_get, length, take, drop, suc, ◌+◌, ◌-◌, ◌<◌, ◌≤◌, get_or, arith}
 use Rattle.std.specs.List.{filter, find, list_all, list_any, prefix_len}
 use Rattle.std.proofs.lemmas.Bool.{cases_Bool, cond-true, cond-false, and_parts, and_from, false≢true, or_cases, or_left, or_right}
 use Rattle.std.proofs.Math.Bool.{and-true, and-false}
 use Rattle.std.proofs.lemmas.List.{length-drop, take_all}
 use Rattle.std.proofs.lemmas.List.Filters.{length-filter_both}
 use Rattle.std.proofs.lemmas.Option.{slice_get-get_or}
+use Rattle.std.proofs.lemmas.Grind.{common_steps}
 use Rattle.model.specs.sites.Sites.{SetRule}
 use Rattle.model.specs.trees.Best.{descend}
 use Rattle.model.specs.trees.Tests.{Test, needs_at, is_lower, is_covered, cover}
@@ -16,7 +17,7 @@ use Rattle.laws_trees.proofs.JudgeExactness.{not_exact}
 use Rattle.laws_trees.proofs.runs.ChosenRules.{through}
 use Rattle.laws_sites.proofs.overlaps.Overlaps.{bool_same}
 use Rattle.core_serialize.specs.Bars.{reaches, is_at_bar, IsBar}
-use Rattle.core_serialize.proofs.Descents.{all_kept, none_kept, descend_drop, itself, reaching_first}
+use Rattle.core_serialize.proofs.Descents.{all_kept, none_kept, descend_drop, reaching_first}
 use Rattle.core_serialize.proofs.TestSteps.{kept_alike}
 
 module _ (rules : List SetRule) where
@@ -28,9 +29,7 @@ module _ (rules : List SetRule) where
   first_is_bar t [] h i = refl
   first_is_bar t (x ∷ xs) h i =
       elim (cases_Bool (needs_at rules t x)) [
-        | inl y ↦
-            ap (λ b. (b || not (is_lower rules i x)) && list_all (waits t i) xs) y ∙ first_is_bar t xs (descend_rest rules x xs h) i
-            ∙ ap (λ b. reaches rules b i) (sym (cond-false (not (needs_at rules t x)) (Some x) (find (λ j. not (needs_at rules t j)) xs) (ap not y)))
+        | inl y ↦ grind (arith, common_steps, first_is_bar t xs (descend_rest rules x xs h) i, descend_rest rules x xs h)
         | inr f ↦
             ap (λ b. (b || not (is_lower rules i x)) && list_all (waits t i) xs) f
             ∙ bool_same (not (is_lower rules i x) && list_all (waits t i) xs) (not (is_lower rules i x)) (λ k. (and_parts (not (is_lower rules i x)) (list_all (waits t i) xs) k).0)
@@ -61,15 +60,7 @@ module _ (rules : List SetRule) where
     where
       twice : (xs : List ℕ) → filter (needs_at rules t) (filter (reaches rules bar) xs) ≡ filter (is_at_bar rules t bar) xs
       twice [] = refl
-      twice (x ∷ xs) =
-          elim (cases_Bool (reaches rules bar x)) [
-            | inl y ↦
-                ap (filter (needs_at rules t)) (cond-true (reaches rules bar x) (x ∷ filter (reaches rules bar) xs) (filter (reaches rules bar) xs) y)
-                ∙ (let r = twice xs in let e = sym (ap (λ b. needs_at rules t x && b) y ∙ and-true (needs_at rules t x)) in λ i. cond (e i) (x ∷ r i) (r i))
-            | inr f ↦
-                ap (filter (needs_at rules t)) (cond-false (reaches rules bar x) (x ∷ filter (reaches rules bar) xs) (filter (reaches rules bar) xs) f) ∙ twice xs
-                ∙ sym (cond-false (is_at_bar rules t bar x) (x ∷ filter (is_at_bar rules t bar) xs) (filter (is_at_bar rules t bar) xs) (ap (λ b. needs_at rules t x && b) f ∙ and-false (needs_at rules t x)))
-          ]
+      twice (x ∷ xs) = grind (arith, common_steps, twice xs, and-true (needs_at rules t x), and-false (needs_at rules t x))
 
   -- 3. the rules at the head that need a test, and the first that doesn't
   abbrev leading : Test → List ℕ → ℕ
@@ -84,15 +75,7 @@ module _ (rules : List SetRule) where
   -- the first stands behind them
   first_behind : (t : Test) (here : List ℕ) → find (λ i. not (needs_at rules t i)) here ≡ slice_get here (leading t here)
   first_behind t [] = refl
-  first_behind t (x ∷ xs) =
-      elim (cases_Bool (needs_at rules t x)) [
-        | inl y ↦
-            cond-false (not (needs_at rules t x)) (Some x) (find (λ j. not (needs_at rules t j)) xs) (ap not y) ∙ first_behind t xs
-            ∙ sym (ap (slice_get (x ∷ xs)) (one_leads t x xs y))
-        | inr f ↦
-            cond-true (not (needs_at rules t x)) (Some x) (find (λ j. not (needs_at rules t j)) xs) (ap not f)
-            ∙ sym (ap (slice_get (x ∷ xs)) (none_leads t x xs f))
-      ]
+  first_behind t (x ∷ xs) = grind (arith, common_steps, first_behind t xs, one_leads t x xs, none_leads t x xs)
 
   pub behind_is_bar : (t : Test) (here : List ℕ) (b n : ℕ) → descend rules here ≡ true → n ≡ leading t here → slice_get here n ≡ Some b → IsBar rules here t (Some b)
   behind_is_bar t here b n o e s = subst (IsBar rules here t) (first_behind t here ∙ ap (slice_get here) (sym e) ∙ s) (first_is_bar t here o)
@@ -100,16 +83,7 @@ module _ (rules : List SetRule) where
   -- where each rule needs it, all are covered
   each_needs : (t : Test) (here : List ℕ) → leading t here ≡ length here → (i : ℕ) → Contains here i → needs_at rules t i ≡ true
   each_needs t [] e i c = absurd (nothing_in i c)
-  each_needs t (x ∷ xs) e i c =
-      elim (cases_Bool (needs_at rules t x)) [
-        | inl y ↦
-            let k = sym (one_leads t x xs y) ∙ e in
-            elim (in_cases x i xs c) [
-              | inl q ↦ subst (λ j. needs_at rules t j ≡ true) q y
-              | inr d ↦ each_needs t xs (omega (arith, k)) i d
-            ]
-        | inr f ↦ let k = sym (none_leads t x xs f) ∙ e in absurd (omega (arith, k))
-      ]
+  each_needs t (x ∷ xs) e i c = grind (arith, common_steps, each_needs t xs, one_leads t x xs, in_cases x i xs c, none_leads t x xs)
 
   all_covered : (t : Test) (here : List ℕ) → leading t here ≡ length here → (i : ℕ) → Contains here i → is_covered rules here t i ≡ true
   all_covered t here e i c =
@@ -136,19 +110,11 @@ module _ (rules : List SetRule) where
 
   more_counted : (t : Test) (b x n m : ℕ) (xs : List ℕ) → reaches rules (Some b) x ≡ true → needs_at rules t x ≡ true → n ≡ suc m
       → length (needing_at t b xs) ≡ m + length (needing_at t b (drop (m + 1) xs)) → length (needing_at t b (x ∷ xs)) ≡ n + length (needing_at t b (drop (n + 1) (x ∷ xs)))
-  more_counted t b x n m xs r y l further =
-      let first = ap length (reached_first t b x xs r ∙ cond-true (needs_at rules t x) (x ∷ needing_at t b xs) (needing_at t b xs) y) in
-      let next : n + 1 ≡ suc (m + 1) = omega (arith, l) in
-      let same : length (needing_at t b (drop (n + 1) (x ∷ xs))) ≡ length (needing_at t b (drop (m + 1) xs)) = ap (λ d. length (needing_at t b (drop d (x ∷ xs)))) next in
-      omega (arith, first, further, same, l)
+  more_counted t b x n m xs r y l further = grind (arith, common_steps, reached_first t b x xs r)
 
   none_counted : (t : Test) (b x n : ℕ) (xs : List ℕ) → reaches rules (Some b) x ≡ true → needs_at rules t x ≡ false → n ≡ 0
       → length (needing_at t b (x ∷ xs)) ≡ n + length (needing_at t b (drop (n + 1) (x ∷ xs)))
-  none_counted t b x n xs r f l =
-      let first = ap length (reached_first t b x xs r ∙ cond-false (needs_at rules t x) (x ∷ needing_at t b xs) (needing_at t b xs) f) in
-      let next : n + 1 ≡ suc 0 = omega (arith, l) in
-      let same : length (needing_at t b (drop (n + 1) (x ∷ xs))) ≡ length (needing_at t b xs) = ap (λ d. length (needing_at t b (drop d (x ∷ xs)))) next in
-      omega (arith, first, same, l)
+  none_counted t b x n xs r f l = grind (arith, common_steps, reached_first t b x xs r)
 
   counted_behind : (t : Test) (b : ℕ) (here : List ℕ) (n : ℕ) → descend rules here ≡ true → n ≡ leading t here → slice_get here n ≡ Some b
       → length (needing_at t b here) ≡ n + length (needing_at t b (drop (n + 1) here))
@@ -156,11 +122,7 @@ module _ (rules : List SetRule) where
   counted_behind t b (x ∷ xs) n o e s =
       let r = reached b x n xs o s in
       elim (cases_Bool (needs_at rules t x)) [
-        | inl y ↦
-            let m = leading t xs in
-            let l : n ≡ suc m = e ∙ one_leads t x xs y in
-            let there : slice_get xs m ≡ Some b = sym (ap (slice_get (x ∷ xs)) l) ∙ s in
-            more_counted t b x n m xs r y l (counted_behind t b xs m (descend_rest rules x xs o) refl there)
+        | inl y ↦ grind (arith, common_steps, counted_behind t b xs, one_leads t x xs y, more_counted t b x n, descend_rest rules x xs o)
         | inr f ↦ none_counted t b x n xs r f (e ∙ none_leads t x xs f)
       ]
 
@@ -207,16 +169,9 @@ module _ (rules : List SetRule) where
       needless : (i : ℕ) → Contains (highest_of x xs) i → needs_at rules t i ≡ true → ⊥
       needless i c n = false≢true (sym f ∙ passes_any (needs_at rules t) (highest_of x xs) i c n)
 
-      first_in : Contains (highest_of x xs) x
-      first_in = in_filter (reaches rules (Some x)) (x ∷ xs) x (in_head x xs) (ap not (at_least_not_lower rules x x (itself rules (prio_at rules x))))
-
       covers : (i : ℕ) → Contains (x ∷ xs) i → (needs_at rules t i ≡ true) × (list_all (waits t i) (x ∷ xs) ≡ true) → ⊥
       covers i c h =
           elim (cases_Bool (is_lower rules i x)) [
-            | inl y ↦
-                elim (or_cases (needs_at rules t x) (not (is_lower rules i x)) (each_passes (waits t i) (x ∷ xs) h.1 x (in_head x xs))) [
-                  | inl n ↦ needless x first_in n
-                  | inr n ↦ false≢true (ap not (sym y) ∙ n)
-                ]
+            | inl y ↦ grind (arith, common_steps, needless x, or_cases (needs_at rules t x), each_passes, in_head x xs)
             | inr n ↦ needless i (in_filter (reaches rules (Some x)) (x ∷ xs) i c (ap not n)) h.0
           ]

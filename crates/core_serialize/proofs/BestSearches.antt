@@ -1,15 +1,16 @@
 -- The search for the best open test: one test more, those of one more thing, and when all that may cover a rule are tried.
-use Rattle.std.proofs.Common.{◌≡◌, ℕ, ◌+◌, ◌<◌, Bool, true, false, not, ◌&&◌, ◌==◌, nat_lt, List, [], ◌∷◌, ◌++◌, option_map, take, drop, get_or, length, is_some, Some, None, Contains, slice_get, refl, sym, ap, ◌∙◌, subst, inl, inr, ◌⊎◌, eqb-true, eq-eqb, ltb-true, arith, cond, zero, suc, ◌≤◌}
+use Rattle.std.proofs.Common.{◌≡◌, ℕ, ◌+◌, ◌<◌, Bool, true, false, not, ◌&&◌, nat_lt, List, [], ◌∷◌, ◌++◌, option_map, take, drop, get_or, length, is_some, Some, None, Contains, slice_get, refl, sym, ap, ◌∙◌, subst, inl, inr, ◌⊎◌, eqb-true, eq-eqb, ltb-true, arith, cond, zero, suc, ◌≤◌}
 use Rattle.std.specs.Global.{Vec}
 use Rattle.std.specs.List.{filter, find, flat_map, list_all, list_any, prefix_len}
 use Rattle.std.proofs.lemmas.Bool.{cases_Bool, cond-true, cond-false, and_from, and_parts, not-false, or_cases, false≢true}
 use Rattle.std.proofs.lemmas.List.{take_more, take-append-drop}
 use Rattle.std.proofs.lemmas.Option.{none-some, same_Some}
-use Rattle.std.proofs.lemmas.List.Elements.{Contains-append_left, Contains-append_right, Contains-append_cases}
+use Rattle.std.proofs.lemmas.List.Elements.{Contains-append_left, Contains-append_cases}
+use Rattle.std.proofs.lemmas.Grind.{common_steps}
 use Rattle.model.specs.sites.Sites.{SetRule, SiteSet}
 use Rattle.model.specs.trees.Places.{Around, is_in, class, joins, joins_in, constraint_at}
 use Rattle.model.specs.trees.Tests as Tests
-use Rattle.model.specs.trees.Tests.{match_test, equal_test, loop_test, needs, is_needed, needs_at, cover, IsOpen, is_at_hand}
+use Rattle.model.specs.trees.Tests.{match_test, equal_test, loop_test, needs_at, cover, IsOpen, is_at_hand}
 use Rattle.model.proofs.Members.{nothing_in, each_passes, in_cases, in_head, in_map, in_tail, in_alone, one_passes, member_found, passes_any}
 use Rattle.core_rule_sets.specs.Listings.{are_listed, ascends, class_lists, is_listed_class, sites_of}
 use Rattle.core_rule_sets.specs.SiteViews.{constraint_views}
@@ -33,10 +34,8 @@ in_first i xs x c = subst (λ l. Contains l x) (take-append-drop i xs) (Contains
 
 -- one of the first of a list, by its place
 in_take : (xs : List ℕ) (i n x : ℕ) → i < n → i < length xs → x ≡ get_or xs i x → Contains (take n xs) x
-in_take [] i n x l m e = absurd (omega (arith, m))
-in_take (y ∷ xs) i zero x l m e = absurd (omega (arith, l))
-in_take (y ∷ xs) zero (suc n) x l m e = subst (Contains (y ∷ take n xs)) (sym e) (in_head y (take n xs))
 in_take (y ∷ xs) (suc i) (suc n) x l m e = in_tail y x (take n xs) (in_take xs i n x (omega (arith, l)) (omega (arith, m)) e)
+in_take xs i n x l m e = grind (arith, common_steps, in_head)
 
 -- the sites of a class that may not be joined with the one at a place, where so many at its head are joined
 abbrev others_at : List ℕ → ℕ → ℕ → List ℕ
@@ -45,42 +44,28 @@ others_at sites at n = cond (nat_lt at n) (drop n sites) sites
 in_others : (sites : List ℕ) (at n s : ℕ) → Contains (others_at sites at n) s → Contains sites s
 in_others sites at n s c =
     elim (cases_Bool (nat_lt at n)) [
-      | inl t ↦
-          subst (λ l. Contains l s) (take-append-drop n sites) (Contains-append_right (take n sites) (drop n sites) s (subst (λ l. Contains l s) (cond-true (nat_lt at n) (drop n sites) sites t) c))
+      | inl t ↦ grind (arith, common_steps, take-append-drop n sites)
       | inr f ↦ subst (λ l. Contains l s) (cond-false (nat_lt at n) (drop n sites) sites f) c
     ]
 
 drop_ascends : (n : ℕ) (sites : List ℕ) → ascends sites ≡ true → ascends (drop n sites) ≡ true
-drop_ascends zero sites h = h
-drop_ascends (suc n) [] h = h
 drop_ascends (suc n) (x ∷ sites) h = drop_ascends n sites (ascends_tail x sites h)
+drop_ascends _ _ h = h
 
 pub others_ascend : (sites : List ℕ) (at n : ℕ) → ascends sites ≡ true → ascends (others_at sites at n) ≡ true
-others_ascend sites at n h =
-    elim (cases_Bool (nat_lt at n)) [
-      | inl t ↦ ap ascends (cond-true (nat_lt at n) (drop n sites) sites t) ∙ drop_ascends n sites h
-      | inr f ↦ ap ascends (cond-false (nat_lt at n) (drop n sites) sites f) ∙ h
-    ]
+others_ascend sites at n h = grind (arith, common_steps, drop_ascends n sites h)
 
 -- what holds of the sites of a class holds of one of them and such others
 pub others_joined : (ar : Around) (sites : List ℕ) (at n a : ℕ) → at < length sites → a ≡ get_or sites at a → EmittedAreJoined ar sites → EmittedAreJoined ar (a ∷ others_at sites at n)
 others_joined ar sites at n a l e h x y c d = h x y (there x c) (there y d)
   where
     there : (s : ℕ) → Contains (a ∷ others_at sites at n) s → Contains sites s
-    there s c =
-        elim (in_cases a s (others_at sites at n) c) [
-          | inl f ↦ subst (Contains sites) f (at, l, sym e)
-          | inr i ↦ in_others sites at n s i
-        ]
+    there s c = grind (arith, common_steps, in_cases a s (others_at sites at n) c, in_others sites at n s)
 
 module _ (set : SiteSet) (ar : Around) (here : List ℕ) where
   -- 1. searches
   pub nothing_searched : (search : BestSearch) → search.found ≡ [] → search.scored.items ≡ [] → search.best ≡ None → IsBestSearch set ar here search
-  nothing_searched search f s b = record {
-    found = λ x h. absurd (false≢true (ap (is_in x) (sym f) ∙ h));
-    best = subst (IsOpenScored set ar here) (sym b) tt;
-    scored = λ t c. absurd (nothing_in t (subst (λ l. Contains l t) s c));
-  }
+  nothing_searched search f s b = grind (arith, common_steps, nothing_in)
 
   -- nothing is tried of no things
   pub searches_none : {X : Type 0} (Kind : X → Tests.Test → Type 0) (old : BestSearch) → IsBestSearch set ar here old → SearchesMore set ar here (OfSome Kind []) old old
@@ -90,11 +75,7 @@ module _ (set : SiteSet) (ar : Around) (here : List ℕ) where
   searches_as Kind Other old new f h = record { now = h.now; kept = h.kept; tried = λ u o k. h.tried u o (f u k) }
 
   pub searches_both : (Kind Other : Tests.Test → Type 0) (old mid new : BestSearch) → SearchesMore set ar here Kind old mid → SearchesMore set ar here Other mid new → SearchesMore set ar here (λ u. Kind u ⊎ Other u) old new
-  searches_both Kind Other old mid new g h = record {
-    now = h.now;
-    kept = λ u l. h.kept u (g.kept u l);
-    tried = λ u o k. elim k [ inl a ↦ h.kept u (g.tried u o a) | inr b ↦ h.tried u o b ];
-  }
+  searches_both Kind Other old mid new g h = grind (arith, common_steps)
 
   -- of the things so far, and of one more
   pub searches_more : {X : Type 0} (Kind : X → Tests.Test → Type 0) (xs : List X) (i : ℕ) (x d : X) (old mid new : BestSearch) → i < length xs → x ≡ get_or xs i d
@@ -127,27 +108,14 @@ module _ (set : SiteSet) (ar : Around) (here : List ℕ) where
         tried = λ u p i. subst (IsNoBetter set ar here new.best) i this;
       }
 
-  -- one test is no better
-  pub one_below : (t : Test) (search : BestSearch) → IsNoBetter set ar here search.best (test_view t) → IsBestSearch set ar here search → SearchesMore set ar here (IsTest t) search search
-  one_below t search n h = record { now = h; kept = λ u l. l; tried = λ u o i. subst (IsNoBetter set ar here search.best) i n }
-
   -- the match of a site that is a source around isn't open
   pub one_closed : (s : ℕ) (search : BestSearch) → is_in s (Tests.sources_around ar) ≡ true → IsBestSearch set ar here search → SearchesMore set ar here (IsMatch s) search search
-  one_closed s search l h = record {
-    now = h;
-    kept = λ u n. n;
-    tried = λ u o i. absurd (false≢true (ap not (sym l) ∙ (and_parts (is_at_hand set ar s) (not (is_in s (Tests.sources_around ar))) (subst (IsOpen set ar) (sym i) o)).1));
-  }
+  one_closed s search l h = grind (arith, common_steps, and_parts (is_at_hand set ar s) (not (is_in s (Tests.sources_around ar))))
 
   -- no equality is better
   pub equalities_below : (r : SetRule) (least : ℕ) (search : BestSearch) → least ≡ 0 → ((u : Tests.Test) → IsFrom 1 least u → IsNoBetter set ar here search.best u)
       → IsBestSearch set ar here search → SearchesMore set ar here (IsEqualOf r) search search
-  equalities_below r least search z f h = record { now = h; kept = λ u l. l; tried = below }
-    where
-      below : (u : Tests.Test) → IsOpen set ar u → IsEqualOf r u → IsNoBetter set ar here search.best u
-      below (match_test s) o k = absurd k
-      below (equal_test a b) o k = f (equal_test a b) (refl, omega (arith, z))
-      below (loop_test s) o k = absurd k
+  equalities_below r least search z f h = grind (arith, common_steps)
 
   -- where all emitted sites are joined, no open equality has two of them
   pub none_both : (sites : List ℕ) (a b : ℕ) → EmittedAreJoined ar sites → Contains sites a → Contains sites b → IsOpen set ar (equal_test a b) → (is_in a ar.emitted && is_in b ar.emitted) ≡ false
@@ -159,28 +127,9 @@ module _ (set : SiteSet) (ar : Around) (here : List ℕ) where
         | inr f ↦ f
       ]
 
-  -- the equality of two sites that aren't in order, or are joined, isn't open
-  pub pair_closed : (a b : ℕ) (search : BestSearch) → (nat_lt a b && not (joins ar.joined a b)) ≡ false → IsBestSearch set ar here search → SearchesMore set ar here (IsPair a b) search search
-  pair_closed a b search f h = record {
-    now = h;
-    kept = λ u n. n;
-    tried = λ u o i.
-        let p = and_parts (nat_lt a b && is_at_hand set ar a && is_at_hand set ar b) (not (joins ar.joined a b)) (subst (IsOpen set ar) (sym i) o) in
-        let q = and_parts (nat_lt a b && is_at_hand set ar a) (is_at_hand set ar b) p.0 in
-        let r = and_parts (nat_lt a b) (is_at_hand set ar a) q.0 in
-        absurd (false≢true (sym f ∙ and_from (nat_lt a b) (not (joins ar.joined a b)) r.0 p.1));
-  }
-
   -- nor is any of sites that are all joined
   pub pairs_closed : (sites : List ℕ) (search : BestSearch) → AllJoined ar sites → IsBestSearch set ar here search → SearchesMore set ar here (IsPairOf sites) search search
-  pairs_closed sites search j h = record {
-    now = h;
-    kept = λ u n. n;
-    tried = λ u o k.
-        let a = k.0 in
-        let b = k.2.0 in
-        absurd (false≢true (ap not (sym (j a b k.1 k.2.1)) ∙ (and_parts (nat_lt a b && is_at_hand set ar a && is_at_hand set ar b) (not (joins ar.joined a b)) (subst (IsOpen set ar) (sym k.2.2) o)).1));
-  }
+  pairs_closed sites search j h = grind (arith, common_steps, and_parts)
 
   -- where no equality of a site and another one, or one behind that, is better, those with the sites before it are all
   pub pairs_below : (sites : List ℕ) (a k x : ℕ) (are_joined : Bool) (old new : BestSearch) → ascends sites ≡ true → (are_joined ≡ true → EmittedAreJoined ar (a ∷ sites)) → k < length sites → x ≡ get_or sites k x
@@ -233,10 +182,7 @@ module _ (set : SiteSet) (ar : Around) (here : List ℕ) where
 
 -- sites that are all joined with one of them
 pub joined_with : (ar : Around) (sites : List ℕ) (one : ℕ) → list_all (joins ar.joined one) sites ≡ true → AllJoined ar sites
-joined_with ar sites one h a b c d = eq-eqb (class ar.joined a) (class ar.joined b) (sym (alike a c) ∙ alike b d)
-  where
-    alike : (s : ℕ) → Contains sites s → class ar.joined one ≡ class ar.joined s
-    alike s c = eqb-true (class ar.joined one) (class ar.joined s) (each_passes (joins ar.joined one) sites h s c)
+joined_with ar sites one h a b c d = grind (arith, common_steps, each_passes (joins ar.joined one) sites h)
 
 -- a class that a rule lists ascends
 pub class_ascends : (cs : List (Vec ℕ)) (k : ℕ) (x : Vec ℕ) → are_listed (class_lists cs) ≡ true → k < length cs → x ≡ get_or cs k x → ascends x.items ≡ true
@@ -255,19 +201,9 @@ joined_to ar sites one s h k g =
       | inr n ↦ n
     ]))
 
-pub all_joined : (ar : Around) (sites : List ℕ) (one : ℕ) → list_any (λ s. is_in s ar.emitted && not (joins ar.joined one s)) sites ≡ false → EmittedAreJoined ar sites
-all_joined ar sites one h a b c d e f = eq-eqb (class ar.joined a) (class ar.joined b) (sym (joined_to ar sites one a h c e) ∙ joined_to ar sites one b h d f)
-
 not_found : (p : ℕ → Bool) (xs : List ℕ) → find p xs ≡ None → (x : ℕ) → Contains xs x → p x ≡ false
 not_found p [] h x c = absurd (nothing_in x c)
-not_found p (y ∷ xs) h x c =
-    elim (cases_Bool (p y)) [
-      | inl t ↦ absurd (none-some y (sym h ∙ cond-true (p y) (Some y) (find p xs) t))
-      | inr f ↦ elim (in_cases y x xs c) [
-        | inl e ↦ ap p (sym e) ∙ f
-        | inr d ↦ not_found p xs (sym (cond-false (p y) (Some y) (find p xs) f) ∙ h) x d
-      ]
-    ]
+not_found p (y ∷ xs) h x c = grind (arith, common_steps, not_found p xs, none-some y, in_cases y x xs c)
 
 pub none_emitted : (ar : Around) (sites : List ℕ) → find (λ s. is_in s ar.emitted) sites ≡ None → EmittedAreJoined ar sites
 none_emitted ar sites h a b c d e f = absurd (false≢true (sym (not_found (λ s. is_in s ar.emitted) sites h a c) ∙ e))
@@ -281,19 +217,11 @@ head_joined ar sites one = joined_with ar (take (prefix_len (joins ar.joined one
 
     all_pass : (p : ℕ → Bool) (xs : List ℕ) → list_all p (take (prefix_len p xs) xs) ≡ true
     all_pass p [] = refl
-    all_pass p (x ∷ xs) =
-        elim (cases_Bool (p x)) [
-          | inl t ↦ ap (λ n. list_all p (take n (x ∷ xs))) (cond-true (p x) (1 + prefix_len p xs) 0 t ∙ one_more (prefix_len p xs)) ∙ and_from (p x) (list_all p (take (prefix_len p xs) xs)) t (all_pass p xs)
-          | inr f ↦ ap (λ n. list_all p (take n (x ∷ xs))) (cond-false (p x) (1 + prefix_len p xs) 0 f)
-        ]
+    all_pass p (x ∷ xs) = grind (arith, common_steps, one_more (prefix_len p xs), all_pass p xs, and_from (p x) (list_all p (take (prefix_len p xs) xs)))
 
 found_in : (p : ℕ → Bool) (xs : List ℕ) (x : ℕ) → find p xs ≡ Some x → Contains xs x
 found_in p [] x h = absurd (none-some x h)
-found_in p (y ∷ xs) x h =
-    elim (cases_Bool (p y)) [
-      | inl t ↦ subst (Contains (y ∷ xs)) (same_Some y x (sym (cond-true (p y) (Some y) (find p xs) t) ∙ h)) (in_head y xs)
-      | inr f ↦ in_tail y x xs (found_in p xs x (sym (cond-false (p y) (Some y) (find p xs) f) ∙ h))
-    ]
+found_in p (y ∷ xs) x h = grind (arith, common_steps, found_in p xs x, same_Some y x, in_head y xs, in_tail y x xs)
 
 module _ (ar : Around) (sites : List ℕ) (n : ℕ) (head : AllJoined ar (take n sites)) where
   part : (s : ℕ) → Contains sites s → Contains (take n sites) s ⊎ Contains (drop n sites) s
@@ -315,44 +243,26 @@ module _ (ar : Around) (sites : List ℕ) (n : ℕ) (head : AllJoined ar (take n
   joined_rest e h a b c d x y = h a b (behind a c x) (behind b d y) x y
     where
       behind : (s : ℕ) → Contains sites s → is_in s ar.emitted ≡ true → Contains (drop n sites) s
-      behind s k g =
-          elim (part s k) [
-            | inl i ↦ absurd (false≢true (sym (not_found (λ s. is_in s ar.emitted) (take n sites) e s i) ∙ g))
-            | inr i ↦ i
-          ]
+      behind s k g = grind (arith, common_steps, part s k, not_found (λ s. is_in s ar.emitted) (take n sites) e s)
 
 -- 2. what a rule needs
 asked_one : (cs : List (ℕ × WrittenConstraint)) (s : ℕ) → is_some (constraint_at (constraint_views cs) s) ≡ true → (c : ℕ × WrittenConstraint) × Contains cs c × (c.0 ≡ s)
 asked_one [] s h = absurd (false≢true h)
-asked_one (c ∷ cs) s h =
-    elim (cases_Bool (c.0 == s)) [
-      | inl t ↦ (c, in_head c cs, eqb-true c.0 s t)
-      | inr f ↦ let r = asked_one cs s (sym (ap is_some (cond-false (c.0 == s) _ (constraint_at (constraint_views cs) s) f)) ∙ h) in (r.0, in_tail c r.0 cs r.1, r.2)
-    ]
+asked_one (c ∷ cs) s h = grind (arith, common_steps, asked_one cs s, in_head c cs, in_tail c)
 
 pub matches_of : (cs : List (ℕ × WrittenConstraint)) (r : SetRule) → r.constraints ≡ constraint_views cs → (u : Tests.Test) → IsMatchOf r u → OfSome IsMatchAsked cs u
-matches_of cs r e (match_test s) h = let k = asked_one cs s (sym (ap (λ l. is_some (constraint_at l s)) e) ∙ h) in (k.0, k.1, ap match_test k.2)
-matches_of cs r e (equal_test a b) h = absurd h
-matches_of cs r e (loop_test s) h = absurd h
+matches_of cs r e u h = grind (arith, asked_one)
 
 -- of numbers that ascend none behind one of them is below it
 behind_ascends : (cs : List (ℕ × WrittenConstraint)) (k : ℕ) (x c : ℕ × WrittenConstraint) → ascends (sites_of cs) ≡ true → k < length cs → x ≡ get_or cs k x → Contains (drop k cs) c → x.0 ≤ c.0
 behind_ascends [] k x c a l e m = omega (arith, l)
-behind_ascends (d ∷ ds) zero x c a l e m =
-    elim (in_cases d c ds m) [
-      | inl i ↦ let j : x.0 ≡ c.0 = ap (λ y. y.0) (e ∙ i) in omega (arith, j)
-      | inr n ↦
-          let g = ascends_head d.0 (sites_of ds) a c.0 (in_map (λ y. y.0) ds c n) in
-          let j : x.0 ≡ d.0 = ap (λ y. y.0) e in
-          omega (arith, g, j)
-    ]
+behind_ascends (d ∷ ds) zero x c a l e m = grind (arith, common_steps, in_cases d c ds m, ascends_head d.0 (sites_of ds) a c.0, in_map (λ y. y.0) ds c)
 behind_ascends (d ∷ ds) (suc k) x c a l e m = behind_ascends ds k x c (ascends_tail d.0 (sites_of ds) a) (omega (arith, l)) e m
 
 -- those behind a place ascend too
 pub ascends_drop : (n : ℕ) (cs : List (ℕ × WrittenConstraint)) → ascends (sites_of cs) ≡ true → ascends (sites_of (drop n cs)) ≡ true
-ascends_drop zero cs a = a
-ascends_drop (suc n) [] a = a
 ascends_drop (suc n) (c ∷ cs) a = ascends_drop n cs (ascends_tail c.0 (sites_of cs) a)
+ascends_drop _ _ a = a
 
 module _ (set : SiteSet) (ar : Around) (here : List ℕ) where
   -- where no match of a site or a later one is better, the matches before that site are all
@@ -392,22 +302,17 @@ joined_one (c ∷ cs) a b h =
     ]
 
 pub equalities_of : (cs : List (Vec ℕ)) (r : SetRule) → ((a b : ℕ) → joins_in (class_lists cs) a b ≡ joins_in r.classes a b) → (u : Tests.Test) → IsEqualOf r u → OfSome (λ c. IsPairOf c.items) cs u
-equalities_of cs r e (match_test s) h = absurd h
 equalities_of cs r e (equal_test a b) h = let k = joined_one cs a b (e a b ∙ h) in (k.0, k.1, (a, k.2.0, (b, k.2.1, refl)))
-equalities_of cs r e (loop_test s) h = absurd h
+equalities_of cs r e _ h = absurd h
 
 -- 3. what some rules need
 module _ (set : SiteSet) (ar : Around) (here : List ℕ) where
   pub wanted_of : (i : ℕ) (r : SetRule) → slice_get set.rules i ≡ Some r → (u : Tests.Test) → IsWanted set.rules i u → IsMatchOf r u ⊎ IsEqualOf r u
-  wanted_of i r e (match_test s) h = inl (sym (ap (is_needed (match_test s)) e) ∙ h)
-  wanted_of i r e (equal_test a b) h = inr (sym (ap (is_needed (equal_test a b)) e) ∙ h)
-  wanted_of i r e (loop_test s) h = absurd h
+  wanted_of i r e u h = grind arith
 
   -- the loops that a rule needs are those over the calls that are listed for it
   pub loops_of : (calls : CallsByRule) → AreCalls set calls → (i : ℕ) (u : Tests.Test) → IsLoopOf set.rules i u → OfSome IsLoop (calls_of calls i) u
-  loops_of calls h i (match_test s) k = absurd k
-  loops_of calls h i (equal_test a b) k = absurd k
-  loops_of calls h i (loop_test s) k = (s, member_found s (calls_of calls i) (sym (h.listed i s) ∙ k), refl)
+  loops_of calls h i u k = grind (arith, member_found)
 
   -- none of some rules that go over no call needs a loop
   pub no_loops : (numbers : List ℕ) (search : BestSearch) → ((s : ℕ) → list_any (needs_at set.rules (loop_test s)) numbers ≡ false) → IsBestSearch set ar here search
@@ -422,20 +327,14 @@ module _ (set : SiteSet) (ar : Around) (here : List ℕ) where
   -- a loop is no better, where it isn't though it covered as many rules as are counted
   pub loop_below : (s most : ℕ) (counts : List ℕ) (search : BestSearch) → AreCounts set.rules here counts → most ≡ get_or counts s (length here)
       → (length (cover set.rules here (loop_test s)) ≤ most → IsNoBetter set ar here search.best (loop_test s)) → IsBestSearch set ar here search → SearchesMore set ar here (IsLoop s) search search
-  loop_below s most counts search c e f h =
-      let some = cover_needed set here (loop_test s) in
-      let counted = c s in
-      let n = f (omega (arith, some, counted, e)) in
-      record { now = h; kept = λ u l. l; tried = λ u o i. subst (IsNoBetter set ar here search.best) i n }
+  loop_below s most counts search c e f h = grind (arith, common_steps, cover_needed set here (loop_test s))
 
   -- where all that the highest rules need is tried, other open tests cover no rule
   abbrev highest : List ℕ
   highest = filter (reaches set.rules (slice_get here 0)) here
 
   needed_one : (u : Tests.Test) → list_any (needs_at set.rules u) highest ≡ true → OfSome (IsWanted set.rules) highest u ⊎ OfSome (IsLoopOf set.rules) highest u
-  needed_one (match_test s) k = inl (one_passes (needs_at set.rules (match_test s)) highest k)
-  needed_one (equal_test a b) k = inl (one_passes (needs_at set.rules (equal_test a b)) highest k)
-  needed_one (loop_test s) k = inr (one_passes (needs_at set.rules (loop_test s)) highest k)
+  needed_one u k = grind (arith, one_passes)
 
   pub best_found : (top : List ℕ) (start some all : BestSearch) → top ≡ highest → SearchesMore set ar here (OfSome (IsWanted set.rules) top) start some → SearchesMore set ar here (OfSome (IsLoopOf set.rules) top) some all → IsBestOpen set ar here all.best
   best_found top start some all e g h = record {

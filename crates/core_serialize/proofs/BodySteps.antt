@@ -1,6 +1,7 @@
 -- Places that agree: inside tests and behind steps.
-use Rattle.std.proofs.Common.{◌≡◌, ◌==◌, ◌||◌, ℕ, List, [], ◌∷◌, ◌++◌, Option, Some, map, slice_get, flat_map, sym, ap, ◌∙◌}
+use Rattle.std.proofs.Common.{◌≡◌, ◌==◌, ◌||◌, ℕ, List, [], ◌∷◌, ◌++◌, Option, Some, map, slice_get, flat_map, sym, ap, ◌∙◌, arith}
 use Rattle.std.proofs.lemmas.List.{append_assoc, append-nil}
+use Rattle.std.proofs.lemmas.Grind.{common_steps}
 use Rattle.model.specs.sites.Sites.{iterator_site, Constraint, SiteSet, sources_at}
 use Rattle.model.specs.trees.Trees.{m_loop, m_no_step}
 use Rattle.model.specs.trees.Places as Places
@@ -15,17 +16,11 @@ use Rattle.core_serialize.proofs.EqualSurroundings.{looped_alike, more_alike}
 -- what a loop over a call emits, and the place after it
 below_call : (set : SiteSet) (call result : ℕ) → slice_get set.sites result ≡ Some (iterator_site call)
     → flat_map (λ s. all_below set.sites (sources_at set.sites s)) (sources_at set.sites result) ≡ all_below set.sites (sources_at set.sites call)
-below_call set call result at =
-    ap (flat_map (λ s. all_below set.sites (sources_at set.sites s))) (sources_there set result call at) ∙ append-nil (all_below set.sites (sources_at set.sites call))
+below_call set call result at = grind (arith, common_steps, sources_there set result call at, append-nil (all_below set.sites (sources_at set.sites call)))
 
 pub loop_after : (set : SiteSet) (ar : Places.Around) (call result : ℕ) → slice_get set.sites result ≡ Some (iterator_site call) → (after : Places.Around) → IsAfterTest set ar (loop_test call) after
     → Alike after (after_step set ar (m_loop result m_no_step))
-loop_after set ar call result at after h = record {
-  sources = h.sources;
-  joined = h.joined;
-  brought = h.brought;
-  emitted = λ s. h.emitted s ∙ ap (λ l. is_in s (l ++ ar.emitted)) (sym (below_call set call result at));
-}
+loop_after set ar call result at after h = grind (arith, common_steps, below_call set call result at)
 
 module _ (set : SiteSet) (ar : Places.Around) (around : Around) where
   abbrev now : Places.Around

@@ -1,13 +1,13 @@
 -- The calls that rules go over, listed by rules, and their counts.
-use Rattle.std.proofs.Common.{◌≡◌, ℕ, zero, suc, ◌+◌, ◌<◌, ◌≤◌, ◌==◌, Bool, true, false, ◌||◌, List, [], ◌∷◌, ◌++◌, map, nat_lt, not, set, take, get_or, length, Option, Some, None, Contains, refl, sym, ap, ◌∙◌, subst, inl, inr, arith, eqb-true, eq-eqb, ltb-true, ltb-false}
+use Rattle.std.proofs.Common.{◌≡◌, ℕ, zero, suc, ◌+◌, ◌<◌, ◌≤◌, ◌==◌, Bool, false, ◌||◌, List, [], ◌∷◌, ◌++◌, map, not, take, get_or, length, Contains, refl, sym, ap, ◌∙◌, subst, arith}
 use Rattle.std.specs.Global.{Vec}
 use Rattle.std.specs.List.{filter, list_any}
-use Rattle.std.proofs.lemmas.Bool.{cases_Bool, cond-true, cond-false, false≢true}
-use Rattle.std.proofs.lemmas.List.{get_or_past, get_or-set_same, get_or-set_other, length-append, length-take-le, map-append, take_more}
+use Rattle.std.proofs.lemmas.List.{length-append, length-take-le, map-append, take_more}
 use Rattle.std.proofs.lemmas.List.Elements.{filter-append}
 use Rattle.std.proofs.lemmas.List.Filters.{length-filter_both}
 use Rattle.std.proofs.lemmas.List.Folds.{list_any-append}
-use Rattle.model.specs.sites.Sites.{iterator_site, SetRule, Site}
+use Rattle.std.proofs.lemmas.Grind.{common_steps}
+use Rattle.model.specs.sites.Sites.{SetRule, Site}
 use Rattle.model.specs.trees.Places.{is_in}
 use Rattle.model.specs.trees.Sound.{as_number}
 use Rattle.model.specs.trees.Tests.{loop_test, needs_at}
@@ -18,31 +18,16 @@ use Rattle.core_rule_sets.specs.declared.trie_again.Rule.{Rule}
 use Rattle.core_rule_sets.specs.Listings.{class_lists}
 use Rattle.core_rule_sets.specs.SiteViews.{set_rule_view, set_rule_views, site_view}
 use Rattle.core_serialize.specs.FieldTests.{is_iterator_of, HasIterator}
-use Rattle.core_serialize.specs.RuleCalls.{looped_call}
 use Rattle.core_serialize.proofs.Tables.{is_in_append}
 
 or_none : (b : Bool) → (b || false) ≡ b
-or_none true = refl
-or_none false = refl
+or_none b = grind (arith, common_steps)
 
 -- one number more
 pub is_in_last : (s x : ℕ) (xs : List ℕ) → is_in s (xs ++ x ∷ []) ≡ (is_in s xs || (x == s))
 is_in_last s x xs = is_in_append s xs (x ∷ []) ∙ ap (λ b. is_in s xs || b) (or_none (x == s))
 
 -- 1. the calls that are looped over
-by_call : (s : ℕ) (b : Site) (o : Option ℕ) → looped_call b ≡ o → is_iterator_of s b ≡ elim o [ None ↦ false | Some c ↦ c == s ]
-by_call s b o e = all b ∙ ap (λ p. elim p as (λ _. Bool) [ None ↦ false | Some c ↦ c == s ]) e
-  where
-    all : (b : Site) → is_iterator_of s b ≡ elim (looped_call b) as (λ _. Bool) [ None ↦ false | Some c ↦ c == s ]
-    all (iterator_site source) = refl
-    all _ = refl
-
-pub looped_one : (s c : ℕ) (b : Site) (old new : List ℕ) → looped_call b ≡ Some c → new ≡ old ++ c ∷ [] → is_in s new ≡ (is_in s old || is_iterator_of s b)
-looped_one s c b old new e n = ap (is_in s) n ∙ is_in_last s c old ∙ ap (λ x. is_in s old || x) (sym (by_call s b (Some c) e))
-
-pub looped_none : (s : ℕ) (b : Site) (old : List ℕ) → looped_call b ≡ None → is_in s old ≡ (is_in s old || is_iterator_of s b)
-looped_none s b old e = sym (or_none (is_in s old)) ∙ ap (λ x. is_in s old || x) (sym (by_call s b None e))
-
 pub looped_more : (bs : List Binding) (k : ℕ) (b : Binding) (old new : List ℕ) (s : ℕ) → k < length bs → b ≡ get_or bs k b → is_in s old ≡ list_any (is_iterator_of s) (map site_view (take k bs))
     → is_in s new ≡ (is_in s old || is_iterator_of s (site_view b)) → is_in s new ≡ list_any (is_iterator_of s) (map site_view (take (k + 1) bs))
 looped_more bs k b old new s l e h n =
@@ -83,49 +68,12 @@ listed_all sites calls h (r ∷ rules) picks zero s =
 listed_all sites calls h (r ∷ rules) picks (suc i) s = listed_all sites calls h rules (λ q x c. picks q x (in_tail (set_rule_view r) q (set_rule_views rules) c)) i s
 
 -- 3. counts
--- one call counted
-pub counted_one : (counts : List ℕ) (call count most s m : ℕ) → count ≡ get_or counts call most → count < most → call < length counts → m ≤ get_or counts s most + as_number (call == s) → m ≤ get_or (set counts call (count + 1)) s most
-counted_one counts call count most s m e l there h =
-    elim (cases_Bool (call == s)) [
-      | inl t ↦
-          let same = eqb-true call s t in
-          let now = ap (λ x. get_or (set counts call (count + 1)) x most) (sym same) ∙ get_or-set_same counts call (count + 1) most there in
-          let before = ap (λ x. get_or counts x most) (sym same) in
-          let one = ap as_number t in
-          omega (arith, h, now, before, one, e)
-      | inr f ↦
-          let now = get_or-set_other counts call s (count + 1) most (λ q. false≢true (sym f ∙ eq-eqb call s (sym q))) in
-          let none = ap as_number f in
-          omega (arith, h, now, none)
-    ]
-
--- a call that has no count less than the most
-pub counted_none : (counts : List ℕ) (call count most s m : ℕ) → count ≡ get_or counts call most → most ≤ count → m ≤ most → m ≤ get_or counts s most + as_number (call == s) → m ≤ get_or counts s most
-counted_none counts call count most s m e l k h =
-    elim (cases_Bool (call == s)) [
-      | inl t ↦ let before = ap (λ x. get_or counts x most) (eqb-true call s t) in omega (arith, k, l, e, before)
-      | inr f ↦ let none = ap as_number f in omega (arith, h, none)
-    ]
-
-pub counted_there : (counts : List ℕ) (call count most : ℕ) → count ≡ get_or counts call most → count < most → call < length counts
-counted_there counts call count most e l =
-    elim (cases_Bool (nat_lt call (length counts))) [
-      | inl t ↦ ltb-true call (length counts) t
-      | inr f ↦ let past = get_or_past counts call most (ltb-false call (length counts) f) in absurd (omega (arith, past, e, l))
-    ]
-
 -- where none is counted, all rules may go over a call
 pub none_counted : (p : ℕ → Bool) (here counts : List ℕ) (s : ℕ) → counts ≡ [] → length (filter p here) ≤ get_or counts s (length here)
-none_counted p here counts s e =
-    let most = length-filter_both p (λ i. not (p i)) (λ i. refl) here in
-    let all : get_or counts s (length here) ≡ length here = ap (λ l. get_or l s (length here)) e in
-    omega (arith, most, all)
+none_counted p here counts s e = grind (arith, common_steps, length-filter_both p (λ i. not (p i)) (λ i. refl) here)
 
 both_more : (p q : Bool) (a b c most m : ℕ) → ((n : ℕ) → n ≤ most → n ≤ a + as_number p → n ≤ b) → ((n : ℕ) → n ≤ most → n ≤ b + as_number q → n ≤ c) → m ≤ most → m ≤ a + as_number (p || q) → m ≤ c
-both_more true q a b c most m f g l h = g m l (let k = f m l h in omega (arith, k))
-both_more false false a b c most m f g l h = g m l (let k = f m l h in omega (arith, k))
-both_more false true a b c most zero f g l h = omega arith
-both_more false true a b c most (suc m) f g l h = g (suc m) l (let k = f m (omega (arith, l)) (omega (arith, h)) in omega (arith, k))
+both_more p q a b c most m f g l h = grind arith
 
 -- some calls counted, and one more
 pub counted_more : (calls : List ℕ) (k x s : ℕ) (a b c most m : ℕ) → k < length calls → x ≡ get_or calls k x → ((n : ℕ) → n ≤ most → n ≤ a + as_number (is_in s (take k calls)) → n ≤ b)
@@ -147,5 +95,4 @@ rule_counted p here k x b c q l e t g h =
     g (length (filter p (take (k + 1) here))) (omega (arith, most, taken, l)) (omega (arith, more, one, h))
   where
     alone : (q : Bool) → p x ≡ q → length (filter p (x ∷ [])) ≡ as_number q
-    alone true t = ap length (cond-true (p x) (x ∷ []) [] t)
-    alone false t = ap length (cond-false (p x) (x ∷ []) [] t)
+    alone q t = grind (arith, common_steps)

@@ -1,9 +1,10 @@
 -- Rules in order: those that a filter keeps are, and those that reach a bar stand first.
-use Rattle.std.proofs.Common.{◌≡◌, ℕ, zero, suc, ℤ, Bool, true, false, List, [], ◌∷◌, Option, Some, None, Contains, drop, filter, refl, sym, ap, ◌∙◌, inl, inr, arith, ◌≤ℤ◌, not}
+use Rattle.std.proofs.Common.{◌≡◌, ℕ, suc, ℤ, Bool, true, false, List, [], ◌∷◌, Option, Contains, drop, filter, refl, sym, ap, ◌∙◌, inl, inr, arith, ◌≤ℤ◌}
 use Rattle.std.specs.List.{list_all, take_while}
 use Rattle.std.proofs.lemmas.Bool.{cases_Bool, cond-true, cond-false, and_parts, and_from, not-false, false≢true}
 use Rattle.std.proofs.lemmas.Int.{ints}
 use Rattle.std.proofs.lemmas.List.Sums.{take_while-cons}
+use Rattle.std.proofs.lemmas.Grind.{common_steps}
 use Rattle.model.specs.sites.Sites.{SetRule}
 use Rattle.model.specs.trees.Tests.{is_lower}
 use Rattle.model.specs.trees.Best.{comes_first, descend}
@@ -35,9 +36,8 @@ module _ (rules : List SetRule) where
       ]
 
   pub descend_drop : (k : ℕ) (xs : List ℕ) → descend rules xs ≡ true → descend rules (drop k xs) ≡ true
-  descend_drop zero xs h = h
-  descend_drop (suc k) [] h = refl
   descend_drop (suc k) (x ∷ xs) h = descend_drop k xs (descend_rest rules x xs h)
+  descend_drop k xs h = grind arith
 
   pub itself : (x : ℤ) → x ≤ℤ x
   itself x = omega (arith, ints)
@@ -51,8 +51,7 @@ module _ (rules : List SetRule) where
       ]
 
   below_too : (bar : Option ℕ) (x y : ℕ) → prio_at rules y ≤ℤ prio_at rules x → reaches rules bar x ≡ false → reaches rules bar y ≡ false
-  below_too None x y l h = h
-  below_too (Some b) x y l h = ap not (lower_too x y b l (not-false (is_lower rules x b) h))
+  below_too bar x y l h = grind (arith, common_steps, lower_too x y, not-false)
 
   pub reaching_first : (bar : Option ℕ) (xs : List ℕ) → descend rules xs ≡ true → take_while (reaches rules bar) xs ≡ filter (reaches rules bar) xs
   reaching_first bar [] h = refl
@@ -60,9 +59,7 @@ module _ (rules : List SetRule) where
       let p = reaches rules bar in
       take_while-cons p x xs
       ∙ elim (cases_Bool (p x)) [
-        | inl t ↦
-            cond-true (p x) (x ∷ take_while p xs) [] t ∙ ap (λ l. x ∷ l) (reaching_first bar xs (descend_rest rules x xs h))
-            ∙ sym (cond-true (p x) (x ∷ filter p xs) (filter p xs) t)
+        | inl t ↦ grind (arith, common_steps, reaching_first bar xs (descend_rest rules x xs h), descend_rest rules x xs h)
         | inr f ↦
             cond-false (p x) (x ∷ take_while p xs) [] f
             ∙ sym (cond-false (p x) (x ∷ filter p xs) (filter p xs) f ∙ none_kept p xs (λ y c. below_too bar x y (first_is_top rules x xs h y (in_tail x y xs c)) f))

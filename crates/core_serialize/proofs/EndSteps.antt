@@ -1,5 +1,5 @@
 -- The end of a block: rules in order, and their returns, one after another.
-use Rattle.std.proofs.Common.{◌≡◌, ℕ, suc, ◌+◌, ◌<◌, ◌≤◌, Bool, true, false, not, ◌&&◌, nat_lt, cond, List, [], ◌∷◌, ◌++◌, length, get_or, drop, slice_get, Contains, filter, refl, sym, ap, ◌∙◌, subst, inl, inr, arith, lt-ltb, int_cmp, int_eq, is_lt, add-one, drop-cons, drop_of_length-le}
+use Rattle.std.proofs.Common.{◌≡◌, ℕ, suc, ◌+◌, ◌<◌, ◌≤◌, Bool, true, false, not, ◌&&◌, nat_lt, List, [], ◌∷◌, ◌++◌, length, get_or, drop, slice_get, Contains, filter, refl, sym, ap, ◌∙◌, subst, inl, inr, arith, lt-ltb, int_cmp, int_eq, is_lt, add-one, drop-cons}
 use Rattle.std.specs.Cmp.{IsStrictWeakOrder, int_cmp_total}
 use Rattle.std.specs.List.{list_all}
 use Rattle.std.specs.List.Sorted.{ties, IsSortedBy, IsStableBy}
@@ -8,9 +8,10 @@ use Rattle.std.proofs.lemmas.Bool.Decides.{Decides-int_eq}
 use Rattle.std.proofs.lemmas.Int.{ints}
 use Rattle.std.proofs.lemmas.List.{append-nil}
 use Rattle.std.proofs.lemmas.List.Sorted.{ranks_by, IsStrictWeakOrder-flip, sorted_far, IsPermutation-refl}
+use Rattle.std.proofs.lemmas.Grind.{common_steps}
 use Rattle.laws_trees.proofs.runs.ChosenRules.{one_number}
 use Rattle.model.specs.sites.Sites.{SetRule, SiteSet}
-use Rattle.model.specs.trees.Trees.{Tree, no_step, step, join, return_of, m_return}
+use Rattle.model.specs.trees.Trees.{Tree, step, join, return_of, m_return}
 use Rattle.model.specs.trees.Places as Places
 use Rattle.model.specs.trees.Places.{return_uses, bind_order, after_step}
 use Rattle.model.specs.trees.Tests.{is_lower}
@@ -61,11 +62,7 @@ module _ (rules : List SetRule) where
   tied i j h k = and_from (not (is_behind i j)) (not (is_behind j i)) (ap not h) (ap not k)
 
   each_rest : (i : ℕ) (ys : List ℕ) → EachAscends (i ∷ ys) → EachAscends ys
-  each_rest i ys h k = of (ties is_behind k i) (h k)
-    where
-      of : (b : Bool) → ascends (cond b (i ∷ filter (ties is_behind k) ys) (filter (ties is_behind k) ys)) ≡ true → ascends (filter (ties is_behind k) ys) ≡ true
-      of true e = ascends_tail i (filter (ties is_behind k) ys) e
-      of false e = e
+  each_rest i ys h k = grind (arith, common_steps, ascends_tail i (filter (ties is_behind k) ys))
 
   descends : (ys : List ℕ) → NoneLower ys → EachAscends ys → descend rules ys ≡ true
   descends [] far each = refl
@@ -106,5 +103,4 @@ module _ (set : SiteSet) (start : Places.Around) (order : List ℕ) where
 
   -- behind the last one no rule is left
   pub returns_whole : (ar : Places.Around) (k : ℕ) (steps : List EvalStep) → length order ≤ k → EndsSoFar ar k steps → AreEnds set start order (steps_view steps)
-  returns_whole ar k steps over far =
-      subst (AreEnds set start order) (sym (steps_joined steps []) ∙ ap steps_view (append-nil steps)) (far no_step (subst (λ h. AreEnds set ar h no_step) (sym (drop_of_length-le order over)) (no_ends set ar)))
+  returns_whole ar k steps over far = grind (arith, common_steps, steps_joined steps [], append-nil steps, no_ends set ar)

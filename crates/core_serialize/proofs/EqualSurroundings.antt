@@ -1,13 +1,14 @@
 -- Of what stands around a place only this is asked: the sources of the arms and loops, the joined pairs, what was brought, and
 -- which sites are emitted. Where two places agree in that, a tree is best at one exactly where it is at the other.
-use Rattle.std.proofs.Common.{◌≡◌, ℕ, zero, suc, Bool, true, false, not, ◌&&◌, ◌||◌, ◌==◌, nat_lt, cond, List, [], ◌∷◌, ◌++◌, length, map, Option, Some, None, slice_get, refl, sym, ap, ◌∙◌, filter, flat_map}
+use Rattle.std.proofs.Common.{◌≡◌, ℕ, zero, suc, Bool, false, not, ◌&&◌, ◌||◌, ◌==◌, cond, List, [], ◌∷◌, ◌++◌, map, Option, Some, None, slice_get, refl, sym, ap, ◌∙◌, filter, arith}
 use Rattle.model.specs.sites.Sites.{Site, Constraint, SiteSet, sources_at}
 use Rattle.model.specs.trees.Trees.{Marked, m_no_step, m_step, MarkedCheck, m_match, m_equal, m_loop, m_return, MarkedArms, m_no_arm, m_arm, marks, marks_arms}
-use Rattle.model.specs.trees.Places.{Around, is_in, joins, waits, available, is_available, is_in_place, each_after, listed_below, bind_order, uses, field_sites, in_arm, in_equal, in_loop, after_step, all_below, emits}
-use Rattle.model.specs.trees.Sound.{as_number, is_return}
-use Rattle.model.specs.trees.Tests.{Test, match_test, equal_test, loop_test, cover, is_open, score, is_greater}
+use Rattle.model.specs.trees.Places.{Around, is_in, waits, available, is_available, is_in_place, each_after, listed_below, bind_order, uses, field_sites, in_arm, in_equal, in_loop, after_step, all_below, emits}
+use Rattle.model.specs.trees.Sound.{is_return}
+use Rattle.model.specs.trees.Tests.{Test, match_test, equal_test, loop_test, is_open, score, is_greater}
 use Rattle.model.specs.trees.Best.{IsGreatest, IsMade, IsEnd, BestSteps, BestCheck, BestArms}
 use Rattle.std.specs.List.{list_all}
+use Rattle.std.proofs.lemmas.Grind.{common_steps}
 use Rattle.core_serialize.specs.AroundViews.{Alike}
 use Rattle.core_serialize.proofs.Tables.{is_in_append}
 
@@ -43,21 +44,10 @@ module _ (set : SiteSet) (ar br : Around) (a : Alike ar br) where
   at_alike s = levels_alike (suc s) s
 
   open_alike : (t : Test) → is_open set ar t ≡ is_open set br t
-  open_alike (match_test s) = let e = at_alike s in let f = a.sources s in λ i. (nat_lt s (length set.sites) && e i) && not (f i)
-  open_alike (equal_test x y) =
-      let e = at_alike x in
-      let f = at_alike y in
-      let g = a.joined in
-      λ i. (nat_lt x y && (nat_lt x (length set.sites) && e i)) && (nat_lt y (length set.sites) && f i) && not (joins (g i) x y)
-  open_alike (loop_test s) = let e = at_alike s in let f = a.sources s in λ i. (nat_lt s (length set.sites) && e i) && not (f i)
+  open_alike t = grind (arith, at_alike)
 
   score_alike : (here : List ℕ) (t : Test) → score set ar here t ≡ score set br here t
-  score_alike here (match_test s) = let e = a.emitted s in λ i. record { count = length (cover set.rules here (match_test s)); emitted = as_number (e i); form = 0; site = s; other = 0 }
-  score_alike here (equal_test x y) =
-      let e = a.emitted x in
-      let f = a.emitted y in
-      λ i. record { count = length (cover set.rules here (equal_test x y)); emitted = as_number (e i && f i); form = 1; site = x; other = y }
-  score_alike here (loop_test s) = let e = a.emitted s in λ i. record { count = length (cover set.rules here (loop_test s)); emitted = as_number (e i); form = 2; site = s; other = 0 }
+  score_alike here t = grind arith
 
   pub greatest_alike : (here : List ℕ) (t : Test) → IsGreatest set ar here t → IsGreatest set br here t
   greatest_alike here t g = record {
@@ -82,44 +72,16 @@ module _ (set : SiteSet) where
   }
 
   pub equal_alike : (ar br : Around) → Alike ar br → (x y : ℕ) → Alike (in_equal set ar x y) (in_equal set br x y)
-  equal_alike ar br a x y = record {
-    sources = a.sources;
-    joined = ap (λ (l : List (ℕ × ℕ)). (x, y) ∷ l) a.joined;
-    brought = a.brought;
-    emitted = more_alike (all_below set.sites (x ∷ (y ∷ []))) ar.emitted br.emitted a.emitted;
-  }
+  equal_alike ar br a x y = grind (arith, common_steps, more_alike (all_below set.sites (x ∷ (y ∷ []))) ar.emitted br.emitted a.emitted)
 
   pub looped_alike : (zs : List ℕ) (ds es : List (ℕ × Constraint)) (xs ys : List ℕ) → ((s : ℕ) → is_in s (map (λ d. d.0) ds ++ xs) ≡ is_in s (map (λ d. d.0) es ++ ys)) → (s : ℕ) → is_in s (map (λ d. d.0) ds ++ (zs ++ xs)) ≡ is_in s (map (λ d. d.0) es ++ (zs ++ ys))
-  looped_alike zs ds es xs ys h s =
-      let a = map (λ (d : ℕ × Constraint). d.0) ds in
-      let b = map (λ (d : ℕ × Constraint). d.0) es in
-      turned a xs ∙ ap (λ x. is_in s zs || x) (h s) ∙ sym (turned b ys)
-    where
-      swap : (x y z : Bool) → (x || (y || z)) ≡ (y || (x || z))
-      swap true true z = refl
-      swap true false z = refl
-      swap false y z = refl
-
-      turned : (a xs : List ℕ) → is_in s (a ++ (zs ++ xs)) ≡ (is_in s zs || is_in s (a ++ xs))
-      turned a xs =
-          is_in_append s a (zs ++ xs) ∙ ap (λ x. is_in s a || x) (is_in_append s zs xs) ∙ swap (is_in s a) (is_in s zs) (is_in s xs)
-          ∙ ap (λ x. is_in s zs || x) (sym (is_in_append s a xs))
+  looped_alike zs ds es xs ys h s = grind (arith, common_steps, is_in_append s zs xs, h s)
 
   pub loop_alike : (ar br : Around) → Alike ar br → (result : ℕ) → Alike (in_loop set ar result) (in_loop set br result)
-  loop_alike ar br a result = record {
-    sources = looped_alike (sources_at set.sites result) ar.tested br.tested ar.looped br.looped a.sources;
-    joined = a.joined;
-    brought = λ s. ap (λ b. (result == s) || b) (a.brought s);
-    emitted = λ s. ap (λ b. (result == s) || b) (more_alike (flat_map (λ t. all_below set.sites (sources_at set.sites t)) (sources_at set.sites result)) ar.emitted br.emitted a.emitted s);
-  }
+  loop_alike ar br a result = grind (arith, common_steps, looped_alike (sources_at set.sites result) ar.tested br.tested ar.looped br.looped a.sources, more_alike)
 
   pub after_alike : (ar br : Around) → Alike ar br → (check : MarkedCheck) → Alike (after_step set ar check) (after_step set br check)
-  after_alike ar br a check = record {
-    sources = a.sources;
-    joined = a.joined;
-    brought = a.brought;
-    emitted = more_alike (emits set check) ar.emitted br.emitted a.emitted;
-  }
+  after_alike ar br a check = grind (arith, common_steps, more_alike (emits set check) ar.emitted br.emitted a.emitted)
 
   mutual
     pub steps_alike : (m : Marked) (ar br : Around) (closing : Bool) → Alike ar br → BestSteps set ar closing m → BestSteps set br closing m

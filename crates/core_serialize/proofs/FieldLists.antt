@@ -1,15 +1,16 @@
 -- Sites that are listed by their sources: a list grows by one, and the first of a list that passes a test is the set's first.
-use Rattle.std.proofs.Common.{◌≡◌, ℕ, zero, suc, ◌+◌, ◌<◌, ◌≤◌, Bool, true, false, ◌&&◌, cond, List, [], ◌∷◌, ◌++◌, length, map, take, set, get_or, Option, Some, None, option_map, slice_get, Contains, refl, sym, ap, ◌∙◌, subst, inl, inr, arith, eqb-true, eq-eqb}
+use Rattle.std.proofs.Common.{◌≡◌, ℕ, zero, suc, ◌+◌, ◌<◌, ◌≤◌, Bool, true, false, cond, List, [], ◌∷◌, ◌++◌, length, map, take, set, get_or, Option, Some, None, option_map, slice_get, Contains, refl, sym, ap, ◌∙◌, subst, inl, inr, arith, eq-eqb}
 use Rattle.std.specs.Global.{Vec}
 use Rattle.std.specs.Bool.{◌==◌}
 use Rattle.std.specs.List.{filter, find}
 use Rattle.std.specs.Option.{option_or}
-use Rattle.std.proofs.lemmas.Bool.{cases_Bool, cond-true, cond-false, false≢true, false_from_ne_true, and_parts}
+use Rattle.std.proofs.lemmas.Bool.{cases_Bool, cond-false, false≢true, false_from_ne_true, and_parts}
 use Rattle.std.proofs.lemmas.List.{append-nil, length-map, map-set, get_or-map, get_or-set_same, get_or-set_other, take_more, take_all, length-take-le}
 use Rattle.std.proofs.lemmas.List.Elements.{filter-append}
 use Rattle.std.proofs.lemmas.List.Folds.{find-append}
 use Rattle.std.proofs.lemmas.Option.{none-some, same_Some, slice_get-map, slice_get-get_or}
-use Rattle.model.specs.sites.Sites.{Site, iterator_site, match_variant_site, extract_struct_site, match_some_site, Constraint, is_variant, is_struct, is_present, sources_at, sources_of}
+use Rattle.std.proofs.lemmas.Grind.{common_steps}
+use Rattle.model.specs.sites.Sites.{Site, iterator_site, match_variant_site, extract_struct_site, match_some_site, Constraint, sources_at, sources_of}
 use Rattle.model.specs.trees.Places.{site_from}
 use Rattle.model.specs.trees.Tests.{up_to}
 use Rattle.model.proofs.Members.{in_head}
@@ -20,30 +21,12 @@ use Rattle.core_serialize.specs.FieldTests.{is_field, is_iterator_of, passes_at,
 -- 1. a search of a part that all hits are in
 find_kept : {X : Type 0} (q r : X → Bool) → ((x : X) → q x ≡ true → r x ≡ true) → (xs : List X) → find q (filter r xs) ≡ find q xs
 find_kept q r h [] = refl
-find_kept q r h (x ∷ xs) =
-    elim (cases_Bool (r x)) [
-      | inl t ↦ ap (find q) (cond-true (r x) (x ∷ filter r xs) (filter r xs) t) ∙ ap (cond (q x) (Some x)) (find_kept q r h xs)
-      | inr f ↦
-          ap (find q) (cond-false (r x) (x ∷ filter r xs) (filter r xs) f)
-          ∙ find_kept q r h xs
-          ∙ sym (cond-false (q x) (Some x) (find q xs) (false_from_ne_true (q x) (λ t. false≢true (sym f ∙ h x t))))
-    ]
+find_kept q r h (x ∷ xs) = grind (arith, common_steps, find_kept q r h xs, false_from_ne_true (q x))
 
 -- 2. the first site that passes a test, by numbers
 site_last : (p : Site → Bool) (n : ℕ) (xs : List Site) (b : Site) → site_from n p (xs ++ b ∷ []) ≡ option_or (site_from n p xs) (cond (p b) (Some (n + length xs)) None)
 site_last p n [] b = let e : n ≡ n + 0 = omega arith in ap (λ k. cond (p b) (Some k) None) e
-site_last p n (x ∷ xs) b =
-    let e : suc n + length xs ≡ n + length (x ∷ xs) = omega arith in
-    elim (cases_Bool (p x)) [
-      | inl t ↦
-          cond-true (p x) (Some n) (site_from (suc n) p (xs ++ b ∷ [])) t
-          ∙ ap (λ o. option_or o (cond (p b) (Some (n + length (x ∷ xs))) None)) (sym (cond-true (p x) (Some n) (site_from (suc n) p xs) t))
-      | inr f ↦
-          cond-false (p x) (Some n) (site_from (suc n) p (xs ++ b ∷ [])) f
-          ∙ site_last p (suc n) xs b
-          ∙ ap (λ k. option_or (site_from (suc n) p xs) (cond (p b) (Some k) None)) e
-          ∙ ap (λ o. option_or o (cond (p b) (Some (n + length (x ∷ xs))) None)) (sym (cond-false (p x) (Some n) (site_from (suc n) p xs) f))
-    ]
+site_last p n (x ∷ xs) b = grind (arith, common_steps, site_last p (suc n) xs b)
 
 site_of_first : (p : Site → Bool) (sites : List Site) (m : ℕ) → m ≤ length sites → site_from 0 p (take m sites) ≡ find (passes_at p sites) (up_to m)
 site_of_first p sites zero l = refl
@@ -69,23 +52,14 @@ first_of_list p s sites list h e =
     ∙ ap (site_from 0 p) (take_all (length sites) sites (omega arith))
   where
     at : (o : Option Site) → elim o as (λ _. Bool) [ None ↦ false | Some b ↦ p b ] ≡ true → elim o as (λ _. Bool) [ None ↦ false | Some b ↦ is_brought_from s b ] ≡ true
-    at None t = absurd (false≢true t)
-    at (Some b) t = h b t
+    at o t = grind (arith, common_steps)
 
 -- 3. what a field or a pick of a site is brought from
 pub field_brought : (s : ℕ) (c : Constraint) (i : ℕ) (b : Site) → is_field s c i b ≡ true → is_brought_from s b ≡ true
-field_brought s (is_variant ty variant n) i (match_variant_site source v field) t =
-    (and_parts (source == s) (v == variant) (and_parts ((source == s) && (v == variant)) (field == i) t).0).0
-field_brought s (is_variant ty variant n) i _ t = absurd (false≢true t)
-field_brought s (is_struct ty n) i (extract_struct_site source field) t = (and_parts (source == s) (field == i) t).0
-field_brought s (is_struct ty n) i _ t = absurd (false≢true t)
-field_brought s is_present i (match_some_site source) t = t
-field_brought s is_present i _ t = absurd (false≢true t)
-field_brought s _ i b t = absurd (false≢true t)
+field_brought s c i b t = grind (arith, and_parts)
 
 pub pick_brought : (s : ℕ) (b : Site) → is_iterator_of s b ≡ true → is_brought_from s b ≡ true
-pick_brought s (iterator_site source) t = t
-pick_brought s _ t = absurd (false≢true t)
+pick_brought s b t = grind (arith, common_steps)
 
 -- 4. the lists grow by one
 pub list_more : (lists : List (Vec ℕ)) (source : ℕ) (old new : Vec ℕ) (site s : ℕ) → source < length lists → old ≡ get_or lists source old → new.items ≡ old.items ++ site ∷ []
@@ -95,13 +69,7 @@ list_more lists source old new site s in' here pushed =
     let many = length-map lists view in
     ap (λ l. get_or l s []) (map-set view lists source new)
     ∙ elim (cases_Bool (source == s)) [
-      | inl t ↦
-          let same = eqb-true source s t in
-          let at : list_at lists s ≡ old.items = ap (list_at lists) (sym same) ∙ get_or-map view lists source old [] in' ∙ ap view (sym here) in
-          ap (λ i. get_or (set (map view lists) source new.items) i []) (sym same)
-          ∙ get_or-set_same (map view lists) source new.items [] (omega (arith, in', many))
-          ∙ pushed
-          ∙ (λ i. sym at i ++ sym (cond-true (source == s) (site ∷ []) [] t) i)
+      | inl t ↦ grind (arith, common_steps, get_or-map view lists source old [] in', get_or-set_same (map view lists) source new.items [])
       | inr f ↦
           get_or-set_other (map view lists) source s new.items [] (λ q. false≢true (sym f ∙ eq-eqb source s (sym q)))
           ∙ sym (append-nil (list_at lists s))
@@ -111,9 +79,7 @@ list_more lists source old new site s in' here pushed =
 -- where a site is brought from that source
 pub field_more : (lists : List (Vec ℕ)) (source : ℕ) (b : Site) (old new : Vec ℕ) (site s : ℕ) → brought_from b ≡ Some source → source < length lists → old ≡ get_or lists source old → new.items ≡ old.items ++ site ∷ []
     → list_at (set lists source new) s ≡ list_at lists s ++ cond (is_brought_from s b) (site ∷ []) []
-field_more lists source b old new site s e in' here pushed =
-    list_more lists source old new site s in' here pushed
-    ∙ ap (λ o. list_at lists s ++ cond (elim o as (λ _. Bool) [ None ↦ false | Some a ↦ a == s ]) (site ∷ []) []) (sym e)
+field_more lists source b old new site s e in' here pushed = grind (arith, common_steps, list_more lists source old new site s in' here pushed)
 
 -- the source of a site comes before it
 pub brought_before : (sites : List Site) (n : ℕ) (b : Site) (a : ℕ) → ((s a : ℕ) → Contains (sources_at sites s) a → a < s) → slice_get sites n ≡ Some b → brought_from b ≡ Some a → a < n
@@ -135,8 +101,4 @@ site_here bindings n b l e = slice_get-map site_view bindings n ∙ ap (option_m
 -- what is listed under s of one site more
 pub listed_more : (sites : List Site) (s n site : ℕ) (b : Site) (xs : List ℕ) → slice_get sites n ≡ Some b → site ≡ n → xs ≡ filter (passes_at (is_brought_from s) sites) (up_to n)
     → xs ++ cond (is_brought_from s b) (site ∷ []) [] ≡ filter (passes_at (is_brought_from s) sites) (up_to (n + 1))
-listed_more sites s n site b xs e q x =
-    let p = passes_at (is_brought_from s) sites in
-    let next : suc n ≡ n + 1 = omega arith in
-    let here : is_brought_from s b ≡ p n = ap (λ o. elim o as (λ _. Bool) [ None ↦ false | Some b ↦ is_brought_from s b ]) (sym e) in
-    (λ i. x i ++ cond (here i) (q i ∷ []) []) ∙ sym (filter-append p (up_to n) (n ∷ [])) ∙ ap (λ k. filter p (up_to k)) next
+listed_more sites s n site b xs e q x = grind (arith, common_steps, filter-append)

@@ -1,5 +1,5 @@
 -- How best trees grow: by a test that is the greatest of its place, by an arm, and by a return.
-use Rattle.std.proofs.Common.{◌≡◌, ◌≢◌, ℕ, Bool, true, false, not, ◌&&◌, ◌||◌, cond, List, [], ◌∷◌, ◌++◌, length, Option, Some, None, slice_get, Contains, IsTrue, refl, sym, ap, ◌∙◌, filter}
+use Rattle.std.proofs.Common.{◌≡◌, ◌≢◌, ℕ, Bool, true, false, not, ◌&&◌, ◌||◌, cond, List, [], ◌∷◌, ◌++◌, length, Option, Some, None, slice_get, Contains, IsTrue, refl, sym, ap, ◌∙◌, filter, arith}
 use Rattle.std.specs.Prelude.{IsPermutation}
 use Rattle.std.specs.List.{list_all}
 use Rattle.std.proofs.lemmas.Bool.{and_from, false≢true, not-true}
@@ -7,6 +7,7 @@ use Rattle.std.proofs.lemmas.List.Elements.{filter-append}
 use Rattle.std.proofs.lemmas.List.Sums.{length-filter}
 use Rattle.std.proofs.lemmas.List.Sorted.{IsPermutation-refl, IsPermutation-sym, IsPermutation-cons, IsPermutation-trans, IsPermutation-append, IsPermutation-filter_both, Contains-permutation, sum_by-IsPermutation, length_permutation}
 use Rattle.std.proofs.lemmas.List.{nil_from_length, append-nil}
+use Rattle.std.proofs.lemmas.Grind.{common_steps}
 use Rattle.model.specs.sites.Sites.{iterator_site, Constraint, SetRule, SiteSet, sources_at}
 use Rattle.model.specs.trees.Trees.{Tree, no_step, step, match_at, equal_at, loop_at, return_of, Arms, no_arm, arm, Marked, m_no_step, m_step, m_match, m_equal, m_loop, m_return, m_no_arm, m_arm, marks, marks_arms}
 use Rattle.model.specs.trees.Places.{Around, return_uses, bind_order, fields_of, constraint_at, in_arm, in_equal, in_loop, after_step}
@@ -39,9 +40,7 @@ module _ (xs ys : List ℕ) (moved : IsPermutation xs ys) where
       ∙ (λ k. length (filter (λ i. covered_moved rules t i k) ys))
 
   score_moved : (set : SiteSet) (ar : Around) (t : Test) → score set ar xs t ≡ score set ar ys t
-  score_moved set ar (match_test s) = let c = cover_moved set.rules (match_test s) in let z = score set ar ys (match_test s) in λ i. record { count = c i; emitted = z.emitted; form = z.form; site = z.site; other = z.other }
-  score_moved set ar (equal_test a b) = let c = cover_moved set.rules (equal_test a b) in let z = score set ar ys (equal_test a b) in λ i. record { count = c i; emitted = z.emitted; form = z.form; site = z.site; other = z.other }
-  score_moved set ar (loop_test s) = let c = cover_moved set.rules (loop_test s) in let z = score set ar ys (loop_test s) in λ i. record { count = c i; emitted = z.emitted; form = z.form; site = z.site; other = z.other }
+  score_moved set ar t = grind (arith, cover_moved)
 
   greatest_moved : (set : SiteSet) (ar : Around) (t : Test) → IsGreatest set ar xs t → IsGreatest set ar ys t
   greatest_moved set ar t g = record {
@@ -170,17 +169,10 @@ module _ (set : SiteSet) where
   closed : (ar : Around) (m : Marked) → ((u : Test) → IsOpen set ar u → cover set.rules (marks m) u ≡ []) → IsTrue (descend set.rules (marks m)) → BestSteps set ar true m → BestSteps set ar false m
   closed ar m_no_step over o b = tt
   closed ar (m_step binds (m_return i) more) over o b = (b.0, (λ z. record { over = over; ordered = o }), b.2)
-  closed ar (m_step binds (m_match s arms) more) over o b = absurd (false≢true (sym b.1.0))
-  closed ar (m_step binds (m_equal x y body) more) over o b = absurd (false≢true (sym b.1.0))
-  closed ar (m_step binds (m_loop result body) more) over o b = absurd (false≢true (sym b.1.0))
+  closed ar _ over o b = absurd (false≢true (sym b.1.0))
 
   pub ends_close : (ar : Around) (here : List ℕ) (tree : Tree) → ((u : Test) → IsOpen set ar u → cover set.rules here u ≡ []) → AreEnds set ar here tree → IsBestFrom set ar here tree
-  ends_close ar here tree over a = record {
-    marked = a.marked;
-    same = a.same;
-    rules = a.rules;
-    steps = closed ar a.marked (λ u o. nil_from_length (cover set.rules (marks a.marked) u) (sym (cover_moved here (marks a.marked) a.rules set.rules u) ∙ ap length (over u o))) a.ordered a.steps;
-  }
+  ends_close ar here tree over a = grind (arith, common_steps, closed ar a.marked, nil_from_length, cover_moved here (marks a.marked) a.rules set.rules)
 
   -- at places that agree
   pub from_alike : (ar br : Around) (here : List ℕ) (tree : Tree) → Alike ar br → IsBestFrom set ar here tree → IsBestFrom set br here tree

@@ -1,8 +1,9 @@
 -- Lists of what stands around a place that grow and are cut again.
-use Rattle.std.proofs.Common.{◌≡◌, ◌==◌, ℕ, true, List, [], ◌++◌, Contains, get_or, length, take, refl, sym, ap, ◌∙◌, subst}
+use Rattle.std.proofs.Common.{◌≡◌, ◌==◌, ℕ, true, List, [], ◌++◌, Contains, get_or, length, take, refl, sym, ap, ◌∙◌, subst, arith}
 use Rattle.std.specs.List.{remove}
 use Rattle.std.proofs.lemmas.Bool.{or_left}
 use Rattle.std.proofs.lemmas.List.{append_assoc, append-nil, take_at}
+use Rattle.std.proofs.lemmas.Grind.{common_steps}
 use Rattle.model.specs.sites.Sites.{SiteSet}
 use Rattle.model.specs.trees.Places.{is_in, joins}
 use Rattle.core_containers.specs.Places.{Extends}
@@ -36,15 +37,7 @@ pub back_itself : (a : Around) → IsBack a a
 back_itself a = record { sources = refl; joined = refl; brought = refl; emitted = refl; closed = refl; names = refl; matched = same_itself a.matched }
 
 pub back_more : (a b c : Around) → IsBack a b → IsBack b c → IsBack a c
-back_more a b c h k = record {
-  sources = k.sources ∙ h.sources;
-  joined = k.joined ∙ h.joined;
-  brought = k.brought ∙ h.brought;
-  emitted = k.emitted ∙ h.emitted;
-  closed = k.closed ∙ h.closed;
-  names = k.names ∙ h.names;
-  matched = same_more a.matched b.matched c.matched h.matched k.matched;
-}
+back_more a b c h k = grind (arith, common_steps, same_more a.matched b.matched c.matched h.matched k.matched)
 
 pub emits_itself : (a : Around) → Emits a a
 emits_itself a = record { sources = refl; joined = refl; brought = refl; emitted = extends_itself a.emitted; closed = extends_itself a.closed; names = refl; matched = same_itself a.matched }
@@ -61,15 +54,7 @@ emits_more a b c h k = record {
 }
 
 pub emits_back : (a b c : Around) → Emits a b → IsBack b c → Emits a c
-emits_back a b c h k = record {
-  sources = k.sources ∙ h.sources;
-  joined = k.joined ∙ h.joined;
-  brought = k.brought ∙ h.brought;
-  emitted = subst (Extends a.emitted) (sym k.emitted) h.emitted;
-  closed = subst (Extends a.closed) (sym k.closed) h.closed;
-  names = k.names ∙ h.names;
-  matched = same_more a.matched b.matched c.matched h.matched k.matched;
-}
+emits_back a b c h k = grind (arith, common_steps, same_more a.matched b.matched c.matched h.matched k.matched)
 
 -- cut to where they were
 pub emits_cut : (a b c : Around) (m : Mark) → IsMark a m → Emits a b → IsCutBack b m c → IsBack a c
@@ -114,40 +99,21 @@ kept_back set a b h k = record {
 -- and where more is around, if the counts of rules hold
 pub kept_goes : (set : SiteSet) (a b : Around) → Extends a.sources b.sources → Extends a.emitted b.emitted → b.closed ≡ a.closed → b.joined.items ≡ a.joined.items → b.names.items ≡ a.names.items
     → AreMatched set.rules b.matched.counts.items b.sources → IsKept set a → IsKept set b
-kept_goes set a b sources emitted q j n m k = record {
-  closed = record { whole = λ s x c u. subst (λ l. Contains l x) (sym q) (k.closed.whole s x (subst (λ l. Contains l s) q c) u) };
-  within = λ s e. extended_in a.emitted b.emitted s emitted (k.within s (sym (ap (is_in s) q) ∙ e));
-  named = still_named a b j n k.named;
-  matched = m;
-}
+kept_goes set a b sources emitted q j n m k = grind (arith, common_steps, extended_in a.emitted b.emitted, still_named a b j n k.named)
 
 -- 3. what is said of it
 pub same_view : (a b : Around) → IsBack a b → around_view b ≡ around_view a
-same_view a b h =
-    let s = h.sources in
-    let j = h.joined in
-    let r = h.brought in
-    let e = h.emitted in
-    λ i. record { tested = []; joined = j i; looped = s i; brought = r i; emitted = e i }
+same_view a b h = grind (arith, common_steps)
 
 pub emits_view : (a b : Around) → Emits a b → around_view b ≡ where_emitted (around_view a) b.emitted
-emits_view a b h =
-    let s = h.sources in
-    let j = h.joined in
-    let r = h.brought in
-    λ i. record { tested = []; joined = j i; looped = s i; brought = r i; emitted = b.emitted }
+emits_view a b h = grind (arith, common_steps)
 
 pub emits_alike : (set : SiteSet) (a b : Around) (used : List ℕ) → Emits a b → AreEmitted set (around_view a) used b.emitted → Alike (around_view b) (after_uses set (around_view a) used)
 emits_alike set a b used h k = record { sources = λ s. ap (is_in s) h.sources; joined = h.joined; brought = λ s. ap (is_in s) h.brought; emitted = k }
 
 -- one more pair
 pub joined_view : (a b : Around) (x y : ℕ) → JoinsPair x y a b → around_view b ≡ where_joined (around_view a) x y
-joined_view a b x y h =
-    let s = h.sources in
-    let j = h.joined in
-    let r = h.brought in
-    let e = h.emitted in
-    λ i. record { tested = []; joined = j i; looped = s i; brought = r i; emitted = e i }
+joined_view a b x y h = grind (arith, common_steps)
 
 pub kept_joined : (set : SiteSet) (a b : Around) (x y : ℕ) → JoinsPair x y a b → IsKept set a → IsKept set b
 kept_joined set a b x y h k = record {

@@ -1,8 +1,9 @@
 -- The sites below others, each once, in the order in which they are made.
 use Rattle.std.proofs.Common.{◌≡◌, ◌⊎◌, ℕ, zero, suc, ◌+◌, ◌<◌, ◌≤◌, ◌==◌, true, false, ◌||◌, List, [], ◌∷◌, ◌++◌, length, take, drop, get_or, Contains, flat_map, refl, sym, ap, ◌∙◌, subst, inl, inr, arith, eqb-true}
-use Rattle.std.proofs.lemmas.Bool.{cases_Bool, cond-true, cond-false, or_cases, or_left, or_right, false≢true}
+use Rattle.std.proofs.lemmas.Bool.{cases_Bool, cond-true, cond-false, or_cases, or_left, or_right}
 use Rattle.std.proofs.lemmas.List.{append_assoc, append-nil, drop_at, take_at, take_more}
 use Rattle.std.proofs.lemmas.List.Elements.{Contains-append_left, Contains-append_right, Contains-append_cases}
+use Rattle.std.proofs.lemmas.Grind.{common_steps}
 use Rattle.laws_sites.proofs.overlaps.Overlaps.{bool_same}
 use Rattle.model.specs.sites.Sites.{Site, sources_at}
 use Rattle.model.specs.trees.Places.{is_in, each_after, listed_below, below, all_below}
@@ -18,8 +19,7 @@ each_append f d (y ∷ xs) x = each_append f (f d y) xs x
 
 -- one more
 pub each_more : (f : List ℕ → ℕ → List ℕ) (d xs : List ℕ) (i x : ℕ) (now next : List ℕ) → i < length xs → x ≡ get_or xs i x → now ≡ each_after f d (take i xs) → next ≡ f now x → next ≡ each_after f d (take (i + 1) xs)
-each_more f d xs i x now next l e h k =
-    k ∙ ap (λ y. f y x) h ∙ sym (each_append f d (take i xs) x) ∙ ap (each_after f d) (ap (λ y. take i xs ++ y ∷ []) e ∙ sym (take_more xs i x l))
+each_more f d xs i x now next l e h k = grind (arith, common_steps, each_append f d (take i xs) x, take_more xs i x l)
 
 -- one site and all below it, after those that were listed first
 module _ (sites : List Site) (start : List ℕ) where
@@ -31,16 +31,11 @@ module _ (sites : List Site) (start : List ℕ) where
       e ∙ ap (λ b. b ++ s ∷ []) (f n (omega arith)) ∙ append_assoc start below (s ∷ []) ∙ ap (λ b. start ++ b) (sym (cond-false (is_in s start || is_in s done) done (below ++ s ∷ []) h))
 
   pub listed_there : (n s : ℕ) (done now : List ℕ) → s < n → now ≡ start ++ done → is_in s now ≡ true → now ≡ start ++ listed_below n sites start done s
-  listed_there zero s done now l e t = absurd (omega arith)
-  listed_there (suc n) s done now l e t =
-      let h : (is_in s start || is_in s done) ≡ true = sym (is_in_append s start done) ∙ ap (is_in s) (sym e) ∙ t in
-      e ∙ ap (λ b. start ++ b) (sym (cond-true (is_in s start || is_in s done) done (each_after (listed_below n sites start) done (sources_at sites s) ++ s ∷ []) h))
+  listed_there n s done now l e t = grind (arith, common_steps, is_in_append s start done)
 
 -- what is listed is what is below
 module _ (sites : List Site) (sources : (s a : ℕ) → Contains (sources_at sites s) a → a < s) where
   below_levels : (n m s x : ℕ) → s < n → s < m → Contains (below n sites s) x → Contains (below m sites s) x
-  below_levels zero m s x l k c = absurd (omega arith)
-  below_levels (suc n) zero s x l k c = absurd (omega arith)
   below_levels (suc n) (suc m) s x l k c =
       elim (in_cases s x (flat_map (below n sites) (sources_at sites s)) c) [
         | inl e ↦ subst (Contains (s ∷ flat_map (below m sites) (sources_at sites s))) e (in_head s (flat_map (below m sites) (sources_at sites s)))
@@ -49,6 +44,7 @@ module _ (sites : List Site) (sources : (s a : ℕ) → Contains (sources_at sit
             let b = sources s r.0 r.1 in
             in_tail s x (flat_map (below m sites) (sources_at sites s)) (in_flat_map (below m sites) (sources_at sites s) r.0 x r.1 (below_levels n m r.0 x (omega arith) (omega arith) r.2))
       ]
+  below_levels _ _ s x l k c = absurd (omega arith)
 
   abbrev Under : ℕ → ℕ → Type 0
   Under s x = Contains (below (suc s) sites s) x
@@ -157,21 +153,11 @@ module _ (sites : List Site) (sources : (s a : ℕ) → Contains (sources_at sit
       ]
     where
       before : {P : Type 0} (a : ℕ) → a < s → (y : ℕ) → P ⊎ (y ≤ a) → P ⊎ (y < s)
-      before a l y (inl p) = inl p
-      before a l y (inr m) = inr (omega (arith, l, m))
+      before a l y h = grind (arith, common_steps)
 
   -- so that a site isn't listed among those below its sources
   pub still_fresh : (a s : ℕ) (old new : List ℕ) → a < s → ListsBelow sites a old new → is_in s old ≡ false → is_in s new ≡ false
-  still_fresh a s old new l e f =
-      elim (cases_Bool (is_in s new)) [
-        | inl t ↦
-            let q = e [] old refl (suc a) (omega arith) in
-            elim (listed_from (suc a) a old s (subst (λ d. Contains d s) q (member_found s new t))) [
-              | inl c ↦ absurd (false≢true (sym f ∙ member_is_in s old c))
-              | inr m ↦ absurd (omega (arith, l, m))
-            ]
-        | inr f ↦ f
-      ]
+  still_fresh a s old new l e f = grind (arith, common_steps, listed_from (suc a) a old s, member_found s new, member_is_in s old, e [] old refl (suc a))
 
   -- what is emitted where the sites below some are closed too
   module _ (used closed after emitted next : List ℕ) (c : IsClosed sites closed) (within : (s : ℕ) → is_in s closed ≡ true → is_in s emitted ≡ true) (l : ListsAll sites used closed after)
@@ -227,14 +213,10 @@ module _ (sites : List Site) (sources : (s a : ℕ) → Contains (sources_at sit
 
 -- what is bound is listed behind what is emitted
 pub bound_behind : (sites : List Site) (ss emitted listed : List ℕ) → ListsAll sites ss emitted listed → drop (length emitted) listed ≡ each_after (λ d s. listed_below (suc s) sites emitted d s) [] ss
-bound_behind sites ss emitted listed l =
-    let more = each_after (λ d s. listed_below (suc s) sites emitted d s) [] ss in
-    ap (drop (length emitted)) (l emitted [] (sym (append-nil emitted))) ∙ drop_at emitted more (length emitted) refl
+bound_behind sites ss emitted listed l = grind (arith, common_steps, append-nil emitted, drop_at emitted)
 
 pub bound_back : (sites : List Site) (ss emitted listed : List ℕ) → ListsAll sites ss emitted listed → take (length emitted) listed ≡ emitted
-bound_back sites ss emitted listed l =
-    let more = each_after (λ d s. listed_below (suc s) sites emitted d s) [] ss in
-    ap (take (length emitted)) (l emitted [] (sym (append-nil emitted))) ∙ take_at emitted more (length emitted) refl
+bound_back sites ss emitted listed l = grind (arith, common_steps, append-nil emitted, take_at emitted)
 
 -- how far some sites go, and one more
 pub end_more : (xs : List ℕ) (i end new : ℕ) → i < length xs → end ≤ new → get_or xs i 0 < new → ((s : ℕ) → is_in s (take i xs) ≡ true → s < end) → (s : ℕ) → is_in s (take (i + 1) xs) ≡ true → s < new

@@ -1,12 +1,13 @@
 -- Counts of what is matched around: raised, and undone again.
 use Rattle.std.proofs.Common.{◌≡◌, ℕ, ◌+◌, ◌-◌, ◌<◌, ◌≤◌, ◌==◌, Bool, true, nat_lt, List, [], ◌∷◌, ◌++◌, set, take, drop, get_or, length, Some, Contains, slice_get, refl, sym, ap, ◌∙◌, subst, inl, inr, arith, eqb-true, eq-eqb, ltb-true, ltb-false}
 use Rattle.std.specs.List.{prefix_len, take_while}
-use Rattle.std.proofs.lemmas.Bool.{cases_Bool, cond-true, cond-false, false≢true}
+use Rattle.std.proofs.lemmas.Bool.{cases_Bool, false≢true}
 use Rattle.std.proofs.Math.ListN.{drop_of_length-le}
 use Rattle.std.proofs.Math.Seq.{drop-append_seam, take-add}
-use Rattle.std.proofs.lemmas.List.{append-nil, append_assoc, drop-append-le, drop-map, get_or-set_same, get_or-set_other, length-take-le, set-get_or, set_past, take-append-drop, take-append-le, take-map, take_all, take_at}
+use Rattle.std.proofs.lemmas.List.{append-nil, append_assoc, drop-append-le, drop-map, get_or-set_same, get_or-set_other, length-take-le, set_past, take-append-drop, take-append-le, take-map, take_all, take_at}
 use Rattle.std.proofs.lemmas.List.Elements.{Contains-append_cases}
 use Rattle.std.proofs.lemmas.List.Sums.{take_while-cons}
+use Rattle.std.proofs.lemmas.Grind.{common_steps}
 use Rattle.model.specs.sites.Sites.{SetRule}
 use Rattle.model.specs.trees.Places.{is_in}
 use Rattle.model.proofs.Members.{nothing_in, from_map, in_cases, in_map}
@@ -16,7 +17,6 @@ use Rattle.core_rule_sets.specs.declared.trie_again.Constraint.{Constraint}
 use Rattle.core_serialize.specs.declared.matched.Matched.{Matched}
 use Rattle.core_serialize.specs.declared.matched.Raised.{Raised}
 use Rattle.core_serialize.specs.Matches.{asked_sites, undone, AreMatched, IsRaised, IsSame, IsUndone}
-use Rattle.core_serialize.proofs.Tables.{set_again}
 
 -- 1. counts undone
 undone_both : (xs ys : List Raised) (counts : List ℕ) → undone (xs ++ ys) counts ≡ undone xs (undone ys counts)
@@ -27,11 +27,7 @@ pub raised_itself : (m : Matched) → IsRaised m m
 raised_itself m = record { more = []; raised = sym (append-nil m.raised.items); back = refl }
 
 pub raised_more : (a b c : Matched) → IsRaised a b → IsRaised b c → IsRaised a c
-raised_more a b c h k = record {
-  more = h.more ++ k.more;
-  raised = k.raised ∙ ap (λ l. l ++ k.more) h.raised ∙ append_assoc a.raised.items h.more k.more;
-  back = undone_both h.more k.more c.counts.items ∙ ap (undone h.more) k.back ∙ h.back;
-}
+raised_more a b c h k = grind (arith, common_steps, append_assoc a.raised.items h.more k.more, undone_both h.more k.more c.counts.items)
 
 pub raised_same : (a b c : Matched) → IsRaised a b → IsSame b c → IsRaised a c
 raised_same a b c h k = record { more = h.more; raised = k.raised ∙ h.raised; back = ap (undone h.more) k.counts ∙ h.back }
@@ -47,21 +43,7 @@ same_raised a b h = record { more = []; raised = h.raised ∙ sym (append-nil a.
 
 -- what is raised is undone
 pub raised_back : (a b c : Matched) (mark : ℕ) → mark ≡ length a.raised.items → IsRaised a b → IsUndone mark b c → IsSame a c
-raised_back a b c mark m h k =
-    let rest : drop mark b.raised.items ≡ h.more = ap (λ n. drop n b.raised.items) m ∙ ap (drop (length a.raised.items)) h.raised ∙ drop-append_seam a.raised.items h.more in
-    record {
-      raised = k.raised ∙ ap (λ n. take n b.raised.items) m ∙ ap (take (length a.raised.items)) h.raised ∙ take_at a.raised.items h.more (length a.raised.items) refl;
-      counts = k.counts ∙ ap (λ l. undone l b.counts.items) rest ∙ h.back;
-    }
-
--- one count is raised, and one raise undone
-pub raised_one : (old new : Matched) (rule before count : ℕ) → before ≡ get_or old.counts.items rule 0 → new.raised.items ≡ old.raised.items ++ (record { rule = rule; count = before }) ∷ [] → new.counts.items ≡ set old.counts.items rule count
-    → IsRaised old new
-raised_one old new rule before count b r c = record {
-  more = (record { rule = rule; count = before }) ∷ [];
-  raised = r;
-  back = ap (λ l. set l rule before) c ∙ set_again old.counts.items rule count before ∙ ap (set old.counts.items rule) b ∙ set-get_or old.counts.items rule 0;
-}
+raised_back a b c mark m h k = grind (arith, common_steps, drop-append_seam a.raised.items h.more, take_at a.raised.items h.more (length a.raised.items) refl)
 
 -- the latest raise undone, and those before it
 pub undone_last : (mark last : ℕ) (start old new : Matched) → last ≡ length old.raised.items - 1 → mark < length old.raised.items → IsUndone last old new
@@ -83,10 +65,7 @@ undone_last mark last start old new e l h t u =
 -- all that were raised since are undone
 pub undone_whole : (mark : ℕ) (start end : Matched) → length end.raised.items ≤ mark → take mark end.raised.items ≡ take mark start.raised.items
     → undone (drop mark end.raised.items) end.counts.items ≡ undone (drop mark start.raised.items) start.counts.items → IsUndone mark start end
-undone_whole mark start end l t u = record {
-  raised = sym (take_all mark end.raised.items l) ∙ t;
-  counts = sym (ap (λ rs. undone rs end.counts.items) (drop_of_length-le end.raised.items l)) ∙ u;
-}
+undone_whole mark start end l t u = grind (arith, common_steps, take_all mark end.raised.items l, drop_of_length-le end.raised.items l)
 
 -- 2. counts that hold
 -- where no rule has any
@@ -105,16 +84,7 @@ sites_seen (c ∷ cs) = ap (λ l. c.0 ∷ l) (sites_seen cs)
 -- the first of some constraints that pass a test
 head_passes : {X : Type 0} (p : X → Bool) (xs : List X) (x : X) → Contains (take (prefix_len p xs) xs) x → p x ≡ true
 head_passes p [] x c = absurd (nothing_in x c)
-head_passes p (y ∷ ys) x c =
-    let d = subst (λ l. Contains l x) (take_while-cons p y ys) c in
-    elim (cases_Bool (p y)) [
-      | inl t ↦
-          elim (in_cases y x (take_while p ys) (subst (λ l. Contains l x) (cond-true (p y) (y ∷ take_while p ys) [] t) d)) [
-            | inl e ↦ ap p (sym e) ∙ t
-            | inr k ↦ head_passes p ys x k
-          ]
-      | inr f ↦ absurd (nothing_in x (subst (λ l. Contains l x) (cond-false (p y) (y ∷ take_while p ys) [] f) d))
-    ]
+head_passes p (y ∷ ys) x c = grind (arith, common_steps, head_passes p ys x, take_while-cons p y ys, in_cases y x (take_while p ys), nothing_in x)
 
 -- one rule's count is raised by what is found behind it
 pub matched_more : (rules : List SetRule) (counts new sources : List ℕ) (n count more : ℕ) (r : SetRule) (cs : List (ℕ × Constraint)) → slice_get rules n ≡ Some r → r.constraints ≡ constraint_views cs
@@ -129,9 +99,7 @@ matched_more rules counts new sources n count more r cs at e k m g h i s c =
                 raised (subst (λ j. Contains (take (count + more) (asked_sites (slice_get rules j))) s) (sym same) (subst (λ j. Contains (take j (asked_sites (slice_get rules i))) s) now c))
             | inr f ↦ h i s (subst (λ l. Contains (take (get_or l i 0) (asked_sites (slice_get rules i))) s) (g ∙ set_past counts n (count + more) (ltb-false n (length counts) f)) c)
           ]
-      | inr f ↦
-          let now = ap (λ l. get_or l i 0) g ∙ get_or-set_other counts n i (count + more) 0 (λ q. false≢true (sym f ∙ eq-eqb n i (sym q))) in
-          h i s (subst (λ j. Contains (take j (asked_sites (slice_get rules i))) s) now c)
+      | inr f ↦ grind (arith, common_steps, get_or-set_other counts n i (count + more) 0 (λ q. false≢true (sym f ∙ eq-eqb n i (sym q))), h i s)
     ]
   where
     sites : asked_sites (slice_get rules n) ≡ sites_of cs

@@ -1,13 +1,14 @@
 -- A place and its next test: the places inside it and behind it, and the tree that grows by it.
-use Rattle.std.proofs.Common.{◌≡◌, ◌≢◌, ℕ, ◌<◌, true, false, not, ◌&&◌, nat_lt, List, [], ◌∷◌, ◌++◌, length, Option, Some, None, slice_get, Contains, filter, refl, sym, ap, ◌∙◌, subst, arith, ltb-true}
+use Rattle.std.proofs.Common.{◌≡◌, ℕ, ◌<◌, true, false, not, ◌&&◌, nat_lt, List, [], ◌∷◌, ◌++◌, length, Option, Some, None, slice_get, filter, refl, sym, ap, ◌∙◌, subst, arith, ltb-true}
 use Rattle.std.proofs.lemmas.Bool.{and_parts, false≢true, not-true}
 use Rattle.std.proofs.lemmas.List.Filters.{length-filter_both}
+use Rattle.std.proofs.lemmas.Grind.{common_steps}
 use Rattle.model.specs.sites.Sites.{iterator_site, SetRule, SiteSet}
 use Rattle.model.specs.trees.Trees.{Tree, step, join, Check, m_match, m_equal, m_loop, m_no_step, m_no_arm}
 use Rattle.model.specs.trees.Best.{descend}
 use Rattle.model.specs.trees.Places as Places
 use Rattle.model.specs.trees.Places.{is_in, joins, available, bind_order, in_equal, in_loop, after_step}
-use Rattle.model.specs.trees.Tests.{Test, match_test, equal_test, loop_test, is_needed, needs_at, is_covered, cover, sources_around, is_at_hand, is_open_site, is_open, IsOpen}
+use Rattle.model.specs.trees.Tests.{Test, match_test, equal_test, loop_test, is_needed, is_covered, cover, sources_around, is_at_hand, is_open_site, is_open, IsOpen}
 use Rattle.model.proofs.Members.{from_filter, some_member, member_found, member_from_get}
 use Rattle.laws_trees.proofs.Passing.{sources_there}
 use Rattle.core_serialize.specs.declared.around.Around.{Around}
@@ -51,22 +52,10 @@ module _ (set : SiteSet) where
     others_ordered o = ap (descend set.rules) h.others ∙ descend_kept set.rules (λ i. not (is_covered set.rules here test i)) here o
 
     pub covered_step : IsStepOf set ar test next.covered.items
-    covered_step = record {
-      open_here = h.chosen.0.open_here;
-      need = λ i c. (and_parts (needs_at set.rules test i) _ (from_filter (is_covered set.rules here test) here i (subst (λ l. Contains l i) h.covered c)).1).0;
-      some_rule = λ e. h.chosen.1 (sym h.covered ∙ e);
-    }
+    covered_step = grind (arith, common_steps, and_parts, from_filter (is_covered set.rules here test) here)
 
     pub fewer_others : length next.others.items < length here
-    fewer_others =
-        let both = length-filter_both (is_covered set.rules here test) (λ i. not (is_covered set.rules here test i)) (λ i. refl) here in
-        let e = ap length h.others in
-        let l = some_length (cover set.rules here test) h.chosen.1 in
-        omega (arith, both, e, l)
-      where
-        some_length : (xs : List ℕ) → xs ≢ [] → 0 < length xs
-        some_length [] g = absurd (g refl)
-        some_length (x ∷ xs) g = omega arith
+    fewer_others = grind (arith, common_steps, length-filter_both (is_covered set.rules here test) (λ i. not (is_covered set.rules here test i)) (λ i. refl) here)
 
   pub untried_after : (ar after : Places.Around) (used : List ℕ) → Alike after (after_uses set ar used) → untried n after ≡ untried n ar
   untried_after ar after used i = untried_same n ar after i.sources i.joined
@@ -129,14 +118,12 @@ module _ (set : SiteSet) where
     block_more ar after left next steps more s h inside binds body e g = record {
       ordered = others_ordered ar left next h g.ordered;
       as_many = untried_after ar after (test_emits set (test_view next.test)) inside ∙ g.as_many;
-      far = λ t b. subst (IsBestFrom set start here) (sym (ap (λ xs. join (steps_view xs) t) e ∙ step_joined steps s t))
-          (g.far (step s.bind_order.items (check_view s.check) t) (test_more ar left next after s.bind_order.items (check_view s.check) t h inside binds body b));
+      far = grind (arith, common_steps, step_joined steps s, test_more ar left next after s.bind_order.items (check_view s.check));
     }
 
     pub block_whole : (ar : Places.Around) (left : List ℕ) (steps ends all : List EvalStep) → IsChosen set ar left None → AreEnds set ar left (steps_view ends) → all ≡ steps ++ ends
         → BlockGrows set start here ar left steps → IsBestFrom set start here (steps_view all)
-    block_whole ar left steps ends all over a e g =
-        subst (IsBestFrom set start here) (sym (ap steps_view e ∙ steps_joined steps ends)) (g.far (steps_view ends) (ends_close set ar left (steps_view ends) over a))
+    block_whole ar left steps ends all over a e g = grind (arith, common_steps, steps_joined steps ends, ends_close set ar left (steps_view ends) over a)
 
   -- 4. what is open
   open_site : (ar : Places.Around) (s : ℕ) → is_open_site set ar s ≡ true → (s < n) × (is_in s (sources_around ar) ≡ false)
@@ -154,9 +141,7 @@ module _ (set : SiteSet) where
   -- 5. inside a test
   -- what is emitted is nothing to a test's being open
   open_emitted : (ar : Places.Around) (sites : List ℕ) (t : Test) → is_open set (where_emitted ar sites) t ≡ is_open set ar t
-  open_emitted ar sites (match_test s) = refl
-  open_emitted ar sites (equal_test x y) = refl
-  open_emitted ar sites (loop_test s) = refl
+  open_emitted ar sites _ = refl
 
   pub step_emitted : (ar : Places.Around) (sites : List ℕ) (t : Test) (here : List ℕ) → IsStepOf set ar t here → IsStepOf set (where_emitted ar sites) t here
   step_emitted ar sites t here h = record { open_here = open_emitted ar sites t ∙ h.open_here; need = h.need; some_rule = h.some_rule }

@@ -7,6 +7,7 @@ use Rattle.model.specs.trees.Places.{is_in}
 use Rattle.model.specs.trees.Tests.{up_to}
 use Rattle.std.specs.Set.{is_member}
 use Rattle.std.proofs.lemmas.Option.{slice_get-get_or, slice_get-map}
+use Rattle.std.proofs.lemmas.Grind.{common_steps}
 use Rattle.model.specs.trees.Tests.{Test, is_needed, needs_at}
 use Rattle.laws_sites.proofs.overlaps.Overlaps.{bool_same}
 use Rattle.core_rule_sets.proofs.SitesIn.{none_passing}
@@ -19,8 +20,7 @@ is_in_append x [] ys = refl
 is_in_append x (y ∷ xs) ys = ap (λ b. (y == x) || b) (is_in_append x xs ys) ∙ sym (or_assoc (y == x) (is_in x xs) (is_in x ys))
 
 alone_or : (a b : Bool) → ((a || false) || b) ≡ (a || b)
-alone_or true b = refl
-alone_or false b = refl
+alone_or a b = grind (arith, common_steps)
 
 -- one site more
 pub is_in_first : (s n x : ℕ) (xs : List ℕ) → n ≡ x → (is_in s (n ∷ []) || is_in s xs) ≡ ((x == s) || is_in s xs)
@@ -76,8 +76,7 @@ pub needed_at : (rules : List Rule) (t : Test) (i : ℕ) (o : Option Rule) → s
 needed_at rules t i o e = ap (is_needed t) (slice_get-map set_rule_view rules i ∙ ap (option_map set_rule_view) e)
 
 pub rule_at : (rules items : List Rule) (i : ℕ) (rule : Rule) → rules ≡ items → i < length items → rule ≡ get_or items i rule → slice_get (set_rule_views rules) i ≡ Some (set_rule_view rule)
-rule_at rules items i rule e l g =
-    slice_get-map set_rule_view rules i ∙ ap (option_map set_rule_view) (ap (λ l. slice_get l i) e ∙ slice_get-get_or items i rule l ∙ ap Some (sym g))
+rule_at rules items i rule e l g = grind (arith, common_steps, slice_get-map set_rule_view rules i, slice_get-get_or items i rule l)
 
 -- a set without members has no sites
 pub no_members : (m : Members ℕ) (values : List ℕ) → ((y : ℕ) → is_member ◌==◌ values y ≡ contains ◌==◌ m y) → length values ≡ 0 → (s : ℕ) → is_in s (member_sites m) ≡ false
@@ -86,6 +85,5 @@ no_members m (x ∷ xs) same e s = absurd (omega arith)
 
 -- 4. an entry that is put twice
 pub set_again : (xs : List ℕ) (i a b : ℕ) → set (set xs i a) i b ≡ set xs i b
-set_again [] i a b = refl
-set_again (x ∷ xs) zero a b = refl
 set_again (x ∷ xs) (suc i) a b = ap (λ l. x ∷ l) (set_again xs i a b)
+set_again _ _ a b = refl

@@ -1,13 +1,14 @@
 -- Tests of a place by their scores: the better one of two, and bounds of scores.
-use Rattle.std.proofs.Common.{◌≡◌, ℕ, ◌<◌, ◌≤◌, ◌==◌, ◌||◌, ◌&&◌, not, nat_lt, Bool, true, false, cond, length, ap, arith, eqb-true, eq-eqb, ltb-true, ltb-false, List, [], ◌∷◌, Option, Some, None, option_map, Contains, refl, sym, ◌∙◌, subst, inl, inr}
-use Rattle.std.specs.List.{filter, list_all}
-use Rattle.std.proofs.lemmas.Bool.{and_parts, cases_Bool, cond-true, cond-false, or_parts, false≢true}
+use Rattle.std.proofs.Common.{◌≡◌, ℕ, ◌<◌, ◌≤◌, ◌==◌, ◌&&◌, not, nat_lt, Bool, true, false, length, ap, arith, List, [], ◌∷◌, Option, Some, None, option_map, Contains, refl, sym, ◌∙◌, subst}
+use Rattle.std.specs.List.{filter}
+use Rattle.std.proofs.lemmas.Bool.{and_parts, or_parts}
 use Rattle.std.proofs.lemmas.List.Filters.{length-filter_both}
+use Rattle.std.proofs.lemmas.Grind.{common_steps}
 use Rattle.model.specs.sites.Sites.{SiteSet}
 use Rattle.model.specs.trees.Places.{Around, is_in}
 use Rattle.model.specs.trees.Tests as Tests
 use Rattle.model.specs.trees.Sound.{as_number, or_later}
-use Rattle.model.specs.trees.Tests.{match_test, equal_test, loop_test, cover, is_covered, is_lower, needs_at, IsOpen, score, is_greater}
+use Rattle.model.specs.trees.Tests.{match_test, equal_test, loop_test, cover, is_covered, needs_at, IsOpen, score, is_greater}
 use Rattle.model.proofs.Members.{in_head, in_tail}
 use Rattle.laws_trees.proofs.Scores.{scores_are_ordered_lem}
 use Rattle.core_serialize.specs.declared.tests.Test.{Test}
@@ -18,28 +19,12 @@ use Rattle.core_serialize.specs.TestViews.{test_view, beats, counted_score, grea
 module _ {X : Type 0} where
   pub kept_alike : (p q : X → Bool) (xs : List X) → ((x : X) → Contains xs x → p x ≡ q x) → filter p xs ≡ filter q xs
   kept_alike p q [] h = refl
-  kept_alike p q (x ∷ xs) h =
-      let e = h x (in_head x xs) in
-      let r = kept_alike p q xs (λ y c. h y (in_tail x y xs c)) in
-      λ i. cond (e i) (x ∷ r i) (r i)
+  kept_alike p q (x ∷ xs) h = grind (arith, common_steps, kept_alike p q xs (λ y c. h y (in_tail x y xs c)), in_head x xs, in_tail x)
 
   -- fewer pass a test that asks more
   pub fewer_pass : (p q : X → Bool) → ((x : X) → p x ≡ true → q x ≡ true) → (xs : List X) → length (filter p xs) ≤ length (filter q xs)
   fewer_pass p q h [] = omega arith
-  fewer_pass p q h (x ∷ xs) =
-      let rest = fewer_pass p q h xs in
-      elim (cases_Bool (p x)) [
-        | inl t ↦
-            let a = ap length (cond-true (p x) (x ∷ filter p xs) (filter p xs) t) in
-            let b = ap length (cond-true (q x) (x ∷ filter q xs) (filter q xs) (h x t)) in
-            omega (arith, rest, a, b)
-        | inr f ↦
-            let a = ap length (cond-false (p x) (x ∷ filter p xs) (filter p xs) f) in
-            elim (cases_Bool (q x)) [
-              | inl u ↦ let b = ap length (cond-true (q x) (x ∷ filter q xs) (filter q xs) u) in omega (arith, rest, a, b)
-              | inr g ↦ let b = ap length (cond-false (q x) (x ∷ filter q xs) (filter q xs) g) in omega (arith, rest, a, b)
-            ]
-      ]
+  fewer_pass p q h (x ∷ xs) = grind (arith, common_steps, fewer_pass p q h xs)
 
 -- 2. the better one of two
 module _ (set : SiteSet) (ar : Around) (here : List ℕ) where
@@ -47,19 +32,11 @@ module _ (set : SiteSet) (ar : Around) (here : List ℕ) where
   of t = score set ar here (test_view t)
 
   below : (x y z : Tests.Score) → is_greater x y ≡ false → is_greater z y ≡ true → is_greater x z ≡ false
-  below x y z h k =
-      elim (cases_Bool (is_greater x z)) [
-        | inl t ↦ absurd (false≢true (sym h ∙ scores_are_ordered_lem.chain x z y t k))
-        | inr f ↦ f
-      ]
+  below x y z h k = grind (arith, common_steps)
 
   -- the better one is one of both
   either : (P : Test → Type 0) (b t next : Test) → next ≡ greater_test set ar here (Some b) t → (beats set ar here t b ≡ true → P t) → (beats set ar here t b ≡ false → P b) → P next
-  either P b t next e better rest =
-      elim (cases_Bool (beats set ar here t b)) [
-        | inl y ↦ subst P (sym (e ∙ cond-true (beats set ar here t b) t b y)) (better y)
-        | inr f ↦ subst P (sym (e ∙ cond-false (beats set ar here t b) t b f)) (rest f)
-      ]
+  either P b t next e better rest = grind (arith, common_steps)
 
   abbrev test_of : Scored → Test
   test_of s = s.test
@@ -77,39 +54,20 @@ module _ (set : SiteSet) (ar : Around) (here : List ℕ) where
   no_better_itself (Some b) t next e k = subst (λ v. is_greater (of t) v ≡ false) (sym k) (either (λ x. is_greater (of t) (of x) ≡ false) b.test t next.test e (λ y. scores_are_ordered_lem.itself (of t)) (λ f. f))
 
   pub greater_open : (best : Option Scored) (t : Test) (next : Scored) → next.test ≡ greater_test set ar here (option_map test_of best) t → IsOpen set ar (test_view t) → IsOpenScored set ar here best → IsOpen set ar (test_view next.test)
-  greater_open None t next e o h = subst (λ x. IsOpen set ar (test_view x)) (sym e) o
-  greater_open (Some b) t next e o h = either (λ x. IsOpen set ar (test_view x)) b.test t next.test e (λ y. o) (λ f. h.0)
+  greater_open best t next e o h = grind (arith, common_steps)
 
 -- 3. bounds
 -- a score is that by the count of what the test covers
 pub score_counted : (set : SiteSet) (ar : Around) (here : List ℕ) (t : Tests.Test) (n : ℕ) → n ≡ length (cover set.rules here t) → counted_score ar t n ≡ score set ar here t
-score_counted set ar here (match_test s) n e = ap (counted_score ar (match_test s)) e
-score_counted set ar here (equal_test a b) n e = ap (counted_score ar (equal_test a b)) e
-score_counted set ar here (loop_test s) n e = ap (counted_score ar (loop_test s)) e
+score_counted set ar here t n e = grind arith
 
 -- where a number that is no less makes a score no greater, whatever is compared behind it, neither does a lesser one
 fewer : (n m y : ℕ) (later other : Bool) → m ≤ n → (later ≡ false → other ≡ false) → or_later (nat_lt y n) (n == y) later ≡ false → or_later (nat_lt y m) (m == y) other ≡ false
-fewer n m y later other l up h =
-    let p = or_parts (nat_lt y n) ((n == y) && later) h in
-    let k = ltb-false y n p.0 in
-    elim (cases_Bool (nat_lt y m)) [
-      | inl t ↦ let q = ltb-true y m t in absurd (omega (arith, q, l, k))
-      | inr f ↦
-          ap (λ b. b || ((m == y) && other)) f
-          ∙ elim (cases_Bool (m == y)) [
-            | inl t ↦
-                let e = eqb-true m y t in
-                let same : n ≡ y = omega (arith, e, l, k) in
-                ap (λ b. b && other) t ∙ up (sym (ap (λ b. b && later) (eq-eqb n y same)) ∙ p.1)
-            | inr g ↦ ap (λ b. b && other) g
-          ]
-    ]
+fewer n m y later other l up h = grind (arith, common_steps, or_parts (nat_lt y n) ((n == y) && later) h)
 
 -- nor does one that is the same
 behind_same : (x y later other : Bool) → (later ≡ false → other ≡ false) → or_later x y later ≡ false → or_later x y other ≡ false
-behind_same true y later other up h = h
-behind_same false true later other up h = up h
-behind_same false false later other up h = refl
+behind_same x y later other up h = grind arith
 
 fewer_counted : (ar : Around) (t : Tests.Test) (y : Tests.Score) (n m : ℕ) → m ≤ n → is_greater (counted_score ar t n) y ≡ false → is_greater (counted_score ar t m) y ≡ false
 fewer_counted ar (match_test s) y n m l h = fewer n m y.count _ _ l (λ e. e) h
@@ -122,14 +80,11 @@ below_bound set ar here t y n most h =
 
 -- a test covers no more rules than there are
 pub cover_within : (set : SiteSet) (here : List ℕ) (t : Tests.Test) → length (cover set.rules here t) ≤ length here
-cover_within set here t =
-    let both = length-filter_both (is_covered set.rules here t) (λ i. not (is_covered set.rules here t i)) (λ i. refl) here in
-    omega (arith, both)
+cover_within set here t = grind (arith, common_steps, length-filter_both (is_covered set.rules here t) (λ i. not (is_covered set.rules here t i)) (λ i. refl) here)
 
 -- nor than there are that need it
 pub cover_needed : (set : SiteSet) (here : List ℕ) (t : Tests.Test) → length (cover set.rules here t) ≤ length (filter (needs_at set.rules t) here)
-cover_needed set here t =
-    fewer_pass (is_covered set.rules here t) (needs_at set.rules t) (λ i h. (and_parts (needs_at set.rules t i) (list_all (λ j. needs_at set.rules t j || not (is_lower set.rules i j)) here) h).0) here
+cover_needed set here t = grind (arith, common_steps, fewer_pass (is_covered set.rules here t) (needs_at set.rules t), and_parts)
 
 -- the equalities of a site and another one or one behind that, where both sites are emitted as one bound says
 pub pair_below : (set : SiteSet) (ar : Around) (here : List ℕ) (a b other : ℕ) (are_joined : Bool) (y : Tests.Score) → other ≤ b → (are_joined ≡ true → (is_in a ar.emitted && is_in b ar.emitted) ≡ false)
@@ -143,54 +98,23 @@ pair_below set ar here a b other are_joined y behind none h =
     (behind_same (nat_lt 1 y.form) (1 == y.form) _ _ (behind_same (nat_lt a y.site) (a == y.site) (nat_lt other y.other) (nat_lt b y.other) (no_other y.other)))) h
   where
     emitted : (p q j : Bool) → (j ≡ true → (p && q) ≡ false) → as_number (p && q) ≤ as_number (p && not j)
-    emitted true true true h = absurd (false≢true (sym (h refl)))
-    emitted true false true h = omega arith
-    emitted true true false h = omega arith
-    emitted true false false h = omega arith
-    emitted false q j h = omega arith
+    emitted p q j h = grind (arith, common_steps)
 
     no_other : (m : ℕ) → nat_lt other m ≡ false → nat_lt b m ≡ false
-    no_other m h =
-        elim (cases_Bool (nat_lt b m)) [
-          | inl t ↦ let k = ltb-true b m t in let g = ltb-false other m h in absurd (omega (arith, k, g, behind))
-          | inr f ↦ f
-        ]
+    no_other m h = grind (arith, common_steps)
 
 -- a test of a form, of this site or a later one, where the best such test that covers all isn't greater, with emitted sites where one
 -- from this site on may be emitted
 module _ (set : SiteSet) (ar : Around) (here : List ℕ) (form site end : ℕ) (ends : (s : ℕ) → is_in s ar.emitted ≡ true → s < end) (y : Tests.Score) where
   -- a lesser number counts for more
   later_site : (s : ℕ) (last other : Bool) → site ≤ s → (last ≡ false → other ≡ false) → or_later (nat_lt site y.site) (site == y.site) last ≡ false → or_later (nat_lt s y.site) (s == y.site) other ≡ false
-  later_site s last other l up h =
-      let p = or_parts (nat_lt site y.site) ((site == y.site) && last) h in
-      let k = ltb-false site y.site p.0 in
-      elim (cases_Bool (nat_lt s y.site)) [
-        | inl t ↦ let q = ltb-true s y.site t in absurd (omega (arith, q, l, k))
-        | inr f ↦
-            ap (λ b. b || ((s == y.site) && other)) f
-            ∙ elim (cases_Bool (s == y.site)) [
-              | inl t ↦
-                  let e = eqb-true s y.site t in
-                  let same : site ≡ y.site = omega (arith, e, l, k) in
-                  ap (λ b. b && other) t ∙ up (sym (ap (λ b. b && last) (eq-eqb site y.site same)) ∙ p.1)
-              | inr g ↦ ap (λ b. b && other) g
-            ]
-      ]
+  later_site s last other l up h = grind (arith, common_steps, or_parts (nat_lt site y.site) ((site == y.site) && last) h)
 
   no_later : (n : ℕ) → nat_lt 0 y.other ≡ false → nat_lt n y.other ≡ false
-  no_later n h =
-      elim (cases_Bool (nat_lt n y.other)) [
-        | inl t ↦ let k = ltb-true n y.other t in let g = ltb-false 0 y.other h in absurd (omega (arith, k, g))
-        | inr f ↦ f
-      ]
+  no_later n h = grind (arith, common_steps)
 
   as_most : (s : ℕ) (b : Bool) → site ≤ s → (b ≡ true → is_in s ar.emitted ≡ true) → as_number b ≤ as_number (nat_lt site end)
-  as_most s false l e = omega arith
-  as_most s true l e =
-      elim (cases_Bool (nat_lt site end)) [
-        | inl t ↦ let n = ap as_number t in omega (arith, n)
-        | inr f ↦ let k = ends s (e refl) in let g = ltb-false site end f in absurd (omega (arith, k, g, l))
-      ]
+  as_most s b l e = grind (arith, common_steps)
 
   bounded : (u : Tests.Test) (s other : ℕ) (emitted : Bool) → site ≤ s → (emitted ≡ true → is_in s ar.emitted ≡ true)
       → is_greater (record { count = length here; emitted = as_number (nat_lt site end); form = form; site = site; other = 0 }) y ≡ false
@@ -204,6 +128,4 @@ module _ (set : SiteSet) (ar : Around) (here : List ℕ) (form site end : ℕ) (
       (behind_same (nat_lt form y.form) (form == y.form) _ _ (later_site s (nat_lt 0 y.other) (nat_lt other y.other) l (no_later other)))) h
 
   pub from_below : (u : Tests.Test) → IsFrom form site u → is_greater (record { count = length here; emitted = as_number (nat_lt site end); form = form; site = site; other = 0 }) y ≡ false → is_greater (score set ar here u) y ≡ false
-  from_below (match_test s) f h = subst (λ n. is_greater (record { count = length (cover set.rules here (match_test s)); emitted = as_number (is_in s ar.emitted); form = n; site = s; other = 0 }) y ≡ false) f.0 (bounded (match_test s) s 0 (is_in s ar.emitted) f.1 (λ e. e) h)
-  from_below (equal_test a b) f h = subst (λ n. is_greater (record { count = length (cover set.rules here (equal_test a b)); emitted = as_number (is_in a ar.emitted && is_in b ar.emitted); form = n; site = a; other = b }) y ≡ false) f.0 (bounded (equal_test a b) a b (is_in a ar.emitted && is_in b ar.emitted) f.1 (λ e. (and_parts (is_in a ar.emitted) (is_in b ar.emitted) e).0) h)
-  from_below (loop_test s) f h = subst (λ n. is_greater (record { count = length (cover set.rules here (loop_test s)); emitted = as_number (is_in s ar.emitted); form = n; site = s; other = 0 }) y ≡ false) f.0 (bounded (loop_test s) s 0 (is_in s ar.emitted) f.1 (λ e. e) h)
+  from_below u f h = grind (arith, bounded, and_parts)

@@ -1,9 +1,10 @@
 -- How many tests of a set's sites no test around has made: fewer inside each test, so that trees end.
-use Rattle.std.proofs.Common.{◌≡◌, ℕ, ◌+◌, ◌<◌, ◌≤◌, ◌==◌, Bool, true, false, not, ◌||◌, cond, List, [], ◌∷◌, ◌++◌, map, Contains, count_by, flat_map, refl, sym, ap, ◌∙◌, inl, inr, arith, eqb-true, eq-eqb}
-use Rattle.std.proofs.lemmas.Bool.{cond-true, or_left, false≢true}
-use Rattle.std.proofs.lemmas.List.Elements.{Contains-append_left, Contains-append_right}
+use Rattle.std.proofs.Common.{◌≡◌, ℕ, ◌+◌, ◌<◌, ◌≤◌, ◌==◌, Bool, true, false, not, ◌||◌, cond, List, [], ◌∷◌, ◌++◌, map, Contains, count_by, flat_map, refl, ap, ◌∙◌, inl, inr, arith, eq-eqb}
+use Rattle.std.proofs.lemmas.Bool.{or_left}
+use Rattle.std.proofs.lemmas.List.Elements.{Contains-append_right}
 use Rattle.std.proofs.lemmas.List.Sums.{sum_by-cons}
-use Rattle.model.specs.trees.Places.{Around, is_in, class, joins}
+use Rattle.std.proofs.lemmas.Grind.{common_steps}
+use Rattle.model.specs.trees.Places.{Around, is_in, joins}
 use Rattle.model.specs.trees.Tests.{Test, match_test, equal_test, loop_test, sources_around, up_to}
 use Rattle.model.proofs.Members.{nothing_in, in_cases, in_map, in_flat_map, in_up_to}
 
@@ -16,24 +17,14 @@ counted p x xs = sum_by-cons (λ x. weight (p x)) x xs
 
 module _ {X : Type 0} (p q : X → Bool) (within : (x : X) → q x ≡ true → p x ≡ true) where
   weight_most : (a b : Bool) → (b ≡ true → a ≡ true) → weight b ≤ weight a
-  weight_most true true f = omega arith
-  weight_most true false f = omega arith
-  weight_most false true f = absurd (false≢true (f refl))
-  weight_most false false f = omega arith
+  weight_most a b f = grind arith
 
   weight_less : (a b : Bool) → a ≡ true → b ≡ false → weight b < weight a
-  weight_less true true e f = absurd (false≢true (sym f))
-  weight_less true false e f = omega arith
-  weight_less false b e f = absurd (false≢true e)
+  weight_less a b e f = grind arith
 
   count_most : (xs : List X) → count_by q xs ≤ count_by p xs
   count_most [] = omega arith
-  count_most (x ∷ xs) =
-      let l = weight_most (p x) (q x) (within x) in
-      let m = count_most xs in
-      let a = counted p x xs in
-      let b = counted q x xs in
-      omega (arith, l, m, a, b)
+  count_most (x ∷ xs) = grind (arith, common_steps, count_most xs, weight_most (p x) (q x) (within x), counted p x xs, counted q x xs)
 
   count_fewer : (xs : List X) (x : X) → Contains xs x → p x ≡ true → q x ≡ false → count_by q xs < count_by p xs
   count_fewer [] x c t f = absurd (nothing_in x c)
@@ -61,16 +52,10 @@ untried n ar = count_by (is_untried ar) (tests_over n)
 
 -- as many where as much was tested around
 pub untried_same : (n : ℕ) (ar br : Around) → ((s : ℕ) → is_in s (sources_around br) ≡ is_in s (sources_around ar)) → br.joined ≡ ar.joined → untried n br ≡ untried n ar
-untried_same n ar br sources joined = λ i. count_by (λ t. same t i) (tests_over n)
-  where
-    same : (t : Test) → is_untried br t ≡ is_untried ar t
-    same (match_test s) = ap not (sources s)
-    same (equal_test a b) = ap (λ ps. not (joins ps a b)) joined
-    same (loop_test s) = ap not (sources s)
+untried_same n ar br sources joined = grind (arith, common_steps)
 
 match_over : (n s : ℕ) → s < n → Contains (tests_over n) (match_test s)
-match_over n s l =
-    Contains-append_left (map match_test (up_to n)) (flat_map (λ b. map (λ a. equal_test a b) (up_to b)) (up_to n)) (match_test s) (in_map match_test (up_to n) s (in_up_to n s l))
+match_over n s l = grind (arith, common_steps, in_map match_test (up_to n) s (in_up_to n s l), in_up_to n s l)
 
 pair_over : (n a b : ℕ) → a < b → b < n → Contains (tests_over n) (equal_test a b)
 pair_over n a b l m =
@@ -78,8 +63,7 @@ pair_over n a b l m =
     (in_flat_map (λ b. map (λ a. equal_test a b) (up_to b)) (up_to n) b (equal_test a b) (in_up_to n b m) (in_map (λ a. equal_test a b) (up_to b) a (in_up_to b a l)))
 
 less_untried : (x y : Bool) → not (x || y) ≡ true → not y ≡ true
-less_untried true y e = absurd (false≢true e)
-less_untried false y e = e
+less_untried x y e = grind (arith, common_steps)
 
 -- one more source
 pub untried_source : (n s : ℕ) (ar br : Around) → s < n → is_in s (sources_around ar) ≡ false
@@ -89,24 +73,10 @@ untried_source n s ar br l out more same =
     (ap not (more s ∙ or_left (s == s) (is_in s (sources_around ar)) (eq-eqb s s refl)))
   where
     within : (t : Test) → is_untried br t ≡ true → is_untried ar t ≡ true
-    within (match_test x) e = less_untried (s == x) (is_in x (sources_around ar)) (ap not (sym (more x)) ∙ e)
-    within (equal_test a b) e = ap (λ ps. not (joins ps a b)) (sym same) ∙ e
-    within (loop_test x) e = less_untried (s == x) (is_in x (sources_around ar)) (ap not (sym (more x)) ∙ e)
-
--- pairs stay joined, and a pair that is joined is
-class_stays : (ps : List (ℕ × ℕ)) (p : ℕ × ℕ) (x y : ℕ) → joins ps x y ≡ true → joins (p ∷ ps) x y ≡ true
-class_stays ps p x y h =
-    let e = eqb-true (class ps x) (class ps y) h in
-    eq-eqb (class (p ∷ ps) x) (class (p ∷ ps) y) (ap (λ c. cond (c == class ps p.0) (class ps p.1) c) e)
+    within t e = grind (arith, common_steps, less_untried)
 
 pair_joins : (ps : List (ℕ × ℕ)) (a b : ℕ) → joins ((a, b) ∷ ps) a b ≡ true
-pair_joins ps a b =
-    eq-eqb (class ((a, b) ∷ ps) a) (class ((a, b) ∷ ps) b)
-    (cond-true (class ps a == class ps a) (class ps b) (class ps a) (eq-eqb (class ps a) (class ps a) refl) ∙ sym (either (class ps b == class ps a)))
-  where
-    either : (q : Bool) → cond q (class ps b) (class ps b) ≡ class ps b
-    either true = refl
-    either false = refl
+pair_joins ps a b = grind (arith, common_steps)
 
 -- one more pair
 pub untried_pair : (n a b : ℕ) (ar br : Around) → a < b → b < n → joins ar.joined a b ≡ false
@@ -115,11 +85,5 @@ untried_pair n a b ar br l m out same more =
     count_fewer (is_untried ar) (is_untried br) within (tests_over n) (equal_test a b) (pair_over n a b l m) (ap not out)
     (ap not (ap (λ ps. joins ps a b) more ∙ pair_joins ar.joined a b))
   where
-    stays : (x y : ℕ) (q : Bool) → joins ar.joined x y ≡ q → not (joins br.joined x y) ≡ true → not q ≡ true
-    stays x y true h e = absurd (false≢true (sym (ap not (ap (λ ps. joins ps x y) more ∙ class_stays ar.joined (a, b) x y h)) ∙ e))
-    stays x y false h e = refl
-
     within : (t : Test) → is_untried br t ≡ true → is_untried ar t ≡ true
-    within (match_test x) e = ap not (sym (same x)) ∙ e
-    within (equal_test x y) e = stays x y (joins ar.joined x y) refl e
-    within (loop_test x) e = ap not (sym (same x)) ∙ e
+    within t e = grind (arith, common_steps)
