@@ -1,9 +1,10 @@
 -- Positions that ascend, each once: a list of them is known by what it has.
-use Rattle.std.proofs.Common.{◌≡◌, ◌==◌, ◌&&◌, ◌||◌, ℕ, true, false, if◌then◌else◌, nat_lt, List, [], ◌∷◌, refl, sym, ap₂, ◌∙◌, subst, inl, inr, arith}
-use Rattle.std.proofs.lemmas.Bool.{cases_Bool, cond-true, cond-false, false≢true}
+use Rattle.std.proofs.Common.{◌≡◌, ◌==◌, ◌&&◌, ◌||◌, ℕ, true, false, nat_lt, List, [], ◌∷◌, refl, sym, ◌∙◌, inl, arith}
+use Rattle.std.proofs.lemmas.Bool.{false≢true}
 use Rattle.std.proofs.lemmas.Bool.Decides.{nat_tests}
+use Rattle.std.proofs.lemmas.Grind.{common_steps}
 use Rattle.model.specs.lists.Syntax.{Position}
-use Rattle.model.specs.sites.Overlap.{position_eq, position_lt, with_position, ascending_positions}
+use Rattle.model.specs.sites.Overlap.{position_lt, with_position, ascending_positions}
 use Rattle.model.proofs.Elements.{In}
 use Rattle.laws_sites.proofs.overlaps.ListedOverlaps.{position_same, with_in, in_ascending, ascending_in}
 
@@ -28,8 +29,7 @@ second_same a b c d h k = grind (arith, nat_tests)
 
 -- of two positions one is before the other, or they are one
 pub lt_total : (a b : Position) → position_lt a b ≡ false → position_lt b a ≡ false → a ≡ b
-lt_total a b h k =
-    ap₂ (λ f o. record { file = f; offset = o }) (first_same a.file a.offset b.file b.offset h k) (second_same a.file a.offset b.file b.offset h k)
+lt_total a b h k = grind (arith, common_steps, first_same a.file a.offset b.file b.offset h k, second_same a.file a.offset b.file b.offset h k)
 
 -- 2. lists that ascend
 abbrev pub AreAbove : Position → List Position → Type 0
@@ -41,29 +41,7 @@ Ascend (a ∷ as') = AreAbove a as' × Ascend as'
 
 with_ascends : (a : Position) (bs : List Position) → Ascend bs → Ascend (with_position a bs)
 with_ascends a [] u = (λ b i. absurd i, tt)
-with_ascends a (b ∷ bs) u =
-    elim (cases_Bool (position_eq a b)) [
-      | inl t ↦ subst Ascend (sym (cond-true (position_eq a b) (b ∷ bs) (if position_lt a b then a ∷ (b ∷ bs) else b ∷ with_position a bs) t)) u
-      | inr f ↦
-          subst Ascend (sym (cond-false (position_eq a b) (b ∷ bs) (if position_lt a b then a ∷ (b ∷ bs) else b ∷ with_position a bs) f))
-          (elim (cases_Bool (position_lt a b)) [
-            | inl t ↦
-                subst Ascend (sym (cond-true (position_lt a b) (a ∷ (b ∷ bs)) (b ∷ with_position a bs) t))
-                (λ c i. elim i [ inl e ↦ subst (λ x. position_lt a x ≡ true) e t | inr j ↦ lt_chain a b c t (u.0 c j) ], u)
-            | inr g ↦
-                subst Ascend (sym (cond-false (position_lt a b) (a ∷ (b ∷ bs)) (b ∷ with_position a bs) g)) (
-                  λ c i. elim (with_in a bs c i) [ inl e ↦ subst (λ x. position_lt b x ≡ true) e (after g f) | inr j ↦ u.0 c j ],
-                  with_ascends a bs u.1,
-                )
-          ])
-    ]
-  where
-    after : position_lt a b ≡ false → position_eq a b ≡ false → position_lt b a ≡ true
-    after g f =
-        elim (cases_Bool (position_lt b a)) [
-          | inl t ↦ t
-          | inr n ↦ absurd (false≢true (sym f ∙ position_same a b (lt_total a b g n)))
-        ]
+with_ascends a (b ∷ bs) u = grind (arith, common_steps, with_ascends a bs u.1, lt_chain a b, with_in a bs, position_same a b, lt_total a b)
 
 pub ascending_ascends : (xs : List Position) → Ascend (ascending_positions xs)
 ascending_ascends [] = tt
@@ -77,28 +55,7 @@ pub one_ascent : (xs ys : List Position) → Ascend xs → Ascend ys → ((z : P
 one_ascent [] [] u v f g = refl
 one_ascent [] (y ∷ ys) u v f g = absurd (g y (inl refl))
 one_ascent (x ∷ xs) [] u v f g = absurd (f x (inl refl))
-one_ascent (x ∷ xs) (y ∷ ys) u v f g =
-    let e = heads in
-    (λ k. e k ∷ one_ascent xs ys u.1 v.1 (λ z i. into z i (f z (inr i))) (λ z i. back z i (g z (inr i))) k)
-  where
-    heads : x ≡ y
-    heads =
-        elim (f x (inl refl)) [
-          | inl e ↦ sym e
-          | inr i ↦
-              elim (g y (inl refl)) [
-                | inl e ↦ e
-                | inr j ↦ absurd (false≢true (sym (lt_one_way x y (u.0 y j)) ∙ v.0 x i))
-              ]
-        ]
-
-    into : (z : Position) → In xs z → In (y ∷ ys) z → In ys z
-    into z i (inl e) = absurd (not_below_itself x (u.0 x (subst (In xs) (sym e ∙ sym heads) i)))
-    into z i (inr j) = j
-
-    back : (z : Position) → In ys z → In (x ∷ xs) z → In xs z
-    back z i (inl e) = absurd (not_below_itself y (v.0 y (subst (In ys) (sym e ∙ heads) i)))
-    back z i (inr j) = j
+one_ascent (x ∷ xs) (y ∷ ys) u v f g = grind (arith, common_steps, one_ascent xs ys u.1 v.1, lt_one_way x y, not_below_itself x, not_below_itself y)
 
 -- so a list that ascends is that of what it has
 pub ascending_is : (xs ys : List Position) → Ascend ys → ((z : Position) → In xs z → In ys z) → ((z : Position) → In ys z → In xs z) → ys ≡ ascending_positions xs

@@ -1,13 +1,14 @@
 -- Rules that are passed over behind one of another key, and how places of the next key are found.
-use Rattle.std.proofs.Common.{◌⊎◌, ◌≡◌, ◌≢◌, ℕ, zero, suc, ◌+◌, ◌-◌, ◌<◌, ◌≤◌, Bool, true, List, [], ◌++◌, length, drop, set, Option, Some, None, cond, slice_get, get_or, unwrap_or, inl, inr, refl, sym, ap, ◌∙◌, subst, arith}
+use Rattle.std.proofs.Common.{◌≡◌, ◌≢◌, ℕ, zero, suc, ◌+◌, ◌-◌, ◌<◌, ◌≤◌, Bool, true, List, [], ◌++◌, length, drop, set, Option, Some, None, cond, slice_get, get_or, unwrap_or, inl, inr, sym, ap, ◌∙◌, subst, arith}
 use Rattle.std.specs.BTreeMap.{BTreeMap, get, is_at}
 use Rattle.std.specs.Map.{lookup}
 use Rattle.std.specs.Option.{option_cmp}
-use Rattle.std.specs.Ordering.{is_eq, nat_cmp}
-use Rattle.std.proofs.lemmas.Bool.{cases_Bool, cases_eq, cond-true, cond-false, false≢true}
+use Rattle.std.specs.Ordering.{nat_cmp}
+use Rattle.std.proofs.lemmas.Bool.{cases_eq}
 use Rattle.std.proofs.lemmas.List.{length-map, length-set, get_or-set_same, get_or-set_other}
 use Rattle.std.proofs.lemmas.Option.{same_Some, get_or_from_slice_get, slice_get-get_or, slice_get_within}
 use Rattle.std.proofs.Math.Seq.{drop-cons}
+use Rattle.std.proofs.lemmas.Grind.{common_steps}
 use Rattle.model.specs.sites.Sites.{SetRule}
 use Rattle.model.proofs.Mapped.{get_map}
 use Rattle.core_rule_sets.specs.SiteViews.{set_rule_view, set_rule_views}
@@ -20,67 +21,30 @@ use Rattle.core_overlap.proofs.DistinctKeys.{apart_masked, apart_wrong}
 -- 1. the first place of a key
 -- it stands later where the place before isn't of that key
 pub later_first : (keys : List (Option ℕ)) (from at : ℕ) (key : Option ℕ) → IsFirst keys from key at → at ≢ from → IsFirst keys (from + 1) key at
-later_first keys from at key h n = record {
-  behind = let b = h.behind in omega (arith, b, n);
-  within = h.within;
-  none_between = λ m l u. h.none_between m (omega (arith, l)) u;
-  there = h.there;
-}
+later_first keys from at key h n = grind (arith, common_steps)
 
 -- the first one from a place on is the first one from any place between
 pub between_first : (keys : List (Option ℕ)) (from to at : ℕ) (key : Option ℕ) → IsFirst keys from key at → from ≤ to → to ≤ at → IsFirst keys to key at
-between_first keys from to at key h l u = record {
-  behind = u;
-  within = h.within;
-  none_between = λ m a b. h.none_between m (omega (arith, a, l)) b;
-  there = h.there;
-}
+between_first keys from to at key h l u = grind (arith, common_steps)
 
 -- the place itself, where it has the key
 pub here_first : (keys : List (Option ℕ)) (i : ℕ) (key : Option ℕ) → slice_get keys i ≡ Some key → IsFirst keys i key i
-here_first keys i key e = record {
-  behind = omega arith;
-  within = let l = slice_get_within keys i key e in omega (arith, l);
-  none_between = λ m a b. absurd (omega (arith, a, b));
-  there = λ l. e;
-}
+here_first keys i key e = grind (arith, common_steps, slice_get_within keys i key e)
 
 -- one place earlier, which has another key
 pub earlier_first : (keys : List (Option ℕ)) (i at : ℕ) (key other : Option ℕ) → slice_get keys i ≡ Some other → other ≢ key → IsFirst keys (i + 1) key at → IsFirst keys i key at
-earlier_first keys i at key other e n h = record {
-  behind = let b = h.behind in omega (arith, b);
-  within = h.within;
-  none_between = λ m a b s. elim (cases_at m a) [
-    | inl same ↦ n (same_Some other key (sym e ∙ ap (slice_get keys) (sym same) ∙ s))
-    | inr more ↦ h.none_between m more b s
-  ];
-  there = h.there;
-}
-  where
-    cases_at : (m : ℕ) → i ≤ m → (m ≡ i) ⊎ (i + 1 ≤ m)
-    cases_at m l = elim (cases_eq m i) [
-      | inl same ↦ inl same
-      | inr other ↦ inr (omega (arith, l, other))
-    ]
+earlier_first keys i at key other e n h = grind (arith, common_steps, same_Some other key, cases_eq)
 
 -- nothing is found at the end
 pub none_first : (keys : List (Option ℕ)) (key : Option ℕ) → IsFirst keys (length keys) key (length keys)
-none_first keys key = record {
-  behind = omega arith;
-  within = omega arith;
-  none_between = λ m a b. absurd (omega (arith, a, b));
-  there = λ l. absurd (omega (arith, l));
-}
+none_first keys key = grind (arith, common_steps)
 
 -- 2. two places ahead
 nearer_is : (a : Ahead) → (nearer a ≤ a.alike) × (nearer a ≤ a.bare)
 nearer_is a = grind arith
 
 pub nearer_behind : (keys : List (Option ℕ)) (key from : ℕ) (a : Ahead) → IsAhead keys key from a → from ≤ nearer a
-nearer_behind keys key from a h =
-    let x = h.alike.behind in
-    let y = h.bare.behind in
-    grind (arith, x, y)
+nearer_behind keys key from a h = grind (arith, common_steps)
 
 -- from the nearer one on
 pub from_nearer : (keys : List (Option ℕ)) (key from : ℕ) (a : Ahead) → IsAhead keys key from a → IsAhead keys key (nearer a) a
@@ -101,34 +65,15 @@ module _ (keys : List (Option ℕ)) (next : List ℕ) (key from : ℕ) (a : Ahea
   next_at i k u e = n.behind i (get_or next i 0) k e (slice_get-get_or next i 0 u)
 
   pub go_alike : a.alike < a.bare → IsAhead keys key (nearer a + 1) (record { alike = get_or next a.alike 0; bare = a.bare })
-  go_alike before =
-      let same : nearer a ≡ a.alike = grind (arith, before) in
-      let each = n.each in
-      let f = from_nearer keys key from a h in
-      record {
-        alike = subst (λ p. IsFirst keys (p + 1) (Some key) (get_or next a.alike 0)) (sym same) (next_at a.alike (Some key) (omega (arith, same, l)) (h.alike.there (omega (arith, same, l, each))));
-        bare = later_first keys (nearer a) a.bare None f.bare (λ e. omega (arith, e, same, before));
-      }
+  go_alike before = grind (arith, common_steps, from_nearer keys key from a h, next_at a.alike (Some key), later_first keys (nearer a) a.bare None)
 
   pub go_bare : a.bare ≤ a.alike → IsAhead keys key (nearer a + 1) (record { alike = a.alike; bare = get_or next a.bare 0 })
-  go_bare before =
-      let same : nearer a ≡ a.bare = grind (arith, before) in
-      let each = n.each in
-      let f = from_nearer keys key from a h in
-      let none = h.bare.there (omega (arith, same, l, each)) in
-      record {
-        alike = later_first keys (nearer a) a.alike (Some key) f.alike (λ e. two none (h.alike.there (omega (arith, e, l, each))) (e ∙ same));
-        bare = subst (λ p. IsFirst keys (p + 1) None (get_or next a.bare 0)) (sym same) (next_at a.bare None (omega (arith, same, l)) none);
-      }
-    where
-      two : slice_get keys a.bare ≡ Some None → slice_get keys a.alike ≡ Some (Some key) → a.alike ≡ a.bare → ⊥
-      two e f same = absurd (cc (e, f, ap (slice_get keys) same))
+  go_bare before = grind (arith, common_steps, from_nearer keys key from a h, later_first keys (nearer a) a.alike (Some key), next_at a.bare None)
 
 -- 3. the row of a rule
 -- the next rule without a key, behind one without
 pub bare_behind : (keys : List (Option ℕ)) (next : List ℕ) (i bare alike : ℕ) → AreNext keys next → IsFirst keys i None bare → i < length keys → bare ≡ i → slice_get next i ≡ Some alike → IsFirst keys (i + 1) None alike
-bare_behind keys next i bare alike n h l same at =
-    n.behind i alike None (subst (λ p. slice_get keys p ≡ Some None) same (h.there (subst (λ p. p < length keys) (sym same) l))) at
+bare_behind keys next i bare alike n h l same at = grind (arith, common_steps, n.behind i alike None, h.there (subst (λ p. p < length keys) (sym same) l))
 
 -- what stands ahead of a rule with a key
 pub ahead_behind : (keys : List (Option ℕ)) (next : List ℕ) (i bare alike : ℕ) → AreNext keys next → IsFirst keys i None bare → i < length keys → bare ≢ i → slice_get next i ≡ Some alike
@@ -136,8 +81,7 @@ pub ahead_behind : (keys : List (Option ℕ)) (next : List ℕ) (i bare alike : 
 ahead_behind keys next i bare alike n h l other at = of_key (get_or keys i None) (slice_get-get_or keys i None l)
   where
     of_key : (k : Option ℕ) → slice_get keys i ≡ Some k → (key : ℕ) × (slice_get keys i ≡ Some (Some key)) × IsAhead keys key (i + 1) (record { alike = alike; bare = bare })
-    of_key None e = absurd (h.none_between i (omega arith) (let b = h.behind in omega (arith, b, other)) e)
-    of_key (Some key) e = (key, e, record { alike = n.behind i alike (Some key) e at; bare = later_first keys i bare None h other })
+    of_key k e = grind (arith, common_steps, later_first keys i bare None h other, h.none_between i, h.behind, n.behind i alike)
 
 -- 4. what is passed over
 module _ (rules : List Rule) (keys : List (Option ℕ)) (apart : TellApart (set_rule_views rules) keys) (i : ℕ) (left : Rule) (key : ℕ)
@@ -161,9 +105,7 @@ module _ (rules : List Rule) (keys : List (Option ℕ)) (apart : TellApart (set_
   passed : (d from to : ℕ) → to ≡ d + from → to ≤ length rules → ((m : ℕ) → from ≤ m → m < to → slice_get keys m ≢ Some (Some key)) → ((m : ℕ) → from ≤ m → m < to → slice_get keys m ≢ Some None)
       → (wrong_behind own_view (set_rule_views (drop from rules)) ≡ wrong_behind own_view (set_rule_views (drop to rules)))
       × (masked_behind i own_view from (set_rule_views (drop from rules)) ≡ masked_behind i own_view to (set_rule_views (drop to rules)))
-  passed zero from to e l n none =
-      let same : from ≡ to = omega (arith, e) in
-      (ap (λ t. wrong_behind own_view (set_rule_views (drop t rules))) same, ap (λ t. masked_behind i own_view t (set_rule_views (drop t rules))) same)
+  passed zero from to e l n none = grind (arith, common_steps)
   passed (suc d) from to e l n none =
       let inside : from < length rules = omega (arith, e, l) in
       let x = get_or rules from left in
@@ -203,20 +145,10 @@ abbrev same_as : Option ℕ → Option ℕ → Bool
 same_as c q = is_at (option_cmp nat_cmp c) q
 
 at_same : (c q : Option ℕ) → same_as c q ≡ true → c ≡ q
-at_same None None e = refl
-at_same None (Some b) e = absurd (cc)
-at_same (Some a) None e = absurd (cc)
-at_same (Some a) (Some b) e = ap Some (numbers a b e)
-  where
-    numbers : (a b : ℕ) → is_eq (nat_cmp a b) ≡ true → a ≡ b
-    numbers a b e = grind arith
+at_same c q e = grind arith
 
 at_itself : (c q : Option ℕ) → c ≡ q → same_as c q ≡ true
-at_itself c q e = ap (same_as c) (sym e) ∙ itself c
-  where
-    itself : (c : Option ℕ) → same_as c c ≡ true
-    itself None = refl
-    itself (Some a) = grind arith
+at_itself c q e = grind (arith, common_steps)
 
 -- a map has where each key stands first, from a place on
 abbrev pub FirstsFrom : List (Option ℕ) → ℕ → Found → Type 0
@@ -225,17 +157,7 @@ FirstsFrom keys i found = (key : Option ℕ) → IsFirst keys i key (unwrap_or (
 pub firsts_more : (keys : List (Option ℕ)) (i : ℕ) (c : Option ℕ) (old new : Found) → slice_get keys i ≡ Some c
     → ((q : Option ℕ) → get (option_cmp nat_cmp) new q ≡ cond (same_as c q) (Some i) (get (option_cmp nat_cmp) old q))
     → FirstsFrom keys (i + 1) old → FirstsFrom keys i new
-firsts_more keys i c old new e updates h q =
-    let before = get (option_cmp nat_cmp) old q in
-    let place : Option ℕ → ℕ = λ o. unwrap_or o (length keys) in
-    elim (cases_Bool (same_as c q)) [
-      | inl t ↦
-          let found = updates q ∙ cond-true (same_as c q) (Some i) before t in
-          subst (IsFirst keys i q) (sym (ap place found)) (subst (λ k. IsFirst keys i k i) (at_same c q t) (here_first keys i c e))
-      | inr f ↦
-          let found = updates q ∙ cond-false (same_as c q) (Some i) before f in
-          subst (IsFirst keys i q) (sym (ap place found)) (earlier_first keys i (place before) q c e (λ same. false≢true (sym f ∙ at_itself c q same)) (h q))
-    ]
+firsts_more keys i c old new e updates h q = grind (arith, common_steps, at_same c q, here_first keys i c e, earlier_first keys i, at_itself c q)
 
 -- the next ones are there, from a place on
 abbrev pub NextFrom : List (Option ℕ) → ℕ → List ℕ → Type 0

@@ -1,13 +1,13 @@
 -- Rules that ask different things of one site overlap nowhere, so keys by what is asked there tell them apart; and so do the priorities of rules that demand equalities.
-use Rattle.std.proofs.Common.{take, ◌≡◌, ◌≢◌, ℕ, zero, suc, ◌+◌, ◌<◌, ◌==◌, get_or, inl, inr, replicate, Bool, true, false, not, ◌&&◌, ◌||◌, ℤ, unsigned_abs, List, [], ◌∷◌, ◌++◌, length, Option, Some, None, slice_get, int_lt, nat_le, if◌then◌else◌, refl, sym, ap, ◌∙◌, subst, eq-eqb, arith}
+use Rattle.std.proofs.Common.{take, ◌≡◌, ◌≢◌, ℕ, suc, ◌+◌, ◌<◌, ◌==◌, get_or, inl, inr, replicate, Bool, true, false, not, ◌&&◌, ◌||◌, ℤ, List, [], ◌∷◌, ◌++◌, length, Option, Some, None, slice_get, int_lt, nat_le, if◌then◌else◌, refl, sym, ap, ◌∙◌, subst, eq-eqb, arith}
 use Rattle.std.specs.BTreeMap.{BTreeMap, get}
 use Rattle.std.specs.List.{list_any}
 use Rattle.std.specs.Ordering.{int_eq}
-use Rattle.std.proofs.lemmas.Bool.{cases_Bool, and_from}
-use Rattle.std.proofs.lemmas.Bool.Decides.{Decides-int_eq}
+use Rattle.std.proofs.lemmas.Bool.{and_from}
 use Rattle.std.proofs.Math.Bool.{and-false}
 use Rattle.std.proofs.lemmas.List.{length-append, length-replicate, map-append, take_more}
 use Rattle.std.proofs.lemmas.Option.{same_Some, slice_get_within}
+use Rattle.std.proofs.lemmas.Grind.{common_steps}
 use Rattle.model.specs.sites.Sites.{Constraint, is_variant, is_struct, is_bool, is_int, is_prim, is_present, SetRule}
 use Rattle.model.specs.visits.Demands.{constraint_eq}
 use Rattle.model.specs.sites.SetRules.{sites_differ, differs_at, all_agree, equates_none, overlap_between, overlap_wrongly, is_mask_of, may_both_match, is_subset, no_overlap, some_overlap, is_subset_of_sites}
@@ -33,11 +33,7 @@ told as' bs s c d e f n =
 
 -- which differ, differ either way
 either_way : (c d : Constraint) → constraint_eq c d ≡ false → constraint_eq d c ≡ false
-either_way c d n =
-    elim (cases_Bool (constraint_eq d c)) [
-      | inl t ↦ absurd (cc (same_constraint c d (sym (constraint_means d c t)), n))
-      | inr f ↦ f
-    ]
+either_way c d n = grind (arith, common_steps, same_constraint c d, constraint_means d c)
 
 -- a constraint by what it says
 abbrev of_view : Constraint → C.Constraint
@@ -49,12 +45,7 @@ of_view (is_prim name) = T.ConstPrim (record { 0 = name })
 of_view is_present = T.Some
 
 back : (c : C.Constraint) → of_view (constraint_view c) ≡ c
-back (T.Variant ty v fields) = refl
-back (T.Struct ty fields) = refl
-back (T.ConstBool b ty) = refl
-back (T.ConstInt z ty) = refl
-back (T.ConstPrim name) = refl
-back T.Some = refl
+back c = grind (arith, common_steps)
 
 -- which says all of it
 says_all : (c d : C.Constraint) → constraint_view c ≡ constraint_view d → c ≡ d
@@ -63,13 +54,7 @@ says_all c d e = sym (back c) ∙ ap of_view e ∙ back d
 -- two different numbers are of different constraints
 other_number : (numbers : BTreeMap C.Constraint ℕ) (c d : C.Constraint) (k l : ℕ) → get ghosts.cmp numbers c ≡ Some k → get ghosts.cmp numbers d ≡ Some l → k ≢ l
     → constraint_eq (constraint_view c) (constraint_view d) ≡ false
-other_number numbers c d k l e f n =
-    elim (cases_Bool (constraint_eq (constraint_view c) (constraint_view d))) [
-      | inl t ↦
-          let same = says_all c d (constraint_means (constraint_view c) (constraint_view d) t) in
-          absurd (n (same_Some k l (sym e ∙ ap (get ghosts.cmp numbers) same ∙ f)))
-      | inr f ↦ f
-    ]
+other_number numbers c d k l e f n = grind (arith, common_steps, says_all c d, constraint_means (constraint_view c) (constraint_view d), same_Some k l)
 
 no_match : (a b : SetRule) → sites_differ a.constraints b.constraints ≡ true → overlap_between a b ≡ no_overlap
 no_match a b h = ap (λ t. if t then no_overlap else some_overlap (is_subset_of_sites a b)) h
@@ -98,15 +83,10 @@ numbered_tell_apart numbers site rules keys h = record {
 
 -- a rule that demands equalities is of no subset pair
 second_false : (x y : Bool) → (x && false) && y ≡ false
-second_false true y = refl
-second_false false y = refl
+second_false x y = grind (arith, common_steps)
 
 no_pair : (a b : SetRule) (s : Bool) → s ≡ false → is_subset (if sites_differ a.constraints b.constraints then no_overlap else some_overlap s) ≡ false
-no_pair a b s e = ap (λ t. is_subset (if sites_differ a.constraints b.constraints then no_overlap else some_overlap t)) e ∙ of (sites_differ a.constraints b.constraints)
-  where
-    of : (d : Bool) → is_subset (if d then no_overlap else some_overlap false) ≡ false
-    of true = refl
-    of false = refl
+no_pair a b s e = grind (arith, common_steps)
 
 unmasked : (a b : SetRule) → is_subset (overlap_between a b) ≡ false → is_mask_of a b ≡ false
 unmasked a b h = ap (λ t. (int_lt b.prio a.prio && t) && nat_le (total_constraints a) (total_constraints b)) h ∙ ap (λ t. t && nat_le (total_constraints a) (total_constraints b)) (and-false (int_lt b.prio a.prio))
@@ -122,35 +102,19 @@ no_mask_second a b h = unmasked a b (no_pair a b (is_subset_of_sites a b) (ap (�
 
 -- of other priorities
 different : (x y : ℤ) → x ≢ y → int_eq x y ≡ false
-different x y n =
-    elim (cases_Bool (int_eq x y)) [
-      | inl t ↦ absurd (n ((Decides-int_eq x y).0 t))
-      | inr f ↦ f
-    ]
+different x y n = grind (arith, common_steps)
 
 other_priority : (a b : SetRule) → a.prio ≢ b.prio → overlap_wrongly a b ≡ false
 other_priority a b n = ap (λ t. t && may_both_match (overlap_between a b)) (different a.prio b.prio n)
 
 pub priorities_tell_apart : (rules : List SetRule) (keys : List (Option ℕ)) → AreKeyed IsPriorityNumber rules keys → TellApart rules keys
-priorities_tell_apart rules keys h = record {
-  each = h.each;
-  apart = λ i j a b k l ai bj ki lj n.
-      let x = h.keyed i a k ai ki in
-      let y = h.keyed j b l bj lj in
-      record {
-        wrong = other_priority a b (λ e. n (sym x.number ∙ ap unsigned_abs e ∙ y.number));
-        masks = no_mask_first a b x.equates;
-        masked = no_mask_second b a x.equates;
-      };
-}
+priorities_tell_apart rules keys h = grind (arith, common_steps, other_priority, no_mask_first, no_mask_second)
 
 pub apart_wrong : (a b : SetRule) → AreApart a b → wrong_pair a b ≡ []
 apart_wrong a b h = ap (λ t. if t then (a.at, b.at) ∷ [] else []) h.wrong
 
 pub apart_masked : (i : ℕ) (a : SetRule) (j : ℕ) (b : SetRule) → AreApart a b → masked_pair i a j b ≡ []
-apart_masked i a j b h =
-    ap (λ t. (if t then (i, b.at) ∷ [] else []) ++ (if is_mask_of b a then (j, a.at) ∷ [] else [])) h.masks
-    ∙ ap (λ t. if t then (j, a.at) ∷ [] else []) h.masked
+apart_masked i a j b h = grind (arith, common_steps)
 
 -- one more key
 pub keyed_more : (says : SetRule → ℕ → Type 0) (rules : List Rule) (i : ℕ) (d : Rule) (old new : List (Option ℕ)) (key : Option ℕ) → i < length rules
@@ -165,14 +129,8 @@ keyed_more says rules i d old new key l h added this =
     both vs v h this = record {
       each = length-append old (key ∷ []) ∙ ap (λ n. n + 1) h.each ∙ sym (length-append vs (v ∷ []));
       keyed = λ j r k rj kj. elim (get_push_cases vs v r j rj) [
-        | inl before ↦ elim (get_push_cases old key (Some k) j kj) [
-          | inl known ↦ h.keyed j r k before known
-          | inr last ↦ absurd (let lt = slice_get_within vs j r before in let at = last.0 in let e = h.each in omega (arith, lt, at, e))
-        ]
-        | inr here ↦ elim (get_push_cases old key (Some k) j kj) [
-          | inl known ↦ absurd (let lt = slice_get_within old j (Some k) known in let at = here.0 in let e = h.each in omega (arith, lt, at, e))
-          | inr last ↦ subst (λ x. says x k) here.1 (this k last.1)
-        ]
+        | inl before ↦ grind (arith, common_steps, get_push_cases old key (Some k) j kj, slice_get_within)
+        | inr here ↦ grind (arith, common_steps, get_push_cases old key (Some k) j kj, slice_get_within old j (Some k))
       ];
     }
 
@@ -180,13 +138,9 @@ abbrev nothing : Option ℕ
 nothing = None
 
 says_nothing : (n i k : ℕ) → slice_get (replicate n nothing) i ≡ Some (Some k) → ⊥
-says_nothing zero i k e = absurd (cc)
-says_nothing (suc n) zero k e = absurd (cc)
 says_nothing (suc n) (suc i) k e = says_nothing n i k e
+says_nothing _ _ k e = absurd (cc)
 
 -- no key says anything
 pub none_tell_apart : (rules : List SetRule) (keys : List (Option ℕ)) → keys ≡ replicate (length rules) nothing → TellApart rules keys
-none_tell_apart rules keys same = record {
-  each = ap length same ∙ length-replicate (length rules) nothing;
-  apart = λ i j a b k l ai bj ki lj n. absurd (says_nothing (length rules) i k (sym (ap (λ ks. slice_get ks i) same) ∙ ki));
-}
+none_tell_apart rules keys same = grind (arith, common_steps, length-replicate (length rules) nothing, says_nothing (length rules))

@@ -1,11 +1,11 @@
 -- Lists that are gone over, with what is added at each element.
-use Rattle.std.proofs.Common.{◌≡◌, ℕ, ◌≤◌, List, [], ◌++◌, length, drop, sym, ap, ◌∙◌, append_assoc, drop_of_length-le}
+use Rattle.std.proofs.Common.{◌≡◌, ℕ, ◌≤◌, List, [], ◌++◌, length, drop, sym, ap, ◌∙◌, drop_of_length-le, arith}
 use Rattle.std.proofs.lemmas.List.{append-nil}
+use Rattle.std.proofs.lemmas.Grind.{common_steps}
 
 -- one more piece
 pub more : {Y : Type 0} (before now piece rest after whole : List Y) → now ≡ before ++ piece → rest ≡ piece ++ after → before ++ rest ≡ whole → now ++ after ≡ whole
-more before now piece rest after whole e f h =
-    ap (λ l. l ++ after) e ∙ append_assoc before piece after ∙ ap (λ l. before ++ l) (sym f) ∙ h
+more before now piece rest after whole e f h = grind (arith, common_steps)
 
 -- no more
 pub no_more : {X Y : Type 0} (f : List X → List Y) (xs : List X) (i : ℕ) (now whole : List Y) → f [] ≡ [] → length xs ≤ i → now ++ f (drop i xs) ≡ whole → now ≡ whole

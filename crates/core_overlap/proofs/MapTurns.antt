@@ -1,5 +1,5 @@
 -- A loop over a map whose keys are places: each place is done, or what the map has of it is left.
-use Rattle.std.proofs.Common.{◌≡◌, ◌⊎◌, ℕ, true, Option, Some, None, List, [], ◌∷◌, length, unwrap_or, sym, ap, ◌∙◌, subst, inl, inr, arith}
+use Rattle.std.proofs.Common.{◌≡◌, ◌⊎◌, ℕ, true, Option, Some, None, List, [], ◌∷◌, length, unwrap_or, sym, ap, ◌∙◌, inl, inr, arith}
 use Rattle.std.specs.BTreeMap.{BTreeMap, IsEmpty, Updates, get}
 use Rattle.std.specs.BTreeSet as sorted
 use Rattle.std.specs.BTreeSet.{BTreeSet}
@@ -7,8 +7,8 @@ use Rattle.std.specs.Cmp.{IsTotalOrder}
 use Rattle.std.specs.Global.{Vec}
 use Rattle.std.specs.Map.{lookup}
 use Rattle.std.specs.Ordering.{is_eq}
-use Rattle.std.proofs.lemmas.Bool.{cases_Bool, cond-false}
 use Rattle.std.proofs.lemmas.Cmp.{nat_cmp_total, on_total, then_total}
+use Rattle.std.proofs.lemmas.Grind.{common_steps}
 use Rattle.core_syntax.specs.declared.syntax.Pos.{Pos}
 use Rattle.core_syntax.specs.contracts.syntax.PosOrd.TheImpl.{ghosts}
 use Rattle.core_rule_sets.specs.Endings.{items_of}
@@ -33,14 +33,7 @@ all_left done m left e q = inr (ap (found_in q) e)
 
 one_done : {X : Type 0} (before after : Pos → Type 0) (m : BTreeMap Pos X) (left rest : List (Pos × X)) (k : Pos) (v : X) → left ≡ (k, v) ∷ rest
     → after k → ((q : Pos) → before q → after q) → ((q : Pos) → IsDoneOrLeft before m left q) → (q : Pos) → IsDoneOrLeft after m rest q
-one_done before after m left rest k v e this keep all q =
-    elim (cases_Bool (is_eq (ghosts.cmp q k))) [
-      | inl t ↦ inl (subst after (sym (place_means q k t)) this)
-      | inr f ↦ elim (all q) [
-        | inl d ↦ inl (keep q d)
-        | inr l ↦ inr (sym (cond-false (is_eq (ghosts.cmp q k)) (Some v) (found_in q rest) f) ∙ sym (ap (found_in q) e) ∙ l)
-      ]
-    ]
+one_done before after m left rest k v e this keep all q = grind (arith, common_steps, place_means q k)
 
 all_done : {X : Type 0} (done : Pos → Type 0) (m : BTreeMap Pos X) (left : List (Pos × X)) → left ≡ [] → ((q : Pos) → IsDoneOrLeft done m left q)
     → (q : Pos) → done q ⊎ (get ghosts.cmp m q ≡ None)
@@ -55,37 +48,23 @@ pub record AreCounted (others : BTreeMap Pos (Vec Pos)) (counts : BTreeMap Pos �
   pub none : (q : Pos) → get ghosts.cmp others q ≡ None → unreported_at counts q ≡ 0
 
 pub none_counted : (others : BTreeMap Pos (Vec Pos)) (counts : BTreeMap Pos ℕ) (left : List (Pos × Vec Pos)) → IsEmpty counts → left ≡ others.entries → AreCounted others counts left
-none_counted others counts left empty e = record {
-  each = all_left (IsCounted others counts) others left e;
-  none = λ q h. ap (λ es. unwrap_or (found_in q es) 0) empty;
-}
+none_counted others counts left empty e = grind (arith, common_steps, all_left (IsCounted others counts) others left e)
 
 pub one_counted : (others : BTreeMap Pos (Vec Pos)) (counts now : BTreeMap Pos ℕ) (left rest : List (Pos × Vec Pos)) (k : Pos) (v : Vec Pos) (n : ℕ) → left ≡ (k, v) ∷ rest
     → get ghosts.cmp others k ≡ Some v → n ≡ length v.items → Updates ghosts.cmp counts now k (Some n) → AreCounted others counts left → AreCounted others now rest
 one_counted others counts now left rest k v n e found many u s = record {
   each = one_done (IsCounted others counts) (IsCounted others now) others left rest k v e this keep s.each;
-  none = λ q h. elim (cases_Bool (is_eq (ghosts.cmp k q))) [
-    | inl t ↦ absurd (let same = sym found ∙ ap (get ghosts.cmp others) (place_means k q t) ∙ h in cc)
-    | inr f ↦ ap (λ o. unwrap_or o 0) (u.2 q f) ∙ s.none q h
-  ];
+  none = grind (arith, common_steps, place_means k);
 }
   where
     this : IsCounted others now k
     this = ap (λ o. unwrap_or o 0) u.1 ∙ many ∙ sym (ap (λ o. length (items_of o)) found)
 
     keep : (q : Pos) → IsCounted others counts q → IsCounted others now q
-    keep q d =
-        elim (cases_Bool (is_eq (ghosts.cmp k q))) [
-          | inl t ↦ subst (IsCounted others now) (place_means k q t) this
-          | inr f ↦ ap (λ o. unwrap_or o 0) (u.2 q f) ∙ d
-        ]
+    keep q d = grind (arith, common_steps, place_means k q)
 
 pub all_counted : (others : BTreeMap Pos (Vec Pos)) (counts : BTreeMap Pos ℕ) (left : List (Pos × Vec Pos)) → left ≡ [] → AreCounted others counts left → (q : Pos) → IsCounted others counts q
-all_counted others counts left e s q =
-    elim (all_done (IsCounted others counts) others left e s.each q) [
-      | inl d ↦ d
-      | inr none ↦ s.none q none ∙ sym (ap (λ o. length (items_of o)) none)
-    ]
+all_counted others counts left e s q = grind (arith, common_steps, all_done (IsCounted others counts) others left e s.each q)
 
 -- 3. entries by the counts
 pub one_queued : (counts : BTreeMap Pos ℕ) (queue now : BTreeSet (ℕ × Pos)) (left rest : List (Pos × ℕ)) (k : Pos) (n : ℕ) → left ≡ (k, n) ∷ rest → get ghosts.cmp counts k ≡ Some n
@@ -95,8 +74,4 @@ one_queued counts queue now left rest k n e found u all =
     (is_queued counts queue now n k (sym (ap (λ o. unwrap_or o 0) found)) u) (λ q i. queued_with counts queue now (n, k) u q i) all
 
 pub all_queued : (counts : BTreeMap Pos ℕ) (queue : BTreeSet (ℕ × Pos)) (left : List (Pos × ℕ)) → left ≡ [] → ((q : Pos) → IsDoneOrLeft (IsQueued counts queue) counts left q) → AreQueued counts queue
-all_queued counts queue left e all q h =
-    elim (all_done (IsQueued counts queue) counts left e all q) [
-      | inl d ↦ d
-      | inr none ↦ (let z = ap (λ (o : Option ℕ). unwrap_or o 0) none in absurd (omega (arith, z, h)))
-    ]
+all_queued counts queue left e all q h = grind (arith, common_steps, all_done (IsQueued counts queue) counts left e all q)

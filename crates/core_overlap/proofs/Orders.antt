@@ -5,6 +5,7 @@ use Rattle.std.proofs.lemmas.List.Sorted.{sorted_far}
 use Rattle.std.specs.List.{filter}
 use Rattle.std.specs.List.Sorted.{ties, IsSortedBy}
 use Rattle.std.specs.Cmp.{IsStrictWeakOrder}
+use Rattle.std.proofs.lemmas.Grind.{common_steps}
 
 abbrev pub placed : {X : Type 0} → (X → X → Bool) → X → List X → List X
 placed lt x [] = x ∷ []
@@ -15,20 +16,16 @@ ordered_by lt [] = []
 ordered_by lt (x ∷ xs) = placed lt x (ordered_by lt xs)
 
 map_cond : {X Y : Type 0} (f : X → Y) (b : Bool) (xs ys : List X) → map f (cond b xs ys) ≡ cond b (map f xs) (map f ys)
-map_cond f true xs ys = refl
-map_cond f false xs ys = refl
+map_cond f b xs ys = grind (arith, common_steps)
 
 map_placed : {X Y : Type 0} (f : X → Y) (lt : Y → Y → Bool) (x : X) (ys : List X) → map f (placed (λ a b. lt (f a) (f b)) x ys) ≡ placed lt (f x) (map f ys)
 map_placed f lt x [] = refl
-map_placed f lt x (y ∷ ys) =
-    map_cond f (lt (f y) (f x)) (y ∷ placed (λ a b. lt (f a) (f b)) x ys) (x ∷ (y ∷ ys))
-    ∙ ap (λ l. cond (lt (f y) (f x)) (f y ∷ l) (f x ∷ (f y ∷ map f ys))) (map_placed f lt x ys)
+map_placed f lt x (y ∷ ys) = grind (arith, common_steps, map_placed f lt x ys, map_cond f (lt (f y) (f x)) (y ∷ placed (λ a b. lt (f a) (f b)) x ys) (x ∷ (y ∷ ys)))
 
 -- an order by a part, seen by that part
 pub map_in_order : {X Y : Type 0} (f : X → Y) (lt : Y → Y → Bool) (xs : List X) → map f (ordered_by (λ a b. lt (f a) (f b)) xs) ≡ ordered_by lt (map f xs)
 map_in_order f lt [] = refl
-map_in_order f lt (x ∷ xs) =
-    map_placed f lt x (ordered_by (λ a b. lt (f a) (f b)) xs) ∙ ap (placed lt (f x)) (map_in_order f lt xs)
+map_in_order f lt (x ∷ xs) = grind (arith, common_steps, map_in_order f lt xs, map_placed f lt x (ordered_by (λ a b. lt (f a) (f b)) xs))
 
 -- no element is below x; each element is not above those after it
 abbrev pub NoneBelow : {X : Type 0} → (X → X → Bool) → X → List X → Type 0
@@ -59,10 +56,7 @@ module _ {X : Type 0} (lt : X → X → Bool) (o : IsStrictWeakOrder lt) where
   ties_from x y h k = and_from (not (lt x y)) (not (lt y x)) (ap not h) (ap not k)
 
   turned : (a b : Bool) → (not a && not b) ≡ (not b && not a)
-  turned true true = refl
-  turned true false = refl
-  turned false true = refl
-  turned false false = refl
+  turned a b = grind (arith, common_steps)
 
   filter_yes : (p : X → Bool) (x : X) (xs : List X) → p x ≡ true → filter p (x ∷ xs) ≡ x ∷ filter p xs
   filter_yes p x xs h = cond-true (p x) (x ∷ filter p xs) (filter p xs) h
@@ -73,14 +67,7 @@ module _ {X : Type 0} (lt : X → X → Bool) (o : IsStrictWeakOrder lt) where
   -- what a filter keeps was there
   kept_not_below : (p : X → Bool) (b x : X) (ys l : List X) → filter p ys ≡ x ∷ l → NoneBelow lt b ys → lt x b ≡ false
   kept_not_below p b x [] l e h = absurd (nil_cons x l e)
-  kept_not_below p b x (y ∷ ys) l e h =
-      elim (cases_Bool (p y)) [
-        | inl t ↦ subst (λ z. lt z b ≡ false) (head_is y x (filter p ys) l (sym (filter_yes p y ys t) ∙ e)) h.0
-        | inr f ↦ kept_not_below p b x ys l (sym (filter_no p y ys f) ∙ e) h.1
-      ]
-
-  Alike : List X → List X → Type 0
-  Alike xs ys = (z : X) → filter (ties lt z) xs ≡ filter (ties lt z) ys
+  kept_not_below p b x (y ∷ ys) l e h = grind (arith, common_steps, kept_not_below p b x ys l, head_is y x (filter p ys) l, filter_yes p y ys, filter_no p y ys)
 
   heads_tie : (x y : X) (xs ys : List X) → NoneBelow lt x xs → NoneBelow lt y ys → ((z : X) → filter (ties lt z) (x ∷ xs) ≡ filter (ties lt z) (y ∷ ys)) → ties lt x y ≡ true
   heads_tie x y xs ys hx hy f =
@@ -108,21 +95,12 @@ module _ {X : Type 0} (lt : X → X → Bool) (o : IsStrictWeakOrder lt) where
   one_order [] [] r s f = refl
   one_order [] (y ∷ ys) r s f = absurd (nil_cons y (filter (ties lt y) ys) (f y ∙ filter_yes (ties lt y) y ys (ties_self y)))
   one_order (x ∷ xs) [] r s f = absurd (nil_cons x (filter (ties lt x) xs) (sym (f x) ∙ filter_yes (ties lt x) x xs (ties_self x)))
-  one_order (x ∷ xs) (y ∷ ys) r s f =
-      let t = heads_tie x y xs ys r.0 s.0 f in
-      let e : x ≡ y = heads_same x y xs ys t (f x) in
-      let f' : (z : X) → filter (ties lt z) (x ∷ xs) ≡ filter (ties lt z) (x ∷ ys) = λ z. f z ∙ ap (λ w. filter (ties lt z) (w ∷ ys)) (sym e) in
-      let tails : xs ≡ ys = one_order xs ys r.1 s.1 (λ z. tails_alike (ties lt z) x xs ys (f' z)) in
-      cc
+  one_order (x ∷ xs) (y ∷ ys) r s f = grind (arith, common_steps, one_order xs ys r.1 s.1, heads_tie x y xs ys r.0 s.0 f, heads_same x y xs ys, tails_alike)
 
   -- an insert keeps the order, and keeps what ties in order
   below_kept : (b x : X) (ys : List X) → lt x b ≡ false → NoneBelow lt b ys → NoneBelow lt b (placed lt x ys)
   below_kept b x [] h k = (h, tt)
-  below_kept b x (y ∷ ys) h k =
-      elim (cases_Bool (lt y x)) [
-        | inl t ↦ subst (NoneBelow lt b) (sym (cond-true (lt y x) (y ∷ placed lt x ys) (x ∷ (y ∷ ys)) t)) (k.0, below_kept b x ys h k.1)
-        | inr n ↦ subst (NoneBelow lt b) (sym (cond-false (lt y x) (y ∷ placed lt x ys) (x ∷ (y ∷ ys)) n)) (h, k)
-      ]
+  below_kept b x (y ∷ ys) h k = grind (arith, common_steps, below_kept b x ys h k.1)
 
   pub all_above : (x y : X) (ys : List X) → lt y x ≡ false → NoneBelow lt y ys → NoneBelow lt x ys
   all_above x y [] h k = tt
@@ -130,11 +108,7 @@ module _ {X : Type 0} (lt : X → X → Bool) (o : IsStrictWeakOrder lt) where
 
   placed_rising : (x : X) (ys : List X) → Rising lt ys → Rising lt (placed lt x ys)
   placed_rising x [] r = (tt, tt)
-  placed_rising x (y ∷ ys) r =
-      elim (cases_Bool (lt y x)) [
-        | inl t ↦ subst (Rising lt) (sym (cond-true (lt y x) (y ∷ placed lt x ys) (x ∷ (y ∷ ys)) t)) (below_kept y x ys (o.one_way y x t) r.0, placed_rising x ys r.1)
-        | inr n ↦ subst (Rising lt) (sym (cond-false (lt y x) (y ∷ placed lt x ys) (x ∷ (y ∷ ys)) n)) ((n, all_above x y ys n r.0), r)
-      ]
+  placed_rising x (y ∷ ys) r = grind (arith, common_steps, placed_rising x ys r.1, below_kept y x ys, all_above x y ys)
 
   pub in_order_rising : (xs : List X) → Rising lt (ordered_by lt xs)
   in_order_rising [] = tt
@@ -153,21 +127,7 @@ module _ {X : Type 0} (lt : X → X → Bool) (o : IsStrictWeakOrder lt) where
 
   placed_alike : (z x : X) (ys : List X) → filter (ties lt z) (placed lt x ys) ≡ filter (ties lt z) (x ∷ ys)
   placed_alike z x [] = refl
-  placed_alike z x (y ∷ ys) =
-      let p = ties lt z in
-      let ih = placed_alike z x ys in
-      elim (cases_Bool (lt y x)) [
-        | inr n ↦ ap (filter p) (cond-false (lt y x) (y ∷ placed lt x ys) (x ∷ (y ∷ ys)) n)
-        | inl t ↦
-            ap (filter p) (cond-true (lt y x) (y ∷ placed lt x ys) (x ∷ (y ∷ ys)) t)
-            ∙ elim (cases_Bool (p x)) [
-              | inl u ↦
-                  let ny = not_both z x y t u in
-                  filter_no p y (placed lt x ys) ny ∙ ih ∙ filter_yes p x ys u ∙ sym (filter_yes p x (y ∷ ys) u ∙ ap (λ l. x ∷ l) (filter_no p y ys ny))
-              | inr v ↦
-                  ap (λ l. cond (p y) (y ∷ l) l) (ih ∙ filter_no p x ys v) ∙ sym (filter_no p x (y ∷ ys) v)
-            ]
-      ]
+  placed_alike z x (y ∷ ys) = grind (arith, common_steps, placed_alike z x ys, not_both z x y, filter_no, filter_yes)
 
   pub in_order_alike : (z : X) (xs : List X) → filter (ties lt z) (ordered_by lt xs) ≡ filter (ties lt z) xs
   in_order_alike z [] = refl

@@ -1,11 +1,11 @@
 -- Counts of unreported overlaps by rule, and the reports that are made by them.
-use Rattle.std.proofs.Common.{◌≡◌, ◌⊎◌, ◌==◌, ◌&&◌, ◌||◌, ℕ, zero, suc, ◌+◌, ◌-◌, ◌<◌, Bool, true, false, not, nat_lt, if◌then◌else◌, List, [], ◌∷◌, ◌++◌, length, map, filter, refl, sym, ap, ◌∙◌, subst, inl, inr, arith, append_assoc, eqb-true}
+use Rattle.std.proofs.Common.{◌≡◌, ◌⊎◌, ◌==◌, ◌&&◌, ◌||◌, ℕ, suc, ◌-◌, ◌<◌, Bool, true, false, not, nat_lt, if◌then◌else◌, List, [], ◌∷◌, ◌++◌, length, map, filter, refl, sym, ap, ◌∙◌, inl, inr, arith, append_assoc}
 use Rattle.std.specs.BTreeMap.{BTreeMap}
 use Rattle.std.specs.Global.{Vec}
-use Rattle.std.proofs.lemmas.Bool.{cases_Bool}
 use Rattle.std.proofs.lemmas.Bool.Decides.{nat_tests}
 use Rattle.std.proofs.lemmas.List.{length-map, map-append, append-nil}
 use Rattle.std.proofs.lemmas.List.Elements.{filter_agree}
+use Rattle.std.proofs.lemmas.Grind.{common_steps}
 use Rattle.model.specs.lists.Syntax.{Position}
 use Rattle.model.specs.sites.Overlap.{position_eq, position_lt, has_end, other_end, degree, is_reported_before, overlap_reports, overlap_reports_in, rules_overlap, ascending_positions}
 use Rattle.model.specs.claims.Refusals.{overlapping, refusal_of}
@@ -30,10 +30,7 @@ both_listed old mid new first second q apart e f =
     ∙ of (same_pos first q) (same_pos second q) (λ t u. apart (both t u))
   where
     both : same_pos first q ≡ true → same_pos second q ≡ true → same_pos first second ≡ true
-    both t u =
-        let p = position_means (position first) (position q) t in
-        let r = position_means (position second) (position q) u in
-        subst (λ x. position_eq (position first) x ≡ true) (sym r) t
+    both t u = grind (arith, common_steps, position_means (position first) (position q) t, position_means (position second) (position q) u)
 
     of : (a b : Bool) → (a ≡ true → b ≡ true → ⊥) → positions ((old ++ (if a then second ∷ [] else [])) ++ (if b then first ∷ [] else []))
         ≡ positions old ++ (if (a || b) then (if a then position second else position first) ∷ [] else [])
@@ -56,14 +53,11 @@ pub so_far_none : (pairs : List (Position × Position)) (counts : BTreeMap Pos �
 so_far_none pairs counts errors n e l c = record {
   kept = λ p. true;
   counted = λ q. c q ∙ ap (λ ps. degree ps (position q)) (sym (all_kept pairs));
-  reported =
-      ap (λ x. error_views x ++ map refusal_of (map rules_overlap (overlap_reports_in n (kept_pairs (λ p. true) pairs)))) e
-      ∙ (λ k. map refusal_of (map rules_overlap (overlap_reports_in (l k) (all_kept pairs k))));
+  reported = grind (arith, common_steps, kept_pairs (λ p. true) pairs, all_kept pairs);
 }
 
 zero_or_more : (n : ℕ) → (n ≡ 0) ⊎ (0 < n)
-zero_or_more zero = inl refl
-zero_or_more (suc n) = inr (omega arith)
+zero_or_more n = grind (arith, common_steps)
 
 module _ (pairs : List (Position × Position)) (counts : BTreeMap Pos ℕ) (errors : List Error) (n : ℕ) (at : Pos)
     (first : (q : Pos) → 0 < unreported_at counts q → counts_before counts q at ≡ false) (s : IsSoFar pairs counts errors n) where
@@ -109,11 +103,7 @@ module _ (pairs : List (Position × Position)) (counts : BTreeMap Pos ℕ) (erro
   }
     where
       positive : 0 < degree (kept_pairs s.kept pairs) (position at)
-      positive =
-          elim (cases_Bool (unreported_at counts at == 0)) [
-            | inl t ↦ absurd (some (eqb-true (unreported_at counts at) 0 t))
-            | inr f ↦ (let c = s.counted at in let z = some in grind (arith, nat_tests))
-          ]
+      positive = grind (arith, common_steps, nat_tests)
 
       none_before : (y : Position) → is_reported_before (kept_pairs s.kept pairs) y (position at) ≡ false
       none_before y =
@@ -142,11 +132,7 @@ module _ (pairs : List (Position × Position)) (counts : BTreeMap Pos ℕ) (erro
       left_counts q = (λ k. if position_eq (position at) (position q) then 0 else s.counted q k - times_is q k)
 
 no_fuel : (ps : List (Position × Position)) → overlap_reports_in 0 ps ≡ []
-no_fuel [] = refl
-no_fuel (e ∷ ps) = refl
+no_fuel ps = grind (arith, common_steps)
 
 pub so_far_end : (pairs : List (Position × Position)) (counts : BTreeMap Pos ℕ) (errors : List Error) (n : ℕ) → n ≡ 0 → IsSoFar pairs counts errors n → error_views errors ≡ map refusal_of (map rules_overlap (overlap_reports pairs))
-so_far_end pairs counts errors n e s =
-    sym (append-nil (error_views errors))
-    ∙ (λ k. error_views errors ++ map refusal_of (map rules_overlap (sym (ap (λ x. overlap_reports_in x (kept_pairs s.kept pairs)) e ∙ no_fuel (kept_pairs s.kept pairs)) k)))
-    ∙ s.reported
+so_far_end pairs counts errors n e s = grind (arith, common_steps, append-nil (error_views errors), kept_pairs s.kept pairs, no_fuel (kept_pairs s.kept pairs))

@@ -1,9 +1,10 @@
 -- Overlaps that aren't reported yet: which rules they leave, and how many each rule has.
-use Rattle.std.proofs.Common.{◌≡◌, ◌==◌, ◌&&◌, ◌||◌, ℕ, zero, suc, ◌+◌, ◌-◌, ◌<◌, ◌≤◌, Bool, true, false, not, cond, nat_lt, if◌then◌else◌, List, [], ◌∷◌, length, map, filter, flat_map, refl, sym, ap, ◌∙◌, subst, inl, inr, arith, lt-ltb, eq-eqb}
-use Rattle.std.proofs.lemmas.Bool.{cases_Bool, cond-true, cond-false, and_parts, and_from, false≢true, not-true}
+use Rattle.std.proofs.Common.{◌≡◌, ◌==◌, ◌&&◌, ◌||◌, ℕ, suc, ◌+◌, ◌-◌, ◌<◌, ◌≤◌, Bool, true, false, not, cond, nat_lt, if◌then◌else◌, List, [], ◌∷◌, length, map, filter, flat_map, refl, sym, ap, ◌∙◌, subst, inl, inr, arith, eq-eqb}
+use Rattle.std.proofs.lemmas.Bool.{cases_Bool, cond-false, and_parts, and_from, false≢true, not-true}
 use Rattle.std.proofs.lemmas.Bool.Decides.{nat_tests}
 use Rattle.std.proofs.lemmas.List.Elements.{filter_agree}
 use Rattle.std.proofs.Math.Bool.{and-true, or-false}
+use Rattle.std.proofs.lemmas.Grind.{common_steps}
 use Rattle.model.specs.lists.Syntax.{Position}
 use Rattle.model.specs.sites.Overlap.{position_eq, position_lt, has_end, other_end, degree, is_reported_before, foremost, overlap_report, overlap_reports_in}
 use Rattle.model.proofs.Elements.{In, or_split, or_right, in_filter, filter_from, passed_filter, in_map, in_flat_map}
@@ -24,11 +25,7 @@ stands q ns = length (filter (λ p. position_eq p q) ns)
 
 -- 1. tests
 four : (x y u v : Bool) → ((x && y) && not (u || v)) ≡ ((x && not u) && (y && not v))
-four true true true v = refl
-four true true false v = refl
-four true false true v = refl
-four true false false v = refl
-four false y u v = refl
+four x y u v = grind (arith, common_steps)
 
 filter_on : {X : Type 0} (p q : X → Bool) (xs : List X) → ((x : X) → In xs x → p x ≡ q x) → filter p xs ≡ filter q xs
 filter_on p q [] h = refl
@@ -36,100 +33,50 @@ filter_on p q (x ∷ xs) h = (λ k. cond (h x (inl refl) k) (x ∷ filter_on p q
 
 filter_twice : {X : Type 0} (p q : X → Bool) (xs : List X) → filter p (filter q xs) ≡ filter (λ x. q x && p x) xs
 filter_twice p q [] = refl
-filter_twice p q (x ∷ xs) =
-    elim (cases_Bool (q x)) [
-      | inl t ↦
-          ap (filter p) (cond-true (q x) (x ∷ filter q xs) (filter q xs) t)
-          ∙ (λ k. cond (p x) (x ∷ filter_twice p q xs k) (filter_twice p q xs k))
-          ∙ (λ k. cond (sym t k && p x) (x ∷ filter (λ y. q y && p y) xs) (filter (λ y. q y && p y) xs))
-      | inr f ↦
-          ap (filter p) (cond-false (q x) (x ∷ filter q xs) (filter q xs) f)
-          ∙ filter_twice p q xs
-          ∙ (λ k. cond (sym f k && p x) (x ∷ filter (λ y. q y && p y) xs) (filter (λ y. q y && p y) xs))
-    ]
+filter_twice p q (x ∷ xs) = grind (arith, common_steps, filter_twice p q xs)
 
 nil_from_none : {X : Type 0} (xs : List X) → ((x : X) → In xs x → ⊥) → xs ≡ []
 nil_from_none [] h = refl
 nil_from_none (x ∷ xs) h = absurd (h x (inl refl))
 
 in_positive : {X : Type 0} (xs : List X) (x : X) → In xs x → 0 < length xs
-in_positive [] x i = absurd i
-in_positive (y ∷ xs) x i = omega arith
+in_positive xs x i = grind (arith, common_steps)
 
 positive_in : {X : Type 0} (xs : List X) → 0 < length xs → (x : X) × In xs x
 positive_in [] h = absurd (omega (arith, h))
 positive_in (x ∷ xs) h = (x, inl refl)
 
 length_cond : {X : Type 0} (b : Bool) (x : X) (xs : List X) → length (cond b (x ∷ xs) xs) ≡ cond b 1 0 + length xs
-length_cond true x xs = omega arith
-length_cond false x xs = omega arith
+length_cond b x xs = grind (arith, common_steps)
 
 pub filtered_map : {X Y : Type 0} (f : X → Y) (p : Y → Bool) (xs : List X) → map f (filter (λ x. p (f x)) xs) ≡ filter p (map f xs)
 filtered_map f p [] = refl
-filtered_map f p (x ∷ xs) = of (p (f x)) ∙ (λ k. cond (p (f x)) (f x ∷ filtered_map f p xs k) (filtered_map f p xs k))
-  where
-    of : (b : Bool) → map f (cond b (x ∷ filter (λ y. p (f y)) xs) (filter (λ y. p (f y)) xs)) ≡ cond b (f x ∷ map f (filter (λ y. p (f y)) xs)) (map f (filter (λ y. p (f y)) xs))
-    of true = refl
-    of false = refl
+filtered_map f p (x ∷ xs) = grind (arith, common_steps, filtered_map f p xs)
 
 -- 2. the other rule of an overlap
 end_other : (a : Position) (e : Pair) → has_end (other_end a e) e ≡ true
-end_other a e =
-    elim (cases_Bool (position_eq e.0 a)) [
-      | inl t ↦ subst (λ x. has_end x e ≡ true) (sym (cond-true (position_eq e.0 a) e.1 e.0 t)) (second_end e.1 e refl)
-      | inr f ↦ subst (λ x. has_end x e ≡ true) (sym (cond-false (position_eq e.0 a) e.1 e.0 f)) (first_end e.0 e refl)
-    ]
+end_other a e = grind (arith, common_steps, second_end e.1 e refl, first_end e.0 e refl)
 
 second_of : (a : Position) (e : Pair) → has_end a e ≡ true → position_eq e.0 a ≡ false → position_eq e.1 a ≡ true
 second_of a e h f = elim (or_split (position_eq e.0 a) (position_eq e.1 a) h) [ inl t ↦ absurd (false≢true (sym f ∙ t)) | inr t ↦ t ]
 
 both_kept : (kept : Position → Bool) (a : Position) (e : Pair) → kept a ≡ true → has_end a e ≡ true → (kept e.0 && kept e.1) ≡ kept (other_end a e)
-both_kept kept a e ka h =
-    elim (cases_Bool (position_eq e.0 a)) [
-      | inl t ↦
-          (λ k. (ap kept (position_means e.0 a t) ∙ ka) k && kept e.1)
-          ∙ ap kept (sym (cond-true (position_eq e.0 a) e.1 e.0 t))
-      | inr f ↦
-          (λ k. kept e.0 && (ap kept (position_means e.1 a (second_of a e h f)) ∙ ka) k)
-          ∙ and-true (kept e.0)
-          ∙ ap kept (sym (cond-false (position_eq e.0 a) e.1 e.0 f))
-    ]
+both_kept kept a e ka h = grind (arith, common_steps, position_means e.0 a, position_means e.1 a, second_of a e h, and-true (kept e.0))
 
 end_is_other : (a q : Position) (e : Pair) → position_eq a q ≡ false → has_end a e ≡ true → has_end q e ≡ position_eq (other_end a e) q
-end_is_other a q e n h =
-    elim (cases_Bool (position_eq e.0 a)) [
-      | inl t ↦
-          (λ k. (ap (λ x. position_eq x q) (position_means e.0 a t) ∙ n) k || position_eq e.1 q)
-          ∙ ap (λ x. position_eq x q) (sym (cond-true (position_eq e.0 a) e.1 e.0 t))
-      | inr f ↦
-          (λ k. position_eq e.0 q || (ap (λ x. position_eq x q) (position_means e.1 a (second_of a e h f)) ∙ n) k)
-          ∙ or-false (position_eq e.0 q)
-          ∙ ap (λ x. position_eq x q) (sym (cond-false (position_eq e.0 a) e.1 e.0 f))
-    ]
+end_is_other a q e n h = grind (arith, common_steps, position_means e.0 a, position_means e.1 a, second_of a e h, or-false (position_eq e.0 q))
 
 -- 3. what is left of a rule's overlaps
 module _ (a : Position) where
   one_yes : (e : Pair) → has_end a e ≡ true → (b : Bool) (K : List Pair) → neighbours (cond b (e ∷ K) K) a ≡ cond b (other_end a e ∷ neighbours K a) (neighbours K a)
-  one_yes e h true K = ap (map (other_end a)) (cond-true (has_end a e) (e ∷ filter (has_end a) K) (filter (has_end a) K) h)
-  one_yes e h false K = refl
+  one_yes e h b K = grind (arith, common_steps)
 
   one_no : (e : Pair) → has_end a e ≡ false → (b : Bool) (K : List Pair) → neighbours (cond b (e ∷ K) K) a ≡ neighbours K a
-  one_no e h true K = ap (map (other_end a)) (cond-false (has_end a e) (e ∷ filter (has_end a) K) (filter (has_end a) K) h)
-  one_no e h false K = refl
+  one_no e h b K = grind (arith, common_steps)
 
   pub neighbours_kept : (kept : Position → Bool) → kept a ≡ true → (ps : List Pair) → neighbours (kept_pairs kept ps) a ≡ filter kept (neighbours ps a)
   neighbours_kept kept ka [] = refl
-  neighbours_kept kept ka (e ∷ ps) =
-      elim (cases_Bool (has_end a e)) [
-        | inl t ↦
-            one_yes e t (kept e.0 && kept e.1) (kept_pairs kept ps)
-            ∙ (λ k. cond (both_kept kept a e ka t k) (other_end a e ∷ neighbours_kept kept ka ps k) (neighbours_kept kept ka ps k))
-            ∙ ap (filter kept) (sym (one_yes e t true ps))
-        | inr f ↦
-            one_no e f (kept e.0 && kept e.1) (kept_pairs kept ps)
-            ∙ neighbours_kept kept ka ps
-            ∙ ap (filter kept) (sym (one_no e f true ps))
-      ]
+  neighbours_kept kept ka (e ∷ ps) = grind (arith, common_steps, neighbours_kept kept ka ps, one_yes e, both_kept kept a e ka, one_no e)
 
   none_left : (ps : List Pair) → degree (left_over a ps) a ≡ 0
   none_left ps =
@@ -147,21 +94,11 @@ module _ (a : Position) where
             let more = ap (stands q) (one_yes e t true ps) ∙ length_cond (position_eq (other_end a e) q) (other_end a e) (filter (λ p. position_eq p q) (neighbours ps a)) in
             let same = ap {B = ℕ} (λ b. cond b 1 0) (end_is_other a q e n t) in
             omega (arith, later, whole, left, more, same)
-        | inr f ↦
-            let left = ap (λ l. degree l q) (cond-true (not (has_end a e)) (e ∷ left_over a ps) (left_over a ps) (ap not f)) ∙ length_cond (has_end q e) e (filter (has_end q) (left_over a ps)) in
-            let more = ap (stands q) (one_no e f true ps) in
-            omega (arith, later, whole, left, more)
+        | inr f ↦ grind (arith, common_steps, left_over a ps, length_cond (has_end q e) e (filter (has_end q) (left_over a ps)), one_no e f true ps)
       ]
 
   pub degree_left : (q : Position) (ps : List Pair) → degree (left_over a ps) q ≡ (if position_eq a q then 0 else degree ps q - stands q (neighbours ps a))
-  degree_left q ps =
-      elim (cases_Bool (position_eq a q)) [
-        | inl t ↦
-            ap (λ x. degree (left_over a ps) x) (sym (position_means a q t)) ∙ none_left ps
-            ∙ sym (cond-true (position_eq a q) 0 (degree ps q - stands q (neighbours ps a)) t)
-        | inr f ↦
-            (let e = fewer q f ps in omega (arith, e)) ∙ sym (cond-false (position_eq a q) 0 (degree ps q - stands q (neighbours ps a)) f)
-      ]
+  degree_left q ps = grind (arith, common_steps, left_over a ps, position_means a q, none_left ps, fewer q)
 
   pub left_kept : (kept : Position → Bool) (ps : List Pair) → left_over a (kept_pairs kept ps) ≡ kept_pairs (λ p. kept p && not (position_eq p a)) ps
   left_kept kept ps =
@@ -191,11 +128,7 @@ module _ (kept : Position → Bool) (ps : List Pair) where
       in_positive (filter (has_end o) (kept_pairs kept ps)) e.0 (filter_from (has_end o) (kept_pairs kept ps) e.0 in' (subst (λ x. has_end x e.0 ≡ true) e.2 (end_other a e.0)))
 
   told : (a o : Position) → kept a ≡ true → In (neighbours ps a) o → nat_lt 0 (degree (kept_pairs kept ps) o) ≡ kept o
-  told a o ka i =
-      elim (cases_Bool (kept o)) [
-        | inl t ↦ lt-ltb 0 (degree (kept_pairs kept ps) o) (some_of_kept a o ka t i) ∙ sym t
-        | inr f ↦ ap (nat_lt 0) (none_of_others o f) ∙ sym f
-      ]
+  told a o ka i = grind (arith, common_steps, some_of_kept a o ka, none_of_others o)
 
   -- the rules that a kept rule overlaps and that have overlaps left are those that these overlaps name
   pub left_of : (a : Position) → kept a ≡ true → filter (λ o. nat_lt 0 (degree (kept_pairs kept ps) o)) (neighbours ps a) ≡ neighbours (kept_pairs kept ps) a
@@ -226,28 +159,20 @@ module _ (ps : List Pair) where
   foremost_is x a [] (inr i) h = absurd i
   foremost_is x a (b ∷ bs) i h =
       elim (cases_Bool (is_reported_before ps b a)) [
-        | inl t ↦
-            ap (λ u. foremost ps u bs) (cond-true (is_reported_before ps b a) b a t)
-            ∙ foremost_is x b bs
-            (elim i [ inl e ↦ absurd (false≢true (sym (h b) ∙ ap (is_reported_before ps b) (sym e) ∙ t)) | inr j ↦ j ])
-            h
+        | inl t ↦ grind (arith, common_steps, foremost_is x b bs)
         | inr f ↦
             ap (λ u. foremost ps u bs) (cond-false (is_reported_before ps b a) b a f)
             ∙ foremost_is x a bs
             (elim i [
               | inl e ↦ inl e
-              | inr j ↦ elim j [
-                | inl e ↦ inl (one_first a b (ap (is_reported_before ps a) e ∙ h a) f ∙ e)
-                | inr l ↦ inr l
-              ]
+              | inr j ↦ grind (arith, common_steps, one_first a b)
             ])
             h
       ]
 
 -- 6. one more report
 pub no_reports : (n : ℕ) → overlap_reports_in n [] ≡ []
-no_reports zero = refl
-no_reports (suc n) = refl
+no_reports n = grind (arith, common_steps)
 
 -- both ends of each overlap
 abbrev ends_of : List Pair → List Position
@@ -256,10 +181,7 @@ ends_of ps = flat_map (λ e. e.0 ∷ (e.1 ∷ [])) ps
 end_in : (ps : List Pair) (a : Position) (e : Pair) → In ps e → has_end a e ≡ true → In (ends_of ps) a
 end_in ps a e i h =
     in_flat_map (λ (x : Pair). x.0 ∷ (x.1 ∷ [])) ps e a i
-    (elim (or_split (position_eq e.0 a) (position_eq e.1 a) h) [
-      | inl t ↦ inl (position_means e.0 a t)
-      | inr t ↦ inr (inl (position_means e.1 a t))
-    ])
+    (grind (arith, common_steps, or_split (position_eq e.0 a) (position_eq e.1 a) h, position_means e.0 a, position_means e.1 a))
 
 pub one_report : (n : ℕ) (ps : List Pair) (a : Position) → 0 < degree ps a → ((y : Position) → is_reported_before ps y a ≡ false)
     → overlap_reports_in (suc n) ps ≡ overlap_report ps a ∷ overlap_reports_in n (left_over a ps)

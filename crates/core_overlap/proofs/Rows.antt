@@ -1,14 +1,15 @@
 -- What is found row by row is what the definitions say of all rules.
-use Rattle.std.proofs.Common.{◌≡◌, ◌==◌, ◌&&◌, nat_le, ℤ, ℕ, zero, suc, ◌+◌, ◌<◌, ◌≤◌, Bool, true, false, if◌then◌else◌, List, [], ◌∷◌, ◌++◌, length, map, get_or, Some, slice_get, filter, flat_map, int_lt, refl, sym, ap, ◌∙◌, subst, inl, inr, arith, eqb-true, eq-eqb, All, take, set}
+use Rattle.std.proofs.Common.{◌≡◌, ◌==◌, ◌&&◌, nat_le, ℤ, ℕ, zero, suc, ◌+◌, ◌<◌, ◌≤◌, Bool, false, if◌then◌else◌, List, [], ◌∷◌, ◌++◌, length, map, get_or, Some, slice_get, filter, flat_map, int_lt, refl, sym, ap, ◌∙◌, inl, inr, arith, eqb-true, eq-eqb, All, take, set}
 use Rattle.std.specs.Global.{Vec}
 use Rattle.std.proofs.lemmas.Bool.{cases_Bool, cond-true, cond-false, false≢true, ne_eqb}
 use Rattle.std.proofs.lemmas.Int.{ints}
 use Rattle.std.proofs.lemmas.List.{map-append, append-nil, length-map, map-set, length-set, get_or-map, get_or-set_same, get_or-set_other, take_more}
-use Rattle.std.proofs.lemmas.List.Elements.{filter-append, All-cons, All-nil, All-append}
+use Rattle.std.proofs.lemmas.List.Elements.{filter-append, All-nil, All-append}
 use Rattle.std.proofs.lemmas.Option.{slice_get_within}
+use Rattle.std.proofs.lemmas.Grind.{common_steps}
 use Rattle.model.specs.lists.Syntax.{Position}
 use Rattle.model.specs.sites.Sites.{SetRule}
-use Rattle.model.specs.sites.Overlap.{each_two, rule_shadows, ShadowReport}
+use Rattle.model.specs.sites.Overlap.{rule_shadows, ShadowReport}
 use Rattle.model.specs.sites.SetRules.{overlap_between, overlap_wrongly, is_mask_of, is_subset, wrong_among, shadow_report_of, shadows_among}
 use Rattle.model.specs.trees.Best.{total_constraints}
 use Rattle.model.specs.claims.Refusals.{refusal_of}
@@ -28,8 +29,7 @@ abbrev wrong : Two → Bool
 wrong e = overlap_wrongly e.0 e.1
 
 kept_first : {X Y : Type 0} (f : X → Y) (b : Bool) (x : X) (xs : List X) (ys : List Y) → ys ≡ map f xs → (if b then f x ∷ [] else []) ++ ys ≡ map f (if b then x ∷ xs else xs)
-kept_first f true x xs ys e = ap (λ l. f x ∷ l) e
-kept_first f false x xs ys e = e
+kept_first f b x xs ys e = grind (arith, common_steps)
 
 behind_are : (r : SetRule) (rs : List SetRule) → wrong_behind r rs ≡ map ends (filter wrong (map (λ (s : SetRule). (r, s)) rs))
 behind_are r [] = refl
@@ -37,23 +37,17 @@ behind_are r (s ∷ rs) = kept_first ends (overlap_wrongly r s) (r, s) (filter w
 
 pub wrong_rows_are : (rs : List SetRule) → wrong_rows rs ≡ wrong_among rs
 wrong_rows_are [] = refl
-wrong_rows_are (r ∷ rs) =
-    let firsts = map (λ (s : SetRule). (r, s)) rs in
-    (λ k. behind_are r rs k ++ wrong_rows_are rs k)
-    ∙ sym (map-append ends (filter wrong firsts) (filter wrong (each_two rs)))
-    ∙ ap (map ends) (sym (filter-append wrong firsts (each_two rs)))
+wrong_rows_are (r ∷ rs) = grind (arith, common_steps, wrong_rows_are rs, behind_are r rs, map-append ends, filter-append wrong)
 
 -- 2. masks
 of_append : (m : ℕ) (as' bs : List (ℕ × Position)) → of_mask m (as' ++ bs) ≡ of_mask m as' ++ of_mask m bs
 of_append m as' bs = ap (map (λ e. e.1)) (filter-append (λ e. e.0 == m) as' bs) ∙ map-append (λ e. e.1) (filter (λ e. e.0 == m) as') (filter (λ e. e.0 == m) bs)
 
 one_yes : (i m : ℕ) (p : Position) (b : Bool) → i ≡ m → of_mask m (if b then (i, p) ∷ [] else []) ≡ (if b then p ∷ [] else [])
-one_yes i m p true e = ap (map (λ e. e.1)) (cond-true (i == m) ((i, p) ∷ []) [] (eq-eqb i m e))
-one_yes i m p false e = refl
+one_yes i m p b e = grind (arith, common_steps)
 
 one_no : (i m : ℕ) (p : Position) (b : Bool) → (i ≡ m → ⊥) → of_mask m (if b then (i, p) ∷ [] else []) ≡ []
-one_no i m p true h = ap (map (λ e. e.1)) (cond-false (i == m) ((i, p) ∷ []) [] (ne_eqb i m h))
-one_no i m p false h = refl
+one_no i m p b h = grind (arith, common_steps, ne_eqb i m h)
 
 two_are : (m i j : ℕ) (r s : SetRule) → of_mask m (masked_pair i r j s) ≡ of_mask m (if is_mask_of r s then (i, s.at) ∷ [] else []) ++ of_mask m (if is_mask_of s r then (j, r.at) ∷ [] else [])
 two_are m i j r s = of_append m (if is_mask_of r s then (i, s.at) ∷ [] else []) (if is_mask_of s r then (j, r.at) ∷ [] else [])
@@ -63,8 +57,7 @@ pair_first i j r s h =
     two_are i i j r s ∙ (λ k. one_yes i i s.at (is_mask_of r s) refl k ++ one_no j i r.at (is_mask_of s r) h k) ∙ append-nil (if is_mask_of r s then s.at ∷ [] else [])
 
 pair_second : (i j m : ℕ) (r s : SetRule) → (i ≡ m → ⊥) → j ≡ m → of_mask m (masked_pair i r j s) ≡ (if is_mask_of s r then r.at ∷ [] else [])
-pair_second i j m r s h e =
-    two_are m i j r s ∙ (λ k. one_no i m s.at (is_mask_of r s) h k ++ one_yes j m r.at (is_mask_of s r) e k)
+pair_second i j m r s h e = grind (arith, common_steps, two_are m i j r s, one_no i m s.at (is_mask_of r s) h, one_yes j m r.at (is_mask_of s r) e)
 
 pair_other : (i j m : ℕ) (r s : SetRule) → (i ≡ m → ⊥) → (j ≡ m → ⊥) → of_mask m (masked_pair i r j s) ≡ []
 pair_other i j m r s h g = two_are m i j r s ∙ (λ k. one_no i m s.at (is_mask_of r s) h k ++ one_no j m r.at (is_mask_of s r) g k)
@@ -124,28 +117,25 @@ rows_are i (r ∷ rs) (suc n) m q g e =
 
 -- 3. the errors of masks
 shadow_is : (r : SetRule) (fs : List SetRule) → shadow_of r (map (λ s. s.at) fs) ≡ map refusal_of (map rule_shadows (shadow_report_of r fs))
-shadow_is r [] = refl
-shadow_is r (f ∷ fs) = refl
+shadow_is r fs = grind (arith, common_steps)
 
 pub views_append : (as' bs : List ShadowReport) → map refusal_of (map rule_shadows (as' ++ bs)) ≡ map refusal_of (map rule_shadows as') ++ map refusal_of (map rule_shadows bs)
 views_append as' bs = ap (map refusal_of) (map-append rule_shadows as' bs) ∙ map-append refusal_of (map rule_shadows as') (map rule_shadows bs)
 
 pub shadows_are : (all xs : List SetRule) (ls : List (List Position)) → length ls ≡ length xs → ((n : ℕ) (q : SetRule) → slice_get xs n ≡ Some q → get_or ls n [] ≡ map (λ s. s.at) (filter (is_mask_of q) all))
     → shadows_of xs ls ≡ map refusal_of (map rule_shadows (flat_map (λ m. shadow_report_of m (filter (is_mask_of m) all)) xs))
-shadows_are all [] ls e h = refl
-shadows_are all (x ∷ xs) [] e h = absurd (omega (arith, e))
 shadows_are all (x ∷ xs) (l ∷ ls) e h =
     let first = ap (shadow_of x) (h 0 x refl) ∙ shadow_is x (filter (is_mask_of x) all) in
     let rest = shadows_are all xs ls (omega (arith, e)) (λ n q g. h (suc n) q g) in
     (λ k. first k ++ rest k) ∙ sym (views_append (shadow_report_of x (filter (is_mask_of x) all)) (flat_map (λ m. shadow_report_of m (filter (is_mask_of m) all)) xs))
+shadows_are all xs ls e h = grind arith
 
 -- 4. the numbers of masks are those of rules
 abbrev IsBelow : ℕ → ℕ × Position → Type 0
 IsBelow n e = e.0 < n
 
 one_below : (n i : ℕ) (p : Position) (b : Bool) → i < n → All (IsBelow n) (if b then (i, p) ∷ [] else [])
-one_below n i p true l = All-cons (IsBelow n) (i, p) [] l (All-nil (IsBelow n))
-one_below n i p false l = All-nil (IsBelow n)
+one_below n i p b l = grind (arith, common_steps)
 
 behind_below : (n i : ℕ) (r : SetRule) (j : ℕ) (rs : List SetRule) → i < n → j + length rs ≤ n → All (IsBelow n) (masked_behind i r j rs)
 behind_below n i r j [] l h = All-nil (IsBelow n)
@@ -156,9 +146,7 @@ behind_below n i r j (s ∷ rs) l h =
 
 pub rows_below : (n i : ℕ) (rs : List SetRule) → i + length rs ≤ n → All (IsBelow n) (masked_rows i rs)
 rows_below n i [] h = All-nil (IsBelow n)
-rows_below n i (r ∷ rs) h =
-    All-append (IsBelow n) (masked_behind i r (i + 1) rs) (masked_rows (i + 1) rs)
-    (behind_below n i r (i + 1) rs (omega (arith, h)) (omega (arith, h))) (rows_below n (i + 1) rs (omega (arith, h)))
+rows_below n i (r ∷ rs) h = grind (arith, common_steps, rows_below n (i + 1) rs, behind_below n i r (i + 1) rs)
 
 -- 5. with lists by number
 pub shadows_found : (all : List SetRule) (ls : List (Vec Pos)) (es : List (ℕ × Position)) → length ls ≡ length all → es ≡ masked_rows 0 all → AreGrouped ls es
@@ -169,11 +157,7 @@ shadows_found all ls es n e g =
     (λ m q h. let l = slice_get_within all m q h in g m (omega (arith, l, n)) ∙ ap (of_mask m) e ∙ rows_are 0 all m m q h (omega arith))
 
 one_of : (m : ℕ) (e : ℕ × Position) → of_mask m (e ∷ []) ≡ (if e.0 == m then e.1 ∷ [] else [])
-one_of m e = of (e.0 == m)
-  where
-    of : (b : Bool) → map (λ (x : ℕ × Position). x.1) (if b then e ∷ [] else []) ≡ (if b then e.1 ∷ [] else [])
-    of true = refl
-    of false = refl
+one_of m e = grind (arith, common_steps)
 
 pub grouped_more : (ls : List (Vec Pos)) (es : List (ℕ × Pos)) (k : ℕ) (d : ℕ × Pos) (old new : Vec Pos) → k < length es → (get_or es k d).0 < length ls → old ≡ get_or ls (get_or es k d).0 old → new.items ≡ old.items ++ (get_or es k d).1 ∷ []
     → AreGrouped ls (masked_views (take k es)) → AreGrouped (set ls (get_or es k d).0 new) (masked_views (take (k + 1) es))
@@ -203,6 +187,4 @@ grouped_more ls es k d old new lt in' here pushed g m l =
     ]
 
 pub masked_below : (n : ℕ) (es : List (ℕ × Pos)) (vs : List (ℕ × Position)) → masked_views es ≡ vs → All (IsBelow n) vs → All (λ e. e.0 < n) es
-masked_below n es vs e h k d l =
-    let many = length-map es masked_view in
-    subst (λ x. x.0 < n) (get_or-map masked_view es k d (masked_view d) l) (subst (All (IsBelow n)) (sym e) h k (masked_view d) (omega (arith, l, many)))
+masked_below n es vs e h k d l = grind (arith, common_steps, length-map es masked_view, get_or-map masked_view es k d (masked_view d) l)

@@ -1,5 +1,5 @@
 -- Errors and positions in order.
-use Rattle.std.proofs.Common.{◌≡◌, ◌==◌, ◌&&◌, ◌||◌, Bool, true, false, cond, nat_lt, if◌then◌else◌, List, [], ◌∷◌, Contains, filter, map, refl, sym, ap, ap₂, ◌∙◌, subst, inl, inr, eqb-true}
+use Rattle.std.proofs.Common.{◌≡◌, ◌==◌, ◌&&◌, ◌||◌, Bool, true, cond, nat_lt, if◌then◌else◌, List, [], ◌∷◌, Contains, filter, map, refl, sym, ap, ◌∙◌, arith}
 use Rattle.std.proofs.lemmas.Bool.{and_parts}
 use Rattle.std.specs.Prelude.{IsPermutation}
 use Rattle.std.specs.Cmp.{IsStrictWeakOrder}
@@ -10,32 +10,27 @@ use Rattle.std.specs.List.{AllByRecursion, dedup}
 use Rattle.std.specs.List.Sorted.{ties, IsSortedBy, IsSorted, IsStrictlySortedBy}
 use Rattle.std.proofs.lemmas.List.Sorted.{ranks_by, Contains-permutation, IsPermutation-sym}
 use Rattle.std.proofs.lemmas.List.Kept.{IsStrictlySortedBy-dedup, Contains-dedup, Contains-from_dedup}
+use Rattle.std.proofs.lemmas.Grind.{common_steps}
 use Rattle.model.specs.lists.Syntax.{Position}
-use Rattle.model.specs.sites.Overlap.{RuleReport, limit_passed, not_reached, rules_overlap, rule_shadows, report_position, position_lt, with_report, by_position, ascending_positions}
+use Rattle.model.specs.sites.Overlap.{RuleReport, report_position, position_lt, with_report, by_position, ascending_positions}
 use Rattle.model.specs.claims.Refusals.{Refusal, ill_typed, unreachable, overlapping, shadowing, past_limit, refusal_of}
 use Rattle.model.proofs.Elements.{In, in_map, map_in, in_from_contains, contains_from_in}
 use Rattle.core_syntax.specs.SyntaxViews.{position}
 use Rattle.core_syntax.specs.declared.syntax.Error.{Error}
-use Rattle.core_syntax.specs.declared.syntax.Error.TheVariants.{TypeError, UnreachableError, OverlapError, ShadowedError, LimitError}
 use Rattle.core_syntax.specs.declared.syntax.Pos.{Pos}
-use Rattle.core_syntax.specs.declared.syntax.Span.{Span}
 use Rattle.core_syntax.specs.contracts.syntax.PosOrd.TheImpl.{ghosts}
 use Rattle.core_syntax.specs.contracts.syntax.PosOrd.TheImpl.Laws.{total-law, matches_eq-law}
 use Rattle.core_syntax.specs.contracts.syntax.PosEq.TheImpl.Laws.{laws-law}
 use Rattle.core_syntax.specs.contracts.syntax.PosPartialEq.TheImpl as E
 use Rattle.core_overlap.specs.Comparisons.{positions}
-use Rattle.core_syntax.specs.ErrorViews.{span_starts, error_view, error_views}
-use Rattle.core_overlap.specs.ErrorViews.{first_start, error_pos}
+use Rattle.core_syntax.specs.ErrorViews.{error_view, error_views}
+use Rattle.core_overlap.specs.ErrorViews.{error_pos}
 use Rattle.core_overlap.proofs.Ascents.{Ascend, AreAbove, ascending_is}
 use Rattle.core_overlap.proofs.Orders.{placed, ordered_by, map_in_order, sorted_is}
 
 -- 1. the order of places
 by_parts : (x y z w : Bool) → is_lt (ordering_then (cond x Less (cond y Equal Greater)) (cond z Less (cond w Equal Greater))) ≡ (x || (y && z))
-by_parts true y z w = refl
-by_parts false true true w = refl
-by_parts false true false true = refl
-by_parts false true false false = refl
-by_parts false false z w = refl
+by_parts x y z w = grind (arith, common_steps)
 
 pub cmp_lt : (p q : Pos) → is_lt (ghosts.cmp p q) ≡ position_lt (position p) (position q)
 cmp_lt p q = by_parts (nat_lt p.file q.file) (p.file == q.file) (nat_lt p.offset q.offset) (p.offset == q.offset)
@@ -49,22 +44,11 @@ refusal_place (overlapping (r ∷ rs)) = r
 refusal_place (shadowing shadowed mask) = mask
 refusal_place (past_limit limit at) = at
 
-starts : (ss : List Span) → position (first_start ss) ≡ refusal_place (overlapping (span_starts ss))
-starts [] = refl
-starts (s ∷ ss) = refl
-
 place_is : (e : Error) → position (error_pos e) ≡ refusal_place (error_view e)
-place_is (TypeError msg span) = refl
-place_is (UnreachableError msg span) = refl
-place_is (OverlapError msg rules) = starts rules.items
-place_is (ShadowedError shadowed mask) = refl
-place_is (LimitError limit msg span) = refl
+place_is e = grind arith
 
 report_place : (r : RuleReport) → report_position r ≡ refusal_place (refusal_of r)
-report_place (limit_passed limit at) = refl
-report_place (not_reached why at) = refl
-report_place (rules_overlap r) = refl
-report_place (rule_shadows r) = refl
+report_place r = grind (arith, common_steps)
 
 abbrev pub earlier : Refusal → Refusal → Bool
 earlier a b = position_lt (refusal_place a) (refusal_place b)
@@ -81,10 +65,7 @@ by_position_is [] = refl
 by_position_is (r ∷ rs) = with_is r (by_position rs) ∙ ap (placed comes_first r) (by_position_is rs)
 
 pub reports_in_order : (rs : List RuleReport) → map refusal_of (by_position rs) ≡ ordered_by earlier (map refusal_of rs)
-reports_in_order rs =
-    ap (map refusal_of) (by_position_is rs)
-    ∙ (λ k. map refusal_of (ordered_by (λ a b. position_lt (report_place a k) (report_place b k)) rs))
-    ∙ map_in_order refusal_of earlier rs
+reports_in_order rs = grind (arith, common_steps, by_position_is rs, ordered_by, report_place, map_in_order refusal_of earlier rs)
 
 abbrev pub before_in_place : Error → Error → Bool
 before_in_place x y = is_lt (ghosts.cmp (error_pos x) (error_pos y))
@@ -110,11 +91,7 @@ is_less o e = ap is_lt e
 
 all_above : (p : Pos) (ps : List Pos) → AllByRecursion (λ q. ghosts.cmp p q ≡ Less) ps → AreAbove (position p) (positions ps)
 all_above p [] h b i = absurd i
-all_above p (q ∷ ps) h b i =
-    elim i [
-      | inl e ↦ subst (λ x. position_lt (position p) x ≡ true) e (sym (cmp_lt p q) ∙ is_less (ghosts.cmp p q) h.0)
-      | inr j ↦ all_above p ps h.1 b j
-    ]
+all_above p (q ∷ ps) h b i = grind (arith, common_steps, all_above p ps h.1 b, cmp_lt p q, is_less (ghosts.cmp p q) h.0)
 
 strictly_ascend : (ps : List Pos) → IsStrictlySortedBy ghosts.cmp ps → Ascend (positions ps)
 unfolding IsStrictlySortedBy
@@ -122,9 +99,7 @@ strictly_ascend [] h = tt
 strictly_ascend (p ∷ ps) h = (all_above p ps h.0, strictly_ascend ps h.1)
 
 moved : (xs ys : List Pos) → ((p : Pos) → Contains xs p → Contains ys p) → (z : Position) → In (positions xs) z → In (positions ys) z
-moved xs ys f z i =
-    let p = in_map position xs z i in
-    subst (In (positions ys)) p.2 (map_in position ys p.0 (in_from_contains ys p.0 (f p.0 (contains_from_in xs p.0 p.1))))
+moved xs ys f z i = grind (arith, common_steps, in_map position xs z i, map_in position ys, in_from_contains ys, contains_from_in xs)
 
 -- a list that is sorted, each place once
 pub sorted_places : (xs ys zs : List Pos) → IsPermutation xs ys → IsSorted ghosts.cmp ys → zs ≡ dedup E.ghosts.eq ys → positions zs ≡ ascending_positions (positions xs)
@@ -136,6 +111,4 @@ sorted_places xs ys zs p s e =
     (moved (dedup E.ghosts.eq ys) xs (λ q c. Contains-permutation ys xs q (IsPermutation-sym xs ys p) (Contains-from_dedup E.ghosts.eq ys q c)))
   where
     same_places : (a b : Pos) → E.ghosts.eq a b ≡ true → a ≡ b
-    same_places a b h =
-        let q = and_parts (a.file == b.file) (a.offset == b.offset) h in
-        ap₂ (λ f o. record { file = f; offset = o }) (eqb-true a.file b.file q.0) (eqb-true a.offset b.offset q.1)
+    same_places a b h = grind (arith, common_steps, and_parts (a.file == b.file) (a.offset == b.offset) h)
