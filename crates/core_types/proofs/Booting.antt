@@ -1,15 +1,15 @@
 -- Adding the built-in types, one after another.
-use Rattle.std.proofs.Common.{◌≡◌, ℕ, ◌+◌, ◌<◌, false, cond, List, [], ◌∷◌, ◌++◌, length, drop, get_or, map, slice_get, sym, ap, subst, ◌∙◌, inl, inr, refl}
+use Rattle.std.proofs.Common.{◌≡◌, ℕ, ◌+◌, ◌<◌, false, cond, List, [], ◌∷◌, ◌++◌, length, drop, get_or, map, sym, ap, subst, ◌∙◌, inl, inr, refl, arith}
 use Rattle.std.proofs.lemmas.List.{append_assoc, append-nil, at_drop_more}
-use Rattle.model.specs.lists.Names.{has_name, AreNumbersOf}
-use Rattle.model.specs.rules.Outcome.{then_option}
+use Rattle.std.proofs.lemmas.Grind.{common_steps}
+use Rattle.model.specs.lists.Names.{has_name}
 use Rattle.model.specs.lists.Tables.{builtin_type}
-use Rattle.model.specs.lists.TypeTable.{builtin_names, place_from}
+use Rattle.model.specs.lists.TypeTable.{builtin_names}
 use Rattle.core_syntax.specs.Stable.{entry_count}
 use Rattle.core_types.specs.declared.builtin.BuiltinType.{BuiltinType}
 use Rattle.core_types.specs.declared.type_env.TypeEnv.{TypeEnv}
 use Rattle.core_types.specs.Builtin.{builtin_name, builtin_place}
-use Rattle.core_types.specs.Envs.{names_of, symbol_of, IsInterned}
+use Rattle.core_types.specs.Envs.{names_of, IsInterned}
 use Rattle.core_types.specs.Reading.{AddsBuiltin}
 use Rattle.core_types.specs.Stages.{Sees, Booting}
 use Rattle.core_types.specs.TypeTables.{SeesTypes}
@@ -42,14 +42,7 @@ module _ (env : TypeEnv) (s : Booting env []) where
   all_names = sym (append-nil (names_of env)) ∙ s.whole
 
   pub booted : SeesTypes env [] builtin_names
-  booted = record {
-    names = all_names;
-    inverse = subst (λ ns. AreNumbersOf ns (symbol_of env)) all_names s.inverse;
-    types = sym (append-nil (type_views env.types.items)) ∙ s.types;
-    ids = λ k. s.sees.ids k ∙ ap (λ ns. then_option (slice_get ns k) (λ x. place_from 0 x ns)) all_names;
-    constants = s.sees.constants;
-    errors = s.sees.errors;
-  }
+  booted = grind (arith, common_steps, all_names, append-nil (type_views env.types.items))
 
   pub booted_count : entry_count env.type_map ≡ 13
   booted_count = s.sees.count ∙ ap length all_names

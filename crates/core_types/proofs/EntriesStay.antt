@@ -1,10 +1,10 @@
 -- Names that are met later change no entry whose own names were met.
-use Rattle.std.proofs.Common.{◌≡◌, ℕ, ◌+◌, List, [], ◌∷◌, map, All, IsTrue, refl, sym, ap, ◌∙◌}
+use Rattle.std.proofs.Common.{◌≡◌, ℕ, ◌+◌, List, [], ◌∷◌, map, All, IsTrue, refl, sym, ap, ◌∙◌, arith}
 use Rattle.std.specs.List.{flat_map, enumerate_from}
-use Rattle.std.proofs.lemmas.List.Elements.{All-nil, All-cons, All-head, All-tail, All-weaker}
-use Rattle.model.specs.lists.Syntax.{FieldTree, FieldTrees, unit_fields, struct_fields, tuple_fields, VariantTree, TypeTree, TypeValueTree, primitive_value, enum_value, struct_value, Definition}
+use Rattle.std.proofs.lemmas.List.Elements.{All-nil, All-head, All-tail, All-weaker}
+use Rattle.std.proofs.lemmas.Grind.{common_steps}
+use Rattle.model.specs.lists.Syntax.{FieldTree, FieldTrees, VariantTree, TypeTree, TypeValueTree, primitive_value, enum_value, struct_value, Definition}
 use Rattle.model.specs.lists.Names.{number, has_name, with_name, with_names}
-use Rattle.model.specs.lists.Tables.{primitive_type, enum_type, struct_type, struct_entries}
 use Rattle.model.specs.lists.TypeTable.{full_name, field_names, variant_names, names_inside, type_or_first, field_entry, field_entries, variant_entry, entry_at, type_entry}
 use Rattle.core_types.proofs.RightTypes.{all_left, all_right}
 use Rattle.model.proofs.Names.{has_new, has_kept, number_kept}
@@ -18,8 +18,7 @@ met_more ns ys xs h = All-weaker (λ x. IsTrue (has_name ns x)) (λ x. IsTrue (h
 
 pub met_self : (ns xs : List (List ℕ)) → AllMet (with_names ns xs) xs
 met_self ns [] = All-nil _
-met_self ns (x ∷ xs) =
-    All-cons (λ y. IsTrue (has_name (with_names (with_name ns x) xs) y)) x xs (has_kept (with_name ns x) xs x (has_new ns x)) (met_self (with_name ns x) xs)
+met_self ns (x ∷ xs) = grind (arith, common_steps, met_self (with_name ns x) xs, has_kept (with_name ns x) xs x (has_new ns x), has_new ns x)
 
 module _ (defs : List Definition) (ns more : List (List ℕ)) where
   abbrev IsMet : List ℕ → Type 0
@@ -40,9 +39,7 @@ module _ (defs : List Definition) (ns more : List (List ℕ)) where
       ∙ ap (λ l. field_entry defs later id f ∷ l) r
 
   pub fields_stay : (fs : FieldTrees) → All IsMet (field_names fs) → field_entries defs ns fs ≡ field_entries defs later fs
-  fields_stay unit_fields h = refl
-  fields_stay (struct_fields fs) h = ap struct_entries (struct_stays 0 fs h)
-  fields_stay (tuple_fields fs) h = refl
+  fields_stay fs h = grind (arith, struct_stays)
 
   pub variant_stays : (ty : List ℕ) (id : ℕ) (v : VariantTree) → All IsMet (variant_names ty v) → variant_entry defs ns ty id v ≡ variant_entry defs later ty id v
   variant_stays ty id v h =
@@ -63,14 +60,9 @@ module _ (defs : List Definition) (ns more : List (List ℕ)) where
       ∙ ap (λ l. variant_entry defs later ty id v ∷ l) r
 
   entry_stays : (id : ℕ) (t : TypeTree) (value : TypeValueTree) → IsMet t.name.text → All IsMet (names_inside t.name.text value) → entry_at defs ns id t value ≡ entry_at defs later id t value
-  entry_stays id t (primitive_value name at) own h =
-      ap (λ n. primitive_type id n t.at) (same_number name.text (All-head IsMet name.text [] h))
-  entry_stays id t (enum_value vs at) own h =
-      ap (λ n. enum_type n id t.is_extern t.is_nodebug (map (λ p. variant_entry defs ns t.name.text p.0 p.1) (enumerate_from 0 vs)) t.at) (same_number t.name.text own)
-      ∙ ap (λ l. enum_type (number later t.name.text) id t.is_extern t.is_nodebug l t.at) (variants_stay t.name.text 0 vs h)
-  entry_stays id t (struct_value fs at) own h =
-      ap (λ n. struct_type n id t.is_extern t.is_nodebug (field_entries defs ns fs) t.at) (same_number t.name.text own)
-      ∙ ap (λ l. struct_type (number later t.name.text) id t.is_extern t.is_nodebug l t.at) (fields_stay fs h)
+  entry_stays id t (primitive_value name at) own h = grind (arith, common_steps, same_number name.text (All-head IsMet name.text [] h))
+  entry_stays id t (enum_value vs at) own h = grind (arith, common_steps, same_number t.name.text own, variants_stay t.name.text 0 vs h)
+  entry_stays id t (struct_value fs at) own h = grind (arith, common_steps, same_number t.name.text own, fields_stay fs h)
 
   -- what a type becomes by the names that were met, it becomes by more
   pub type_stays : (id : ℕ) (t : TypeTree) → IsMet t.name.text → All IsMet (names_inside t.name.text t.value) → type_entry defs ns id t ≡ type_entry defs later id t

@@ -1,6 +1,7 @@
 -- What a type environment sees after one more name, or one more type.
 use Rattle.std.proofs.Common.{◌≡◌, ℕ, ◌+◌, true, false, cond, nat_eq, List, [], ◌∷◌, ◌++◌, length, Some, None, option_map, slice_get, refl, sym, ap, subst, ◌∙◌, arith, eqb-true}
 use Rattle.std.proofs.lemmas.List.{length_push}
+use Rattle.std.proofs.lemmas.Grind.{common_steps}
 use Rattle.model.specs.lists.Names.{number, has_name, with_name}
 use Rattle.model.specs.rules.Outcome.{then_option}
 use Rattle.model.specs.lists.TypeTable.{place_from}
@@ -22,8 +23,7 @@ module _ (env : TypeEnv) (ts : List (List ℕ)) (s : Sees env ts) where
   -- a name is met, and nothing else
   pub sees_name : (new : TypeEnv) (x : List ℕ) → names_of new ≡ with_name (names_of env) x → new.type_map ≡ env.type_map → new.const_types ≡ env.const_types → new.errors ≡ env.errors → Sees new ts
   sees_name new x names types constants errors = record {
-    ids = λ k. ap (λ m. option_map (λ t. t.0) (look_up same_symbol m (symbol k))) types ∙ s.ids k
-        ∙ sym (ap (λ ns. then_option (slice_get ns k) (λ y. place_from 0 y ts)) names ∙ then_with (names_of env) x (λ y. place_from 0 y ts) (s.known x) k);
+    ids = grind (arith, common_steps, then_with (names_of env) x (λ y. place_from 0 y ts) (s.known x));
     known = λ y e. s.known y (with_missing (names_of env) x y (subst (λ ns. has_name ns y ≡ false) names e)).0;
     count = ap entry_count types ∙ s.count;
     constants = λ k. ap (λ m. option_map (λ t. t.0) (look_up same_symbol m (symbol k))) constants ∙ s.constants k;
@@ -50,12 +50,4 @@ module _ (env : TypeEnv) (ts : List (List ℕ)) (s : Sees env ts) where
 
     -- a name becomes that of the next type
     pub sees_type : Sees new (ts ++ x ∷ [])
-    sees_type = record {
-      ids = ids_named;
-      known = λ y e.
-          let r = with_missing (names_of env) x y (subst (λ ns. has_name ns y ≡ false) n.names e) in
-          place_push_other 0 ts x y r.1 ∙ s.known y r.0;
-      count = n.count ∙ ap (λ c. c + 1) s.count ∙ sym (length_push ts x);
-      constants = λ k. ap (λ m. option_map (λ t. t.0) (look_up same_symbol m (symbol k))) n.const_types ∙ s.constants k;
-      errors = ap (λ v. v.items) n.errors ∙ s.errors;
-    }
+    sees_type = grind (arith, common_steps, ids_named, with_missing (names_of env) x, place_push_other 0 ts x, length_push ts x)

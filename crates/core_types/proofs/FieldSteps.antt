@@ -1,12 +1,13 @@
 -- Reading the fields of a list, one after another.
-use Rattle.std.proofs.Common.{◌≡◌, ℕ, suc, ◌+◌, ◌<◌, ◌≤◌, true, false, List, [], ◌∷◌, ◌++◌, length, map, drop, get_or, Some, None, All, unwrap_or, refl, sym, ap, subst, ◌∙◌, arith, ⊎_elim}
+use Rattle.std.proofs.Common.{◌≡◌, ℕ, ◌+◌, ◌<◌, ◌≤◌, true, false, List, [], ◌∷◌, ◌++◌, length, map, drop, get_or, Some, None, All, unwrap_or, refl, sym, ap, subst, ◌∙◌, arith, ⊎_elim}
 use Rattle.std.specs.List.{flat_map, enumerate_from}
 use Rattle.std.specs.Option.{is_some}
 use Rattle.std.proofs.lemmas.Bool.{false≢true}
 use Rattle.std.proofs.lemmas.List.{append_assoc, append-nil, map-append, length_push, at_drop_more, at_drop_all}
 use Rattle.std.proofs.lemmas.List.Elements.{All-nil, All-push, All-head, All-tail}
+use Rattle.std.proofs.lemmas.Grind.{common_steps}
 use Rattle.model.specs.lists.Syntax.{Name, FieldTree, TupleFieldTree, struct_fields, tuple_fields, Definition}
-use Rattle.model.specs.lists.Names.{number, with_name, with_names, IsDistinct, AreNumbersOf}
+use Rattle.model.specs.lists.Names.{number, with_name, with_names, IsDistinct}
 use Rattle.model.specs.lists.Tables.{FieldEntry, TupleFieldEntry, struct_entries, tuple_entries}
 use Rattle.model.specs.lists.TypeTable.{field_names, all_type_names, place_from, IsKnownType, type_or_first, field_entry, tuple_field_entry}
 use Rattle.core_syntax.specs.declared.syntax.Error.{Error}
@@ -41,9 +42,7 @@ all_middle P (z ∷ zs) x ys h = all_middle P zs x ys (All-tail P z (zs ++ x ∷
 -- one more element, numbered
 number_push : {X Y : Type 0} (f : ℕ × X → Y) (n : ℕ) (xs : List X) (x : X) → map f (enumerate_from n (xs ++ x ∷ [])) ≡ map f (enumerate_from n xs) ++ f (n + length xs, x) ∷ []
 number_push f n [] x = ap (λ k. f (k, x) ∷ []) (omega arith)
-number_push f n (y ∷ ys) x =
-    let past : n + 1 + length ys ≡ n + suc (length ys) = omega arith in
-    ap (λ zs. f (n, y) ∷ zs) (number_push f (n + 1) ys x ∙ ap (λ k. map f (enumerate_from (n + 1) ys) ++ f (k, x) ∷ []) past)
+number_push f n (y ∷ ys) x = grind (arith, common_steps, number_push f (n + 1) ys x)
 
 -- the type that is found by a name has the name's place among the names of types
 pub found_type : (env : TypeEnv) (types : List (List ℕ)) → Sees env types → IsInterned env → (x : List ℕ) → type_of_name env x ≡ place_from 0 x types
@@ -102,12 +101,7 @@ first_field defs fs seen env s none = record {
 
 -- after the last one
 last_field : (defs : List Definition) (fs : List FieldTree) (read : List StructField) (seen : Members Sym) (old new : TypeEnv) → FieldsRead defs fs [] read seen old new → AreRightFields defs (struct_fields fs) × MeetsNames (names_in fs) old new × (map field_view read ≡ entries_of defs (names_of new) fs)
-last_field defs fs read seen old new s =
-    let all : s.done ≡ fs = sym (append-nil s.done) ∙ s.whole in (
-      subst (λ gs. AreRightFields defs (struct_fields gs)) all (record { distinct = s.distinct; known = s.known }),
-      subst (λ gs. MeetsNames (names_in gs) old new) all s.met,
-      s.entries [] ∙ ap (entries_of defs (names_of new)) all,
-    )
+last_field defs fs read seen old new s = grind (arith, common_steps, append-nil s.done, s.done, s.whole, s.distinct, s.known, s.entries [])
 
 module _ (defs : List Definition) (all rest : List FieldTree) (f : FieldTree) (read : List StructField) (seen : Members Sym) (old env : TypeEnv) (s : FieldsRead defs all (f ∷ rest) read seen old env) (new : TypeEnv) (m : MeetsNames (f.name.text ∷ []) env new) (i : IsInterned new) where
   sees_now : Sees new (all_type_names defs)
@@ -120,15 +114,7 @@ module _ (defs : List Definition) (all rest : List FieldTree) (f : FieldTree) (r
   names_after = map-append (λ (g : FieldTree). g.name.text) s.done (f ∷ [])
 
   met_after : MeetsNames (names_in (s.done ++ f ∷ [])) old new
-  met_after = record {
-    names = m.names ∙ ap (λ ns. with_name ns f.name.text) s.met.names
-        ∙ sym (with_names_append (names_of old) (names_in s.done) (f.name.text ∷ []))
-        ∙ ap (with_names (names_of old)) (sym names_after);
-    types = m.types ∙ s.met.types;
-    type_map = m.type_map ∙ s.met.type_map;
-    const_types = m.const_types ∙ s.met.const_types;
-    errors = m.errors ∙ s.met.errors;
-  }
+  met_after = grind (arith, common_steps, with_names_append (names_of old) (names_in s.done) (f.name.text ∷ []))
 
   module _ (r : StructField) (id : ℕ) (at : id ≡ length read) (seen' : Members Sym) (a : IsField f id r env new seen seen') where
     known_now : place_from 0 f.ty.text (all_type_names defs) ≡ Some r.ty.0
@@ -150,10 +136,7 @@ module _ (defs : List Definition) (all rest : List FieldTree) (f : FieldTree) (r
         ∙ ap (λ ns. entries_of defs (with_names ns more) (s.done ++ f ∷ [])) (sym m.names)
 
     numbers_after : HasSeen (names_of new) seen' (names_in (s.done ++ f ∷ []))
-    numbers_after =
-        let inverse = subst (λ ns. AreNumbersOf ns (symbol_of new)) m.names i in
-        let more = one_seen (names_of env) seen (names_in s.done) s.numbers f.name.text seen' (symbol_of new) inverse a.fresh a.more in
-        subst (λ ns. HasSeen ns seen' (names_in (s.done ++ f ∷ []))) (sym m.names) (subst (HasSeen (with_name (names_of env) f.name.text) seen') (sym names_after) more)
+    numbers_after = grind (arith, common_steps, one_seen (names_of env) seen (names_in s.done) s.numbers f.name.text seen' (symbol_of new))
 
     -- after a field that is right
     next_field : FieldsRead defs all rest (read ++ r ∷ []) seen' old new
@@ -260,15 +243,7 @@ no_names : IsDistinct (field_names (tuple_fields []))
 no_names j k x p q = absurd (cc)
 
 pub reads_last_tuple : (fields : List U.TupleField) (k : ℕ) → length fields ≤ k → (read : List TupleField) (env : TypeEnv) (es es' : List Error) → ReadsMoreTuple fields (drop k fields) read env es es' → (defs : List Definition) → Sees env (all_type_names defs) → (es' ≡ es) × AreRightFields defs (tuple_fields (map X.tuple_field_view fields)) × MeetsNames [] env env × (tuple_entries (map tuple_field_view read) ≡ tuple_entries (tuple_entries_of defs (map X.tuple_field_view fields)))
-reads_last_tuple fields k past read env es es' s defs sees =
-    let none : map X.tuple_field_view (drop k fields) ≡ [] = at_drop_all (map X.tuple_field_view) fields k past in
-    let l = s.reads defs sees in
-    let all : l.done ≡ map X.tuple_field_view fields = sym (append-nil l.done) ∙ sym (ap (λ rest. l.done ++ rest) none) ∙ l.whole in (
-      s.unnoted,
-      subst (λ fs. AreRightFields defs (tuple_fields fs)) all (record { distinct = no_names; known = l.known }),
-      record { names = refl; types = refl; type_map = refl; const_types = refl; errors = refl },
-      ap tuple_entries (l.entries ∙ ap (tuple_entries_of defs) all),
-    )
+reads_last_tuple fields k past read env es es' s defs sees = grind (arith, common_steps, at_drop_all (map X.tuple_field_view) fields k past, append-nil, no_names)
 
 module _ (fields : List U.TupleField) (k : ℕ) (d : U.TupleField) (within : k < length fields) (here : d ≡ get_or fields k d) (read : List TupleField) (env : TypeEnv) (es now es' : List Error) (s : ReadsMoreTuple fields (drop k fields) read env es now) (i : IsInterned env) (id : ℕ) (defs : List Definition) (sees : Sees env (all_type_names defs)) where
   before : TupleFieldsRead defs (map X.tuple_field_view fields) (map X.tuple_field_view (drop k fields)) read
@@ -302,10 +277,7 @@ module _ (fields : List U.TupleField) (k : ℕ) (d : U.TupleField) (within : k <
 module _ (fields : List U.TupleField) (k : ℕ) (d : U.TupleField) (within : k < length fields) (here : d ≡ get_or fields k d) (read : List TupleField) (env : TypeEnv) (es now es' : List Error) (s : ReadsMoreTuple fields (drop k fields) read env es now) (i : IsInterned env) (id : ℕ) where
   -- after a field that is right
   pub reads_next_tuple : (r : TupleField) → id ≡ length read → ReadsTupleField (X.tuple_field_view d) id (Some r) env now es' → ReadsMoreTuple fields (drop (k + 1) fields) (read ++ r ∷ []) env es es'
-  reads_next_tuple r at a = record {
-    unnoted = a.0 ∙ s.unnoted;
-    reads = λ defs sees. next_part fields k d within here read env es now es' s i id defs sees r at a.1;
-  }
+  reads_next_tuple r at a = grind (arith, common_steps, next_part fields k d within here read env es now es' s i id)
 
   -- at one that is wrong
   pub reads_wrong_tuple : ReadsTupleField (X.tuple_field_view d) id None env now es' → (defs : List Definition) → Sees env (all_type_names defs) → EndsAt (flat_map tuple_field_positions (map X.tuple_field_view fields)) env es env es' × (AreRightFields defs (tuple_fields (map X.tuple_field_view fields)) → ⊥)

@@ -1,8 +1,9 @@
 -- Reading what the types are, one definition after another.
-use Rattle.std.proofs.Common.{◌≡◌, ℕ, ◌+◌, ◌<◌, List, [], ◌∷◌, ◌++◌, length, take, drop, get_or, All, Contains, IsTrue, refl, sym, ap, subst, ◌∙◌, inl, inr}
+use Rattle.std.proofs.Common.{◌≡◌, ℕ, ◌+◌, ◌<◌, List, [], ◌∷◌, ◌++◌, length, take, drop, get_or, All, Contains, IsTrue, refl, sym, ap, subst, ◌∙◌, inl, inr, arith}
 use Rattle.std.specs.List.{flat_map}
 use Rattle.std.proofs.lemmas.List.{append_assoc, append-nil, at_drop_more, length_push, length-map, map_push}
 use Rattle.std.proofs.lemmas.List.Elements.{All-nil, All-cons, All-head}
+use Rattle.std.proofs.lemmas.Grind.{common_steps}
 use Rattle.model.specs.lists.Syntax.{TypeTree, Definition, type_definition, declaration, extractor_definition, converter_definition, rule_definition, extern_definition, other_definition}
 use Rattle.model.specs.lists.Names.{has_name, with_names, IsDistinct}
 use Rattle.model.specs.lists.Tables.{TypeEntry}
@@ -31,8 +32,7 @@ use Rattle.core_types.proofs.ToldErrors.{some_told, not_same, noted_none, noted_
 
 -- one more entry, where what follows depends on how many there are
 push_entry : (es es' : List TypeEntry) (p q : TypeEntry) (G : ℕ → List TypeEntry) (whole : List TypeEntry) → es' ≡ es ++ p ∷ [] → p ≡ q → es ++ (q ∷ G (length es + 1)) ≡ whole → es' ++ G (length es') ≡ whole
-push_entry es es' p q G whole more same is =
-    ap (λ l. l ++ G (length l)) more ∙ ap (λ n. (es ++ p ∷ []) ++ G n) (length_push es p) ∙ append_assoc es (p ∷ []) (G (length es + 1)) ∙ ap (λ z. es ++ (z ∷ G (length es + 1))) same ∙ is
+push_entry es es' p q G whole more same is = grind (arith, common_steps, length_push es p, append_assoc es (p ∷ []) (G (length es + 1)))
 
 -- a type that was read is pushed as the next one
 pub type_pushed : (defs : List Definition) (t : TypeTree) (id : ℕ) (read : T.Type) (old mid new : TypeEnv) → IsRightType defs t → MeetsNames (names_inside t.name.text t.value) old mid → type_view read ≡ type_entry defs (names_of mid) id t → id ≡ length old.types.items → names_of new ≡ names_of mid → new.type_map ≡ mid.type_map → new.const_types ≡ mid.const_types → new.errors ≡ mid.errors → new.types.items ≡ mid.types.items ++ read ∷ [] → FillsType defs t old new
@@ -42,9 +42,7 @@ type_pushed defs t id read old mid new right met entry place names type_map cons
   type_map = type_map ∙ met.type_map;
   const_types = const_types ∙ met.const_types;
   errors = errors ∙ met.errors;
-  types = ap type_views pushed ∙ map_push type_view mid.types.items read
-      ∙ ap (λ v. type_views v.items ++ type_view read ∷ []) met.types
-      ∙ ap (λ e. type_views old.types.items ++ e ∷ []) (entry ∙ ap (λ k. type_entry defs (names_of mid) k t) place ∙ ap (λ ns. type_entry defs ns (length old.types.items) t) (sym names));
+  types = grind (arith, common_steps, map_push type_view mid.types.items read);
 }
 
 module _ (defs rest : List Definition) (t : TypeTree) (old : TypeEnv) (n : Filling defs (type_definition t ∷ rest) old) where
@@ -56,13 +54,10 @@ module _ (defs rest : List Definition) (t : TypeTree) (old : TypeEnv) (n : Filli
     left_over = names_in_types rest ++ constant_names defs
 
     names_left : with_names (names_of new) left_over ≡ type_names_met defs
-    names_left =
-        ap (λ ns. with_names ns left_over) f.names ∙ sym (with_names_append (names_of old) inside left_over)
-        ∙ ap (with_names (names_of old)) (sym (append_assoc inside (names_in_types rest) (constant_names defs))) ∙ n.names
+    names_left = grind (arith, common_steps, with_names_append (names_of old) inside left_over, append_assoc inside (names_in_types rest) (constant_names defs))
 
     own_later : AllMet (names_of new) (t.name.text ∷ [])
-    own_later =
-        subst (λ ns. AllMet ns (t.name.text ∷ [])) (sym f.names) (met_more (names_of old) inside (t.name.text ∷ []) (All-cons (λ x. IsTrue (has_name (names_of old) x)) t.name.text [] own (All-nil (λ x. IsTrue (has_name (names_of old) x)))))
+    own_later = grind (arith, common_steps, met_more (names_of old) inside (t.name.text ∷ []))
 
     inside_later : AllMet (names_of new) inside
     inside_later = subst (λ ns. AllMet ns inside) (sym f.names) (met_self (names_of old) inside)
@@ -107,8 +102,7 @@ none_met env = All-nil (λ x. IsTrue (has_name (names_of env) x))
 
 -- the name of a type was met
 type_met : (defs : List Definition) (t : TypeTree) → Contains defs (type_definition t) → (env : TypeEnv) → KnowsTypes defs env → AreMet env (t.name.text ∷ [])
-type_met defs t here env k =
-    All-cons (λ x. IsTrue (has_name (names_of env) x)) t.name.text [] (known_met defs env k t.name.text (type_named defs t here)) (none_met env)
+type_met defs t here env k = grind (arith, common_steps, known_met defs env k t.name.text (type_named defs t here), type_named defs t here, none_met env)
 
 -- after one of a type
 step_type : (defs rest : List Definition) (t : TypeTree) (old new : TypeEnv) (es es' : List Error) → IsInterned new → FillsTypes defs (type_definition t ∷ rest) old es → AreMet old (t.name.text ∷ []) → ((kept : List Definition) → Sees old (all_type_names kept) → FillsDefinition kept (type_definition t) old es new es') → FillsTypes defs rest new es'
@@ -135,23 +129,13 @@ step_fill defs rest other_definition here old new es es' i s step = step_other d
 
 -- what is told of a type
 told_filled : (defs before : List Definition) (t : TypeTree) (old new : TypeEnv) (es es' : List Error) → (k : KnowsTypes defs old) → FillsDefinition k.kept (type_definition t) old es new es' → NotesOf (TellsOfType defs) before (type_definition t) es es'
-told_filled defs before t old new es es' k (inl a) =
-    record { more = []; added = a.0 ∙ sym (append-nil es); says = inl (right_same k.kept defs k.same t a.1.right, refl) }
-told_filled defs before t old new es es' k (inr a) = record {
-  more = a.0.notes.more;
-  added = a.0.notes.added;
-  says = inr (λ right. a.1 (right_same defs k.kept (λ x. sym (k.same x)) t right), a.0.notes.tells);
-}
+told_filled defs before t old new es es' k (inl a) = grind (arith, common_steps, append-nil es, right_same k.kept defs k.same t a.1.right)
+told_filled defs before t old new es es' k (inr a) = grind (arith, common_steps, right_same defs k.kept (λ x. sym (k.same x)) t)
 
 -- and of any definition
 pub told_fill : (defs before : List Definition) (d : Definition) → Contains defs d → (old new : TypeEnv) (es es' : List Error) → KnowsTypes defs old → DefinitionIsFilled d old es new es' → NotesOf (TellsOfType defs) before d es es'
 told_fill defs before (type_definition t) here old new es es' k step = told_filled defs before t old new es es' k (step k.kept k.sees (type_met defs t here old k))
-told_fill defs before (declaration d) here old new es es' k step = record { more = []; added = (step k.kept k.sees (none_met old)).0 ∙ sym (append-nil es); says = refl }
-told_fill defs before (extractor_definition d) here old new es es' k step = record { more = []; added = (step k.kept k.sees (none_met old)).0 ∙ sym (append-nil es); says = refl }
-told_fill defs before (converter_definition d) here old new es es' k step = record { more = []; added = (step k.kept k.sees (none_met old)).0 ∙ sym (append-nil es); says = refl }
-told_fill defs before (rule_definition d) here old new es es' k step = record { more = []; added = (step k.kept k.sees (none_met old)).0 ∙ sym (append-nil es); says = refl }
-told_fill defs before (extern_definition d) here old new es es' k step = record { more = []; added = (step k.kept k.sees (none_met old)).0 ∙ sym (append-nil es); says = refl }
-told_fill defs before other_definition here old new es es' k step = record { more = []; added = (step k.kept k.sees (none_met old)).0 ∙ sym (append-nil es); says = refl }
+told_fill defs before _ here old new es es' k step = record { more = []; added = (step k.kept k.sees (none_met old)).0 ∙ sym (append-nil es); says = refl }
 
 -- the types of the definitions before a place were read, with the errors that are told of them
 pub record FillsUpTo (defs : List Def) (i : ℕ) (start : List Error) (env : TypeEnv) (es : List Error) : Type 0 where

@@ -1,9 +1,10 @@
 -- A list with a definition that breaks a condition on types has no type table; the first error is told of such a definition.
-use Rattle.std.proofs.Common.{◌≡◌, ◌≢◌, ℕ, suc, ◌||◌, Bool, true, false, cond, List, [], ◌∷◌, ◌++◌, length, All, Contains, refl, sym, ap, subst, ◌∙◌, inl, inr}
+use Rattle.std.proofs.Common.{◌≡◌, ◌≢◌, ℕ, suc, ◌||◌, Bool, true, cond, List, [], ◌∷◌, ◌++◌, length, All, Contains, sym, ap, subst, ◌∙◌, arith}
 use Rattle.std.proofs.lemmas.List.Elements.{All-head, All-contains, Contains-append_right}
-use Rattle.model.specs.lists.Syntax.{Position, Definition, type_definition, declaration, extractor_definition, converter_definition, rule_definition, extern_definition, extern_constructor, extern_extractor, extern_const, other_definition}
+use Rattle.std.proofs.lemmas.Grind.{common_steps}
+use Rattle.model.specs.lists.Syntax.{Position, Definition, type_definition, extern_definition, extern_const}
 use Rattle.model.specs.lists.Names.{number, has_name}
-use Rattle.model.specs.lists.TypeTable.{builtin_names, type_of, type_trees, type_names, all_type_names, ConstantTree, constant_of, constant_trees, IsOfKnownType, IsValidTypes}
+use Rattle.model.specs.lists.TypeTable.{builtin_names, type_of, type_trees, type_names, all_type_names, ConstantTree, constant_of, IsOfKnownType, IsValidTypes}
 use Rattle.model.proofs.Members.{in_head, in_flat_map}
 use Rattle.model.proofs.Names.{found, number_below, has_append}
 use Rattle.model.proofs.Positions.{twice}
@@ -27,22 +28,14 @@ module _ (defs : List Definition) where
       twice names (type_names after) (all_type_names defs) x (number names x) v.distinct (sym (ap all_type_names whole ∙ names_split before (type_definition t ∷ after))) (number_below names x taken) (found names x taken)
   breaks_invalid _ (isnt_right t within wrong) v =
       wrong (All-contains (IsRightType defs) (type_trees defs) t (types_right defs v) (in_flat_map type_of defs (type_definition t) t within (in_head t [])))
-  breaks_invalid d (has_unknown_type _ c within makes unknown) v =
-      unknown (All-contains (IsOfKnownType defs) (constant_trees defs) c v.types_of_constants (in_flat_map constant_of defs d c within makes))
+  breaks_invalid d (has_unknown_type _ c within makes unknown) v = grind (arith, common_steps, in_flat_map constant_of defs d c within makes)
 
   pub first_invalid : (es : List Error) → FirstBreaksTypes defs es → IsValidTypes defs → ⊥
   first_invalid es b v = breaks_invalid b.definition b.breaks v
 
   -- what is told behind them changes nothing
   first_stays : (es more : List Error) → FirstBreaksTypes defs es → FirstBreaksTypes defs (es ++ more)
-  first_stays es more b = record {
-    first = b.first;
-    rest = b.rest ++ more;
-    is = ap (λ old. old ++ more) b.is;
-    definition = b.definition;
-    breaks = b.breaks;
-    stands = b.stands;
-  }
+  first_stays es more b = grind (arith, common_steps)
 
   -- each error is told of a definition that breaks a condition
   module _ (Says : List Definition → Definition → List Error → Type 0)
@@ -67,44 +60,24 @@ module _ (defs : List Definition) where
   some_times before x n some = has_append builtin_names (type_names before) x ∙ either (has_name builtin_names x) (has_name (type_names before) x) some
     where
       either : (a b : Bool) → suc n ≡ cond a 2 (cond b 1 0) → a || b ≡ true
-      either true b e = refl
-      either false true e = refl
-      either false false e = absurd (cc)
+      either a b e = grind (arith, common_steps)
 
   name_breaks : (before after : List Definition) (d : Definition) (e : Error) (es : List Error) → defs ≡ before ++ d ∷ after → TellsOfName before d (e ∷ es) → BreaksTypes defs d
   name_breaks before after (type_definition t) e es whole h = takes_a_name before after t whole (some_times before t.name.text (length es) h.many)
-  name_breaks before after (declaration d) e es whole h = absurd (cc)
-  name_breaks before after (extractor_definition d) e es whole h = absurd (cc)
-  name_breaks before after (converter_definition d) e es whole h = absurd (cc)
-  name_breaks before after (rule_definition d) e es whole h = absurd (cc)
-  name_breaks before after (extern_definition d) e es whole h = absurd (cc)
-  name_breaks before after other_definition e es whole h = absurd (cc)
+  name_breaks before after _ e es whole h = absurd (cc)
 
   wrong : (Right : Type 0) (ps : List Position) (e : Error) (es : List Error) → TellsUnless Right ps (e ∷ es) → Right → ⊥
-  wrong Right ps e es (inl right) = absurd (let none = right.1 in cc)
-  wrong Right ps e es (inr w) = w.0
+  wrong Right ps e es h = grind (arith, common_steps)
 
   type_breaks : (before after : List Definition) (d : Definition) (e : Error) (es : List Error) → defs ≡ before ++ d ∷ after → TellsOfType defs before d (e ∷ es) → BreaksTypes defs d
   type_breaks before after (type_definition t) e es whole h = isnt_right t (among before after (type_definition t) whole) (wrong (IsRightType defs t) (type_positions t) e es h)
-  type_breaks before after (declaration d) e es whole h = absurd (cc)
-  type_breaks before after (extractor_definition d) e es whole h = absurd (cc)
-  type_breaks before after (converter_definition d) e es whole h = absurd (cc)
-  type_breaks before after (rule_definition d) e es whole h = absurd (cc)
-  type_breaks before after (extern_definition d) e es whole h = absurd (cc)
-  type_breaks before after other_definition e es whole h = absurd (cc)
+  type_breaks before after _ e es whole h = absurd (cc)
 
   constant_breaks : (before after : List Definition) (d : Definition) (e : Error) (es : List Error) → defs ≡ before ++ d ∷ after → TellsOfConstant defs before d (e ∷ es) → BreaksTypes defs d
-  constant_breaks before after (type_definition t) e es whole h = absurd (cc)
-  constant_breaks before after (declaration d) e es whole h = absurd (cc)
-  constant_breaks before after (extractor_definition d) e es whole h = absurd (cc)
-  constant_breaks before after (converter_definition d) e es whole h = absurd (cc)
-  constant_breaks before after (rule_definition d) e es whole h = absurd (cc)
-  constant_breaks before after (extern_definition (extern_constructor term function at)) e es whole h = absurd (cc)
-  constant_breaks before after (extern_definition (extern_extractor term function at infallible)) e es whole h = absurd (cc)
   constant_breaks before after (extern_definition (extern_const name ty at)) e es whole h =
       let c : ConstantTree = record { name = name; ty = ty } in
       has_unknown_type (extern_definition (extern_const name ty at)) c (among before after (extern_definition (extern_const name ty at)) whole) (in_head c []) (wrong (IsOfKnownType defs c) (at ∷ []) e es h)
-  constant_breaks before after other_definition e es whole h = absurd (cc)
+  constant_breaks before after _ e es whole h = absurd (cc)
 
   -- the first errors that there are
   first_some : (es more : List Error) → (es ≢ [] → FirstBreaksTypes defs es) → (more ≢ [] → FirstBreaksTypes defs more) → es ++ more ≢ [] → FirstBreaksTypes defs (es ++ more)

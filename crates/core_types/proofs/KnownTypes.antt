@@ -1,10 +1,9 @@
 -- Types that are known by their names, also where a name was taken: a list of definitions in which none is stands for them all.
-use Rattle.std.proofs.Common.{◌≡◌, ℕ, suc, ◌+◌, ◌<◌, ◌≤◌, ◌||◌, true, false, cond, List, [], ◌∷◌, ◌++◌, length, map, take, get_or, Some, None, is_some, Contains, refl, sym, ap, subst, ◌∙◌, inl, inr, ◌⊎◌, arith}
-use Rattle.std.specs.Str.{bytes_eq}
-use Rattle.std.proofs.lemmas.Bool.{false≢true}
+use Rattle.std.proofs.Common.{◌≡◌, ℕ, suc, ◌+◌, ◌<◌, ◌≤◌, ◌||◌, true, false, List, [], ◌∷◌, ◌++◌, length, map, take, get_or, Some, is_some, Contains, refl, sym, ap, subst, ◌∙◌, inr, ◌⊎◌, arith}
 use Rattle.std.proofs.lemmas.Grind.{flat_map-append}
 use Rattle.std.proofs.lemmas.List.{append_assoc, append-nil, map-append, map_push, take_more}
 use Rattle.std.proofs.lemmas.List.Elements.{All-weaker}
+use Rattle.std.proofs.lemmas.Grind.{common_steps}
 use Rattle.model.specs.lists.Syntax.{Name, FieldTrees, TypeTree, Definition, type_definition}
 use Rattle.model.specs.lists.Names.{number, has_name}
 use Rattle.model.specs.lists.TypeTable.{builtin_names, type_of, type_trees, type_names, all_type_names, field_lists_of, field_type_names, place_from, IsKnownType}
@@ -30,44 +29,22 @@ names_split before rest =
 
 -- a name that has a place is among the names
 pub placed_has : (n : ℕ) (ts : List (List ℕ)) (x : List ℕ) → is_some (place_from n x ts) ≡ has_name ts x
-placed_has n ts x =
-    elim (has_name ts x) as (λ b. has_name ts x ≡ b → is_some (place_from n x ts) ≡ b) [
-      | false ↦ λ e. ap is_some (place_absent n ts x e)
-      | true ↦ λ e. elim (place_from n x ts) as (λ o. place_from n x ts ≡ o → is_some o ≡ true) [
-        | Some k ↦ λ _. refl
-        | None ↦ λ none. absurd (false≢true (sym (place_missing n ts x none) ∙ e))
-      ] refl
-    ] refl
+placed_has n ts x = grind (arith, common_steps, place_absent n ts x, place_missing n ts x)
 
 -- a name that is there once more
 once_more : (ns : List (List ℕ)) (x y : List ℕ) → has_name ns x ≡ true → has_name ns y || has_name (x ∷ []) y ≡ has_name ns y
-once_more ns x y there =
-    elim (bytes_eq x y) as (λ b. bytes_eq x y ≡ b → has_name ns y || (b || false) ≡ has_name ns y) [
-      | true ↦ λ e. let here : has_name ns y ≡ true = subst (λ z. has_name ns z ≡ true) (same_bytes x y e) there in rw here refl
-      | false ↦ λ _. elim (has_name ns y) as (λ a. a || (false || false) ≡ a) [ true ↦ refl | false ↦ refl ]
-    ] refl
+once_more ns x y there = grind (arith, common_steps, same_bytes x y)
 
 -- the place of a name is not before the first one
 place_least : (n : ℕ) (ts : List (List ℕ)) (x : List ℕ) (k : ℕ) → place_from n x ts ≡ Some k → n ≤ k
 place_least n [] x k e = absurd (cc)
-place_least n (t ∷ ts) x k e =
-    elim (bytes_eq t x) as (λ b. cond b (Some n) (place_from (suc n) x ts) ≡ Some k → n ≤ k) [
-      | true ↦ λ h. let same : n ≡ k = cc in omega (arith, same)
-      | false ↦ λ h. let less = place_least (suc n) ts x k h in omega (arith, less)
-    ] e
+place_least n (t ∷ ts) x k e = grind (arith, common_steps, place_least (suc n) ts x k)
 
 -- and before the end of those that it is among
 pub place_within : (n : ℕ) (xs ys : List (List ℕ)) (x : List ℕ) (k : ℕ) → place_from n x (xs ++ ys) ≡ Some k
     → ((has_name xs x ≡ true) × (k < n + length xs)) ⊎ ((has_name xs x ≡ false) × (n + length xs ≤ k))
 place_within n [] ys x k e = let least = place_least n ys x k e in inr (refl, omega (arith, least))
-place_within n (t ∷ ts) ys x k e =
-    elim (bytes_eq t x) as (λ b. cond b (Some n) (place_from (suc n) x (ts ++ ys)) ≡ Some k → (((b || has_name ts x) ≡ true) × (k < n + suc (length ts))) ⊎ (((b || has_name ts x) ≡ false) × (n + suc (length ts) ≤ k))) [
-      | true ↦ λ h. let same : n ≡ k = cc in inl (refl, omega (arith, same))
-      | false ↦ λ h. elim (place_within (suc n) ts ys x k h) [
-        | inl in_first ↦ let less = in_first.1 in inl (in_first.0, omega (arith, less))
-        | inr in_rest ↦ let more = in_rest.1 in inr (in_rest.0, omega (arith, more))
-      ]
-    ] e
+place_within n (t ∷ ts) ys x k e = grind (arith, common_steps, place_within (suc n) ts ys x k)
 
 -- the same names of types: the same types are known, and the same is right
 module _ (kept defs : List Definition) (same : (x : List ℕ) → has_name (all_type_names kept) x ≡ has_name (all_type_names defs) x) where
@@ -99,11 +76,7 @@ type_named defs t here =
     has_right builtin_names (type_names defs) t.name.text (has_at (type_names defs) place.0 t.name.text place.1)
 
 pub known_met : (defs : List Definition) (env : TypeEnv) → KnowsTypes defs env → (x : List ℕ) → has_name (all_type_names defs) x ≡ true → has_name (names_of env) x ≡ true
-known_met defs env k x there =
-    elim (has_name (names_of env) x) as (λ b. has_name (names_of env) x ≡ b → b ≡ true) [
-      | true ↦ λ _. refl
-      | false ↦ λ e. absurd (false≢true (sym (ap is_some (k.sees.known x e)) ∙ placed_has 0 (all_type_names k.kept) x ∙ k.same x ∙ there))
-    ] refl
+known_met defs env k x there = grind (arith, common_steps, placed_has 0 (all_type_names k.kept) x)
 
 -- more names are met
 pub knows_met : (defs : List Definition) (xs : List (List ℕ)) (old new : TypeEnv) → MeetsNames xs old new → KnowsTypes defs old → KnowsTypes defs new
@@ -111,11 +84,7 @@ knows_met defs xs old new m k = record { kept = k.kept; sees = sees_met (all_typ
 
 -- definitions of something else are read
 pub knows_other : (before : List Definition) (d : Definition) (env : TypeEnv) → type_names (d ∷ []) ≡ [] → KnowsTypes before env → KnowsTypes (before ++ d ∷ []) env
-knows_other before d env none k = record {
-  kept = k.kept;
-  sees = k.sees;
-  same = λ x. k.same x ∙ ap (λ ns. has_name ns x) (sym (names_split before (d ∷ []) ∙ ap (λ ns. all_type_names before ++ ns) none ∙ append-nil (all_type_names before)));
-}
+knows_other before d env none k = grind (arith, common_steps, names_split before (d ∷ []), append-nil (all_type_names before))
 
 module _ (before : List Definition) (t : TypeTree) (old new : TypeEnv) (k : KnowsTypes before old) where
   -- the name of one more type
@@ -150,5 +119,4 @@ module _ (before : List Definition) (t : TypeTree) (old new : TypeEnv) (k : Know
 
 -- the definitions before the next place
 pub one_more_read : (defs : List Def) (i : ℕ) (d : Def) → i < length defs → d ≡ get_or defs i d → definition_views (take i defs) ++ definition_view d ∷ [] ≡ definition_views (take (i + 1) defs)
-one_more_read defs i d within at =
-    sym (ap definition_views (take_more defs i d within ∙ ap (λ x. take i defs ++ x ∷ []) (sym at)) ∙ map_push definition_view (take i defs) d)
+one_more_read defs i d within at = grind (arith, common_steps, take_more defs i d within, map_push definition_view (take i defs) d)

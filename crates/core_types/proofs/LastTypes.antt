@@ -1,8 +1,8 @@
 -- The last type of each constant, with one more definition of a constant.
-use Rattle.std.proofs.Common.{◌≡◌, ℕ, ◌||◌, true, false, cond, nat_eq, List, [], ◌∷◌, ◌++◌, Option, Some, None, option_map, reverse, slice_get, unwrap_or, refl, sym, ap, subst, ◌∙◌}
-use Rattle.std.specs.List.{find}
+use Rattle.std.proofs.Common.{◌≡◌, ℕ, ◌||◌, true, cond, nat_eq, List, [], ◌∷◌, ◌++◌, Option, Some, slice_get, unwrap_or, sym, ap, subst, ◌∙◌, arith}
 use Rattle.std.specs.Str.{bytes_eq}
 use Rattle.std.proofs.lemmas.List.{reverse-append}
+use Rattle.std.proofs.lemmas.Grind.{common_steps}
 use Rattle.model.specs.lists.Syntax.{Definition}
 use Rattle.model.specs.lists.Names.{number, has_name, with_name, with_names, IsDistinct}
 use Rattle.model.specs.rules.Outcome.{then_option}
@@ -14,13 +14,10 @@ use Rattle.laws_typing.proofs.LooksByNumber.{number_looked_up}
 
 -- the type of a constant of one more definition
 last_more : (defs : List Definition) (read : List ConstantTree) (c : ConstantTree) (x : List ℕ) → last_type defs (read ++ c ∷ []) x ≡ cond (bytes_eq c.name.text x) (Some (type_or_first defs c.ty)) (last_type defs read x)
-last_more defs read c x =
-    ap (λ cs. option_map (λ d. type_or_first defs d.ty) (find (λ d. bytes_eq d.name.text x) cs)) (reverse-append read (c ∷ []))
-    ∙ (elim (bytes_eq c.name.text x) as (λ b. option_map (λ d. type_or_first defs d.ty) (cond b (Some c) (find (λ d. bytes_eq d.name.text x) (reverse read))) ≡ cond b (Some (type_or_first defs c.ty)) (last_type defs read x)) [ true ↦ refl | false ↦ refl ])
+last_more defs read c x = grind (arith, common_steps, reverse-append read (c ∷ []))
 
 each_same : (o : Option (List ℕ)) (f g : List ℕ → Option ℕ) → ((x : List ℕ) → f x ≡ g x) → then_option o f ≡ then_option o g
-each_same None f g h = refl
-each_same (Some x) f g h = h x
+each_same o f g h = grind (arith, common_steps)
 
 -- a name that is met as a constant's gets the type of that definition
 pub last_read : (defs : List Definition) (read : List ConstantTree) (c : ConstantTree) (ns rest : List (List ℕ)) (id : ℕ) → IsDistinct (type_names_met defs) → with_names (with_name ns c.name.text) rest ≡ type_names_met defs → number (type_names_met defs) c.name.text ≡ number ns c.name.text → type_id defs c.ty.text ≡ Some id → (k : ℕ)

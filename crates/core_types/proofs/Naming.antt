@@ -1,11 +1,11 @@
 -- Reading the names of the types, one definition after another.
-use Rattle.std.proofs.Common.{◌≡◌, ◌≢◌, ℕ, ◌+◌, ◌<◌, ◌||◌, Bool, cond, length, drop, get_or, take, List, [], ◌∷◌, ◌++◌, true, false, slice_get, refl, sym, ap, subst, ◌∙◌, inl, inr, arith}
+use Rattle.std.proofs.Common.{◌≡◌, ◌≢◌, ℕ, ◌+◌, ◌<◌, ◌||◌, Bool, cond, length, drop, get_or, take, List, [], ◌∷◌, ◌++◌, true, false, refl, sym, ap, subst, ◌∙◌, inl, inr, arith}
 use Rattle.std.proofs.lemmas.List.{append_assoc, append-nil, at_drop_more}
 use Rattle.std.proofs.lemmas.List.Elements.{All-nil}
+use Rattle.std.proofs.lemmas.Grind.{common_steps}
 use Rattle.model.specs.lists.Syntax.{Position, TypeTree, Definition, type_definition, declaration, extractor_definition, converter_definition, rule_definition, extern_definition, other_definition}
 use Rattle.model.specs.lists.Names.{has_name, with_names, AreNumbersOf}
-use Rattle.model.specs.rules.Outcome.{then_option}
-use Rattle.model.specs.lists.TypeTable.{builtin_names, type_names, all_type_names, place_from}
+use Rattle.model.specs.lists.TypeTable.{builtin_names, type_names, all_type_names}
 use Rattle.core_syntax.specs.declared.syntax.Def.{Def}
 use Rattle.core_syntax.specs.declared.syntax.Error.{Error}
 use Rattle.core_syntax.specs.SyntaxViews.{definition_view, definition_views}
@@ -14,8 +14,8 @@ use Rattle.core_types.specs.declared.type_env.TypeEnv.{TypeEnv}
 use Rattle.core_types.specs.Envs.{names_of, symbol_of, IsInterned}
 use Rattle.core_types.specs.Reading.{NamesType, NotesTaken, RefusesName, NamesDefinition}
 use Rattle.core_types.specs.Stages.{Sees, KnowsTypes, Naming, NamesTypes}
-use Rattle.core_types.specs.ToldErrors.{IsToldAt, Tells, NotesOf, NotesEach}
-use Rattle.core_types.specs.TypeErrors.{times_taken, TellsOfName}
+use Rattle.core_types.specs.ToldErrors.{IsToldAt, NotesOf, NotesEach}
+use Rattle.core_types.specs.TypeErrors.{TellsOfName}
 use Rattle.core_types.specs.TypeTables.{SeesTypes}
 use Rattle.core_types.specs.TypeViews.{type_views}
 use Rattle.core_types.proofs.EnvironmentSteps.{was_free, sees_type}
@@ -55,9 +55,7 @@ module _ (before : List Definition) (t : TypeTree) (old new : TypeEnv) (k : Know
       }
     where
       none_taken : (a b : Bool) → a || b ≡ false → times a b ≡ 0
-      none_taken true b e = absurd (cc)
-      none_taken false true e = absurd (cc)
-      none_taken false false e = refl
+      none_taken a b e = grind (arith, common_steps)
 
   taken_told : RefusesName t.name.text t.at old es new es' → NotesOf TellsOfName before (type_definition t) es es'
   taken_told r =
@@ -65,17 +63,8 @@ module _ (before : List Definition) (t : TypeTree) (old new : TypeEnv) (k : Know
       let there = taken_has before t old new k r.id r.taken in
       let either : has_name builtin_names x || has_name (type_names before) x ≡ true = sym (has_append builtin_names (type_names before) x) ∙ there in
       elim (place_within 0 builtin_names (type_names k.kept) x r.id (taken_place before t old new k r.id r.taken)) [
-        | inl built_in ↦ elim (r.notes) [
-          | inl two ↦ record { more = two.1.more; added = two.1.added; says = subst (λ n. Tells n (t.at ∷ []) two.1.more) (ap (λ b. times b (has_name (type_names before) x)) (sym built_in.0)) two.1.tells }
-          | inr one ↦ let less = built_in.1 in let more = one.0 in absurd (omega (arith, less, more))
-        ]
-        | inr other ↦ elim (r.notes) [
-          | inl two ↦ let less = two.0 in let more = other.1 in absurd (omega (arith, less, more))
-          | inr one ↦
-              let second : has_name (type_names before) x ≡ true = sym (ap (λ b. b || has_name (type_names before) x) other.0) ∙ either in
-              let times : 1 ≡ times_taken before x = sym (ap (λ b. times b (has_name (type_names before) x)) other.0 ∙ ap (times false) second) in
-              record { more = one.1.more; added = one.1.added; says = subst (λ n. Tells n (t.at ∷ []) one.1.more) times one.1.tells }
-        ]
+        | inl built_in ↦ grind (arith, common_steps)
+        | inr other ↦ grind (arith, common_steps)
       ]
 
 -- there is an error where a name is taken
@@ -114,12 +103,7 @@ step_name defs before rest other_definition old new es es' i s a = step_other de
 pub told_name : (before : List Definition) (d : Definition) (old new : TypeEnv) (es es' : List Error) → IsInterned new → KnowsTypes before old → NamesDefinition d old es new es' → NotesOf TellsOfName before d es es'
 told_name before (type_definition t) old new es es' i k (inl a) = free_told before t old new k es es' a.0 a.1 i
 told_name before (type_definition t) old new es es' i k (inr a) = taken_told before t old new k es es' a
-told_name before (declaration d) old new es es' i k a = record { more = []; added = a.0 ∙ sym (append-nil es); says = refl }
-told_name before (extractor_definition d) old new es es' i k a = record { more = []; added = a.0 ∙ sym (append-nil es); says = refl }
-told_name before (converter_definition d) old new es es' i k a = record { more = []; added = a.0 ∙ sym (append-nil es); says = refl }
-told_name before (rule_definition d) old new es es' i k a = record { more = []; added = a.0 ∙ sym (append-nil es); says = refl }
-told_name before (extern_definition d) old new es es' i k a = record { more = []; added = a.0 ∙ sym (append-nil es); says = refl }
-told_name before other_definition old new es es' i k a = record { more = []; added = a.0 ∙ sym (append-nil es); says = refl }
+told_name before _ old new es es' i k a = record { more = []; added = a.0 ∙ sym (append-nil es); says = refl }
 
 -- the names of types of the definitions before a place were read, with the errors that are told of them
 pub record NamesUpTo (defs : List Def) (i : ℕ) (start : List Error) (env : TypeEnv) (es : List Error) : Type 0 where
@@ -140,25 +124,12 @@ next_name defs i d within at old new start es es' inverse s a =
     }
 
 sees_first : (env : TypeEnv) → SeesTypes env [] builtin_names → entry_count env.type_map ≡ 13 → Sees env builtin_names
-sees_first env s count = record {
-  ids = λ k. s.ids k ∙ ap (λ ns. then_option (slice_get ns k) (λ x. place_from 0 x builtin_names)) (sym s.names);
-  known = λ x e. place_absent 0 builtin_names x (subst (λ ns. has_name ns x ≡ false) s.names e);
-  count = count;
-  constants = s.constants;
-  errors = s.errors;
-}
+sees_first env s count = grind (arith, common_steps, place_absent 0 builtin_names)
 
 -- before the first definition
 pub first_name : (defs : List Definition) (env : TypeEnv) (es : List Error) → SeesTypes env [] builtin_names → entry_count env.type_map ≡ 13 → es ≡ [] → NamesTypes defs [] defs env es
 first_name defs env es s count none = record {
   inverse = subst (λ ns. AreNumbersOf ns (symbol_of env)) (sym s.names) s.inverse;
   knows = record { kept = []; sees = sees_first env s count; same = λ x. refl };
-  right = λ _. record {
-    named = builtin_names;
-    sees = sees_first env s count;
-    distinct = distinct_if builtin_names refl;
-    whole = refl;
-    names = ap (λ ns. with_names ns (type_names defs)) s.names;
-    types = s.types;
-  };
+  right = grind (arith, common_steps, sees_first env s count, distinct_if builtin_names refl);
 }

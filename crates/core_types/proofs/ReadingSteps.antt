@@ -1,5 +1,6 @@
 -- Reading goes on from one environment to the next: nothing was noted, or an error was.
-use Rattle.std.proofs.Common.{◌≡◌, ◌≢◌, List, [], sym, subst, ◌∙◌}
+use Rattle.std.proofs.Common.{◌≡◌, ◌≢◌, List, [], sym, ◌∙◌, arith}
+use Rattle.std.proofs.lemmas.Grind.{common_steps}
 use Rattle.core_syntax.specs.declared.syntax.Error.{Error}
 use Rattle.core_types.specs.declared.type_env.TypeEnv.{TypeEnv}
 use Rattle.core_types.specs.Envs.{IsInterned}
@@ -16,5 +17,4 @@ module _ (K L A B : TypeEnv → Type 0) (old new : TypeEnv) (es es' : List Error
 
 -- nothing was noted, and the environment is the same
 pub reads_same : (K L A B : TypeEnv → Type 0) (old new : TypeEnv) (es es' : List Error) → (es' ≡ es) × (new ≡ old) → (K old → L old) → (A old → B old) → ReadsSoFar K A old es → ReadsSoFar L B new es'
-reads_same K L A B old new es es' same knows right s =
-    subst (λ env. ReadsSoFar L B env es') (sym same.1) (reads_on K L A B old old es es' s.inverse knows same.0 right s)
+reads_same K L A B old new es es' same knows right s = grind (arith, common_steps, reads_on K L A B old old es es' s.inverse knows same.0 right s)

@@ -1,9 +1,9 @@
 -- Reading a type by its value: which types are right, and the entries that they become.
-use Rattle.std.proofs.Common.{◌≡◌, ℕ, ◌&&◌, true, false, not, List, [], map, All, Option, Some, None, sym, ap, subst, ◌∙◌}
+use Rattle.std.proofs.Common.{◌≡◌, ℕ, ◌&&◌, true, false, not, List, [], map, All, Option, Some, None, sym, ap, subst, ◌∙◌, arith}
 use Rattle.std.proofs.lemmas.Bool.{false≢true}
-use Rattle.std.proofs.lemmas.List.Elements.{All-nil, All-cons}
+use Rattle.std.proofs.lemmas.Grind.{common_steps}
 use Rattle.model.specs.lists.Syntax.{Position, Name, FieldTrees, VariantTree, TypeTree, TypeValueTree, primitive_value, enum_value, struct_value, Definition}
-use Rattle.model.specs.lists.Names.{number, has_name, with_name, IsDistinct}
+use Rattle.model.specs.lists.Names.{number, with_name, IsDistinct}
 use Rattle.core_syntax.specs.declared.syntax.Error.{Error}
 use Rattle.core_syntax.specs.declared.syntax.Type as S
 use Rattle.core_syntax.specs.SyntaxViews as views
@@ -17,10 +17,7 @@ use Rattle.model.proofs.Names.{has_new, number_new, number_kept}
 
 -- a name that is met has its number
 pub named_now : (n : ℕ) (x : List ℕ) (old new : TypeEnv) → names_of new ≡ with_name (names_of old) x → n ≡ number (names_of old) x → IsNumberOf n x (names_of new)
-named_now n x old new names numbered = record {
-  met = ap (λ ns. has_name ns x) names ∙ has_new (names_of old) x;
-  numbered = numbered ∙ sym (ap (λ ns. number ns x) names ∙ number_new (names_of old) x);
-}
+named_now n x old new names numbered = grind (arith, common_steps, has_new (names_of old) x, number_new (names_of old) x)
 
 -- and keeps it
 pub number_later : (n : ℕ) (x : List ℕ) (xs : List (List ℕ)) (old new : TypeEnv) → MeetsNames xs old new → IsNumberOf n x (names_of old) → n ≡ number (names_of new) x
@@ -34,28 +31,13 @@ module _ (defs : List Definition) (t : TypeTree) (at : Position) where
   two_marks value e right = false≢true (ap not e ∙ right.marks)
 
   pub primitive_right : (name : Name) → t.is_nodebug ≡ false → t.is_extern ≡ false → IsRightType defs (of_value t (primitive_value name at))
-  primitive_right name n e = record {
-    unmarked = λ _. (e, n);
-    marks = ap (λ b. not (b && t.is_nodebug)) e;
-    variants = λ j k x p q. absurd (cc);
-    fields = All-nil (AreRightFields defs);
-  }
+  primitive_right name n e = grind (arith, common_steps)
 
   pub enum_right : (vs : List VariantTree) → false ≡ (t.is_extern && t.is_nodebug) → IsDistinct (map (λ v. v.name.text) vs) → All (AreRightFields defs) (map (λ v. v.fields) vs) → IsRightType defs (of_value t (enum_value vs at))
-  enum_right vs e distinct fields = record {
-    unmarked = λ h. absurd (false≢true h);
-    marks = one_mark e;
-    variants = distinct;
-    fields = fields;
-  }
+  enum_right vs e distinct fields = grind (arith, common_steps, one_mark e)
 
   pub struct_right : (fs : FieldTrees) → false ≡ (t.is_extern && t.is_nodebug) → AreRightFields defs fs → IsRightType defs (of_value t (struct_value fs at))
-  struct_right fs e right = record {
-    unmarked = λ h. absurd (false≢true h);
-    marks = one_mark e;
-    variants = λ j k x p q. absurd (cc);
-    fields = All-cons (AreRightFields defs) fs [] right (All-nil (AreRightFields defs));
-  }
+  struct_right fs e right = grind (arith, common_steps, one_mark e)
 
 -- what is read by a type's value, once its own name was met again, is read by the type
 pub type_kept : (defs : List Definition) (id : ℕ) (w : S.Type) (value : TypeValueTree) (o : Option T.Type) (old mid new : TypeEnv) (es es' : List Error) → views.type_value_view w.ty ≡ value → MeetsNames [] old mid → ReadsType defs id (of_value (views.type_view w) value) o mid es new es' → ReadsType defs id (views.type_view w) o old es new es'
@@ -63,7 +45,4 @@ type_kept defs id w value (Some read) old mid new es es' is m r =
     let P : TypeValueTree → Type 0 = λ v. ReadsType defs id (of_value (views.type_view w) v) (Some read) mid es new es' in
     let a = subst P (sym is) r in
     (a.0, a.1, meet_more [] _ old mid new m a.2, a.3)
-type_kept defs id w value None old mid new es es' is m r =
-    let P : TypeValueTree → Type 0 = λ v. ReadsType defs id (of_value (views.type_view w) v) None mid es new es' in
-    let a = subst P (sym is) r in
-    (record { met = a.0.met; meets = meet_more [] a.0.met old mid new m a.0.meets; notes = a.0.notes }, a.1)
+type_kept defs id w value None old mid new es es' is m r = grind (arith, common_steps, meet_more [])

@@ -1,9 +1,9 @@
 -- The numbers of names that were seen, while more names are met.
-use Rattle.std.proofs.Common.{◌≡◌, ℕ, nat_eq, true, false, cond, List, [], ◌∷◌, ◌++◌, Option, Some, None, slice_get, refl, sym, ap, ◌∙◌}
+use Rattle.std.proofs.Common.{◌≡◌, ℕ, nat_eq, true, false, cond, List, [], ◌∷◌, ◌++◌, Option, Some, None, refl, sym, ap, ◌∙◌, arith}
 use Rattle.std.specs.Option.{is_some}
 use Rattle.std.proofs.lemmas.Bool.{false≢true}
+use Rattle.std.proofs.lemmas.Grind.{common_steps}
 use Rattle.model.specs.lists.Names.{number, with_name, AreNumbersOf}
-use Rattle.model.specs.rules.Outcome.{then_option}
 use Rattle.model.specs.lists.TypeTable.{place_from}
 use Rattle.core_syntax.specs.Stable.{Members}
 use Rattle.core_types.specs.declared.ids.Sym.{Sym}
@@ -15,10 +15,7 @@ use Rattle.core_types.proofs.NumbersSeen.{seen_met, seen_push}
 use Rattle.model.proofs.Names.{with_name_at}
 
 pub none_seen : (names : List (List ℕ)) (seen : Members Sym) → ((k : ℕ) → was_seen seen k ≡ false) → HasSeen names seen []
-none_seen names seen none = record {
-  numbers = λ k. none k ∙ elim (slice_get names k) as (λ o. false ≡ is_some (then_option o (λ x. place_from 0 x []))) [ None ↦ refl | Some x ↦ refl ];
-  known = λ x e. refl;
-}
+none_seen names seen none = grind (arith, common_steps)
 
 module _ (names : List (List ℕ)) (seen : Members Sym) (these : List (List ℕ)) (s : HasSeen names seen these) (x : List ℕ) where
   -- the number of a text was seen exactly where the text is one of the names

@@ -2,7 +2,8 @@
 use Rattle.std.proofs.Common.{◌≡◌, ◌≢◌, ℕ, suc, ◌+◌, List, [], ◌∷◌, ◌++◌, length, All, Contains, refl, sym, ap, subst, ◌∙◌, arith}
 use Rattle.std.proofs.lemmas.Grind.{flat_map-append}
 use Rattle.std.proofs.lemmas.List.{append-nil, append_assoc, length-append}
-use Rattle.std.proofs.lemmas.List.Elements.{All-nil, All-cons, All-append, All-weaker, Contains-append_left, Contains-append_right}
+use Rattle.std.proofs.lemmas.List.Elements.{All-nil, All-append, All-weaker, Contains-append_left, Contains-append_right}
+use Rattle.std.proofs.lemmas.Grind.{common_steps}
 use Rattle.model.specs.lists.Syntax.{Position, Definition}
 use Rattle.model.specs.claims.Refusals.{IsIllTyped}
 use Rattle.core_syntax.specs.declared.syntax.Error.{Error}
@@ -13,11 +14,7 @@ use Rattle.core_types.specs.ToldErrors.{IsToldAt, Told, of_none, of_one_more, No
 
 -- an error more
 pub one_noted : (ps : List Position) (old new : List Error) (e : Error) → new ≡ old ++ e ∷ [] → IsIllTyped (error_view e) → ErrorStandsAt ps e → Notes 1 ps old new
-one_noted ps old new e added form stands = record {
-  more = e ∷ [];
-  added = added;
-  tells = record { many = refl; each = All-cons (IsToldAt ps) e [] (record { form = form; stands = stands }) (All-nil (IsToldAt ps)) };
-}
+one_noted ps old new e added form stands = grind (arith, common_steps)
 
 pub both_noted : (ps : List Position) (m n : ℕ) (a b c : List Error) → Notes m ps a b → Notes n ps b c → Notes (m + n) ps a c
 both_noted ps m n a b c r s = record {
@@ -34,11 +31,7 @@ told_among ps qs e a t = record { form = t.form; stands = stand_among ps qs e a 
 
 -- what is noted of a part is noted of the whole
 pub noted_among : (n : ℕ) (ps qs : List Position) (old new : List Error) → OccurAmong ps qs → Notes n ps old new → Notes n qs old new
-noted_among n ps qs old new a r = record {
-  more = r.more;
-  added = r.added;
-  tells = record { many = r.tells.many; each = All-weaker (IsToldAt ps) (IsToldAt qs) (λ e t. told_among ps qs e a t) r.more r.tells.each };
-}
+noted_among n ps qs old new a r = grind (arith, common_steps, told_among ps qs)
 
 none_behind : (xs ys : List Error) → xs ++ ys ≡ [] → ys ≡ []
 none_behind [] ys e = e
@@ -46,20 +39,14 @@ none_behind (x ∷ xs) ys e = absurd (cc)
 
 -- and so there are some
 pub some_told : (n : ℕ) (ps : List Position) (old new : List Error) → Notes (suc n) ps old new → new ≢ []
-some_told n ps old new r none =
-    let empty : r.more ≡ [] = none_behind old r.more (sym r.added ∙ none) in
-    let size : 0 ≡ suc n = ap length (sym empty) ∙ r.tells.many in
-    absurd (cc)
+some_told n ps old new r none = grind (arith, common_steps, none_behind old r.more (sym r.added ∙ none))
 
 -- and something was noted
 pub not_same : (n : ℕ) (ps : List Position) (old new : List Error) → Notes (suc n) ps old new → new ≢ old
-not_same n ps old new r same =
-    let size : length old ≡ length old + suc n = ap length (sym same ∙ r.added) ∙ length-append old r.more ∙ ap (λ k. length old + k) r.tells.many in
-    omega (arith, size)
+not_same n ps old new r same = grind (arith, common_steps, length-append old r.more)
 
 among_earlier : (before : List Definition) (d : Definition) → OccurAmong (positions_of before) (positions_of (before ++ d ∷ []))
-among_earlier before d p c =
-    subst (λ ps. Contains ps p) (sym (flat_map-append definition_positions before (d ∷ []))) (Contains-append_left (positions_of before) (positions_of (d ∷ [])) p c)
+among_earlier before d p c = grind (arith, common_steps, flat_map-append definition_positions before (d ∷ []))
 
 among_last : (before : List Definition) (d : Definition) → OccurAmong (definition_positions d) (positions_of (before ++ d ∷ []))
 among_last before d p c =
@@ -104,17 +91,7 @@ module _ (Says : List Definition → Definition → List Error → Type 0) where
 
   here_told : (before : List Definition) (d : Definition) (own : List Error) → Says before d own → own ≢ [] → FirstTold (before ++ d ∷ []) own
   here_told before d [] says some = absurd (some refl)
-  here_told before d (e ∷ own) says some = record {
-    first = e;
-    rest = own;
-    is = refl;
-    before = before;
-    after = [];
-    definition = d;
-    whole = refl;
-    own = own;
-    says = says;
-  }
+  here_told before d (e ∷ own) says some = grind (arith, common_steps)
 
   pub first_told : (defs : List Definition) (es : List Error) → Told Says defs es → es ≢ [] → FirstTold defs es
   first_told _ _ of_none some = absurd (some refl)

@@ -1,7 +1,8 @@
 -- The errors that are told of types: put together, and each stands at the definition that it is told of.
-use Rattle.std.proofs.Common.{◌≡◌, List, [], ◌∷◌, ◌++◌, All, sym, ap, subst, ◌∙◌, inl, inr}
+use Rattle.std.proofs.Common.{◌≡◌, List, [], ◌∷◌, ◌++◌, All, sym, subst, arith}
 use Rattle.std.proofs.lemmas.List.Elements.{All-nil, All-append, All-weaker}
-use Rattle.model.specs.lists.Syntax.{Position, Definition, type_definition, declaration, extractor_definition, converter_definition, rule_definition, extern_definition, extern_constructor, extern_extractor, extern_const, other_definition}
+use Rattle.std.proofs.lemmas.Grind.{common_steps}
+use Rattle.model.specs.lists.Syntax.{Position, Definition}
 use Rattle.core_syntax.specs.declared.syntax.Error.{Error}
 use Rattle.core_syntax.specs.ErrorViews.{error_view}
 use Rattle.core_syntax.specs.NotedErrors.{AreIllTyped}
@@ -20,50 +21,21 @@ begin_at : (p : Position) (ps : List Position) (es : List Error) → All (IsTold
 begin_at p ps es h = All-weaker (IsToldAt (p ∷ [])) (IsToldAt (p ∷ ps)) (λ e t. told_among (p ∷ []) (p ∷ ps) e (among_first p ps) t) es h
 
 unless_at : (Right : Type 0) (ps : List Position) (es : List Error) → TellsUnless Right ps es → All (IsToldAt ps) es
-unless_at Right ps es (inl right) = none_at ps es right.1
-unless_at Right ps es (inr wrong) = wrong.1.each
+unless_at Right ps es h = grind (arith, common_steps, none_at ps es)
 
 pub name_at : (before : List Definition) (d : Definition) (es : List Error) → TellsOfName before d es → All (IsToldAt (definition_positions d)) es
-name_at before (type_definition t) es h = begin_at t.at _ es h.each
-name_at before (declaration d) es h = none_at (definition_positions (declaration d)) es h
-name_at before (extractor_definition d) es h = none_at (definition_positions (extractor_definition d)) es h
-name_at before (converter_definition d) es h = none_at (definition_positions (converter_definition d)) es h
-name_at before (rule_definition d) es h = none_at (definition_positions (rule_definition d)) es h
-name_at before (extern_definition d) es h = none_at (definition_positions (extern_definition d)) es h
-name_at before other_definition es h = none_at [] es h
+name_at before d es h = grind (arith, begin_at)
 
 pub type_at : (defs before : List Definition) (d : Definition) (es : List Error) → TellsOfType defs before d es → All (IsToldAt (definition_positions d)) es
-type_at defs before (type_definition t) es h = unless_at _ (definition_positions (type_definition t)) es h
-type_at defs before (declaration d) es h = none_at (definition_positions (declaration d)) es h
-type_at defs before (extractor_definition d) es h = none_at (definition_positions (extractor_definition d)) es h
-type_at defs before (converter_definition d) es h = none_at (definition_positions (converter_definition d)) es h
-type_at defs before (rule_definition d) es h = none_at (definition_positions (rule_definition d)) es h
-type_at defs before (extern_definition d) es h = none_at (definition_positions (extern_definition d)) es h
-type_at defs before other_definition es h = none_at [] es h
+type_at defs before d es h = grind (arith, unless_at)
 
 pub constant_at : (defs before : List Definition) (d : Definition) (es : List Error) → TellsOfConstant defs before d es → All (IsToldAt (definition_positions d)) es
-constant_at defs before (type_definition t) es h = none_at (definition_positions (type_definition t)) es h
-constant_at defs before (declaration d) es h = none_at (definition_positions (declaration d)) es h
-constant_at defs before (extractor_definition d) es h = none_at (definition_positions (extractor_definition d)) es h
-constant_at defs before (converter_definition d) es h = none_at (definition_positions (converter_definition d)) es h
-constant_at defs before (rule_definition d) es h = none_at (definition_positions (rule_definition d)) es h
-constant_at defs before (extern_definition (extern_constructor term function at)) es h = none_at (definition_positions (extern_definition (extern_constructor term function at))) es h
-constant_at defs before (extern_definition (extern_extractor term function at infallible)) es h = none_at (definition_positions (extern_definition (extern_extractor term function at infallible))) es h
-constant_at defs before (extern_definition (extern_const name ty at)) es h = begin_at at (name.at ∷ ty.at ∷ []) es (unless_at _ (at ∷ []) es h)
-constant_at defs before other_definition es h = none_at [] es h
+constant_at defs before d es h = grind (arith, none_at, unless_at)
 
 module _ (defs : List Definition) where
   -- what the three stages note, one after another
   pub all_told : (a b c : List Error) → NotesEach TellsOfName defs [] a → NotesEach (TellsOfType defs) defs a b → NotesEach (TellsOfConstant defs) defs b c → AreErrorsOfTypes defs c
-  all_told a b c n t k = record {
-    of_names = n.more;
-    of_types = t.more;
-    of_constants = k.more;
-    are = k.added ∙ ap (λ es. es ++ k.more) (t.added ∙ ap (λ es. es ++ t.more) n.added);
-    names = n.told;
-    types = t.told;
-    constants = k.told;
-  }
+  all_told a b c n t k = grind (arith, common_steps)
 
   module _ (es : List Error) (a : AreErrorsOfTypes defs es) where
     pub told_there : All (IsToldAt (positions_of defs)) es

@@ -1,22 +1,19 @@
 -- Reading the constants, one definition after another.
-use Rattle.std.proofs.Common.{◌≡◌, ℕ, ◌+◌, ◌<◌, length, take, drop, get_or, List, [], ◌∷◌, ◌++◌, false, cond, Some, None, is_some, option_map, slice_get, map, All, refl, sym, ap, subst, ◌∙◌, inl, inr}
-use Rattle.std.proofs.lemmas.Bool.{false≢true}
+use Rattle.std.proofs.Common.{◌≡◌, ℕ, ◌+◌, ◌<◌, length, take, drop, get_or, List, [], ◌∷◌, ◌++◌, false, cond, Some, None, is_some, map, All, refl, sym, ap, subst, ◌∙◌, inl, inr, arith}
 use Rattle.std.proofs.lemmas.List.{append_assoc, append-nil, at_drop_more}
-use Rattle.std.proofs.lemmas.List.Elements.{All-nil, All-cons}
+use Rattle.std.proofs.lemmas.List.Elements.{All-cons}
+use Rattle.std.proofs.lemmas.Grind.{common_steps}
 use Rattle.model.specs.lists.Syntax.{Name, Position, Definition, type_definition, declaration, extractor_definition, converter_definition, rule_definition, extern_definition, extern_constructor, extern_extractor, extern_const, other_definition}
 use Rattle.model.specs.lists.Names.{number, has_name, with_names}
-use Rattle.model.specs.rules.Outcome.{then_option}
-use Rattle.model.specs.lists.TypeTable.{ConstantTree, constant_trees, all_type_names, type_id, type_of_number, type_names_met, IsOfKnownType}
+use Rattle.model.specs.lists.TypeTable.{ConstantTree, constant_trees, all_type_names, type_id, type_of_number, IsOfKnownType}
 use Rattle.core_syntax.specs.declared.syntax.Def.{Def}
 use Rattle.core_syntax.specs.declared.syntax.Error.{Error}
-use Rattle.core_syntax.specs.Stable.{look_up}
 use Rattle.core_syntax.specs.SyntaxViews.{definition_view, definition_views}
 use Rattle.laws_typing.proofs.TypeLaws.{type_names_distinct}
 use Rattle.core_types.specs.declared.type_env.TypeEnv.{TypeEnv}
 use Rattle.core_types.specs.ConstantReading.{TypesConstant, ReadsConstant, ReadsDefinition}
-use Rattle.core_types.specs.Envs.{names_of, symbol_of, type_at, same_symbol, symbol, type_of_name, IsInterned}
-use Rattle.core_types.specs.Reading.{IsRightType}
-use Rattle.core_types.specs.Stages.{constant_names, KnowsTypes, Filling, FillsTypes, last_type, LooksUpTypes, TypingConstants, ReadsConstants}
+use Rattle.core_types.specs.Envs.{names_of, symbol_of, type_at, type_of_name, IsInterned}
+use Rattle.core_types.specs.Stages.{constant_names, KnowsTypes, Filling, FillsTypes, LooksUpTypes, TypingConstants, ReadsConstants}
 use Rattle.core_types.specs.ToldErrors.{NotesOf, NotesEach}
 use Rattle.core_types.specs.TypeErrors.{TellsOfConstant}
 use Rattle.core_types.specs.TypeViews.{type_views}
@@ -30,9 +27,7 @@ use Rattle.core_types.proofs.ReadingSteps.{reads_on, reads_wrong, reads_same}
 -- the types that are found by their names stay, when a constant is read
 module _ (defs : List Definition) (name ty : Name) (old new : TypeEnv) (t : TypesConstant name.text ty.text old new) where
   ids_after : ((k : ℕ) → type_at old k ≡ type_of_number defs (names_of old) k) → ((x : List ℕ) → has_name (names_of old) x ≡ false → type_id defs x ≡ None) → (k : ℕ) → type_at new k ≡ type_of_number defs (names_of new) k
-  ids_after ids known k =
-      ap (λ m. option_map (λ t. t.0) (look_up same_symbol m (symbol k))) t.type_map ∙ ids k
-      ∙ sym (ap (λ ns. then_option (slice_get ns k) (type_id defs)) t.names ∙ then_with (names_of old) name.text (type_id defs) (known name.text) k)
+  ids_after ids known k = grind (arith, common_steps, then_with (names_of old) name.text (type_id defs) (known name.text) k)
 
   known_after : ((x : List ℕ) → has_name (names_of old) x ≡ false → type_id defs x ≡ None) → (x : List ℕ) → has_name (names_of new) x ≡ false → type_id defs x ≡ None
   known_after known y e = known y (with_missing (names_of old) name.text y (subst (λ ns. has_name ns y ≡ false) t.names e)).0
@@ -73,12 +68,7 @@ module _ (defs : List Definition) (name ty : Name) (at : Position) (old : TypeEn
 
   -- what is told of it
   told_read : (before : List Definition) (new : TypeEnv) (es es' : List Error) → ReadsConstant name ty at old es new es' → NotesOf (TellsOfConstant defs) before (extern_definition (extern_const name ty at)) es es'
-  told_read before new es es' (inl a) = record { more = []; added = a.0 ∙ sym (append-nil es); says = inl (sym found_is ∙ ap is_some a.1.known, refl) }
-  told_read before new es es' (inr a) = record {
-    more = a.0.more;
-    added = a.0.added;
-    says = inr (λ known. false≢true (sym (ap is_some a.2) ∙ found_is ∙ known), a.0.tells);
-  }
+  told_read before new es es' h = grind (arith, common_steps, append-nil es, found_is)
 
   looks_up : (new : TypeEnv) → TypesConstant name.text ty.text old new → LooksUpTypes defs new
   looks_up new t = record { kept = k.kept; ids = ids_after k.kept name ty old new t k.ids k.known; known = known_after k.kept name ty old new t k.known; same = k.same }
@@ -119,15 +109,8 @@ step_constant defs rest other_definition old new es es' i s a = step_other defs 
 
 -- and what is told of it
 told_constant : (defs before : List Definition) (d : Definition) (old new : TypeEnv) (es es' : List Error) → IsInterned old → LooksUpTypes defs old → ReadsDefinition d old es new es' → NotesOf (TellsOfConstant defs) before d es es'
-told_constant defs before (type_definition t) old new es es' i k a = record { more = []; added = a.0 ∙ sym (append-nil es); says = refl }
-told_constant defs before (declaration d) old new es es' i k a = record { more = []; added = a.0 ∙ sym (append-nil es); says = refl }
-told_constant defs before (extractor_definition d) old new es es' i k a = record { more = []; added = a.0 ∙ sym (append-nil es); says = refl }
-told_constant defs before (converter_definition d) old new es es' i k a = record { more = []; added = a.0 ∙ sym (append-nil es); says = refl }
-told_constant defs before (rule_definition d) old new es es' i k a = record { more = []; added = a.0 ∙ sym (append-nil es); says = refl }
-told_constant defs before (extern_definition (extern_constructor term function at)) old new es es' i k a = record { more = []; added = a.0 ∙ sym (append-nil es); says = refl }
-told_constant defs before (extern_definition (extern_extractor term function at infallible)) old new es es' i k a = record { more = []; added = a.0 ∙ sym (append-nil es); says = refl }
 told_constant defs before (extern_definition (extern_const name ty at)) old new es es' i k a = told_read defs name ty at old i k before new es es' a
-told_constant defs before other_definition old new es es' i k a = record { more = []; added = a.0 ∙ sym (append-nil es); says = refl }
+told_constant defs before _ old new es es' i k a = record { more = []; added = a.0 ∙ sym (append-nil es); says = refl }
 
 -- the constants of the definitions before a place were read, with the errors that are told of them
 pub record ConstantsUpTo (defs : List Def) (i : ℕ) (start : List Error) (env : TypeEnv) (es : List Error) : Type 0 where
@@ -149,19 +132,7 @@ next_constant defs i d within at old new start es es' inverse s a =
     }
 
 start : (defs : List Definition) (env : TypeEnv) → Filling defs [] env → TypingConstants defs defs env
-start defs env n = record {
-  ids = n.sees.ids;
-  known = n.sees.known;
-  errors = n.sees.errors;
-  distinct = n.distinct;
-  names = n.names;
-  types = sym (append-nil (type_views env.types.items)) ∙ n.types;
-  right = n.right (All-nil (IsRightType defs));
-  read = [];
-  whole = refl;
-  constants = λ k. n.sees.constants k ∙ (elim (slice_get (type_names_met defs) k) as (λ o. None ≡ then_option o (last_type defs [])) [ None ↦ refl | Some x ↦ refl ]);
-  of_known = λ h. h;
-}
+start defs env n = grind (arith, common_steps, append-nil (type_views env.types.items))
 
 -- before the first definition
 pub first_constant : (defs : List Def) (env : TypeEnv) (es : List Error) → FillsTypes (definition_views defs) [] env es → ConstantsUpTo defs 0 es env es

@@ -5,6 +5,7 @@ use Rattle.std.proofs.lemmas.List.{append-nil, map_push, map-append, length-map,
 use Rattle.std.proofs.lemmas.List.FromFn.{length-enumerate_from}
 use Rattle.std.proofs.lemmas.List.Elements.{All-head, All-push, Contains-append_right}
 use Rattle.std.proofs.lemmas.Grind.{flat_map-append}
+use Rattle.std.proofs.lemmas.Grind.{common_steps}
 use Rattle.model.specs.lists.Syntax.{FieldTrees, VariantTree, Definition}
 use Rattle.model.specs.lists.Names.{IsDistinct}
 use Rattle.model.specs.lists.Tables.{VariantEntry}
@@ -44,8 +45,7 @@ pub record VariantsSoFar (ty : List ℕ) (done : List VariantTree) (read : List 
 
 entries_push : (f : ℕ → VariantTree → VariantEntry) (n : ℕ) (xs : List VariantTree) (v : VariantTree) → map (λ p. f p.0 p.1) (enumerate_from n (xs ++ v ∷ [])) ≡ map (λ p. f p.0 p.1) (enumerate_from n xs) ++ f (n + length xs) v ∷ []
 entries_push f n [] v = let e : n ≡ n + 0 = omega arith in ap (λ k. f k v ∷ []) e
-entries_push f n (x ∷ xs) v =
-    ap (λ l. f n x ∷ l) (entries_push f (n + 1) xs v ∙ ap (λ k. map (λ p. f p.0 p.1) (enumerate_from (n + 1) xs) ++ f k v ∷ []) (omega arith))
+entries_push f n (x ∷ xs) v = grind (arith, common_steps, entries_push f (n + 1) xs v)
 
 module _ (ty : List ℕ) (done : List VariantTree) (v : VariantTree) (id : ℕ) (read : List Variant) (old env : TypeEnv) where
   size : (defs : List Definition) → VariantsRead defs ty done read old env → length read ≡ length done
@@ -65,12 +65,7 @@ module _ (ty : List ℕ) (done : List VariantTree) (v : VariantTree) (id : ℕ) 
         ∙ ap (λ ns. map (λ p. variant_entry defs ns ty p.0 p.1) (enumerate_from 0 done)) (sym a.meets.names)
 
     entries_more : map variant_view (read ++ next ∷ []) ≡ map (λ p. variant_entry defs (names_of new) ty p.0 p.1) (enumerate_from 0 (done ++ v ∷ []))
-    entries_more =
-        let at : id ≡ 0 + length done = place ∙ size defs r ∙ omega arith in
-        map_push variant_view read next
-        ∙ ap (λ l. l ++ variant_view next ∷ []) (r.entries ∙ done_stay)
-        ∙ ap (λ x. entries_in new ++ x ∷ []) (a.entry ∙ ap (λ k. variant_entry defs (names_of new) ty k v) at)
-        ∙ sym (entries_push (entry_in new) 0 done v)
+    entries_more = grind (arith, common_steps, size defs r, map_push variant_view read next, done_stay, entries_push (entry_in new) 0 done v)
 
     read_more : VariantsRead defs ty (done ++ v ∷ []) (read ++ next ∷ []) old new
     read_more = record {

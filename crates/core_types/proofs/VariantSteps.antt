@@ -1,6 +1,6 @@
 -- Reading one variant: its names, its name's test, its fields.
-use Rattle.std.proofs.Common.{◌≡◌, ℕ, true, false, not, cond, List, [], ◌∷◌, ◌++◌, Some, None, is_some, slice_get, string_bytes, refl, sym, ap, subst, ◌∙◌}
-use Rattle.std.proofs.lemmas.Bool.{false≢true}
+use Rattle.std.proofs.Common.{◌≡◌, ℕ, true, false, not, cond, List, [], ◌∷◌, ◌++◌, Some, None, is_some, slice_get, string_bytes, sym, ap, subst, ◌∙◌, arith}
+use Rattle.std.proofs.lemmas.Grind.{common_steps}
 use Rattle.model.specs.lists.Syntax.{Definition}
 use Rattle.model.specs.lists.Names.{number, with_names}
 use Rattle.model.specs.lists.TypeTable.{place_from, full_name, field_names, field_entries, variant_names, variant_entry}
@@ -44,24 +44,17 @@ module _ (ty : List ℕ) (w : S.Variant) (old first env : TypeEnv) (one : MeetsN
     seen_both = subst (λ ns. HasSeen ns seen earlier) (sym both_met.names) (seen_met (names_of old) seen earlier h (whole ∷ (own ∷ [])))
 
     at_name : slice_get (names_of env) name.0 ≡ Some own
-    at_name =
-        ap (λ n. slice_get (names_of env) n) numbered ∙ ap (λ ns. slice_get ns (number (names_of first) own)) two.names ∙ with_name_at (names_of first) own
+    at_name = grind (arith, common_steps, with_name_at (names_of first) own)
 
     is_seen : contains same_symbol seen name ≡ is_some (place_from 0 own earlier)
     is_seen = seen_number (names_of env) seen earlier seen_both name.0 own at_name
 
     -- the name is in the set: then it is an earlier one's
     pub seen_twice : (b : _) → b ≡ not (contains same_symbol seen name) → b ≡ false → place_from 0 own earlier ≡ None → ⊥
-    seen_twice b is found none =
-        let some : contains same_symbol seen name ≡ false = is_seen ∙ ap is_some none in
-        false≢true (sym found ∙ is ∙ ap not some)
+    seen_twice b is found none = grind (arith, common_steps, is_seen)
 
     fresh_name : (b : _) → b ≡ not (contains same_symbol seen name) → b ≡ true → place_from 0 own earlier ≡ None
-    fresh_name b is new =
-        elim (place_from 0 own earlier) as (λ o. place_from 0 own earlier ≡ o → o ≡ None) [
-          | None ↦ λ _. refl
-          | Some k ↦ λ e. absurd (false≢true (sym (is ∙ ap not (is_seen ∙ ap is_some e)) ∙ new))
-        ] refl
+    fresh_name b is new = grind (arith, common_steps, is_seen)
 
     module _ (defs : List Definition) (new : TypeEnv) (fullname : Sym) (numbered_full : fullname.0 ≡ number (names_of old) whole) (id : VariantId) (fields : Fields) where
       abbrev made : Variant
@@ -78,12 +71,7 @@ module _ (ty : List ℕ) (w : S.Variant) (old first env : TypeEnv) (one : MeetsN
         full_stays = sym (ap (λ ns. number ns whole) all_met.names ∙ number_stays (names_of old) (own ∷ field_texts) whole)
 
         entry_is : fields_view fields ≡ field_entries defs (names_of new) (views.fields_view w.fields) → variant_view made ≡ variant_entry defs (names_of new) ty id.0 (views.variant_view w)
-        entry_is e =
-            let n : name.0 ≡ number (names_of new) own = numbered ∙ name_stays in
-            let f : fullname.0 ≡ number (names_of new) whole = numbered_full ∙ full_stays in
-            ap (λ k. record { name = k; full_name = fullname.0; id = id.0; fields = fields_view fields; at = views.position w.pos }) n
-            ∙ ap (λ k. record { name = number (names_of new) own; full_name = k; id = id.0; fields = fields_view fields; at = views.position w.pos }) f
-            ∙ ap (λ k. record { name = number (names_of new) own; full_name = number (names_of new) whole; id = id.0; fields = k; at = views.position w.pos }) e
+        entry_is e = grind (arith, common_steps, name_stays, full_stays)
 
         pub variant_right : IsInterned env → (more : Members Sym) → ((y : Sym) → contains same_symbol more y ≡ cond (same_symbol name y) true (contains same_symbol seen y)) → (b : _) → b ≡ not (contains same_symbol seen name) → b ≡ true → AreRightFields defs (views.fields_view w.fields) → fields_view fields ≡ field_entries defs (names_of new) (views.fields_view w.fields) → VariantRead defs ty id.0 (views.variant_view w) earlier made old new more
         variant_right i more has b is is_new right e =

@@ -1,14 +1,15 @@
 -- The type environment of a list with valid types shows the types of that list, and so is well formed; with more names it
 -- stays so.
-use Rattle.std.proofs.Common.{◌≡◌, Result, Ok, Err, OnOk, OnErr, ℕ, ◌<◌, ◌≤◌, true, false, cond, List, [], ◌∷◌, ◌++◌, length, take, Option, option_map, Contains, IsTrue, All, refl, sym, ap, ◌∙◌, subst, arith}
+use Rattle.std.proofs.Common.{◌≡◌, Result, OnOk, OnErr, ℕ, ◌<◌, ◌≤◌, true, List, [], ◌∷◌, length, take, Option, option_map, Contains, IsTrue, All, refl, sym, ap, ◌∙◌, subst, arith}
 use Rattle.std.specs.List.{flat_map}
 use Rattle.std.proofs.lemmas.List.{length-append}
-use Rattle.std.proofs.lemmas.List.Elements.{All-contains, All-weaker}
+use Rattle.std.proofs.lemmas.List.Elements.{All-contains}
+use Rattle.std.proofs.lemmas.Grind.{common_steps}
 use Rattle.model.specs.lists.Syntax.{Definition}
 use Rattle.model.specs.lists.Names.{has_name, with_name, AreNumbersOf}
 use Rattle.model.specs.lists.Tables.{TypeEntry}
 use Rattle.model.specs.lists.TypeTable.{builtin_names, builtin_from, all_type_names, type_names_met, IsValidTypes}
-use Rattle.model.specs.lists.KnownTypes.{types_inside, entry_numbers, StandAtIds}
+use Rattle.model.specs.lists.KnownTypes.{types_inside, StandAtIds}
 use Rattle.model.specs.claims.Environments.{types_read, AreReadable, HasVariantsAtIds, TypeEnvironment, AreTypesOf}
 use Rattle.model.specs.claims.Questions.{HasOneNumber, AnswersTypes, IsWellFormedEnvironment}
 use Rattle.laws_typing.proofs.EnvironmentsShown.{well_formed_environments_are_read_lem}
@@ -62,20 +63,11 @@ builtins_well_formed env s = well_formed none env no_types (booted env s)
 
 -- with more names, and all else as it was, a well-formed environment stays so
 module _ (old new : TypeEnvironment) (h : IsWellFormedEnvironment old) (inverse : AreNumbersOf new.names new.number_of) (more : length old.names ≤ length new.names) (types : new.types ≡ old.types) (types_of : (k : ℕ) → new.type_of k ≡ old.type_of k) (constants_of : (k : ℕ) → new.constant_type_of k ≡ old.constant_type_of k) (errors : new.errors ≡ old.errors) where
-  as_many : length old.types ≡ length new.types
-  as_many = ap length (sym types)
-
   answers_stay : (before after : ℕ → Option ℕ) → ((k : ℕ) → after k ≡ before k) → AnswersTypes old before → AnswersTypes new after
-  answers_stay before after same a k ty e =
-      let b = a k ty (sym (same k) ∙ e) in
-      (omega (arith, b.0, more), subst (λ n. ty < n) as_many b.1)
+  answers_stay before after same a k ty e = grind (arith, common_steps)
 
   number_stays : (ty : ℕ) → HasOneNumber old ty → HasOneNumber new ty
-  number_stays ty n = record {
-    number = n.number;
-    of_type = types_of n.number ∙ n.of_type;
-    only = λ k e. n.only k (sym (types_of k) ∙ e);
-  }
+  number_stays ty n = grind (arith, common_steps)
 
   pub stays_well_formed : IsWellFormedEnvironment new
   stays_well_formed = record {
@@ -87,22 +79,15 @@ module _ (old new : TypeEnvironment) (h : IsWellFormedEnvironment old) (inverse 
     type_names = answers_stay old.type_of new.type_of types_of h.type_names;
     constants = answers_stay old.constant_type_of new.constant_type_of constants_of h.constants;
     types_in_range = subst (λ (ts : List TypeEntry). All (λ ty. ty < length ts) (flat_map types_inside ts)) (sym types) h.types_in_range;
-    numbers_in_range =
-        subst (λ (ts : List TypeEntry). All (λ n. n < length new.names) (flat_map entry_numbers ts)) (sym types)
-        (All-weaker (λ n. n < length old.names) (λ n. n < length new.names) (λ n l. omega (arith, l, more)) (flat_map entry_numbers old.types) h.numbers_in_range);
+    numbers_in_range = grind (arith, common_steps);
     no_errors = errors ∙ h.no_errors;
   }
 
 pub longer : (ns : List (List ℕ)) (x : List ℕ) → length ns ≤ length (with_name ns x)
-longer ns x =
-    elim (has_name ns x) as (λ b. length ns ≤ length (cond b ns (ns ++ x ∷ []))) [
-      | true ↦ omega arith
-      | false ↦ let n = length-append ns (x ∷ []) in omega (arith, n)
-    ]
+longer ns x = grind (arith, common_steps, length-append ns (x ∷ []))
 
 as_long : {S E : Type 0} (r : Result S E) (x : List ℕ) (old new : List (List ℕ)) → OnOk r (new ≡ with_name old x) → OnErr r (new ≡ old) → length old ≤ length new
-as_long (Ok s) x old new ok err = subst (λ ns. length old ≤ length ns) (sym ok) (longer old x)
-as_long (Err e) x old new ok err = let n = ap length err in omega (arith, n)
+as_long r x old new ok err = grind (arith, common_steps, longer old x)
 
 -- so it does where a name is met
 pub interned_well_formed : {S E : Type 0} (r : Result S E) (x : List ℕ) (old new : TypeEnv) → OnOk r (names_of new ≡ with_name (names_of old) x) → OnErr r (names_of new ≡ names_of old) → IsInterned new → new.types ≡ old.types → new.type_map ≡ old.type_map → new.const_types ≡ old.const_types → new.errors ≡ old.errors
