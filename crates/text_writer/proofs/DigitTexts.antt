@@ -10,7 +10,6 @@ use Rattle.std.proofs.lemmas.List.{length-append}
 use Rattle.std.proofs.lemmas.Grind.{common_steps}
 use Rattle.text_reader.specs.Numbers.{digits_after, grown}
 use Rattle.text_reader.specs.Solid.{nowhere}
-use Rattle.text_reader.specs.declared.errors.Mistake.TheVariants as M
 use Rattle.text_reader.specs.SpecTrees.{spec_bits}
 use Rattle.text_reader.specs.SpecGrammar.{are_digits, bits_of, word_spec_of}
 use Rattle.text_writer.specs.SpecForms.{digit_text, digits_text, bits_text}

@@ -1,11 +1,11 @@
 -- Comments give no tokens, however long they are.
-use Rattle.std.proofs.Common.{◌≡◌, ℕ, zero, suc, ◌+◌, List, [], ◌∷◌, ◌++◌, refl, sym, ap, ◌∙◌, map, arith, lit<, encode_utf8}
+use Rattle.std.proofs.Common.{◌≡◌, ℕ, zero, suc, ◌+◌, List, [], ◌∷◌, ◌++◌, refl, ap, map, arith, lit<, encode_utf8}
 use Rattle.std.specs.Prelude.{replicate, Result}
 use Rattle.std.proofs.lemmas.List.{length-append}
 use Rattle.std.proofs.lemmas.Str.{length-encode, len_utf8_ascii}
 use Rattle.std.proofs.lemmas.Grind.{common_steps}
 use Rattle.text_reader.specs.Lexemes.{Wrong, ◌>>=◌}
-use Rattle.text_reader.specs.Lexing.{Tokens, tokens_after, added}
+use Rattle.text_reader.specs.Lexing.{Tokens, tokens_after}
 use Rattle.text_reader.specs.Pieces.{Piece, space, line, block, left, right, bind, name, sign, endless, alone, spelling, size}
 use Rattle.text_reader.specs.Solid.{solid, stripped}
 use Rattle.text_writer.specs.Placing.{kept}
@@ -36,16 +36,7 @@ skipped file (suc n) o ps done = grind (arith, common_steps, skipped file n (o +
 
 blank_tokens : (file : ℕ) (ps : List Piece) (o : ℕ) (done : Tokens) → tokens_after file o ps done ≡ tokens_after file o (blanked ps) done
 blank_tokens file [] o done = refl
-blank_tokens file (space c ∷ ps) o done = blank_tokens file ps (o + size (spelling (space c))) done
-blank_tokens file (line cs ∷ ps) o done = blank_tokens file ps (o + size (spelling (line cs))) done ∙ sym (skipped file (size (spelling (line cs))) o (blanked ps) done)
-blank_tokens file (block cs ∷ ps) o done = bind_same (added (block cs) (record { file = file; offset = o }) done) _ _ (λ d. blank_tokens file ps (o + size (spelling (block cs))) d)
-blank_tokens file (left ∷ ps) o done = bind_same (added left (record { file = file; offset = o }) done) _ _ (λ d. blank_tokens file ps (o + size (spelling left)) d)
-blank_tokens file (right ∷ ps) o done = bind_same (added right (record { file = file; offset = o }) done) _ _ (λ d. blank_tokens file ps (o + size (spelling right)) d)
-blank_tokens file (bind ∷ ps) o done = bind_same (added bind (record { file = file; offset = o }) done) _ _ (λ d. blank_tokens file ps (o + size (spelling bind)) d)
-blank_tokens file (name cs ∷ ps) o done = bind_same (added (name cs) (record { file = file; offset = o }) done) _ _ (λ d. blank_tokens file ps (o + size (spelling (name cs))) d)
-blank_tokens file (sign cs ∷ ps) o done = bind_same (added (sign cs) (record { file = file; offset = o }) done) _ _ (λ d. blank_tokens file ps (o + size (spelling (sign cs))) d)
-blank_tokens file (endless cs ∷ ps) o done = bind_same (added (endless cs) (record { file = file; offset = o }) done) _ _ (λ d. blank_tokens file ps (o + size (spelling (endless cs))) d)
-blank_tokens file (alone ∷ ps) o done = bind_same (added alone (record { file = file; offset = o }) done) _ _ (λ d. blank_tokens file ps (o + size (spelling alone)) d)
+blank_tokens file (p ∷ ps) o done = grind (arith, common_steps, blank_tokens file ps, skipped, bind_same)
 
 abbrev unlined : List Piece → List Piece
 unlined [] = []
@@ -66,29 +57,11 @@ solid_skipped (suc n) ps = solid_skipped n ps
 
 solid_blanked : (ps : List Piece) → solid (blanked ps) ≡ unlined (solid ps)
 solid_blanked [] = refl
-solid_blanked (space c ∷ ps) = solid_blanked ps
-solid_blanked (line cs ∷ ps) = solid_skipped (size (spelling (line cs))) (blanked ps) ∙ solid_blanked ps
-solid_blanked (block cs ∷ ps) = ap (λ x. block cs ∷ x) (solid_blanked ps)
-solid_blanked (left ∷ ps) = ap (λ x. left ∷ x) (solid_blanked ps)
-solid_blanked (right ∷ ps) = ap (λ x. right ∷ x) (solid_blanked ps)
-solid_blanked (bind ∷ ps) = ap (λ x. bind ∷ x) (solid_blanked ps)
-solid_blanked (name cs ∷ ps) = ap (λ x. name cs ∷ x) (solid_blanked ps)
-solid_blanked (sign cs ∷ ps) = ap (λ x. sign cs ∷ x) (solid_blanked ps)
-solid_blanked (endless cs ∷ ps) = ap (λ x. endless cs ∷ x) (solid_blanked ps)
-solid_blanked (alone ∷ ps) = ap (λ x. alone ∷ x) (solid_blanked ps)
+solid_blanked (p ∷ ps) = grind (arith, common_steps, solid_blanked ps, solid_skipped)
 
 unlined_kept : (ps : List Piece) → unlined (map kept ps) ≡ unlined ps
 unlined_kept [] = refl
-unlined_kept (space c ∷ ps) = ap (λ x. space c ∷ x) (unlined_kept ps)
-unlined_kept (line cs ∷ ps) = unlined_kept ps
-unlined_kept (block cs ∷ ps) = ap (λ x. block cs ∷ x) (unlined_kept ps)
-unlined_kept (left ∷ ps) = ap (λ x. left ∷ x) (unlined_kept ps)
-unlined_kept (right ∷ ps) = ap (λ x. right ∷ x) (unlined_kept ps)
-unlined_kept (bind ∷ ps) = ap (λ x. bind ∷ x) (unlined_kept ps)
-unlined_kept (name cs ∷ ps) = ap (λ x. name cs ∷ x) (unlined_kept ps)
-unlined_kept (sign cs ∷ ps) = ap (λ x. sign cs ∷ x) (unlined_kept ps)
-unlined_kept (endless cs ∷ ps) = ap (λ x. endless cs ∷ x) (unlined_kept ps)
-unlined_kept (alone ∷ ps) = ap (λ x. alone ∷ x) (unlined_kept ps)
+unlined_kept (p ∷ ps) = grind (arith, common_steps, unlined_kept ps)
 
 -- pieces that differ in white space alone have the same tokens, and so have those whose comments lose what ends them
 pub kept_tokens : ((file : ℕ) (ps qs : List Piece) → solid ps ≡ solid qs → stripped (tokens_after file 0 ps []) ≡ stripped (tokens_after file 0 qs []))

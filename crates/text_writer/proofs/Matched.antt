@@ -20,8 +20,6 @@ use Rattle.text_reader.specs.RuleGrammar.{rule_of, parted_of, priority_of, rule_
 use Rattle.text_reader.specs.Definitions.{defined_by, definition_of, definitions_of, reading}
 use Rattle.text_reader.specs.SpecTrees.{VerificationTree}
 use Rattle.text_reader.specs.Verifying.{numbered, said_of, said_from, verification_in, verification_of}
-use Rattle.text_writer.specs.Spellable as D
-use Rattle.text_writer.specs.SpellableTrees as T
 use Rattle.text_writer.specs.Items.{Item}
 use Rattle.text_writer.specs.Woven.{Trouble, unspelled, unmatched, Trees, tree_item, item_by, left_by, left_behind, item_before, woven, number_by, other_numbers, AreMatched}
 

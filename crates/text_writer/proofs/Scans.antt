@@ -10,7 +10,7 @@ use Rattle.std.proofs.lemmas.Str.{length-encode, len_utf8_bounds}
 use Rattle.std.proofs.lemmas.Grind.{common_steps}
 use Rattle.text_reader.specs.declared.errors.Mistake.{Mistake}
 use Rattle.text_reader.specs.Pieces.{Piece, space, line, block, left, right, bind, name, sign, endless, alone, spelling, size, is_in_word, is_space, begins_word, begins_with, after_comment, ends_word, ends_line, Stands, AreIn}
-use Rattle.text_writer.specs.Placing.{Placing, all_placed, placed, with_piece, nothing_placed}
+use Rattle.text_writer.specs.Placing.{Placing, all_placed, with_piece, nothing_placed}
 use Rattle.text_writer.specs.Scanning.{ScanMode, start, between, in_name, in_sign, in_line, in_block, in_endless, begun, in_comment, finished, step, run, folded, sign_piece}
 
 one_more : (c : ℕ) (cs more : List ℕ) → c ∷ cs ≡ more ++ cs → c ∷ [] ≡ more
@@ -226,16 +226,7 @@ one_division text ps qs h k = sym (all_behind ps []) ∙ sym (whole behind_all p
 -- ---- those that stay
 placed_on : (ps : List Piece) (a : Placing) → (folded with_piece a ps).done ≡ a.done ++ all_placed a.breaks a.spaces ps
 placed_on [] a = sym (append-nil a.done)
-placed_on (space c ∷ ps) a = placed_on ps (with_piece (space c) a)
-placed_on (line cs ∷ ps) a = placed_on ps (with_piece (line cs) a) ∙ append_assoc a.done (placed (line cs) a.breaks a.spaces ∷ []) (all_placed 0 0 ps)
-placed_on (block cs ∷ ps) a = placed_on ps (with_piece (block cs) a) ∙ append_assoc a.done (placed (block cs) a.breaks a.spaces ∷ []) (all_placed 0 0 ps)
-placed_on (left ∷ ps) a = placed_on ps (with_piece (left) a) ∙ append_assoc a.done (placed (left) a.breaks a.spaces ∷ []) (all_placed 0 0 ps)
-placed_on (right ∷ ps) a = placed_on ps (with_piece (right) a) ∙ append_assoc a.done (placed (right) a.breaks a.spaces ∷ []) (all_placed 0 0 ps)
-placed_on (bind ∷ ps) a = placed_on ps (with_piece (bind) a) ∙ append_assoc a.done (placed (bind) a.breaks a.spaces ∷ []) (all_placed 0 0 ps)
-placed_on (name cs ∷ ps) a = placed_on ps (with_piece (name cs) a) ∙ append_assoc a.done (placed (name cs) a.breaks a.spaces ∷ []) (all_placed 0 0 ps)
-placed_on (sign cs ∷ ps) a = placed_on ps (with_piece (sign cs) a) ∙ append_assoc a.done (placed (sign cs) a.breaks a.spaces ∷ []) (all_placed 0 0 ps)
-placed_on (endless cs ∷ ps) a = placed_on ps (with_piece (endless cs) a) ∙ append_assoc a.done (placed (endless cs) a.breaks a.spaces ∷ []) (all_placed 0 0 ps)
-placed_on (alone ∷ ps) a = placed_on ps (with_piece (alone) a) ∙ append_assoc a.done (placed (alone) a.breaks a.spaces ∷ []) (all_placed 0 0 ps)
+placed_on (p ∷ ps) a = grind (arith, common_steps, placed_on ps, append_assoc)
 
 pub placed_text : (text : List ℕ) (ps : List Piece) → AreIn 0 text ps → (run with_piece (start, nothing_placed) text).done ≡ all_placed 0 0 ps
 placed_text text ps h = ap (λ (a : Placing). a.done) (whole with_piece ps text nothing_placed h) ∙ placed_on ps nothing_placed

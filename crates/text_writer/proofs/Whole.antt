@@ -6,7 +6,7 @@ use Rattle.std.proofs.lemmas.Bool.{cases_Bool, and_parts}
 use Rattle.std.proofs.lemmas.Bool.Decides.{nat_tests}
 use Rattle.std.proofs.lemmas.List.{append_assoc}
 use Rattle.std.proofs.lemmas.Grind.{common_steps}
-use Rattle.text_reader.specs.Pieces.{Piece, space, line, block, left, right, bind, name, sign, endless, alone, spelling, size, begins_with, ends_word, ends_line, AreIn}
+use Rattle.text_reader.specs.Pieces.{Piece, space, line, left, name, sign, spelling, size, begins_with, ends_word, ends_line, AreIn}
 use Rattle.text_reader.specs.Solid.{solid}
 use Rattle.text_writer.specs.declared.gaps.Gap.{Gap}
 use Rattle.text_writer.specs.declared.gaps.Gap.TheVariants.{Spaces, Breaks}
@@ -142,16 +142,7 @@ solid_plan i _ _ w = refl
 
 placed_pieces : (ps : List Piece) (b s : ℕ) → pieces_of (all_placed b s ps) ≡ map kept (solid ps)
 placed_pieces [] b s = refl
-placed_pieces (space c ∷ ps) b s = placed_pieces ps _ _
-placed_pieces (line cs ∷ ps) b s = ap (λ x. kept (line cs) ∷ x) (placed_pieces ps 0 0)
-placed_pieces (block cs ∷ ps) b s = ap (λ x. kept (block cs) ∷ x) (placed_pieces ps 0 0)
-placed_pieces (left ∷ ps) b s = ap (λ x. kept (left) ∷ x) (placed_pieces ps 0 0)
-placed_pieces (right ∷ ps) b s = ap (λ x. kept (right) ∷ x) (placed_pieces ps 0 0)
-placed_pieces (bind ∷ ps) b s = ap (λ x. kept (bind) ∷ x) (placed_pieces ps 0 0)
-placed_pieces (name cs ∷ ps) b s = ap (λ x. kept (name cs) ∷ x) (placed_pieces ps 0 0)
-placed_pieces (sign cs ∷ ps) b s = ap (λ x. kept (sign cs) ∷ x) (placed_pieces ps 0 0)
-placed_pieces (endless cs ∷ ps) b s = ap (λ x. kept (endless cs) ∷ x) (placed_pieces ps 0 0)
-placed_pieces (alone ∷ ps) b s = ap (λ x. kept (alone) ∷ x) (placed_pieces ps 0 0)
+placed_pieces (p ∷ ps) b s = grind (arith, common_steps, placed_pieces ps)
 
 pub laid_solid : (i : Indentation) (ps : List Piece) → AreWhole (all_placed 0 0 ps) → solid (laid i ps) ≡ map kept (solid ps)
 laid_solid i ps w = solid_plan i (is_marked ps) (all_placed 0 0 ps) w ∙ placed_pieces ps 0 0

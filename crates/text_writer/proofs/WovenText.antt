@@ -7,9 +7,7 @@ use Rattle.std.proofs.lemmas.Grind.{common_steps}
 use Rattle.model.specs.lists.Syntax.{Position, Definition}
 use Rattle.core_syntax.specs.SyntaxViews.{definition_place}
 use Rattle.text_writer.specs.ReadsBack.{ReadsBackAs}
-use Rattle.text_writer.specs.Spellable as D
 use Rattle.text_writer.specs.Texts.{written}
-use Rattle.text_writer.specs.SpellableTrees as T
 use Rattle.text_writer.specs.Items.{Item, definition_in, trees_from, item_form, item_can_be_spelled, printed_items}
 use Rattle.text_writer.specs.Saying.{ReadsBackVerification}
 use Rattle.text_writer.specs.declared.spec_faults.SpecPrintFault.{SpecPrintFault}
