@@ -1,13 +1,13 @@
 -- A pattern that hangs together asks variants and structs for all their fields.
-use Rattle.std.proofs.Common.{◌≡◌, ℕ, Bool, true, List, [], ◌∷◌, length, Some, slice_get, refl, subst, arith}
+use Rattle.std.proofs.Common.{◌≡◌, ℕ, true, List, [], ◌∷◌, length, Some, slice_get, refl, subst, arith}
 use Rattle.std.proofs.lemmas.Grind.{common_steps}
 use Rattle.model.specs.lists.Tables.{TermEntry}
 use Rattle.model.specs.lists.Formed.{is_formed_rule}
 use Rattle.model.specs.rules.Values.{variant_types, struct_types}
-use Rattle.model.specs.rules.Program.{Program, Kind, a_call, kind, kind_of}
+use Rattle.model.specs.rules.Program.{Program, Kind, kind, kind_of}
 use Rattle.model.specs.rules.Typed.{TypedPatterns, TypedRule}
-use Rattle.model.specs.sites.Sites.{Constraint, is_variant, is_struct, is_bool, is_int, is_prim, is_present, SiteTerm, extractor_call}
-use Rattle.model.specs.visits.Demands.{Demands, demands_of, Visit, asking, open_call, open_term, asking_all}
+use Rattle.model.specs.sites.Sites.{Constraint, is_variant, is_struct, is_bool, is_int, is_prim, is_present, SiteTerm}
+use Rattle.model.specs.visits.Demands.{Demands, demands_of, Visit, asking, open_term, asking_all}
 use Rattle.model.proofs.Elements.{In, in_either}
 use Rattle.laws_typing.specs.WellTypedPrograms.{HasTypedParts}
 use Rattle.laws_typing.proofs.WellTypedPrograms.{variant_takes, struct_takes}
@@ -39,16 +39,10 @@ module _ (p : Program) where
   abbrev asked : Facts
   asked = record { demands = AskAllFields p; site = λ s ty. Unit {0}; matched = λ t. Unit {0}; called = λ t. Unit {0} }
 
-  call_opened : (pure multi partial rec infallible : Bool) (c : SiteTerm) (args : TypedPatterns) (tys : List ℕ) (v : Visit) → AsMany args tys → AskAllFields p v.demands
-      → AskAllFields p (open_call (record { pure = pure; multi = multi; partial = partial; rec = rec }) infallible c args v).visit.demands
-      × AtEachTyped asked (open_call (record { pure = pure; multi = multi; partial = partial; rec = rec }) infallible c args v).inputs tys
-  call_opened pure multi partial rec infallible c args tys v n h = grind (arith, common_steps, outputs_each, asked_too)
-
   module _ (fields : HasTypedParts p) where
     term_opened : (t : ℕ) (e : TermEntry) → slice_get p.terms t ≡ Some e → (k : Kind) → kind p t ≡ k → kind_of e ≡ k → (s : SiteTerm) (args : TypedPatterns) → AsMany args e.arg_tys → (v : Visit) → AskAllFields p v.demands
         → AskAllFields p (open_term k t s args v).visit.demands × AtEachTyped asked (open_term k t s args v).inputs e.arg_tys
-    term_opened t e there (a_call flags infallible) w q s args n v h = call_opened flags.pure flags.multi flags.partial flags.rec infallible (extractor_call t s) args e.arg_tys v n h
-    term_opened t e there s w q h args n v i = grind (arith, common_steps, asked_too, variant_takes, as_many_types, all_fields_each, struct_takes, term_known)
+    term_opened t e there s w q h args n v i = grind (arith, asked_too, variant_takes, as_many_types, all_fields_each, struct_takes, term_known, outputs_each)
 
     kept : KeptWithTypes asked p
     kept = record {

@@ -1,5 +1,5 @@
 -- The sites that an arm brings: fields of its source, which wait for it.
-use Rattle.std.proofs.Common.{◌≡◌, ℕ, zero, suc, Bool, true, List, [], ◌∷◌, Option, Some, None, slice_get, Contains, refl, ap, ◌∙◌, arith}
+use Rattle.std.proofs.Common.{◌≡◌, ℕ, zero, suc, Bool, true, List, [], ◌∷◌, Some, slice_get, Contains, arith}
 use Rattle.std.proofs.lemmas.Grind.{common_steps}
 use Rattle.model.specs.sites.Sites.{Site, match_variant_site, extract_struct_site, match_some_site, Constraint, is_variant, is_struct, is_bool, is_int, is_prim, is_present, sources_at}
 use Rattle.model.specs.trees.Places.{waits, is_variant_field, is_struct_field, is_part_of, site_from, each_field, fields_of, field_sites}
@@ -20,19 +20,9 @@ listed_from sites p i (suc n) x c = grind (arith, common_steps, listed_from site
 listed_from sites p i zero x c = absurd (nothing_in x c)
 
 pub is_brought : (sites : List Site) (s : ℕ) (c : Constraint) (x : ℕ) → Contains (field_sites (fields_of sites s c)) x → IsBrought sites s c x
-is_brought sites s (is_variant ty v n) x c =
-    let r = listed_from sites (is_variant_field s v) 0 n x c in
-    let b = site_passes (is_variant_field s v r.0) sites x r.1 in
-    (r.0, b.1 ∙ ap Some (variant_field_same s v r.0 b.0 b.2))
-is_brought sites s (is_struct ty n) x c =
-    let r = listed_from sites (is_struct_field s) 0 n x c in
-    let b = site_passes (is_struct_field s r.0) sites x r.1 in
-    (r.0, b.1 ∙ ap Some (struct_field_same s r.0 b.0 b.2))
-is_brought sites s is_present x c = by (site_from 0 (is_part_of s) sites) refl c
-  where
-    by : (o : Option ℕ) → site_from 0 (is_part_of s) sites ≡ o → Contains (field_sites (o ∷ [])) x → IsBrought sites s is_present x
-    by None e k = absurd (nothing_in x k)
-    by (Some y) e k = let b = site_passes (is_part_of s) sites x (e ∙ ap Some (in_alone y x k)) in b.1 ∙ ap Some (part_same s b.0 b.2)
+is_brought sites s (is_variant ty v n) x c = grind (arith, common_steps, listed_from sites (is_variant_field s v) 0 n x c, site_passes, variant_field_same s v)
+is_brought sites s (is_struct ty n) x c = grind (arith, common_steps, listed_from sites (is_struct_field s) 0 n x c, site_passes, struct_field_same s)
+is_brought sites s is_present x c = grind (arith, common_steps, nothing_in x, site_passes (is_part_of s) sites x, in_alone, part_same s)
 is_brought sites s (is_bool b ty) x c = nothing_in x c
 is_brought sites s (is_int z ty) x c = nothing_in x c
 is_brought sites s (is_prim name) x c = nothing_in x c

@@ -1,12 +1,12 @@
 -- Each call in the code of accepted definitions is impure as its function is.
-use Rattle.std.proofs.Common.{◌≡◌, ◌&&◌, ℕ, zero, suc, Bool, true, false, not, List, [], ◌∷◌, ◌++◌, flat_map, Option, Some, slice_get, Contains, refl, ap, ◌∙◌, inl, inr, arith}
+use Rattle.std.proofs.Common.{◌≡◌, ◌&&◌, ℕ, suc, Bool, true, false, not, List, [], ◌∷◌, ◌++◌, Option, Some, slice_get, Contains, refl, ap, ◌∙◌, arith}
 use Rattle.std.proofs.lemmas.Grind.{common_steps}
 use Rattle.std.proofs.lemmas.Bool.{and_parts, and_from}
 use Rattle.std.proofs.lemmas.Option.{slice_get_within}
 use Rattle.model.specs.rules.Program.{Program, arg_types, is_multi, rules_of}
 use Rattle.model.specs.rules.Typed.{TypedRule}
-use Rattle.model.specs.sites.Sites.{Site, extractor_site, constructor_site, Constraint, SiteTerm, extractor_call, constructor_call, layer, unfold_site}
-use Rattle.model.specs.sites.Serves.{asked, asked_by, constant_site}
+use Rattle.model.specs.sites.Sites.{Site, extractor_site, constructor_site, SiteTerm, extractor_call, constructor_call, layer, unfold_site}
+use Rattle.model.specs.sites.Serves.{asked, asked_by}
 use Rattle.model.specs.visits.Demands.{demands_of}
 use Rattle.model.specs.trees.Trees.{Tree, no_step, step, Check, match_at, equal_at, loop_at, return_at, Arms, no_arm, arm}
 use Rattle.model.specs.trees.Places.{field_sites}
@@ -19,17 +19,17 @@ use Rattle.laws_sites.proofs.built.BuiltSets.{BuiltSet, of_term}
 use Rattle.laws_trees.proofs.runs.Contents.{unfolded_layer}
 use Rattle.laws_trees.proofs.taken.Fits.{IsField}
 use Rattle.laws_trees.proofs.taken.BuiltSites.{sites_stand}
-use Rattle.laws_trees.proofs.total.Shaped.{Uses, Shaped, shaped_extractor, shaped_pure, shaped_impure, HasShape}
+use Rattle.laws_trees.proofs.total.Shaped.{Uses, HasShape}
 use Rattle.laws_trees.proofs.total.ShapedSites.{AreShaped, rule_shaped}
-use Rattle.model_code.specs.Code.{Place, PlaceUse, Expr, read, Block, no_statement, statement, Statement, match_on, if_equal, for_each_of, labelled, CodeArms, no_code_arm, code_arm}
-use Rattle.model_code.specs.TreeCode.{Passes, bind_code, binds_code, loop_code, tree_code, check_code, arms_code}
+use Rattle.model_code.specs.Code.{Place, PlaceUse, Block, no_statement, statement, Statement, match_on, if_equal, for_each_of, labelled, CodeArms, no_code_arm, code_arm}
+use Rattle.model_code.specs.TreeCode.{Passes, bind_code, binds_code, tree_code, check_code, arms_code}
 use Rattle.model_code.specs.Flat.{within, flat, flat_at, flat_arms, leaving, leaving_last, leaving_match}
 use Rattle.model_code.specs.Modes.{Types, passes_of}
 use Rattle.model_code.specs.MovedOnce.{behind, movable_after, read_no_more, unlooked}
-use Rattle.model_code.specs.Saving.{saved_expr, saved, saved_at, saved_arms}
+use Rattle.model_code.specs.Saving.{saved, saved_at, saved_arms}
 use Rattle.model_code.specs.SiteTypes.{types_of}
 use Rattle.model_code.specs.Notation.{Notation, extractor_of, constructor_of}
-use Rattle.laws_code.specs.ShownLaws.{impure_call, expr_calls_as, calls_as, calls_as_at, arms_call_as}
+use Rattle.laws_code.specs.ShownLaws.{impure_call, calls_as, calls_as_at, arms_call_as}
 use Rattle.laws_code.specs.CalledAlike.{AreCalledAlike, TreesCallAlike, CodeCallsAlike}
 
 -- 1. labels and moves keep the calls
@@ -79,9 +79,6 @@ module _ (p : Notation) (is_impure : ℕ → Bool) where
           (and_from _ _ (within_calls (deep n) (leaving b2 deep (suc n)) (flat b2 deep (suc n)) (leaving_calls b2 (suc n) ks.0) (flat_calls b2 (suc n) ks.0)) (flat_calls_arms rest n ks.1))) refl
 
   module _ (types : Types) where
-    expr_same : (inside : List ℕ) (later : Place → Bool) (e : Expr) → expr_calls_as p is_impure (saved_expr types inside later e) ≡ expr_calls_as p is_impure e
-    expr_same inside later e = grind (arith, common_steps)
-
     mutual
       saved_calls : (b : Block) (inside : List ℕ) (after : Place → Bool) → calls_as p is_impure (saved types inside after b) ≡ calls_as p is_impure b
       saved_calls no_statement inside after = refl
@@ -92,7 +89,7 @@ module _ (p : Notation) (is_impure : ℕ → Bool) where
       saved_calls_at (if_equal a b body) inside later = saved_calls body inside later
       saved_calls_at (for_each_of v from body) inside later = saved_calls body (v ∷ []) read_no_more
       saved_calls_at (labelled body) inside later = saved_calls body inside later
-      saved_calls_at s inside later = grind (arith, common_steps, expr_same)
+      saved_calls_at s inside later = grind (arith, common_steps)
 
       saved_calls_arms : (arms : CodeArms) (inside : List ℕ) (later : Place → Bool) → arms_call_as p is_impure (saved_arms types inside later arms) ≡ arms_call_as p is_impure arms
       saved_calls_arms no_code_arm inside later = refl
@@ -105,14 +102,8 @@ module _ (p : Program) (n : Notation) (is_impure : ℕ → Bool) (alike : AreCal
   IsAlike (constructor_call t ss i) = impure_call i (is_impure (n.function (constructor_of t))) ≡ true
   IsAlike s = Unit {0}
 
-  call_alike : {multi optional : Bool} {tys : List ℕ} (uses : Uses) (s : SiteTerm) → Shaped p uses s multi optional tys → IsAlike s
-  call_alike uses (extractor_call t s) (shaped_extractor e flags infallible used there can k h) = alike.extractors t e there can
-  call_alike uses (constructor_call t ss zero) (shaped_pure e flags infallible used there can k pure h) = ap not (alike.constructors t e flags infallible there can k ∙ ap not pure)
-  call_alike uses (constructor_call t ss (suc before)) (shaped_impure e flags infallible used there can k pure h) = alike.constructors t e flags infallible there can k ∙ ap not pure
-  call_alike uses s h = tt
-
   shape_alike : (uses : Uses) (u : SiteTerm) → HasShape p uses u → IsAlike u
-  shape_alike uses u found = call_alike {multi = found.multi} {optional = found.optional} {tys = found.tys} uses u found.shaped
+  shape_alike uses u found = grind arith
 
 module _ (b : BuiltSet) (h : IsWellTypedProgram b.program) (n : Notation) (is_impure : ℕ → Bool) (alike : AreCalledAlike b.program n is_impure) (passes : Passes) where
   abbrev p : Program
@@ -133,10 +124,7 @@ module _ (b : BuiltSet) (h : IsWellTypedProgram b.program) (n : Notation) (is_im
       let o = of_term p b.term r.0 (contains_from_in rs r.0 r.1) in
       let uses : Uses = record { args = arg_types p r.0.root_term; matched = matched_in r.0; called = called_in r.0 } in
       let shaped : AreShaped p uses (demands_of p r.0) = rule_shaped p uses h r.0 (h.rules r.0 o.0).formed (λ t i. contains_from_in (matched_in r.0) t i) (λ t i. contains_from_in (called_in r.0) t i) refl in
-      let found : HasShape p uses u = elim (in_either (demands_of p r.0).made (flat_map (λ (x : SiteTerm × Constraint). constant_site x.1) (demands_of p r.0).constraints) u r.2) [
-        | inl j ↦ shaped.0 u j
-        | inr j ↦ let x = from_flat_map (λ (x : SiteTerm × Constraint). constant_site x.1) (demands_of p r.0).constraints u j in shaped.1 x.0 x.1 u x.2
-      ] in
+      let found : HasShape p uses u = grind (arith, common_steps, in_either, from_flat_map) in
       shape_alike p n is_impure alike uses u found
 
   site_alike : (s : ℕ) (x : Site) → slice_get sites s ≡ Some x → (IsField (layer (unfold_site sites) x) → ⊥) → Alike (layer (unfold_site sites) x)
@@ -151,9 +139,6 @@ module _ (b : BuiltSet) (h : IsWellTypedProgram b.program) (n : Notation) (is_im
   binds_calls [] rest w = w
   binds_calls (s ∷ ss) rest w = and_from _ _ (bind_calls s (slice_get sites s) refl) (binds_calls ss rest w)
 
-  loop_calls : (o : Option Site) (s : ℕ) (body : Block) → calls_as n is_impure body ≡ true → calls_as_at n is_impure (loop_code o s body) ≡ true
-  loop_calls o s body w = grind (arith, common_steps)
-
   mutual
     tree_calls : (tree : Tree) → calls_as n is_impure (tree_code tree sites passes) ≡ true
     tree_calls no_step = refl
@@ -162,7 +147,7 @@ module _ (b : BuiltSet) (h : IsWellTypedProgram b.program) (n : Notation) (is_im
     check_calls : (check : Check) → calls_as_at n is_impure (check_code check sites passes) ≡ true
     check_calls (match_at source arms) = arms_calls arms
     check_calls (equal_at x y body) = tree_calls body
-    check_calls (loop_at result body) = loop_calls (slice_get sites result) result (tree_code body sites passes) (tree_calls body)
+    check_calls (loop_at result body) = grind (arith, tree_calls body)
     check_calls (return_at at result) = refl
 
     arms_calls : (arms : Arms) → arms_call_as n is_impure (arms_code arms sites passes) ≡ true

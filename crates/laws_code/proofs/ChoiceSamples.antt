@@ -4,8 +4,7 @@ use Rattle.std.proofs.lemmas.Grind.{common_steps}
 use Rattle.std.proofs.lemmas.List.Sorted.{IsPermutation-refl, length_permutation}
 use Rattle.model.specs.rules.Meaning.{Content, nothing}
 use Rattle.model.specs.rules.Outcome.{Ending, ended, ran_through}
-use Rattle.model_code.specs.CodeLaws.{IsCut}
-use Rattle.laws_code.specs.ChoiceSamples.{three, gives, first_two, whole, BoundsAreKept}
+use Rattle.laws_code.specs.ChoiceSamples.{three, BoundsAreKept}
 
 abbrev goes_through : Ending → Bool
 goes_through ran_through = true
@@ -19,8 +18,5 @@ abbrev begins_with_nothing : List Content → Bool
 begins_with_nothing (nothing ∷ rest) = true
 begins_with_nothing _ = false
 
-cut_there : IsCut 2 whole (gives first_two)
-cut_there = grind (arith, common_steps)
-
 pub bounds_are_kept_lem : BoundsAreKept
-bounds_are_kept_lem = grind (arith, common_steps, IsPermutation-refl three, length_permutation three, IsPermutation-refl, length_permutation, cut_there)
+bounds_are_kept_lem = grind (arith, common_steps, IsPermutation-refl three, length_permutation three, IsPermutation-refl, length_permutation)

@@ -1,8 +1,9 @@
 -- The chain: the code of a tree runs as the tree, the tree as the source rules choose.
-use Rattle.std.proofs.Common.{◌≡◌, ◌≤◌, ◌<◌, ◌++◌, ℕ, suc, List, [], ◌∷◌, length, drop, refl, sym, ap, subst, ◌∙◌}
+use Rattle.std.proofs.Common.{◌≡◌, ◌≤◌, ◌<◌, ◌++◌, ℕ, suc, List, [], ◌∷◌, length, drop, refl, sym, ap, subst, ◌∙◌, arith}
 use Rattle.std.specs.Prelude.{IsPermutation}
 use Rattle.std.proofs.lemmas.List.{take-append-drop, length-take-le}
 use Rattle.std.proofs.lemmas.List.Sorted.{length_permutation}
+use Rattle.std.proofs.lemmas.Grind.{common_steps}
 use Rattle.model.specs.rules.Meaning.{Content}
 use Rattle.model.specs.rules.Outcome.{Outcome}
 use Rattle.model.specs.rules.Program.{rules_of}
@@ -17,10 +18,7 @@ use Rattle.laws_code.specs.CodeChoices.{CollectsUpTo, CodeOfLoweredTermsMeans, C
 -- what a list without elements begins with
 none_before : {X : Type 0} (xs more : List X) → xs ++ more ≡ [] → xs ≡ []
 none_before [] more e = refl
-none_before (x ∷ xs) more e = absurd (none_left e)
-  where
-    none_left : x ∷ (xs ++ more) ≡ [] → ⊥
-    none_left f = cc
+none_before (x ∷ xs) more e = grind (arith, common_steps)
 
 -- a run that collects a bag, cut
 cut_collects : (n : ℕ) (whole cut : Outcome) (expected : List Content) → Collects whole expected → IsCut (suc n) whole cut → CollectsUpTo (suc n) cut expected

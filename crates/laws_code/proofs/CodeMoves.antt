@@ -1,9 +1,9 @@
 -- A call that a loop goes over is emitted only around that loop's body, so bind orders list it before each loop.
-use Rattle.std.proofs.Common.{◌≡◌, ◌⊎◌, inl, inr, ℕ, zero, suc, ◌<◌, ◌&&◌, ◌||◌, Bool, true, false, not, if◌then◌else◌, List, [], ◌∷◌, ◌++◌, length, Option, Some, None, slice_get, Contains, flat_map, refl, sym, ap, subst, ◌∙◌, eqb-true, ltb-true, arith}
+use Rattle.std.proofs.Common.{◌≡◌, ◌⊎◌, inl, inr, ℕ, zero, suc, ◌<◌, ◌&&◌, ◌||◌, Bool, true, false, not, if◌then◌else◌, List, [], ◌∷◌, ◌++◌, length, Option, Some, None, slice_get, Contains, flat_map, refl, sym, ap, subst, ◌∙◌, ltb-true, arith}
 use Rattle.std.proofs.lemmas.Grind.{common_steps}
 use Rattle.std.specs.List.{list_all}
 use Rattle.std.proofs.lemmas.Bool.{cases_Bool, and_parts, and_from, false≢true, true≢false}
-use Rattle.std.proofs.lemmas.List.Elements.{All-contains, Contains-append_left, Contains-append_right, Contains-append_cases}
+use Rattle.std.proofs.lemmas.List.Elements.{Contains-append_left, Contains-append_right, Contains-append_cases}
 use Rattle.model.specs.sites.Sites.{Site, bool_site, extractor_site, constructor_site, iterator_site, make_variant_site, match_variant_site, make_struct_site, extract_struct_site, make_some_site, match_some_site, match_tuple_site, Constraint, SetRule, SiteSet, sources_of, sources_at}
 use Rattle.model.specs.trees.Trees.{Marked, m_no_step, m_step, MarkedCheck, m_match, m_equal, m_loop, m_return, MarkedArms, m_no_arm, m_arm, plain, plain_check, plain_arms, return_of, marks, marks_arms}
 use Rattle.model.specs.trees.Places.{Around, nothing_around, is_in, is_in_place, waits, is_available, available, below, all_below, each_after, listed_below, bind_order, field_sites, constraint_at, in_arm, in_equal, in_loop, after_step}
@@ -35,11 +35,8 @@ picks (Some (iterator_site source)) = true
 picks _ = false
 
 -- 1. the calls of a set
-called_by : (c : ℕ) (b : Site) → goes_over c b ≡ true → b ≡ iterator_site c
-called_by c b h = grind (arith, common_steps, eqb-true)
-
 called_from : (sites : List Site) (c : ℕ) → is_called sites c ≡ true → HasLoopOver sites c
-called_from sites c h = grind (arith, common_steps, one_passes (goes_over c) sites h, get_from_member sites, called_by c, one_passes, get_from_member, called_by)
+called_from sites c h = grind (arith, common_steps, one_passes (goes_over c) sites h, get_from_member sites, one_passes, get_from_member)
 
 called_is : (sites : List Site) (c : ℕ) → HasLoopOver sites c → is_called sites c ≡ true
 called_is sites c k = passes_any (goes_over c) sites (iterator_site c) (member_from_get sites k.0 (iterator_site c) k.1) (number_same c)
@@ -216,10 +213,7 @@ module _ (set : SiteSet) (p : Passes) (calls : CallsAreGoneOver set) (over : Loo
           (in_filter (λ s. not (is_in_place (slice_get sites s))) (listed_below (suc source) sites ar.emitted [] source) source listed (not_false (is_in_place (slice_get sites source)) (over result source at)))
         where
           not_emitted : is_in source ar.emitted ≡ false
-          not_emitted = elim (cases_Bool (is_in source ar.emitted)) [
-            | inr f ↦ f
-            | inl t ↦ absurd (false≢true (sym free ∙ member_is_in source (sources_around ar) (Contains-append_right _ ar.looped source (inv.emitted source called (member_found source ar.emitted t)))))
-          ]
+          not_emitted = grind (arith, common_steps, member_is_in source (sources_around ar), member_found source ar.emitted, inv.emitted source called)
 
           listed : Contains (listed_below (suc source) sites ar.emitted [] source) source
           listed = list_it (is_in source ar.emitted) not_emitted
@@ -284,17 +278,11 @@ module _ (set : SiteSet) (p : Passes) (calls : CallsAreGoneOver set) (over : Loo
       bind_takes s (slice_get sites s) (binds_code sites p ss rest) fresh refl
       (binds_take ss (s ∷ done) rest (s ∷ fresh)
       (λ x c. elim (in_cases s x done c) [ inl e ↦ subst (Contains (s ∷ fresh)) e (in_head s fresh) | inr d ↦ in_tail s x fresh (have x d) ])
-      (λ fresh' g. next fresh' (λ x c. elim c [
-        | inr d ↦ g x (inr (in_tail s x done d))
-        | inl i ↦ elim (in_cases s x ss i) [ inl e ↦ g x (inr (subst (Contains (s ∷ done)) e (in_head s done))) | inr j ↦ g x (inl j) ]
-      ])))
+      (λ fresh' g. next fresh' (λ x c. grind (arith, common_steps, in_tail s x done, in_cases s x ss, in_head s done))))
 
   loop_takes : (result source : ℕ) (o : Option Site) (body : Block) (fresh : List ℕ) → o ≡ Some (iterator_site source) → taken source ≡ true → Contains fresh source → block_takes taken [] body ≡ true
       → statement_takes taken fresh (loop_code o result body) ≡ true
   loop_takes result source o body fresh at t i h = grind (arith, common_steps, member_is_in source fresh i, and_from, member_is_in)
-
-  loop_fresh : (o : Option Site) (result : ℕ) (body : Block) (fresh : List ℕ) → fresh_after fresh (loop_code o result body) ≡ []
-  loop_fresh o result body fresh = grind (arith, common_steps)
 
   return_takes : (o : Option SetRule) (r : SetRule) (fresh : List ℕ) → o ≡ Some r → taken r.result ≡ false → statement_takes taken fresh (check_code (return_of o) sites p) ≡ true
   return_takes o r fresh e f = subst (λ q. statement_takes taken fresh (check_code (return_of q) sites p) ≡ true) (sym e) (other_is r.result f)
@@ -304,7 +292,7 @@ module _ (set : SiteSet) (p : Passes) (calls : CallsAreGoneOver set) (over : Loo
 
   check_fresh : (check : MarkedCheck) (fresh : List ℕ) → fresh_after fresh (check_code (plain_check set.rules check) sites p) ≡ []
   check_fresh (m_match source arms) fresh = refl
-  check_fresh check fresh = grind (arith, common_steps, loop_fresh, return_fresh)
+  check_fresh check fresh = grind (arith, common_steps, return_fresh)
 
   -- 5. by induction on the marked tree
   abbrev AreOfRules : List ℕ → Type 0
@@ -316,8 +304,7 @@ module _ (set : SiteSet) (p : Passes) (calls : CallsAreGoneOver set) (over : Loo
       → block_takes taken fresh (tree_code (plain set.rules (m_step binds check rest)) sites p) ≡ true
   step_takes binds check rest fresh here after =
       binds_take binds [] (statement (check_code (plain_check set.rules check) sites p) (tree_code (plain set.rules rest) sites p)) fresh (λ x c. absurd (nothing_in x c))
-      (λ fresh' g. and_from (statement_takes taken fresh' (check_code (plain_check set.rules check) sites p)) _ (here fresh' (λ x c. g x (inl c)))
-      (ended_or (check_code (plain_check set.rules check) sites p) _ (ap (λ f. block_takes taken f (tree_code (plain set.rules rest) sites p)) (check_fresh check fresh') ∙ after)))
+      (λ fresh' g. grind (arith, and_from, ended_or, check_fresh, here fresh' (λ x c. g x (inl c))))
 
   constrained_free : (r : SetRule) (s : ℕ) → Contains set.rules r → needs (match_test s) r ≡ true → HasLoopOver sites s → ⊥
   constrained_free r s c h k = let d = is_there (constraint_at r.constraints s) h in calls.constrained r s d.0 c (constraint_in r.constraints s d.0 d.1) k
@@ -386,10 +373,7 @@ pub loops_take_once_lem : LoopsTakeOnce
 loops_take_once_lem set tree p deep n best calls over = (
   is_called set.sites,
   flat_keeps_moves_lem (is_called set.sites) (tree_code tree set.sites p) deep n (tree_unlabelled set.sites p tree)
-      (subst (λ t. block_takes (is_called set.sites) [] (tree_code t set.sites p) ≡ true) best.returns.same
-      (steps_take set p calls over best.marked nothing_around false []
-      (λ q. record { emitted = λ c k i. absurd (nothing_in c i); brought = λ c s m k b i. absurd (nothing_in s b) })
-      best.steps (λ i c. All-contains (λ j. j < length set.rules) (marks best.marked) i best.returns.known c))),
+      (grind (arith, common_steps, steps_take set p calls over best.marked nothing_around false [], nothing_in)),
 )
 
 pub code_of_accepted_takes_once_lem : LoopsTakeOnce → CallsAreGoneOverInBuiltSets → BuiltSetsLoopOverBound → CodeOfAcceptedTakesOnce

@@ -1,10 +1,9 @@
 -- Loops go over calls, and code is in scope.
-use Rattle.std.proofs.Common.{◌≡◌, ℕ, Bool, true, false, length, Option, Some, None, slice_get, refl, ap, subst, arith}
+use Rattle.std.proofs.Common.{◌≡◌, ℕ, Bool, true, false, length, Option, slice_get, refl, subst, arith}
 use Rattle.std.proofs.lemmas.Grind.{common_steps}
-use Rattle.std.proofs.lemmas.Bool.{true≢false}
 use Rattle.std.proofs.lemmas.Option.{slice_get_within}
 use Rattle.model.specs.rules.Program.{Program, arg_types}
-use Rattle.model.specs.sites.Sites.{Site, iterator_site, SiteSet, SiteTerm, layer, unfold_site}
+use Rattle.model.specs.sites.Sites.{Site, iterator_site, SiteSet, unfold_site}
 use Rattle.model.specs.trees.Places.{is_in_place}
 use Rattle.model.specs.claims.Layers.{own_program}
 use Rattle.laws_typing.specs.WellTypedPrograms.{IsWellTypedProgram}
@@ -12,17 +11,10 @@ use Rattle.laws_typing.proofs.WellTypedRules.{read_programs_are_well_typed}
 use Rattle.laws_sites.proofs.built.BuiltSets.{BuiltSet}
 use Rattle.laws_trees.proofs.runs.Contents.{unfolded_layer}
 use Rattle.laws_trees.proofs.taken.BuiltSites.{sites_stand}
-use Rattle.laws_trees.proofs.taken.Forms.{Form, form, a_value, IsOfForm}
+use Rattle.laws_trees.proofs.taken.Forms.{form, IsOfForm}
 use Rattle.laws_trees.specs.BuiltLaws.{BestTreesBindBeforeUse}
 use Rattle.model_code.specs.Scopes.{LoopsAreOverBound, PrintedCodeIsScoped}
 use Rattle.laws_code.specs.CodeScopes.{BuiltSetsLoopOverBound, CodeOfAcceptedIsScoped}
-
-one_answer : (optional : Bool) (k : ℕ) → form true optional k ≡ a_value → ⊥
-one_answer optional k e = true≢false (ap (λ (q : Form). q.multi) e)
-
--- what has several answers isn't written in place
-several_bound : (p : Program) (n : ℕ) (f : ℕ → SiteTerm) (b : Site) (optional : Bool) (k : ℕ) → IsOfForm p n (layer f b) (form true optional k) → is_in_place (Some b) ≡ false
-several_bound p n f b optional k g = grind (arith, common_steps, one_answer)
 
 module _ (b : BuiltSet) (h : IsWellTypedProgram b.program) where
   abbrev p : Program
@@ -35,9 +27,7 @@ module _ (b : BuiltSet) (h : IsWellTypedProgram b.program) where
   n = length (arg_types p b.term)
 
   called : (source : ℕ) (o : Option Site) (optional : Bool) (k : ℕ) → slice_get set.sites source ≡ o → IsOfForm p n (unfold_site set.sites source) (form true optional k) → is_in_place o ≡ false
-  called source None optional k at f = refl
-  called source (Some x) optional k at f =
-      several_bound p n (unfold_site set.sites) x optional k (subst (λ u. IsOfForm p n u (form true optional k)) (unfolded_layer set.sites b.built.sources source x at) f)
+  called source o optional k at f = grind (arith, common_steps, form, unfolded_layer)
 
   pub loops_are_over_bound : LoopsAreOverBound set.sites
   loops_are_over_bound s source at =

@@ -1,8 +1,8 @@
 -- A rule that hangs together constrains sites by their types: to variants and structs of the site's type, and to constants of it. So
 -- built sets do.
-use Rattle.std.proofs.Common.{◌≡◌, ◌⊎◌, ℕ, ℤ, suc, ◌+◌, ◌==◌, Bool, true, false, not, List, [], ◌∷◌, Option, Some, None, is_some, slice_get, Contains, refl, sym, ap, subst, ◌∙◌, inl, inr, eqb-true, eq-eqb, arith}
+use Rattle.std.proofs.Common.{◌≡◌, ℕ, ℤ, suc, ◌+◌, ◌==◌, Bool, true, false, List, [], ◌∷◌, Option, Some, None, is_some, slice_get, Contains, refl, sym, ap, subst, ◌∙◌, eqb-true, eq-eqb, arith}
 use Rattle.std.proofs.lemmas.Grind.{common_steps}
-use Rattle.std.proofs.lemmas.Bool.{and_parts, cases_Bool, cond-true, cond-false, false≢true}
+use Rattle.std.proofs.lemmas.Bool.{and_parts, cond-true}
 use Rattle.model.specs.lists.Tables.{TypeEntry, TermEntry}
 use Rattle.model.specs.lists.Ranges.{is_literal_of}
 use Rattle.model.specs.lists.Setting.{bool_type, expr_type}
@@ -10,13 +10,13 @@ use Rattle.model.specs.lists.Formed.{pattern_type, var_type, is_type, formed_pat
 use Rattle.model.specs.rules.Meaning.{look}
 use Rattle.model.specs.rules.Program.{Program, Kind, a_variant, a_struct, a_call, unknown, kind, kind_of, arg_types, rules_of}
 use Rattle.model.specs.rules.Typed.{TypedPattern, match_bind, match_var, match_bool, match_int, match_prim, match_term, match_any, match_and, TypedPatterns, no_typed_pattern, typed_pattern_and, TypedExpr, make_let, TypedLets, no_typed_let, typed_let_and, TypedIfLet, TypedRule}
-use Rattle.model.specs.rules.Values.{is_atom_type, is_composed_type, variant_types, struct_types}
+use Rattle.model.specs.rules.Values.{is_composed_type, variant_types, struct_types}
 use Rattle.model.specs.sites.Closure.{Joined, given, itself, turned, chained, at_field}
-use Rattle.model.specs.sites.Serves.{constant_type, term_args, term_results}
-use Rattle.model.specs.sites.Sites.{Constraint, is_variant, is_struct, is_bool, is_int, is_prim, is_present, SiteTerm, argument, extractor_call, variant_field, struct_field, SiteTerms, fields_from, field_terms, unfold_site}
+use Rattle.model.specs.sites.Serves.{constant_type, term_args}
+use Rattle.model.specs.sites.Sites.{Constraint, is_variant, is_struct, is_bool, is_int, is_prim, is_present, SiteTerm, argument, extractor_call, variant_field, struct_field, fields_from, unfold_site}
 use Rattle.model.specs.sites.Overlap.{BuiltRule, built_rule}
 use Rattle.model.specs.sites.RuleSets.{IsRuleOf}
-use Rattle.model.specs.visits.Demands.{Demands, demands_of, Visit, visit_start, asking, equating, binding, or_no_site, var_site, pattern_count, output_sites, open_call, open_term, visit_pattern, visit_each, visit_all, ValuedAll, call_result, visit_call, visit_term, visit_expr, visit_lets, unwraps, asking_all, taking_argument, visit_args, visit_iflets}
+use Rattle.model.specs.visits.Demands.{Demands, demands_of, Visit, visit_start, asking, equating, binding, or_no_site, var_site, pattern_count, open_call, open_term, visit_pattern, visit_each, visit_all, visit_expr, visit_lets, unwraps, asking_all, taking_argument, visit_args, visit_iflets}
 use Rattle.model.proofs.Elements.{In, in_either, in_from_contains, contains_from_in, some_is, none_some}
 use Rattle.laws_typing.specs.WellTypedPrograms.{IsWellTypedProgram}
 use Rattle.laws_typing.proofs.FormedParts.{from_if, type_is}
@@ -44,12 +44,8 @@ has_variants o i tys e = grind (arith, common_steps, none_some)
 has_fields : (o : Option TypeEntry) (tys : List ℕ) → struct_types o ≡ Some tys → is_composed_type o ≡ true
 has_fields o tys e = grind (arith, common_steps, none_some)
 
--- a type of literals is neither
-literals_plain : (o : Option TypeEntry) → is_atom_type o ≡ true → is_composed_type o ≡ false
-literals_plain o h = grind (arith, common_steps)
-
 literal_plain : (o : Option TypeEntry) (z : ℤ) → is_literal_of o z ≡ true → is_composed_type o ≡ false
-literal_plain o z h = literals_plain o (and_parts (is_atom_type o) _ h).0
+literal_plain o z h = grind (arith, and_parts)
 
 module _ (p : Program) (args : List ℕ) (well : IsWellTypedProgram p) where
   abbrev T : SiteTerm → List ℕ
@@ -85,16 +81,13 @@ module _ (p : Program) (args : List ℕ) (well : IsWellTypedProgram p) where
   all_asked_fit (s ∷ ss) v g = all_asked_fit ss (asking s is_present v) (asked_fits s is_present v tt g)
 
   -- 2. the parts of a term's pattern
-  outputs_typed : (s : SiteTerm) (qs : TypedPatterns) (tys : List ℕ) → AsMany qs tys → T s ≡ tys → AtEachTyped by_type (output_sites s qs) tys
-  outputs_typed s qs tys n e = outputs_each by_type s qs tys n (λ ty f. e ∙ f) (λ a b rest f j ty x. ap (λ l. one_type (slice_get l j)) e ∙ ap one_type x)
-
   abbrev Opens : TermEntry → Kind → ℕ → SiteTerm → TypedPatterns → Visit → Type 0
   Opens e k t s qs v = Fit (open_term k t s qs v).visit.demands × AtEachTyped by_type (open_term k t s qs v).inputs e.arg_tys
 
   call_typed_parts : (pure multi partial rec infallible : Bool) (call : SiteTerm) (qs : TypedPatterns) (tys : List ℕ) (v : Visit) → AsMany qs tys → T call ≡ tys → Fit v.demands
       → Fit (open_call (record { pure = pure; multi = multi; partial = partial; rec = rec }) infallible call qs v).visit.demands
       × AtEachTyped by_type (open_call (record { pure = pure; multi = multi; partial = partial; rec = rec }) infallible call qs v).inputs tys
-  call_typed_parts pure multi partial rec infallible call qs tys v n e g = grind (arith, common_steps, outputs_typed, asked_fits)
+  call_typed_parts pure multi partial rec infallible call qs tys v n e g = grind (arith, common_steps, asked_fits, outputs_each)
 
   term_typed_parts : (t : ℕ) (e : TermEntry) → slice_get p.terms t ≡ Some e → (k : Kind) → kind p t ≡ k → kind_of e ≡ k → (s : SiteTerm) → OfType s e.ret_ty → (qs : TypedPatterns) → AsMany qs e.arg_tys
       → (v : Visit) → Fit v.demands → Opens e k t s qs v
@@ -137,20 +130,10 @@ module _ (p : Program) (args : List ℕ) (well : IsWellTypedProgram p) where
   then_later mid more u v w within a b = record { fit = b.fit; vars = b.vars; kept = λ x n. b.kept x n ∙ a.kept x (outside mid more within x n) }
 
   no_new_variable : (v w : Visit) (vars more : List (ℕ × ℕ)) → Some vars ≡ Some more → w.vars ≡ v.vars → Fit w.demands → OfTypes vars v → After more v w
-  no_new_variable v w vars more e same g d =
-      let alike : (x : ℕ) → var_site w x ≡ var_site v x = λ x. ap (λ vs. or_no_site (look (λ y. y == x) vs)) same in
-      subst (λ vs. After vs v w) (some_is vars more e) (record { fit = g; vars = alike_types vars v w (λ x h. alike x) d; kept = λ x n. ap T (alike x) })
+  no_new_variable v w vars more e same g d = grind (arith, common_steps, some_is, alike_types)
 
   after_binding : (x ty : ℕ) (s : SiteTerm) (mid : List (ℕ × ℕ)) (v w : Visit) → is_some (var_type mid x) ≡ false → OfType s ty → After mid (binding x s v) w → After ((x, ty) ∷ mid) v w
-  after_binding x ty s mid v w new h b = record {
-    fit = b.fit;
-    vars = one_more x ty mid w (b.kept x new ∙ bound_typed x ty s v h) b.vars;
-    kept = λ y n. by y n (cases_Bool (x == y));
-  }
-    where
-      by : (y : ℕ) → is_some (var_type ((x, ty) ∷ mid) y) ≡ false → ((x == y) ≡ true) ⊎ ((x == y) ≡ false) → T (var_site w y) ≡ T (var_site v y)
-      by y n (inl k) = absurd (false≢true (sym n ∙ ap is_some (cond-true (x == y) (Some ty) (var_type mid y) k)))
-      by y n (inr k) = b.kept y (sym (ap is_some (cond-false (x == y) (Some ty) (var_type mid y) k)) ∙ n) ∙ ap (λ o. T (or_no_site o)) (cond-false (x == y) (Some s) (look (λ z. z == y) v.vars) k)
+  after_binding x ty s mid v w new h b = grind (arith, common_steps, one_more, bound_typed)
 
   -- 4. patterns
   bool_plain : (ty : ℕ) → (ty == bool_type) ≡ true → is_composed p ty ≡ false
@@ -189,15 +172,12 @@ module _ (p : Program) (args : List ℕ) (well : IsWellTypedProgram p) where
 
     each_after : (qs : TypedPatterns) (ss : List SiteTerm) (tys : List ℕ) (v : Visit) (vars more : List (ℕ × ℕ)) → formed_parts p qs tys vars ≡ Some more → AtEachTyped by_type ss tys → Fit v.demands → OfTypes vars v
         → After more v (visit_each p qs ss v)
-    each_after no_typed_pattern ss [] v vars more e h g d = no_new_variable v v vars more e refl g d
-    each_after no_typed_pattern ss (ty ∷ tys) v vars more e h g d = absurd (none_some more e)
-    each_after (typed_pattern_and q qs) ss [] v vars more e h g d = absurd (none_some more e)
-    each_after (typed_pattern_and q qs) [] (ty ∷ tys) v vars more e h g d = absurd h
     each_after (typed_pattern_and q qs) (s ∷ ss) (ty ∷ tys) v vars more e h g d =
         let a = from_part p q ty vars more (λ mid. formed_parts p qs tys mid) e in
         let u = visit_pattern p q s v in
         let r = pattern_after q s v vars a.0 a.2 (of_same s ty (pattern_type q) (sym a.1) h.0) g d in
         then_later a.0 more v u (visit_each p qs ss u) (parts_within p qs tys a.0 more a.3) r (each_after qs ss tys u a.0 more a.3 h.1 r.fit r.vars)
+    each_after qs ss tys v vars more e h g d = grind (arith, common_steps, no_new_variable, none_some)
 
     all_after : (qs : TypedPatterns) (s : SiteTerm) (ty : ℕ) (v : Visit) (vars more : List (ℕ × ℕ)) → formed_each p qs ty vars ≡ Some more → OfType s ty → Fit v.demands → OfTypes vars v
         → After more v (visit_all p qs s v)
@@ -209,20 +189,10 @@ module _ (p : Program) (args : List ℕ) (well : IsWellTypedProgram p) where
         then_later a.0 more v u (visit_all p qs s u) (each_within p qs ty a.0 more a.3) r (all_after qs s ty u a.0 more a.3 h r.fit r.vars)
 
   -- 5. expressions: what a call's result is made of says its type
-  result_typed : (pure multi partial rec : Bool) (call : SiteTerm) → T (call_result (record { pure = pure; multi = multi; partial = partial; rec = rec }) call) ≡ T call
-  result_typed pure multi partial rec call = grind (arith, common_steps)
-
-  call_typed_result : (pure multi partial rec : Bool) (t : ℕ) (ss : SiteTerms) (v : Visit) → T (visit_call (record { pure = pure; multi = multi; partial = partial; rec = rec }) t ss v).site ≡ term_results (slice_get p.terms t)
-  call_typed_result pure multi partial rec t ss v = grind (arith, common_steps, result_typed)
-
-  term_typed_value : (t : ℕ) (e : TermEntry) → slice_get p.terms t ≡ Some e → (k : Kind) → kind p t ≡ k → kind_of e ≡ k → (a : ValuedAll) → OfType (visit_term k t a).site e.ret_ty
-  term_typed_value t e there a h q i = grind (arith, common_steps, variant_takes, struct_takes, call_typed_result, term_known)
-
   mutual
     expr_typed : (x : TypedExpr) (v : Visit) (vars : List (ℕ × ℕ)) → is_formed_expr p x vars ≡ true → OfTypes vars v → OfType (visit_expr p x v).site (expr_type x)
-    expr_typed (make_let ty ds body) v vars e d =
-        let a = from_body p ty ds body vars e in of_same (visit_expr p body (visit_lets p ds v)).site (expr_type body) ty a.2 (expr_typed body (visit_lets p ds v) a.0 a.3 (lets_typed ds v vars a.0 a.1 d))
-    expr_typed x v h e d = grind (arith, common_steps, from_term, of_same, term_typed_value, its_kind, type_is)
+    expr_typed (make_let ty ds body) v vars e d = grind (arith, common_steps, expr_typed body (visit_lets p ds v), lets_typed ds v vars, from_body, of_same)
+    expr_typed x v h e d = grind (arith, common_steps, from_term, of_same, its_kind, type_is)
 
     lets_typed : (ds : TypedLets) (v : Visit) (vars more : List (ℕ × ℕ)) → formed_lets p ds vars ≡ Some more → OfTypes vars v → OfTypes more (visit_lets p ds v)
     lets_typed no_typed_let v vars more e d = subst (λ vs. OfTypes vs v) (some_is vars more e) d
@@ -275,22 +245,16 @@ module _ (p : Program) (args : List ℕ) (well : IsWellTypedProgram p) where
   fields_alike f g h j (suc n) (suc i) x y a b = fields_alike f g h (suc j) n i x y a b
   fields_alike f g h j n i x y a b = grind (arith, common_steps, none_some, some_is)
 
-  field_alike : (a b : SiteTerm) (c : Constraint) (i : ℕ) (x y : SiteTerm) → T a ≡ T b → slice_get (field_terms c a) i ≡ Some x → slice_get (field_terms c b) i ≡ Some y → T x ≡ T y
-  field_alike a b c i x y e g h = grind (arith, common_steps, fields_alike, none_some)
-
   joined_alike : (d : Demands) → ((x : SiteTerm × SiteTerm) → In d.equalities x → T x.0 ≡ T x.1) → {a b : SiteTerm} → Joined d a b → T a ≡ T b
   joined_alike d h (given {a = a} {b = b} i) = h (a, b) (in_from_contains d.equalities (a, b) i)
   joined_alike d h itself = refl
   joined_alike d h (turned j) = sym (joined_alike d h j)
   joined_alike d h (chained j k) = joined_alike d h j ∙ joined_alike d h k
-  joined_alike d h (at_field {a = a} {b = b} {x = x} {y = y} {k = k} i j l n e f) = field_alike a b k i x y (joined_alike d h j) e f
+  joined_alike d h (at_field {a = a} {b = b} {x = x} {y = y} {k = k} i j l n e f) = grind (arith, joined_alike d h j, fields_alike, none_some)
 
   -- 8. so a constraint that fits is one by types
-  copied_of : (s : SiteTerm) (ty : ℕ) (c : Bool) → OfType s ty → is_composed p ty ≡ c → are_copied p (T s) ≡ not c
-  copied_of s ty c h e = grind (arith, common_steps)
-
   fits_by_type : (s : SiteTerm) (c : Constraint) → Fits s c → pattern_typed c (are_copied p (T s)) ≡ true
-  fits_by_type s c f = grind (arith, common_steps, copied_of)
+  fits_by_type s c f = grind (arith, common_steps)
 
 -- 9. sets
 module _ (b : BuiltSet) (h : IsWellTypedProgram b.program) where

@@ -6,7 +6,7 @@ use Rattle.model.specs.rules.Meaning.{Content, parts}
 use Rattle.model.specs.rules.Outcome.{Call}
 use Rattle.model.specs.trees.Run.{World, Env, bound_to, Bound, Trace, bind_fields}
 use Rattle.model_code.specs.Code.{Block, no_statement, statement, Statement, match_on, if_equal, for_each_of, labelled, CodeArms, no_code_arm, code_arm}
-use Rattle.model_code.specs.CodeRuns.{held, held_value, Flow, goes_on, leaves, returns, fails, sticks, then_flow, in_braces, in_label, flow_of_bound, give_content, with_bindings, where_met, on_content, where_equal, each_flow, on_answers, run_block, run_statement, run_code_arms}
+use Rattle.model_code.specs.CodeRuns.{Flow, goes_on, leaves, returns, fails, sticks, then_flow, in_braces, in_label, flow_of_bound, give_content, with_bindings, where_met, on_content, where_equal, each_flow, on_answers, run_block, run_statement, run_code_arms}
 use Rattle.model_code.specs.CodeLaws.{IsBeginning}
 use Rattle.model_code.proofs.CodeCut.{beginning_self, beginning_over, calls_of, unwrapped_calls, expr_calls}
 
@@ -79,11 +79,8 @@ module _ (w : World) (most : Option ℕ) where
         (statement_grows s env t) (then_grows (run_statement s w most env t) (run_block rest w most) (block_grows rest))
 
     pub statement_grows : (s : Statement) (env : Env) (t : Trace) → Grows t (run_statement s w most env t)
-    statement_grows (match_on u arms) env t =
-        braces_grow t env (on_content (held w env u.place) t (λ c. run_code_arms arms w most c env t)) (content_grows (held w env u.place) t (λ c. run_code_arms arms w most c env t) (λ c. arms_grow arms c env t))
-    statement_grows (if_equal a b body) env t =
-        braces_grow t env (where_equal (held_value w env a) (held_value w env b) t (run_block body w most env t) (goes_on env t))
-        (equal_grows (held_value w env a) (held_value w env b) t (run_block body w most env t) (goes_on env t) (block_grows body env t) (beginning_self t.calls))
+    statement_grows (match_on u arms) env t = grind (arith, common_steps, arms_grow arms, braces_grow, content_grows)
+    statement_grows (if_equal a b body) env t = grind (arith, common_steps, block_grows body env t, braces_grow, equal_grows, beginning_self)
     statement_grows (for_each_of v from body) env t = answers_grow (bound_to env from) (λ c t'. run_block body w most ((v, c) ∷ env) t') env t (λ c t'. block_grows body ((v, c) ∷ env) t')
     statement_grows (labelled body) env t = label_grows t env (run_block body w most env t) (block_grows body env t)
     statement_grows s env t = grind (arith, common_steps, bound_grows, expr_calls, unwrapped_calls, beginning_self, give_grows, content_grows, met_grows, equal_grows)

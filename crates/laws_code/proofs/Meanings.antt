@@ -1,9 +1,9 @@
 -- Among whatever functions shown code runs as under the meaning that they are: only what is answered to the calls that a run makes
 -- matters to it.
-use Rattle.std.proofs.Common.{◌≡◌, ℕ, Bool, true, false, if◌then◌else◌, List, [], ◌∷◌, ◌++◌, length, Option, Some, None, slice_get, refl, sym, ap, ◌∙◌, subst, arith}
+use Rattle.std.proofs.Common.{◌≡◌, ℕ, Bool, true, false, List, [], ◌∷◌, ◌++◌, length, Option, Some, None, slice_get, refl, sym, ap, ◌∙◌, subst, arith}
 use Rattle.std.proofs.lemmas.Grind.{common_steps}
-use Rattle.std.proofs.lemmas.List.{append_assoc, append-nil, length-map, take_at}
-use Rattle.model.specs.rules.Values.{Value, Values, value_eq}
+use Rattle.std.proofs.lemmas.List.{append-nil, length-map, take_at}
+use Rattle.model.specs.rules.Values.{Value, Values}
 use Rattle.model.specs.rules.Meaning.{Content}
 use Rattle.model.specs.rules.Outcome.{Call}
 use Rattle.model.specs.trees.Run.{World, Env, bound_to, now_bound, Trace, at_start}
@@ -12,7 +12,7 @@ use Rattle.model_code.specs.CodeRuns.{held, held_value, Flow, goes_on, then_flow
 use Rattle.model_code.specs.CodeLaws.{IsBeginning}
 use Rattle.model_code.specs.Written.{shown_code}
 use Rattle.laws_code.specs.ShownRuns.{ShownExterns, ShownWorld, world_of_shown, answered, called, bind_shown, run_shown, run_shown_at, run_shown_arms, shown_run}
-use Rattle.laws_code.specs.ShownLaws.{by_number, SaysWhatIsAround, ShownCodeRunsAsCode}
+use Rattle.laws_code.specs.ShownLaws.{SaysWhatIsAround, ShownCodeRunsAsCode}
 use Rattle.laws_code.specs.Meanings.{answer_behind, world_around, ShownCodeRunsUnderItsMeaning}
 use Rattle.model_code.proofs.CodeCut.{beginning_self, beginning_over, calls_of, now_calls, unwrapped_calls, expr_calls}
 use Rattle.laws_code.proofs.ShownRuns.{calls_made}
@@ -81,12 +81,8 @@ module _ (w : ShownWorld) (most : Option ℕ) (others : List Call → Call → O
       → ((env' : Env) → Within (go env') → go' env' ≡ go env') → (Within other → other' ≡ other) → where_met o fields env t go' other' ≡ where_met o fields env t go other
   met_same o fields env t go go' other other' k h l = grind (arith, common_steps)
 
-  if_same : (b : Bool) (f f' g : Flow) → Within (if b then f else g) → (Within f → f' ≡ f) → (if b then f' else g) ≡ (if b then f else g)
-  if_same b f f' g k h = grind (arith, common_steps)
-
   equal_same : (x y : Option Value) (t : Trace) (f f' g : Flow) → Within (where_equal x y t f g) → (Within f → f' ≡ f) → where_equal x y t f' g ≡ where_equal x y t f g
-  equal_same (Some x) (Some y) t f f' g k h = if_same (value_eq x y) f f' g k h
-  equal_same x y t f f' g k h = refl
+  equal_same x y t f f' g k h = grind (arith, common_steps)
 
   each_same : (cs : List Content) (go go' : Content → Trace → Flow) (env : Env) → ((c : Content) (t : Trace) → Grows t (go c t)) → ((c : Content) (t : Trace) → Within (go c t) → go' c t ≡ go c t) → (t : Trace) → Within (each_flow cs go env t)
       → each_flow cs go' env t ≡ each_flow cs go env t
@@ -101,17 +97,8 @@ module _ (w : ShownWorld) (most : Option ℕ) (others : List Call → Call → O
       → on_answers o go' env t ≡ on_answers o go env t
   answers_same o go go' env t grow h k = grind (arith, common_steps, each_same)
 
-  now_made : (env : Env) (t : Trace) (calls : List Call) (v : ℕ) (o : Option Content) → calls_in (flow_of_bound (now_bound env calls v o) t) ≡ calls
-  now_made env t calls v o = grind (arith, common_steps)
-
-  answer_same : (impure : Bool) (env : Env) (t : Trace) (v : ℕ) (c : Call) → Within (flow_of_bound (answered impure w.around env t.calls v c) t) → answered impure v'.around env t.calls v c ≡ answered impure w.around env t.calls v c
-  answer_same impure env t v c k = grind (arith, common_steps, now_made, append_assoc)
-
-  called_same : (env : Env) (t : Trace) (v f : ℕ) (o : Option Values) → Within (flow_of_bound (called w.around env t.calls v f o) t) → called v'.around env t.calls v f o ≡ called w.around env t.calls v f o
-  called_same env t v f o k = grind (arith, common_steps, answer_same)
-
   bind_same : (env : Env) (t : Trace) (v : ℕ) (e : Expr) → Within (flow_of_bound (bind_shown w env t.calls v e) t) → bind_shown v' env t.calls v e ≡ bind_shown w env t.calls v e
-  bind_same env t v e k = grind (arith, common_steps, called_same)
+  bind_same env t v e k = grind (arith, common_steps)
 
   mutual
     block_same : (b : Block) (env : Env) (t : Trace) → Within (run_shown b w most env t) → run_shown b v' most env t ≡ run_shown b w most env t
@@ -155,12 +142,5 @@ shown_code_runs_under_its_meaning_lem law p code w sites most wr ca kind unstuck
     let here : IsBeginning (calls_in (run_shown shown w most [] at_start)) all = ([], calls_made (run_shown shown w most [] at_start) ∙ sym (append-nil (calls_in (run_shown shown w most [] at_start)))) in
     let around : ShownExterns = record w.around { impures = others } in
     let world : World = world_around p sites w all in
-    let says : SaysWhatIsAround p world.meaning around (code_run code world most).calls = record {
-      truths = λ b ty. refl;
-      integers = λ z ty. refl;
-      constants = λ name. refl;
-      extractors = λ t v h. refl;
-      pures = λ t vs h. refl;
-      impures = λ before after c e. ap (answer_behind w.around all) (sym (length-map before (by_number p)));
-    } in
+    let says : SaysWhatIsAround p world.meaning around (code_run code world most).calls = grind (arith, common_steps, length-map) in
     sym (ap outcome_of (block_same w most others all agree shown [] at_start here)) ∙ law p code world around most wr ca kind says unstuck

@@ -3,7 +3,7 @@ use Rattle.std.proofs.Common.{◌≡◌, ◌⊎◌, ◌<◌, ℕ, suc, Bool, tru
 use Rattle.std.proofs.lemmas.Grind.{common_steps}
 use Rattle.std.proofs.lemmas.Bool.{false≢true}
 use Rattle.std.proofs.lemmas.Option.{slice_get_within}
-use Rattle.model.specs.rules.Program.{Program, Kind, a_call, kind, flags_of, is_multi, arg_types, rules_of}
+use Rattle.model.specs.rules.Program.{Program, arg_types, rules_of}
 use Rattle.model.specs.rules.Typed.{TypedRule}
 use Rattle.model.specs.sites.Sites.{Site, extractor_site, constructor_site, iterator_site, make_variant_site, match_variant_site, make_struct_site, extract_struct_site, make_some_site, match_some_site, match_tuple_site, Constraint, SetRule, SiteTerm, each_term, layer, unfold_site, sources_of, field_terms}
 use Rattle.model.specs.sites.Closure.{Joined, given, itself, turned, chained, at_field}
@@ -24,7 +24,7 @@ use Rattle.laws_sites.proofs.built.DistinctSites.{one_number}
 use Rattle.laws_sites.proofs.built.MultiCalls.{multi_calls_are_gone_over_lem}
 use Rattle.laws_trees.proofs.runs.Contents.{unfolded_layer}
 use Rattle.laws_trees.proofs.taken.BuiltSites.{sites_stand}
-use Rattle.laws_trees.proofs.taken.Forms.{Form, form, a_value, IsCall, IsOfForm, AreValues}
+use Rattle.laws_trees.proofs.taken.Forms.{Form, form, a_value, IsOfForm, AreValues}
 use Rattle.laws_code.specs.CodeMoves.{HasLoopOver, CallsAreGoneOver, CallsAreGoneOverInBuiltSets}
 
 abbrev IsOther : Program → SiteTerm → Type 0
@@ -35,17 +35,14 @@ module _ (p : Program) (n : ℕ) where
   abbrev multi_of : Form → Bool
   multi_of q = q.multi
 
-  its_multi : (t : ℕ) (c : IsCall p t) → is_multi p t ≡ c.flags.multi
-  its_multi t c = ap (λ k. (flags_of k).multi) c.call
-
   one_answer : (q r : Form) → q ≡ r → multi_of r ≡ false → multi_of q ≡ true → ⊥
   one_answer q r e f m = false≢true (sym f ∙ sym (ap multi_of e) ∙ m)
 
   multi_call : (u : SiteTerm) (q : Form) → IsOfForm p n u q → q.multi ≡ true → IsMultiCall p u
-  multi_call u q f m = grind (arith, common_steps, one_answer, its_multi)
+  multi_call u q f m = grind (arith, common_steps, one_answer)
 
   single : (u : SiteTerm) (q : Form) → IsOfForm p n u q → q.multi ≡ false → IsOther p u
-  single u q f e m = grind (arith, common_steps, its_multi)
+  single u q f e m = grind (arith, common_steps)
 
   values_at : (f : ℕ → SiteTerm) (ss : List ℕ) (c : ℕ) → AreValues p n (each_term f ss) → Contains ss c → IsOfForm p n (f c) a_value
   values_at f [] c v i = absurd (nothing_in c i)
@@ -59,32 +56,8 @@ module _ (p : Program) where
   abbrev OtherIn : Demands → SiteTerm → Type 0
   OtherIn d u = IsOther p u
 
-  other_call : (t : ℕ) (k : Kind) → kind p t ≡ k → (flags_of k).multi ≡ false → is_multi p t ≡ true → ⊥
-  other_call t k e f m = false≢true (sym f ∙ sym (ap (λ x. (flags_of x).multi) e) ∙ m)
-
   other_kept : KeptWithSites AnyDemands OtherIn p
-  other_kept = record {
-    unbound = λ d m. m;
-    leaf = λ d s l n. by_leaf (IsOther p) (λ i m. m) (λ b ty m. m) (λ z ty m. m) (λ name m. m) s l;
-    variant = λ d ty variant us n h m. m;
-    struct = λ d ty us n h m. m;
-    result = λ d s n h m. m;
-    tuple = λ d s i n h m. m;
-    field = λ d c s x n a i h. by_field (IsOther p) s (λ variant j m. m) (λ j m. m) c x i;
-    extracted = λ d t s flags e f n h. other_call t (a_call flags true) e f;
-    answer = λ d t i us flags b e f c n h m. m;
-    pick = λ d t i us c n h m. m;
-    call = λ d t i us flags b e f g n h. other_call t (a_call flags b) e g;
-    counts = λ c v h. record { holds = tt; stays = λ s o. o };
-    makes = λ ts v h. record { holds = tt; stays = λ s o. o };
-    calls = λ s v h m. record { holds = tt; stays = λ s o. o };
-    equates = λ a b v h m n. record { holds = tt; stays = λ s o. o };
-    asks = λ s c v f h m. record { holds = tt; stays = λ s o. o };
-    asks_all = λ s v h m. record { holds = tt; stays = λ s o. o };
-    asks_call = λ t s v flags e f c n h m. record { onward = record { holds = tt; stays = λ s o. o }; site = λ k. k };
-    iterates_extractor = λ t s v flags b e f c n h m. record { onward = record { holds = tt; stays = λ s o. o }; site = λ k. k };
-    iterates_constructor = λ t i us v flags b e f n m h. record { holds = tt; stays = λ s o. o };
-  }
+  other_kept = grind (arith, common_steps, by_leaf (IsOther p) (λ i m. m) (λ b ty m. m) (λ z ty m. m) (λ name m. m), by_field (IsOther p))
 
   result_other : (r : TypedRule) → IsOther p (result_of p r)
   result_other r = (rule_given p AnyDemands OtherIn other_kept r tt).1
@@ -124,9 +97,7 @@ module _ (b : BuiltSet) (h : IsWellTypedProgram b.program) where
 
   -- what a site is made of, by its form
   form_there : (s : ℕ) (x : Site) → slice_get sites s ≡ Some x → (q : Form) × IsOfForm p n (layer U x) q
-  form_there s x at =
-      let g = (sites_stand b h s (slice_get_within sites s x at)).form in
-      (g.0, subst (λ u. IsOfForm p n u g.0) (unfolded_layer sites b.built.sources s x at) g.1)
+  form_there s x at = grind (arith, sites_stand b h s (slice_get_within sites s x at), slice_get_within sites s x at, unfolded_layer sites b.built.sources s x at)
 
   pub called_is_multi : (c : ℕ) → HasLoopOver sites c → IsMultiCall p (U c)
   called_is_multi c k = let f = form_there k.0 (iterator_site c) k.1 in multi_call p n (U c) (form true f.1.0 f.1.1) f.1.2 refl
@@ -142,7 +113,6 @@ module _ (b : BuiltSet) (h : IsWellTypedProgram b.program) where
   from_values c ss m i v = single p n (U c) a_value (values_at p n U ss c v i) refl m
 
   picked : (c t : ℕ) (o : Option Site) → slice_get sites t ≡ o → IsMultiCall p (U c) → Contains (made_of o) c → slice_get sites t ≡ Some (iterator_site c)
-  picked c t None at m i = absurd (nothing_in c i)
   picked c t (Some (iterator_site source)) at m i = at ∙ ap (λ y. Some (iterator_site y)) (in_alone source c i)
   picked c t (Some (extractor_site term source)) at m i = absurd (let f = form_there t (extractor_site term source) at in from_one c source a_value m i f.1.1 refl)
   picked c t (Some (constructor_site term sources instance)) at m i = absurd (let f = form_there t (constructor_site term sources instance) at in from_values c sources m i f.1.1)
@@ -153,7 +123,7 @@ module _ (b : BuiltSet) (h : IsWellTypedProgram b.program) where
   picked c t (Some (make_some_site source)) at m i = absurd (let f = form_there t (make_some_site source) at in from_one c source (form false false f.1.0) m i f.1.1 refl)
   picked c t (Some (match_some_site source)) at m i = absurd (let f = form_there t (match_some_site source) at in from_one c source (form false true f.1.0) m i f.1.1 refl)
   picked c t (Some (match_tuple_site source field)) at m i = absurd (let f = form_there t (match_tuple_site source field) at in from_one c source (form false false (suc (suc f.1.0))) m i f.1.1 refl)
-  picked c t (Some _) at m i = absurd (nothing_in c i)
+  picked c t _ at m i = absurd (nothing_in c i)
 
   -- a rule of the set, with the rule that it stands for
   module _ (r : SetRule) (i : Contains b.set.rules r) where

@@ -33,10 +33,7 @@ shown_runs_are_judged_lem = record {
   not_as_other = refl;
   compares_stuck = refl;
   match_unmet = refl;
-  alike_there = record {
-    extractors = λ t e there h. absurd (no_extractor t e there h);
-    constructors = λ t e flags infallible there can k. all_impure t e flags infallible there k;
-  };
+  alike_there = grind (arith, common_steps, no_extractor, all_impure);
   unlike_there = λ is_impure a.
       true≢false (sym (a.constructors 1 (constructor_entry 0 false) (impure_flags false) false refl refl refl)
       ∙ a.constructors 0 pure_one (record { pure = true; multi = false; partial = false; rec = false }) false refl refl refl);

@@ -8,17 +8,16 @@ use Rattle.model.specs.rules.Values.{Value, of_variant, of_struct, Values, no_va
 use Rattle.model.specs.rules.Meaning.{Content, one, extractor_answer, impure_answer}
 use Rattle.model.specs.rules.Outcome.{Call, stuck, then_option}
 use Rattle.model.specs.sites.Sites.{Constraint}
-use Rattle.model.specs.trees.Run.{World, Env, bound_to, as_value, from_value, Bound, all_bound, unwrap_failed, no_content_there, now_bound, constructed, Trace, value_fields, where_constant, content_fields, at_start}
-use Rattle.model.specs.trees.Run.{unwrapped as taken_out}
+use Rattle.model.specs.trees.Run.{World, Env, as_value, from_value, Bound, all_bound, unwrap_failed, no_content_there, now_bound, constructed, Trace, where_constant, content_fields, at_start}
 use Rattle.model.proofs.ValuesEqual.{eq_means, eq_same}
-use Rattle.model_code.specs.Code.{Place, name_written, Pass, PlaceUse, Expr, Block, no_statement, statement, Statement, bind, bind_some, no_way, match_on, if_equal, for_each_of, give, labelled, unless_let, unless_equal, CodeArms, no_code_arm, code_arm}
-use Rattle.model_code.specs.CodeRuns.{held, held_value, held_values, bind_expr, Flow, goes_on, leaves, returns, fails, sticks, then_flow, in_braces, in_label, flow_of_bound, give_content, where_met, on_content, where_equal, each_flow, on_answers, run_block, run_statement, run_code_arms, outcome_of, code_run}
+use Rattle.model_code.specs.Code.{Place, Pass, PlaceUse, Expr, Block, no_statement, statement, Statement, bind, bind_some, no_way, match_on, if_equal, for_each_of, give, labelled, unless_let, unless_equal, CodeArms, no_code_arm, code_arm}
+use Rattle.model_code.specs.CodeRuns.{held, held_value, held_values, bind_expr, Flow, goes_on, leaves, returns, fails, sticks, then_flow, in_braces, in_label, flow_of_bound, give_content, where_met, on_content, where_equal, each_flow, run_block, run_statement, run_code_arms, outcome_of, code_run}
 use Rattle.model_code.specs.CodeLaws.{IsBeginning}
 use Rattle.model_code.specs.Tokens.{variant_owner, struct_owner}
 use Rattle.model_code.specs.Notation.{Notation, Shape, extractor_of, constructor_of}
 use Rattle.model_code.specs.Pieces.{result_ends, is_end, unless_end}
-use Rattle.model_code.specs.Shown.{shown_place, shown_use, shown_uses, shown_made, shown_expr, shown_constraint, named_test, test_at, equal_or_match, unless_either, shown, shown_at, shown_arms}
-use Rattle.model_code.specs.Written.{is_bare, unwrapped, written, written_at, written_arms}
+use Rattle.model_code.specs.Shown.{shown_place, shown_use, shown_uses, shown_made, shown_expr, shown_constraint, test_at, equal_or_match, unless_either, shown, shown_at, shown_arms}
+use Rattle.model_code.specs.Written.{written, written_at, written_arms}
 use Rattle.model_code.specs.ReadsBack.{takes, expr_writable, pattern_writable, match_writable, writable, writable_at, writable_arms}
 use Rattle.model_code.proofs.Written.{written_writable}
 use Rattle.laws_code.specs.ShownRuns.{ShownExterns, ShownWorld, world_of_shown, answered, called, bind_shown, run_shown, run_shown_at, run_shown_arms}
@@ -30,9 +29,6 @@ use Rattle.laws_code.proofs.WrittenRuns.{ends_there, written_runs}
 
 -- 1. the code that is written calls as the code does
 module _ (p : Notation) (is_impure : ℕ → Bool) where
-  unwrapped_call : (bare : Bool) (b : Block) → calls_as p is_impure b ≡ true → calls_as p is_impure (unwrapped bare b) ≡ true
-  unwrapped_call bare b h = grind (arith, common_steps, and_parts)
-
   mutual
     written_call : (b : Block) → calls_as p is_impure b ≡ true → calls_as p is_impure (written p b) ≡ true
     written_call (statement s later) h = grind (arith, common_steps, written_call_at s, written_call later, and_parts, and_from)
@@ -40,13 +36,13 @@ module _ (p : Notation) (is_impure : ℕ → Bool) where
 
     written_call_at : (s : Statement) → calls_as_at p is_impure s ≡ true → calls_as_at p is_impure (written_at p s) ≡ true
     written_call_at (match_on u arms) h = written_arms_call arms h
-    written_call_at (if_equal a b body) h = unwrapped_call (is_bare p body) (written p body) (written_call body h)
-    written_call_at (for_each_of v from body) h = unwrapped_call (is_bare p body) (written p body) (written_call body h)
+    written_call_at (if_equal a b body) h = grind (arith, written_call body h, and_parts)
+    written_call_at (for_each_of v from body) h = grind (arith, written_call body h, and_parts)
     written_call_at (labelled body) h = written_call body h
     written_call_at s h = h
 
     written_arms_call : (arms : CodeArms) → arms_call_as p is_impure arms ≡ true → arms_call_as p is_impure (written_arms p arms) ≡ true
-    written_arms_call (code_arm pattern fields body rest) h = grind (arith, common_steps, written_call body, written_arms_call rest, and_parts, and_from, unwrapped_call)
+    written_arms_call (code_arm pattern fields body rest) h = grind (arith, common_steps, written_call body, written_arms_call rest, and_parts, and_from)
     written_arms_call no_code_arm h = refl
 
 abbrev is_stuck : Flow → Bool
@@ -57,13 +53,7 @@ value_back : (o : Option Value) → then_option (from_value o) as_value ≡ o
 value_back o = grind (arith, common_steps)
 
 turned : (u v : Value) → value_eq u v ≡ value_eq v u
-turned u v = by (value_eq u v) (value_eq v u) refl refl
-  where
-    by : (a b : Bool) → value_eq u v ≡ a → value_eq v u ≡ b → a ≡ b
-    by true true e h = refl
-    by false false e h = refl
-    by true false e h = sym (sym h ∙ ap (value_eq v) (eq_means u v e) ∙ eq_same v)
-    by false true e h = sym e ∙ ap (value_eq u) (eq_means v u h) ∙ eq_same u
+turned u v = grind (arith, common_steps, eq_means u v, eq_same v, eq_means v u, eq_same u)
 
 module _ (p : Notation) (w : World) (around : ShownExterns) (most : Option ℕ) (kind : w.multi ≡ not (result_ends p)) (all : List Call) (says : SaysWhatIsAround p w.meaning around all) where
   abbrev sw : ShownWorld
@@ -91,10 +81,6 @@ module _ (p : Notation) (w : World) (around : ShownExterns) (most : Option ℕ) 
   then_fine (goes_on env t) go grow h = (beginning_over t.calls (calls_in (go env t)) all (grow env t) h.0, refl)
   then_fine f go grow h = grind (arith, common_steps)
 
-  then_shown : (f f' : Flow) (go go' : Env → Trace → Flow) → f' ≡ numbered_flow f → Fine (then_flow f go) → ((env : Env) (t : Trace) → Fine (go env t) → go' env (numbered t) ≡ numbered_flow (go env t))
-      → then_flow f' go' ≡ numbered_flow (then_flow f go)
-  then_shown f f' go go' e fine h = grind (arith, common_steps)
-
   braces_fine : (env : Env) (f : Flow) → Fine (in_braces env f) → Fine f
   braces_fine env f h = grind (arith, common_steps)
 
@@ -107,37 +93,17 @@ module _ (p : Notation) (w : World) (around : ShownExterns) (most : Option ℕ) 
   label_numbered : (env : Env) (f : Flow) → in_label env (numbered_flow f) ≡ numbered_flow (in_label env f)
   label_numbered env f = grind (arith, common_steps)
 
-  content_shown : (o : Option Content) (t : Trace) (f f' : Content → Flow) → Fine (on_content o t f) → ((c : Content) → Fine (f c) → f' c ≡ numbered_flow (f c)) → on_content o (numbered t) f' ≡ numbered_flow (on_content o t f)
-  content_shown o t f f' fine h = grind (arith, common_steps)
-
   met_shown : (o : Option (List Content)) (fields : List (Option ℕ)) (env : Env) (t : Trace) (go go' : Env → Flow) (other other' : Flow) → Fine (where_met o fields env t go other)
       → ((env' : Env) → Fine (go env') → go' env' ≡ numbered_flow (go env')) → (Fine other → other' ≡ numbered_flow other) → where_met o fields env (numbered t) go' other' ≡ numbered_flow (where_met o fields env t go other)
   met_shown o fields env t go go' h other' fine i k = grind (arith, common_steps)
 
-  if_shown : (b : Bool) (f f' g g' : Flow) → Fine (if b then f else g) → (Fine f → f' ≡ numbered_flow f) → (Fine g → g' ≡ numbered_flow g) → (if b then f' else g') ≡ numbered_flow (if b then f else g)
-  if_shown b f f' g g' fine h k = grind (arith, common_steps)
-
-  equal_shown : (x y : Option Value) (t : Trace) (f f' g g' : Flow) → Fine (where_equal x y t f g) → (Fine f → f' ≡ numbered_flow f) → (Fine g → g' ≡ numbered_flow g) → where_equal x y (numbered t) f' g' ≡ numbered_flow (where_equal x y t f g)
-  equal_shown (Some v) (Some u) t f f' g g' fine h k = if_shown (value_eq v u) f f' g g' fine h k
-  equal_shown x y t f f' g g' fine h k = refl
-
   each_shown : (cs : List Content) (go go' : Content → Trace → Flow) (env : Env) → ((c : Content) (t : Trace) → Grows t (go c t)) → ((c : Content) (t : Trace) → Fine (go c t) → go' c (numbered t) ≡ numbered_flow (go c t))
       → (t : Trace) → Fine (each_flow cs go env t) → each_flow cs go' env (numbered t) ≡ numbered_flow (each_flow cs go env t)
   each_shown [] go go' env grow h t fine = refl
-  each_shown (c ∷ cs) go go' env grow h t fine =
-      then_shown (in_braces env (go c t)) (in_braces env (go' c (numbered t))) (λ env' t'. each_flow cs go env t') (λ env' t'. each_flow cs go' env t')
-      (ap (in_braces env) (h c t (braces_fine env (go c t) (then_fine (in_braces env (go c t)) (λ env' t'. each_flow cs go env t') (λ env' t'. each_grows cs go env grow t') fine))) ∙ braces_numbered env (go c t))
-      fine (λ env' t' k. each_shown cs go go' env grow h t' k)
-
-  answers_shown : (o : Option Content) (go go' : Content → Trace → Flow) (env : Env) (t : Trace) → ((c : Content) (t : Trace) → Grows t (go c t)) → ((c : Content) (t : Trace) → Fine (go c t) → go' c (numbered t) ≡ numbered_flow (go c t))
-      → Fine (on_answers o go env t) → on_answers o go' env (numbered t) ≡ numbered_flow (on_answers o go env t)
-  answers_shown o go go' env t grow h fine = grind (arith, common_steps, each_shown)
-
-  if_numbered : (b : Bool) (f g : Flow) → (if b then numbered_flow f else numbered_flow g) ≡ numbered_flow (if b then f else g)
-  if_numbered b f g = grind (arith, common_steps)
+  each_shown (c ∷ cs) go go' env grow h t fine = grind (arith, each_shown cs go go' env grow h, braces_fine, then_fine, each_grows, braces_numbered)
 
   give_numbered : (o : Option Content) (multi : Bool) (env : Env) (t : Trace) → give_content o multi most env (numbered t) ≡ numbered_flow (give_content o multi most env t)
-  give_numbered o multi env t = grind (arith, common_steps, if_numbered)
+  give_numbered o multi env t = grind (arith, common_steps)
 
   -- 3. what is read
   held_shown : (env : Env) (place : Place) → held ws env (shown_place p place) ≡ held w env place
@@ -158,35 +124,22 @@ module _ (p : Notation) (w : World) (around : ShownExterns) (most : Option ℕ) 
   now_numbered : (env : Env) (calls : List Call) (v : ℕ) (o : Option Content) → now_bound env (map (by_number p) calls) v o ≡ numbered_bound (now_bound env calls v o)
   now_numbered env calls v o = grind (arith, common_steps)
 
-  bound_numbered : (b : Bound) (t : Trace) → flow_of_bound (numbered_bound b) (numbered t) ≡ numbered_flow (flow_of_bound b t)
-  bound_numbered b t = grind (arith, common_steps)
-
-  taken_out_numbered : (env : Env) (t : Trace) (v : ℕ) (o : Option Content) → flow_of_bound (taken_out env (map (by_number p) t.calls) v o) (numbered t) ≡ numbered_flow (flow_of_bound (taken_out env t.calls v o) t)
-  taken_out_numbered env t v o = grind (arith, common_steps)
-
   -- 4. calls
-  made_calls : (env : Env) (t : Trace) (calls : List Call) (v : ℕ) (o : Option Content) → calls_in (flow_of_bound (now_bound env calls v o) t) ≡ calls
-  made_calls env t calls v o = grind (arith, common_steps)
-
   -- the answer that surroundings give to a call which the whole run makes
   answer_there : (calls : List Call) (c : Call) → IsBeginning (calls ++ c ∷ []) all → impure_answer w.meaning c.term (length calls) ≡ around.impures (map (by_number p) calls) (by_number p c)
   answer_there calls c b = says.impures calls b.0 c (b.1 ∙ append_assoc calls (c ∷ []) b.0)
 
-  pure_shown : (env : Env) (calls : List Call) (v : ℕ) (c : Call) (o : Option Content) → around.is_impure c.term ≡ false → o ≡ around.pures c.term c.args
-      → answered (around.is_impure c.term) around env (map (by_number p) calls) v c ≡ numbered_bound (now_bound env calls v o)
-  pure_shown env calls v c o h e = (λ i. answered (h i) around env (map (by_number p) calls) v c) ∙ (λ i. now_bound env (map (by_number p) calls) v (sym e i)) ∙ now_numbered env calls v o
-
   impure_shown : (env : Env) (t : Trace) (v : ℕ) (c : Call) → around.is_impure (by_number p c).term ≡ true → Fine (flow_of_bound (now_bound env (t.calls ++ c ∷ []) v (impure_answer w.meaning c.term (length t.calls))) t)
       → answered (around.is_impure (by_number p c).term) around env (map (by_number p) t.calls) v (by_number p c) ≡ numbered_bound (now_bound env (t.calls ++ c ∷ []) v (impure_answer w.meaning c.term (length t.calls)))
-  impure_shown env t v c h fine = grind (arith, common_steps, answer_there, made_calls, map-append, now_numbered)
+  impure_shown env t v c h fine = grind (arith, common_steps, answer_there, map-append, now_numbered)
 
   constructed_shown : (env : Env) (t : Trace) (v term instance : ℕ) (o : Option Values) → impure_call instance (around.is_impure (p.function (constructor_of term))) ≡ true → Fine (flow_of_bound (constructed w env t.calls v term instance o) t)
       → called around env (map (by_number p) t.calls) v (p.function (constructor_of term)) o ≡ numbered_bound (constructed w env t.calls v term instance o)
-  constructed_shown env t v term instance o h fine = grind (arith, common_steps, not-true, pure_shown, impure_shown)
+  constructed_shown env t v term instance o h fine = grind (arith, common_steps, not-true, impure_shown)
 
   extracted_shown : (env : Env) (t : Trace) (v term : ℕ) (o : Option Value) → around.is_impure (p.function (extractor_of term)) ≡ false
       → called around env (map (by_number p) t.calls) v (p.function (extractor_of term)) (then_option o (λ x. Some (value_and x no_value))) ≡ numbered_bound (now_bound env t.calls v (then_option o (extractor_answer w.meaning term)))
-  extracted_shown env t v term o h = grind (arith, common_steps, pure_shown)
+  extracted_shown env t v term o h = grind (arith, common_steps)
 
   -- 5. what is bound
   now_shown : (env : Env) (t : Trace) (v : ℕ) (o o' : Option Content) → o' ≡ o → now_bound env (map (by_number p) t.calls) v o' ≡ numbered_bound (now_bound env t.calls v o)
@@ -205,22 +158,15 @@ module _ (p : Notation) (w : World) (around : ShownExterns) (most : Option ℕ) 
   expr_shown env t v e wr ca fine = grind (arith, common_steps, now_shown, held_shown, value_shown, extracted_shown, not-true, values_shown, constructed_shown, variant_shown, struct_shown)
 
   -- 6. patterns
-  value_met : (c : Constraint) (v : Value) → value_fields ws.meaning (shown_constraint p c) v ≡ value_fields w.meaning c v
-  value_met c v = grind (arith, common_steps)
-
   fields_met : (c : Constraint) (x : Content) → content_fields ws.meaning (shown_constraint p c) x ≡ content_fields w.meaning c x
-  fields_met c x = grind (arith, common_steps, value_met)
+  fields_met c x = grind (arith, common_steps)
 
   -- 7. a comparison that is shown as a match
   abbrev IsTest : Env → PlaceUse → Place → (PlaceUse × Constraint) → Type 0
   IsTest env a place test = (test.0.place ≡ a.place) × ((v : Value) → content_fields ws.meaning test.1 (one v) ≡ where_constant (then_option (held ws env place) as_value) v)
 
-  named_is : (env : Env) (composed : Bool) (place : Place) (pass : Pass) (name : ℕ) (test : PlaceUse × Constraint) → named_test composed pass (record { place = place; pass = pass }) name ≡ Some test
-      → IsTest env (record { place = place; pass = pass }) (name_written name) test
-  named_is env composed place pass name test e = grind (arith, common_steps, same_Some, value_back, none-some)
-
   test_is : (env : Env) (a : PlaceUse) (place : Place) (pass : Pass) (test : PlaceUse × Constraint) → test_at p a place pass ≡ Some test → IsTest env a place test
-  test_is env a place pass test e = grind (arith, common_steps, same_Some, value_back, named_is, none-some)
+  test_is env a place pass test e = grind (arith, common_steps, same_Some, value_back, none-some)
 
   compared : (x : Option Content) (y : Option Value) (env : Env) (t : Trace) (k : Constraint) (go : Env → Flow) (body other other' : Flow) → ((v : Value) → content_fields ws.meaning k (one v) ≡ where_constant y v)
       → Fine (where_equal (then_option x as_value) y t body other) → (Fine body → go env ≡ numbered_flow body) → (Fine other → other' ≡ numbered_flow other)
@@ -243,19 +189,14 @@ module _ (p : Notation) (w : World) (around : ShownExterns) (most : Option ℕ) 
   if_equal_shown : (o : Option (PlaceUse × Constraint)) (a b : PlaceUse) (body : Block) (env : Env) (t : Trace) → test_at p (shown_use p a) (shown_place p b.place) b.pass ≡ o
       → Fine (where_equal (held_value w env a) (held_value w env b) t (run_block body w most env t) (goes_on env t)) → (Fine (run_block body w most env t) → run_shown (shown p body) sw most env (numbered t) ≡ numbered_flow (run_block body w most env t))
       → run_shown_at (equal_or_match o (shown_use p a) (shown_use p b) (shown p body)) sw most env (numbered t) ≡ numbered_flow (run_statement (if_equal a b body) w most env t)
-  if_equal_shown None a b body env t e fine f =
-      (λ i. in_braces env (where_equal (value_shown env a i) (value_shown env b i) (numbered t) (run_shown (shown p body) sw most env (numbered t)) (goes_on env (numbered t))))
-      ∙ ap (in_braces env) (equal_shown (held_value w env a) (held_value w env b) t (run_block body w most env t) (run_shown (shown p body) sw most env (numbered t)) (goes_on env t) (goes_on env (numbered t)) fine f (λ k. refl))
-      ∙ braces_numbered env (where_equal (held_value w env a) (held_value w env b) t (run_block body w most env t) (goes_on env t))
+  if_equal_shown None a b body env t e fine f = grind (arith, common_steps, value_shown, braces_numbered)
   if_equal_shown (Some test) a b body env t e fine f =
       ap (in_braces env) (tested test a b env t (λ env'. run_shown (shown p body) sw most env' (numbered t)) (run_block body w most env t) (goes_on env t) (goes_on env (numbered t)) (test_is env (shown_use p a) (shown_place p b.place) b.pass test e) fine f (λ k. refl))
       ∙ braces_numbered env (where_equal (held_value w env a) (held_value w env b) t (run_block body w most env t) (goes_on env t))
 
   unless_equal_shown : (o : Option (PlaceUse × Constraint)) (a b : PlaceUse) (env : Env) (t : Trace) → test_at p (shown_use p a) (shown_place p b.place) b.pass ≡ o
       → Fine (where_equal (held_value w env a) (held_value w env b) t (goes_on env t) (leaves t)) → run_shown_at (unless_either o (shown_use p a) (shown_use p b)) sw most env (numbered t) ≡ numbered_flow (run_statement (unless_equal a b) w most env t)
-  unless_equal_shown None a b env t e fine =
-      (λ i. where_equal (value_shown env a i) (value_shown env b i) (numbered t) (goes_on env (numbered t)) (leaves (numbered t)))
-      ∙ equal_shown (held_value w env a) (held_value w env b) t (goes_on env t) (goes_on env (numbered t)) (leaves t) (leaves (numbered t)) fine (λ k. refl) (λ k. refl)
+  unless_equal_shown None a b env t e fine = grind (arith, common_steps, value_shown)
   unless_equal_shown (Some test) a b env t e fine =
       tested test a b env t (λ env'. goes_on env' (numbered t)) (goes_on env t) (leaves t) (leaves (numbered t)) (test_is env (shown_use p a) (shown_place p b.place) b.pass test e) fine (λ k. refl) (λ k. refl)
 
@@ -266,12 +207,7 @@ module _ (p : Notation) (w : World) (around : ShownExterns) (most : Option ℕ) 
       → (writable p label rest ≡ true → (env' : Env) (t' : Trace) → Fine (run_block rest w most env' t') → run_shown (shown p rest) sw most env' (numbered t') ≡ numbered_flow (run_block rest w most env' t'))
       → Fine (then_flow (run_statement s w most env t) (run_block rest w most))
       → then_flow (run_shown_at (shown_at p s) sw most env (numbered t)) (run_shown (unless_end ended no_statement (shown p rest)) sw most) ≡ numbered_flow (then_flow (run_statement s w most env t) (run_block rest w most))
-  later_shown true s rest label env t e h wr go fine =
-      let there = ends_there p w most kind s env t (run_block rest w most) e in
-      alone (run_shown_at (shown_at p s) sw most env (numbered t)) ∙ h (subst Fine there fine) ∙ ap numbered_flow (sym there)
-  later_shown false s rest label env t e h wr go fine =
-      then_shown (run_statement s w most env t) (run_shown_at (shown_at p s) sw most env (numbered t)) (run_block rest w most) (run_shown (shown p rest) sw most)
-      (h (then_fine (run_statement s w most env t) (run_block rest w most) (block_grows w most rest) fine)) fine (go wr)
+  later_shown ended s rest label env t e h wr go fine = grind (arith, common_steps, ends_there, alone, then_fine, block_grows)
 
   mutual
     block_shown : (b : Block) (label : Bool) (env : Env) (t : Trace) → writable p label b ≡ true → calls_as p around.is_impure b ≡ true → Fine (run_block b w most env t)
@@ -284,30 +220,16 @@ module _ (p : Notation) (w : World) (around : ShownExterns) (most : Option ℕ) 
 
     statement_shown : (s : Statement) (label : Bool) (env : Env) (t : Trace) → writable_at p label s ≡ true → calls_as_at p around.is_impure s ≡ true → Fine (run_statement s w most env t)
         → run_shown_at (shown_at p s) sw most env (numbered t) ≡ numbered_flow (run_statement s w most env t)
-    statement_shown (bind v e) label env t wr ca fine = ap (λ b. flow_of_bound b (numbered t)) (expr_shown env t v e wr ca fine) ∙ bound_numbered (bind_expr w env t.calls v e) t
-    statement_shown (bind_some v u) label env t wr ca fine =
-        ap (λ o. flow_of_bound (taken_out env (map (by_number p) t.calls) v o) (numbered t)) (held_shown env u.place) ∙ taken_out_numbered env t v (held w env u.place)
+    statement_shown (bind v e) label env t wr ca fine = grind (arith, expr_shown)
+    statement_shown (bind_some v u) label env t wr ca fine = grind (arith, common_steps, held_shown)
     statement_shown no_way label env t wr ca fine = refl
-    statement_shown (match_on u arms) label env t wr ca fine =
-        ap (λ o. in_braces env (on_content o (numbered t) (λ c. run_shown_arms (shown_arms p arms) sw most c env (numbered t)))) (held_shown env u.place)
-        ∙ ap (in_braces env) (content_shown (held w env u.place) t (λ c. run_code_arms arms w most c env t) (λ c. run_shown_arms (shown_arms p arms) sw most c env (numbered t))
-        (braces_fine env (on_content (held w env u.place) t (λ c. run_code_arms arms w most c env t)) fine) (λ c. arms_shown arms u label c env t wr ca))
-        ∙ braces_numbered env (on_content (held w env u.place) t (λ c. run_code_arms arms w most c env t))
-    statement_shown (if_equal a b body) label env t wr ca fine =
-        if_equal_shown (test_at p (shown_use p a) (shown_place p b.place) b.pass) a b body env t refl
-        (braces_fine env (where_equal (held_value w env a) (held_value w env b) t (run_block body w most env t) (goes_on env t)) fine) (block_shown body label env t wr ca)
-    statement_shown (for_each_of v from body) label env t wr ca fine =
-        answers_shown (bound_to env from) (λ c t'. run_block body w most ((v, c) ∷ env) t') (λ c t'. run_shown (shown p body) sw most ((v, c) ∷ env) t') env t
-        (λ c t'. block_grows w most body ((v, c) ∷ env) t') (λ c t'. block_shown body label ((v, c) ∷ env) t' wr ca) fine
+    statement_shown (match_on u arms) label env t wr ca fine = grind (arith, arms_shown arms u label, held_shown, braces_fine, braces_numbered)
+    statement_shown (if_equal a b body) label env t wr ca fine = grind (arith, common_steps, block_shown body label env t wr ca, if_equal_shown, braces_fine)
+    statement_shown (for_each_of v from body) label env t wr ca fine = grind (arith, common_steps, block_shown body label, block_grows, each_shown)
     statement_shown (give at u) label env t wr ca fine = ap (λ o. give_content o w.multi most env (numbered t)) (held_shown env u.place) ∙ give_numbered (held w env u.place) w.multi env t
     statement_shown (labelled body) label env t wr ca fine =
         ap (in_label env) (block_shown body _ env t wr ca (label_fine env (run_block body w most env t) fine)) ∙ label_numbered env (run_block body w most env t)
-    statement_shown (unless_let u pattern fields) label env t wr ca fine =
-        ap (λ o. on_content o (numbered t) (λ c. where_met (content_fields ws.meaning (shown_constraint p pattern) c) fields env (numbered t) (λ env'. goes_on env' (numbered t)) (leaves (numbered t)))) (held_shown env u.place)
-        ∙ content_shown (held w env u.place) t (λ c. where_met (content_fields w.meaning pattern c) fields env t (λ env'. goes_on env' t) (leaves t))
-        (λ c. where_met (content_fields ws.meaning (shown_constraint p pattern) c) fields env (numbered t) (λ env'. goes_on env' (numbered t)) (leaves (numbered t))) fine
-        (λ c k. ap (λ o. where_met o fields env (numbered t) (λ env'. goes_on env' (numbered t)) (leaves (numbered t))) (fields_met pattern c)
-        ∙ met_shown (content_fields w.meaning pattern c) fields env t (λ env'. goes_on env' t) (λ env'. goes_on env' (numbered t)) (leaves t) (leaves (numbered t)) k (λ env' l. refl) (λ l. refl))
+    statement_shown (unless_let u pattern fields) label env t wr ca fine = grind (arith, common_steps, held_shown, fields_met, met_shown)
     statement_shown (unless_equal a b) label env t wr ca fine = unless_equal_shown (test_at p (shown_use p a) (shown_place p b.place) b.pass) a b env t refl fine
 
     arms_shown : (arms : CodeArms) (u : PlaceUse) (label : Bool) (c : Content) (env : Env) (t : Trace) → writable_arms p label u arms ≡ true → arms_call_as p around.is_impure arms ≡ true → Fine (run_code_arms arms w most c env t)

@@ -1,14 +1,14 @@
 -- What is written of accepted definitions is read as code that does what the source rules mean.
-use Rattle.std.proofs.Common.{◌≡◌, ◌≢◌, ℕ, suc, Bool, true, false, not, if◌then◌else◌, List, [], map, Option, Some, None, Contains, refl, sym, ap, ◌∙◌, subst, arith}
+use Rattle.std.proofs.Common.{◌≡◌, ◌≢◌, ℕ, suc, Bool, true, false, not, if◌then◌else◌, List, [], map, Option, Some, None, Contains, sym, ap, ◌∙◌, subst, arith}
 use Rattle.std.proofs.lemmas.Grind.{common_steps}
-use Rattle.std.proofs.lemmas.Bool.{false≢true, cases_lt}
+use Rattle.std.proofs.lemmas.Bool.{cases_lt}
 use Rattle.std.proofs.lemmas.List.Elements.{All-contains}
 use Rattle.model.specs.lists.Signatures.{gives_one, gives_one_or_none, gives_any_number}
 use Rattle.model.specs.lists.Syntax.{Definition}
 use Rattle.model.specs.lists.Elaborated.{TypedRules}
 use Rattle.model.specs.rules.Values.{Value}
 use Rattle.model.specs.rules.Meaning.{Content, Meaning}
-use Rattle.model.specs.rules.Outcome.{Ending, ran_through, stuck, Outcome}
+use Rattle.model.specs.rules.Outcome.{Ending, stuck, Outcome}
 use Rattle.model.specs.rules.Program.{Program, flags_of, is_multi, kind, rules_of, arg_types, terms_with_rules}
 use Rattle.model.specs.rules.Typed.{TypedRule}
 use Rattle.model.specs.rules.Matching.{Vars}
@@ -51,27 +51,24 @@ is_stuck e = false
 abbrev GoesOn : Outcome → Type 0
 GoesOn o = o.ending ≢ stuck
 
-other_ending : (e f : Ending) → is_stuck f ≡ false → e ≡ f → e ≢ stuck
-other_ending e f h q s = false≢true (sym h ∙ ap is_stuck (sym q ∙ s))
-
 evaluated : (partial : Bool) (e : Eval) → GoesOn (outcome_of partial e)
-evaluated partial e = grind (arith, common_steps, other_ending)
+evaluated partial e = grind (arith, common_steps)
 
 module _ (p : Program) (m : Meaning) (args : List Value) where
   taken_goes_on : (r : TypedRule) (o : Option Vars) → GoesOn (with_vars p m r o)
-  taken_goes_on r o = grind (arith, common_steps, other_ending, evaluated)
+  taken_goes_on r o = grind (arith, common_steps, evaluated)
 
   rule_goes_on : (o : Option TypedRule) → GoesOn (outcome_of_rule p m args o)
-  rule_goes_on o = grind (arith, common_steps, other_ending, taken_goes_on)
+  rule_goes_on o = grind (arith, common_steps, taken_goes_on)
 
   choice_goes_on : (rs : List TypedRule) → GoesOn (choice p m rs args)
   choice_goes_on rs = rule_goes_on (chosen p m rs args)
 
 collects_goes_on : (o : Outcome) (expected : List Content) → Collects o expected → GoesOn o
-collects_goes_on o expected c = other_ending o.ending ran_through refl c.ending
+collects_goes_on o expected c = grind arith
 
 part_goes_on : (most : ℕ) (o : Outcome) (expected : List Content) → CollectsUpTo most o expected → GoesOn o
-part_goes_on most o expected c = grind (arith, common_steps, cases_lt, collects_goes_on, other_ending)
+part_goes_on most o expected c = grind (arith, common_steps, cases_lt, collects_goes_on)
 
 -- 2. calls by numbers
 collects_by_number : (n : Notation) (o : Outcome) (expected : List Content) → Collects o expected → Collects (outcome_by_number n o) expected

@@ -1,5 +1,5 @@
 -- The code of best trees can be written.
-use Rattle.std.proofs.Common.{◌≡◌, ◌<◌, ◌∷◌, ◌||◌, [], ℕ, zero, suc, Bool, true, false, List, length, Option, Some, None, slice_get, Contains, refl, sym, ap, ◌∙◌, subst, eq-eqb, arith}
+use Rattle.std.proofs.Common.{◌≡◌, ◌<◌, ◌∷◌, [], ℕ, zero, suc, Bool, true, false, List, length, Option, Some, None, slice_get, Contains, refl, sym, ap, subst, eq-eqb, arith}
 use Rattle.std.proofs.lemmas.Grind.{common_steps}
 use Rattle.std.proofs.lemmas.Bool.{and_from}
 use Rattle.std.proofs.lemmas.List.{length-map}
@@ -23,9 +23,8 @@ use Rattle.laws_trees.proofs.runs.Contents.{unfolded_layer}
 use Rattle.laws_trees.proofs.taken.Forms.{Form, IsOfForm, term_count}
 use Rattle.laws_trees.proofs.taken.BuiltSites.{sites_stand}
 use Rattle.model_code.specs.Code.{Block, statement, Statement}
-use Rattle.model_code.specs.TreeCode.{Passes, to_field, to_match, use_at, fields_of as fields_used, bind_code, binds_code, loop_code, tree_code, check_code, arms_code}
+use Rattle.model_code.specs.TreeCode.{Passes, to_match, use_at, bind_code, binds_code, loop_code, tree_code, check_code, arms_code}
 use Rattle.model_code.specs.Notation.{Notation, ReturnForm}
-use Rattle.model_code.specs.Pieces.{result_ends, is_end, unless_end}
 use Rattle.model_code.specs.ProgramNotation.{notation_of}
 use Rattle.model_code.specs.ReadsBack.{pattern_writable, match_writable, writable, writable_at, writable_arms}
 use Rattle.laws_code.specs.WritableCode.{LooksAtMatched, CodeOfBuiltSetsIsWritable}
@@ -33,9 +32,6 @@ use Rattle.laws_code.proofs.AskedFields.{HasAllFields, rule_asks_all_fields}
 use Rattle.laws_code.proofs.TypeShapes.{variant_taken, struct_taken}
 
 -- 1. blocks
-ended_later : (ended : Bool) {x : Bool} → x ≡ true → unless_end ended true x ≡ true
-ended_later ended h = grind (arith, common_steps)
-
 fields_counted : (f : ℕ → Site → Bool) (sites : List Site) (i n : ℕ) → length (each_field f sites i n) ≡ n
 fields_counted f sites i zero = refl
 fields_counted f sites i (suc n) = ap suc (fields_counted f sites (suc i) n)
@@ -60,27 +56,18 @@ module _ (b : BuiltSet) (h : IsWellTypedProgram b.program) (passes : Passes) (lo
   abbrev U : ℕ → SiteTerm
   U s = unfold_site sites s
 
-  -- what is matched can be compared with any constant
-  either_looked : (composed looked : Bool) → looked ≡ true → (composed || looked) ≡ true
-  either_looked composed looked e = grind (arith, common_steps)
-
   match_written : (s : ℕ) (c : Constraint) → match_writable N (use_at sites passes to_match s) c ≡ true
-  match_written s c = grind (arith, common_steps, either_looked)
+  match_written s c = grind (arith, common_steps)
 
   then_statement : (s : Statement) (rest : Block) → writable_at N false s ≡ true → writable N false rest ≡ true → writable N false (statement s rest) ≡ true
-  then_statement s rest here later = and_from _ _ here (ended_later (is_end (result_ends N) s) later)
+  then_statement s rest here later = grind (arith, and_from)
 
   -- 2. what is made has as many fields as its type
   form_at : (s : ℕ) (x : Site) → slice_get sites s ≡ Some x → (q : Form) × IsOfForm p (length (arg_types p b.term)) (layer U x) q
-  form_at s x at =
-      let g = (sites_stand b h s (slice_get_within sites s x at)).form in
-      (g.0, subst (λ u. IsOfForm p (length (arg_types p b.term)) u g.0) (unfolded_layer sites b.built.sources s x at) g.1)
-
-  as_many : (ss tys : List ℕ) → term_count (each_term U ss) ≡ length tys → length tys ≡ length (fields_used sites passes ss)
-  as_many ss tys e = sym e ∙ sources_counted U ss ∙ sym (length-map ss (use_at sites passes to_field))
+  form_at s x at = grind (arith, sites_stand b h s (slice_get_within sites s x at), slice_get_within sites s x at, unfolded_layer sites b.built.sources s x at)
 
   bind_written : (s : ℕ) (o : Option Site) → slice_get sites s ≡ o → writable_at N false (bind_code sites passes s o) ≡ true
-  bind_written s o at = grind (arith, common_steps, form_at, variant_taken, as_many, struct_taken)
+  bind_written s o at = grind (arith, common_steps, form_at, variant_taken, struct_taken, sources_counted, length-map)
 
   binds_written : (ss : List ℕ) (rest : Block) → writable N false rest ≡ true → writable N false (binds_code sites passes ss rest) ≡ true
   binds_written [] rest w = w

@@ -1,10 +1,9 @@
 -- By computing.
-use Rattle.std.proofs.Common.{◌≡◌, ◌∷◌, [], ℕ, pos, Bool, true, false, Contains, refl, sym, ◌∙◌, subst, inl, inr, arith}
+use Rattle.std.proofs.Common.{◌≡◌, [], ℕ, pos, Bool, false, refl, sym, ◌∙◌, arith}
 use Rattle.std.proofs.lemmas.Grind.{common_steps}
 use Rattle.std.proofs.lemmas.Bool.{false≢true}
 use Rattle.model.specs.rules.Program.{arg_types}
-use Rattle.model.specs.sites.Sites.{Constraint, SetRule, is_int, unfold_site}
-use Rattle.model.proofs.Elements.{in_from_contains}
+use Rattle.model.specs.sites.Sites.{Constraint, is_int, unfold_site}
 use Rattle.model.proofs.Members.{in_head}
 use Rattle.model_code.specs.Modes.{pattern_typed}
 use Rattle.model_code.specs.Samples.{sites, is_a}
@@ -16,19 +15,8 @@ use Rattle.laws_code.specs.TypedSamples.{with_constants, a_rule, asks, Constrain
 abbrev is_typed : ℕ × Constraint → Bool
 is_typed d = pattern_typed d.1 (are_copied with_constants (types_at with_constants (arg_types with_constants 0) (unfold_site sites d.0)))
 
-one_asked : (s : ℕ) (c : Constraint) → is_typed (s, c) ≡ true → ConstrainsByTypes with_constants 0 (asks s c)
-one_asked s c h r u d i j =
-    elim (in_from_contains (a_rule s c ∷ []) r i) [
-      | inl e ↦
-          elim (in_from_contains ((s, c) ∷ []) (u, d) (subst (λ (q : SetRule). Contains q.constraints (u, d)) (sym e) j)) [
-            | inl f ↦ subst (λ x. is_typed x ≡ true) f h
-            | inr n ↦ absurd n
-          ]
-      | inr n ↦ absurd n
-    ]
-
 not_asked : (s : ℕ) (c : Constraint) → is_typed (s, c) ≡ false → ConstrainsByTypes with_constants 0 (asks s c) → ⊥
 not_asked s c h k = false≢true (sym h ∙ k (a_rule s c) s c (in_head (a_rule s c) []) (in_head (s, c) []))
 
 pub constraints_are_judged_lem : ConstraintsAreJudged
-constraints_are_judged_lem = grind (arith, common_steps, one_asked 0, one_asked 1, not_asked 1 is_a refl, not_asked 0 (is_int (pos 5) 2) refl, one_asked, not_asked)
+constraints_are_judged_lem = grind (arith, common_steps, not_asked 1 is_a refl, not_asked 0 (is_int (pos 5) 2) refl, not_asked)

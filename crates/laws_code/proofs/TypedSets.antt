@@ -1,15 +1,14 @@
 -- A set that is built of a well-typed program is typed, where its rules constrain by types.
-use Rattle.std.proofs.Common.{◌≡◌, ◌∷◌, ◌&&◌, ◌||◌, ◌+◌, [], ℕ, zero, suc, Bool, true, false, not, List, Option, Some, slice_get, Contains, flat_map, refl, sym, ap, ◌∙◌, subst, inl, inr, arith}
+use Rattle.std.proofs.Common.{◌≡◌, ◌∷◌, ◌&&◌, ◌||◌, ◌+◌, [], ℕ, zero, suc, Bool, true, false, not, List, Option, Some, slice_get, Contains, flat_map, refl, sym, ap, ◌∙◌, inl, inr, arith}
 use Rattle.std.proofs.lemmas.Grind.{common_steps}
 use Rattle.std.proofs.lemmas.Bool.{and_from}
 use Rattle.std.proofs.lemmas.Option.{slice_get_within}
 use Rattle.model.specs.lists.Tables.{TermEntry}
 use Rattle.model.specs.rules.Program.{Program, arg_types, rules_of}
 use Rattle.model.specs.rules.Typed.{TypedRule}
-use Rattle.model.specs.rules.Values.{variant_types, struct_types}
+use Rattle.model.specs.rules.Values.{struct_types}
 use Rattle.model.specs.sites.Serves.{term_args, term_results, asked, asked_by, constant_site}
-use Rattle.model.specs.sites.DemandedGates.{IsMultiCall}
-use Rattle.model.specs.sites.Sites.{Site, bool_site, int_site, prim_site, argument_site, extractor_site, constructor_site, iterator_site, make_variant_site, match_variant_site, make_struct_site, extract_struct_site, make_some_site, match_some_site, match_tuple_site, Constraint, SiteTerm, bool_term, int_term, prim_term, argument, extractor_call, constructor_call, pick_of, variant_made, variant_field, struct_made, struct_field, some_made, some_part, tuple_part, no_site, SiteTerms, site_term_and, each_term, layer, unfold_site}
+use Rattle.model.specs.sites.Sites.{Site, bool_site, extractor_site, constructor_site, iterator_site, make_variant_site, match_variant_site, make_struct_site, extract_struct_site, make_some_site, match_some_site, Constraint, SiteTerm, bool_term, int_term, prim_term, argument, extractor_call, constructor_call, pick_of, variant_made, variant_field, struct_made, struct_field, some_made, some_part, tuple_part, no_site, SiteTerms, site_term_and, each_term, layer, unfold_site}
 use Rattle.model.specs.visits.Demands.{demands_of}
 use Rattle.model.proofs.Elements.{in_from_contains, contains_from_in, in_either, from_flat_map}
 use Rattle.laws_typing.specs.WellTypedPrograms.{IsWellTypedProgram}
@@ -20,9 +19,8 @@ use Rattle.laws_trees.proofs.total.Shaped.{Uses, Shaped, shaped_bool, shaped_int
 use Rattle.laws_trees.proofs.total.ShapedSites.{AreShaped, rule_shaped}
 use Rattle.laws_trees.proofs.taken.BuiltSites.{sites_stand}
 use Rattle.laws_trees.proofs.taken.Fits.{IsField}
-use Rattle.model_code.specs.TreeCode.{place_of}
-use Rattle.model_code.specs.Modes.{Types, is_value, copy_is_value, takes_what_is, is_typed_at, argument_typed, arguments_typed, fields_typed, inside_typed, is_seen, site_typed, pattern_typed, place_in, IsTypedSet}
-use Rattle.model_code.specs.SiteTypes.{one_type, or_no_types, field_type, types_at, is_composed, is_one_composed, are_copied, is_held_by_reference, mode_of, is_copied_at, types_of}
+use Rattle.model_code.specs.Modes.{Types, is_value, copy_is_value, is_typed_at, argument_typed, arguments_typed, fields_typed, site_typed, pattern_typed, place_in, IsTypedSet}
+use Rattle.model_code.specs.SiteTypes.{one_type, or_no_types, field_type, types_at, is_composed, is_one_composed, are_copied, is_held_by_reference, mode_of, types_of}
 use Rattle.laws_code.specs.TypedTrees.{ConstrainsByTypes, BuiltSetsAreTyped}
 use Rattle.laws_code.proofs.PickedCalls.{called_is_multi}
 
@@ -40,8 +38,7 @@ shaped_types p uses (constructor_call t ss zero) (shaped_pure e flags infallible
 shaped_types p uses (constructor_call t ss (suc before)) (shaped_impure e flags infallible used there can k pure h) = ap term_results there
 shaped_types p uses (pick_of s) (shaped_pick h) = shaped_types p uses s h
 shaped_types p uses (variant_made ty variant ss) (shaped_variant t h) = refl
-shaped_types p uses (variant_field s variant i) (shaped_variant_field {ty = ty} {u = u} {tys = tys} h t a) =
-    field_of_type (λ ty. variant_types (slice_get p.types ty) variant) (types_at p uses.args s) ty i u tys (shaped_types p uses s h) t a
+shaped_types p uses (variant_field s variant i) (shaped_variant_field {ty = ty} {u = u} {tys = tys} h t a) = grind (arith, shaped_types p uses s h, field_of_type)
 shaped_types p uses (struct_made ty ss) (shaped_struct t h) = refl
 shaped_types p uses (struct_field s i) (shaped_struct_field {ty = ty} {u = u} {tys = tys} h t a) =
     field_of_type (λ ty. struct_types (slice_get p.types ty)) (types_at p uses.args s) ty i u tys (shaped_types p uses s h) t a
@@ -67,32 +64,17 @@ both_shaped (shaped_and h hs) = (h, hs)
 
 -- 2. modes by types
 module _ (p : Program) (args : List ℕ) where
-  one_typed : (tys : List ℕ) → copy_is_value (mode_of (is_one_composed p tys)) (are_copied p tys) ≡ true
-  one_typed tys = grind (arith, common_steps)
-
   call_typed : (multi : Bool) (tys : List ℕ) → copy_is_value (mode_of (not multi && is_one_composed p tys)) (are_copied p tys) ≡ true
-  call_typed multi tys = grind (arith, common_steps, one_typed)
+  call_typed multi tys = grind (arith, common_steps)
 
   part_typed : (c : Bool) → copy_is_value (mode_of (not c)) c ≡ true
   part_typed c = grind (arith, common_steps)
 
   held_typed : (u : SiteTerm) → copy_is_value (mode_of (is_held_by_reference p args u)) (are_copied p (types_at p args u)) ≡ true
-  held_typed u = grind (arith, common_steps, one_typed, call_typed, part_typed)
-
-  -- a field is a reference, or Copy
-  one_seen : (o : Option ℕ) → (not (is_value (mode_of (is_one_composed p (one_type o)))) || are_copied p (one_type o)) ≡ true
-  one_seen o = grind (arith, common_steps)
+  held_typed u = grind (arith, common_steps, call_typed, part_typed)
 
   field_seen : (fields : ℕ → Option (List ℕ)) (ts : List ℕ) (i : ℕ) → (not (is_value (mode_of (is_one_composed p (field_type fields ts i)))) || are_copied p (field_type fields ts i)) ≡ true
-  field_seen fields ts i = grind (arith, common_steps, one_seen)
-
-  -- a multi call is a value
-  multi_is_value : (u : SiteTerm) → IsMultiCall p u → is_value (mode_of (is_held_by_reference p args u)) ≡ true
-  multi_is_value u m = grind (arith, common_steps)
-
-  -- a parameter of one type takes what is of that type
-  takes_own : (ty : ℕ) → takes_what_is (is_composed p ty) (are_copied p (ty ∷ [])) ≡ true
-  takes_own ty = grind (arith, common_steps)
+  field_seen fields ts i = grind (arith, common_steps)
 
 -- 3. the sites of a set
 module _ (b : BuiltSet) (h : IsWellTypedProgram b.program) (by_types : ConstrainsByTypes b.program b.term b.set) where
@@ -117,28 +99,15 @@ module _ (b : BuiltSet) (h : IsWellTypedProgram b.program) (by_types : Constrain
   unfolds : (s : ℕ) (x : Site) → slice_get sites s ≡ Some x → U s ≡ layer U x
   unfolds s x at = unfolded_layer sites b.built.sources s x at
 
-  -- where a site is read, its type is its own
-  place_copied : (s : ℕ) (o : Option Site) → slice_get sites s ≡ o → is_copied_at p args sites (place_of o s) ≡ copied (U s)
-  place_copied s (Some (int_site z ty)) at = sym (ap copied (unfolds s (int_site z ty) at))
-  place_copied s (Some (prim_site name)) at = sym (ap copied (unfolds s (prim_site name) at))
-  place_copied s (Some (argument_site i)) at = sym (ap copied (unfolds s (argument_site i) at))
-  place_copied s (Some (match_tuple_site source field)) at = sym (ap copied (unfolds s (match_tuple_site source field) at))
-  place_copied s (Some (make_variant_site ty variant [])) at = sym (ap copied (unfolds s (make_variant_site ty variant []) at))
-  place_copied s (Some (make_struct_site ty [])) at = sym (ap copied (unfolds s (make_struct_site ty []) at))
-  place_copied s o at = refl
-
   is_copied : (s : ℕ) → types.is_copy (place_in sites s) ≡ copied (U s)
-  is_copied s = place_copied s (slice_get sites s) refl
-
-  place_typed : (s : ℕ) (o : Option Site) → is_typed_at types (place_of o s) ≡ true
-  place_typed s o = grind (arith, common_steps, held_typed)
+  is_copied s = grind (arith, unfolds)
 
   typed_at : (s : ℕ) → is_typed_at types (place_in sites s) ≡ true
-  typed_at s = place_typed s (slice_get sites s)
+  typed_at s = grind (arith, held_typed)
 
   -- what a call takes is of its parameter's type
   argument_is : (takes : Bool) (ty s : ℕ) → takes ≡ is_composed p ty → types_at p args (U s) ≡ ty ∷ [] → argument_typed types takes (place_in sites s) ≡ true
-  argument_is takes ty s e t = grind (arith, common_steps, typed_at s, is_copied s, takes_own p args ty, and_from, typed_at, is_copied, takes_own)
+  argument_is takes ty s e t = grind (arith, common_steps, typed_at s, is_copied s, and_from, typed_at, is_copied)
 
   arguments_are : (uses : Uses) → uses.args ≡ args → (term i : ℕ) (ss tys : List ℕ) → ((j ty : ℕ) → slice_get tys j ≡ Some ty → types.takes_reference term (i + j) ≡ is_composed p ty)
       → ShapedAll p uses (each_term U ss) tys → arguments_typed types sites term i ss ≡ true
@@ -164,12 +133,7 @@ module _ (b : BuiltSet) (h : IsWellTypedProgram b.program) (by_types : Constrain
       )
 
   asked_there : (s : ℕ) (x : Site) → slice_get sites s ≡ Some x → (IsField (layer U x) → ⊥) → (uses : Uses) × (uses.args ≡ args) × HasShape p uses (layer U x)
-  asked_there s x at other =
-      let g = sites_stand b h s (slice_get_within sites s x at) in
-      elim g.asks [
-        | inl c ↦ shape_of (layer U x) (subst (Contains (asked p (rules_of p b.term))) (unfolds s x at) c)
-        | inr f ↦ absurd (other (subst IsField (unfolds s x at) f))
-      ]
+  asked_there s x at other = grind (arith, sites_stand, slice_get_within, shape_of, unfolds)
 
   extractor_is : (s term source : ℕ) → slice_get sites s ≡ Some (extractor_site term source) → argument_typed types (types.extracts_reference term) (place_in sites source) ≡ true
   extractor_is s term source at = grind (arith, common_steps, asked_there s (extractor_site term source) at, shaped_types p, asked_there, extractor_shape, argument_is, shaped_types)
@@ -194,12 +158,6 @@ module _ (b : BuiltSet) (h : IsWellTypedProgram b.program) (by_types : Constrain
   value_is : (s : ℕ) (x : Site) → slice_get sites s ≡ Some x → is_held_by_reference p args (layer U x) ≡ false → is_value (types.variables s) ≡ true
   value_is s x at e = ap (λ u. is_value (mode_of (is_held_by_reference p args u))) (unfolds s x at) ∙ ap (λ m. is_value (mode_of m)) e
 
-  seen_is : (s : ℕ) (u : SiteTerm) → U s ≡ u → (not (is_value (mode_of (is_held_by_reference p args u))) || copied u) ≡ true → is_seen types s ≡ true
-  seen_is s u e k = ap (λ y. not (is_value (mode_of (is_held_by_reference p args y))) || copied y) e ∙ k
-
-  inside_is : (s : ℕ) (u : SiteTerm) → U s ≡ some_part u → (c : Bool) → c ≡ copied u → inside_typed types c s ≡ true
-  inside_is s u e h f = grind (arith, common_steps)
-
   site_is : (s : ℕ) (o : Option Site) → slice_get sites s ≡ o → site_typed types sites s o ≡ true
   site_is s (Some (bool_site v ty)) at = value_is s (bool_site v ty) at refl
   site_is s (Some (extractor_site term source)) at = extractor_is s term source at
@@ -207,13 +165,10 @@ module _ (b : BuiltSet) (h : IsWellTypedProgram b.program) (by_types : Constrain
   site_is s (Some (make_variant_site ty variant fields)) at = and_from _ _ (value_is s (make_variant_site ty variant fields) at refl) (fields_are fields)
   site_is s (Some (make_struct_site ty fields)) at = and_from _ _ (value_is s (make_struct_site ty fields) at refl) (fields_are fields)
   site_is s (Some (make_some_site source)) at = and_from _ _ (value_is s (make_some_site source) at refl) (typed_at source)
-  site_is s (Some (iterator_site source)) at = and_from _ _ (value_is s (iterator_site source) at refl) (multi_is_value p args (U source) (called_is_multi b h source (s, at)))
-  site_is s (Some (match_variant_site source variant field)) at =
-      seen_is s (variant_field (U source) variant field) (unfolds s (match_variant_site source variant field) at) (field_seen p args (λ ty. variant_types (slice_get p.types ty) variant) (types_at p args (U source)) field)
-  site_is s (Some (extract_struct_site source field)) at =
-      seen_is s (struct_field (U source) field) (unfolds s (extract_struct_site source field) at) (field_seen p args (λ ty. struct_types (slice_get p.types ty)) (types_at p args (U source)) field)
-  site_is s (Some (match_some_site source)) at =
-      and_from _ _ (typed_at source) (inside_is s (U source) (unfolds s (match_some_site source) at) (types.is_copy (place_in sites source)) (is_copied source))
+  site_is s (Some (iterator_site source)) at = grind (arith, and_from, value_is, called_is_multi)
+  site_is s (Some (match_variant_site source variant field)) at = grind (arith, common_steps, unfolds, field_seen)
+  site_is s (Some (extract_struct_site source field)) at = grind (arith, common_steps, unfolds, field_seen)
+  site_is s (Some (match_some_site source)) at = grind (arith, common_steps, and_from, typed_at, unfolds, is_copied)
   site_is s o at = refl
 
   pub set_is_typed : IsTypedSet types b.set

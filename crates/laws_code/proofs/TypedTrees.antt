@@ -1,5 +1,5 @@
 -- The best trees of a typed set are typed.
-use Rattle.std.proofs.Common.{◌≡◌, ◌<◌, ◌∷◌, [], ℕ, Bool, true, false, List, length, Option, Some, None, slice_get, Contains, refl, sym, ap, ◌∙◌, subst, arith}
+use Rattle.std.proofs.Common.{◌≡◌, ◌<◌, ◌∷◌, [], ℕ, Bool, true, false, List, length, Option, Some, None, slice_get, Contains, refl, subst, arith}
 use Rattle.std.proofs.lemmas.Grind.{common_steps}
 use Rattle.std.proofs.lemmas.Bool.{and_parts, and_from}
 use Rattle.std.proofs.lemmas.List.Elements.{Contains-append_left, Contains-append_right}
@@ -9,7 +9,7 @@ use Rattle.model.specs.trees.Places.{Around, nothing_around, field_sites, in_arm
 use Rattle.model.specs.trees.Best.{BestSteps, BestArms}
 use Rattle.model.proofs.Members.{in_head, in_tail, some_member, member_from_get, get_within, constraint_in}
 use Rattle.std.proofs.lemmas.List.Elements.{All-contains}
-use Rattle.model_code.specs.Modes.{Types, field_typed, site_typed, binds_typed, brought_typed, tree_typed, check_typed, arms_typed, place_in, IsTypedSet}
+use Rattle.model_code.specs.Modes.{Types, field_typed, binds_typed, brought_typed, tree_typed, check_typed, arms_typed, place_in, IsTypedSet}
 use Rattle.laws_code.specs.TypedTrees.{TypedSetsHaveTypedTrees}
 use Rattle.laws_code.proofs.BroughtSites.{IsBrought, is_brought}
 
@@ -24,12 +24,9 @@ module _ (types : Types) (set : SiteSet) (typed : IsTypedSet types set) where
   binds_are [] = refl
   binds_are (s ∷ ss) = and_from _ _ (typed.sites s) (binds_are ss)
 
-  site_is : (x : ℕ) (b : Site) → slice_get sites x ≡ Some b → site_typed types sites x (Some b) ≡ true
-  site_is x b at = ap (site_typed types sites x) (sym at) ∙ typed.sites x
-
   -- what an arm brings
   field_is : (s : ℕ) (c : Constraint) (x : ℕ) → IsBrought sites s c x → field_typed types c (copied s) x ≡ true
-  field_is s c x b = grind (arith, common_steps, site_is, and_parts)
+  field_is s c x b = grind (arith, common_steps, and_parts)
 
   fields_are : (c : Constraint) (copy : Bool) (fields : List (Option ℕ)) → ((x : ℕ) → Contains (field_sites fields) x → field_typed types c copy x ≡ true) → brought_typed types c copy fields ≡ true
   fields_are c copy [] h = refl

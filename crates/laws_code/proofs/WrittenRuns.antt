@@ -1,12 +1,11 @@
 -- The code that is written runs as the code: braces that no test leaves change nothing around a body.
-use Rattle.std.proofs.Common.{◌≡◌, ℕ, Bool, true, false, not, List, [], ◌∷◌, Option, if◌then◌else◌, refl, sym, ap, ◌∙◌, subst, arith}
+use Rattle.std.proofs.Common.{◌≡◌, ℕ, Bool, true, false, not, List, [], ◌∷◌, Option, if◌then◌else◌, refl, ap, ◌∙◌, arith}
 use Rattle.std.proofs.lemmas.Grind.{common_steps}
 use Rattle.std.proofs.lemmas.Bool.{or_parts}
-use Rattle.model.specs.rules.Values.{Value}
 use Rattle.model.specs.rules.Meaning.{Content}
-use Rattle.model.specs.trees.Run.{World, Env, bound_to, Bound, Trace}
+use Rattle.model.specs.trees.Run.{World, Env, Bound, Trace}
 use Rattle.model_code.specs.Code.{Block, no_statement, statement, Statement, match_on, if_equal, for_each_of, labelled, CodeArms, no_code_arm, code_arm}
-use Rattle.model_code.specs.CodeRuns.{held, held_value, Flow, goes_on, leaves, then_flow, in_braces, in_label, flow_of_bound, give_content, with_bindings, where_met, on_content, where_equal, each_flow, on_answers, run_block, run_statement, run_code_arms}
+use Rattle.model_code.specs.CodeRuns.{held, Flow, goes_on, leaves, then_flow, in_braces, in_label, flow_of_bound, give_content, where_met, each_flow, run_block, run_statement, run_code_arms}
 use Rattle.model_code.specs.Notation.{Notation}
 use Rattle.model_code.specs.Pieces.{is_left, leaves_at, leaves_arms, result_ends, is_end, unless_end}
 use Rattle.model_code.specs.Written.{is_bare, unwrapped, written, written_at, written_arms}
@@ -18,39 +17,21 @@ abbrev stays : Flow → Bool
 stays (leaves t) = false
 stays f = true
 
-then_stays : (f : Flow) (go : Env → Trace → Flow) → stays f ≡ true → ((env : Env) (t : Trace) → stays (go env t) ≡ true) → stays (then_flow f go) ≡ true
-then_stays f go h k = grind (arith, common_steps)
-
 braces_stay : (env : Env) (f : Flow) → stays f ≡ true → stays (in_braces env f) ≡ true
 braces_stay env f h = grind (arith, common_steps)
-
-label_stays : (env : Env) (f : Flow) → stays (in_label env f) ≡ true
-label_stays env f = grind (arith, common_steps)
 
 bound_stays : (b : Bound) (t : Trace) → stays (flow_of_bound b t) ≡ true
 bound_stays b t = grind (arith, common_steps)
 
-content_stays : (o : Option Content) (t : Trace) (go : Content → Flow) → ((c : Content) → stays (go c) ≡ true) → stays (on_content o t go) ≡ true
-content_stays o t go h = grind (arith, common_steps)
-
-bindings_stay : (o : Option Env) (t : Trace) (go : Env → Flow) → ((env : Env) → stays (go env) ≡ true) → stays (with_bindings o t go) ≡ true
-bindings_stay o t go h = grind (arith, common_steps)
-
 met_stays : (o : Option (List Content)) (fields : List (Option ℕ)) (env : Env) (t : Trace) (go : Env → Flow) (other : Flow) → ((env' : Env) → stays (go env') ≡ true) → stays other ≡ true → stays (where_met o fields env t go other) ≡ true
-met_stays o fields env t go other h k = grind (arith, common_steps, bindings_stay)
+met_stays o fields env t go other h k = grind (arith, common_steps)
 
 if_stays : (b : Bool) (f g : Flow) → stays f ≡ true → stays g ≡ true → stays (if b then f else g) ≡ true
 if_stays b f g h k = grind (arith, common_steps)
 
-equal_stays : (a b : Option Value) (t : Trace) (f g : Flow) → stays f ≡ true → stays g ≡ true → stays (where_equal a b t f g) ≡ true
-equal_stays a b t f g h k = grind (arith, common_steps, if_stays)
-
 each_stays : (cs : List Content) (go : Content → Trace → Flow) (env : Env) → ((c : Content) (t : Trace) → stays (go c t) ≡ true) → (t : Trace) → stays (each_flow cs go env t) ≡ true
 each_stays [] go env h t = refl
-each_stays (c ∷ cs) go env h t = then_stays (in_braces env (go c t)) (λ env' t'. each_flow cs go env t') (braces_stay env (go c t) (h c t)) (λ env' t'. each_stays cs go env h t')
-
-answers_stay : (o : Option Content) (go : Content → Trace → Flow) (env : Env) (t : Trace) → ((c : Content) (t : Trace) → stays (go c t) ≡ true) → stays (on_answers o go env t) ≡ true
-answers_stay o go env t h = grind (arith, common_steps, each_stays)
+each_stays (c ∷ cs) go env h t = grind (arith, each_stays cs go env h, braces_stay)
 
 give_stays : (o : Option Content) (multi : Bool) (most : Option ℕ) (env : Env) (t : Trace) → stays (give_content o multi most env t) ≡ true
 give_stays o multi most env t = grind (arith, common_steps, if_stays)
@@ -59,23 +40,18 @@ give_stays o multi most env t = grind (arith, common_steps, if_stays)
 label_off : (e env : Env) (f : Flow) → stays f ≡ true → in_braces e f ≡ in_braces e (then_flow (in_label env f) goes_on)
 label_off e env f h = grind (arith, common_steps)
 
--- a result that ends the function: nothing follows
-given_ends : (o : Option Content) (multi : Bool) (most : Option ℕ) (env : Env) (t : Trace) (go : Env → Trace → Flow) → multi ≡ false → then_flow (give_content o multi most env t) go ≡ give_content o multi most env t
-given_ends o multi most env t go h = grind (arith, common_steps)
-
 module _ (p : Notation) (w : World) (most : Option ℕ) (kind : w.multi ≡ not (result_ends p)) where
   -- where results end the function, it isn't multi
   single : result_ends p ≡ true → w.multi ≡ false
   single e = kind ∙ ap not e
 
   pub ends_there : (s : Statement) (env : Env) (t : Trace) (go : Env → Trace → Flow) → is_end (result_ends p) s ≡ true → then_flow (run_statement s w most env t) go ≡ run_statement s w most env t
-  ends_there s env t go h = grind (arith, common_steps, given_ends, single)
+  ends_there s env t go h = grind (arith, common_steps, single)
 
   later_stays : (ended : Bool) (s : Statement) (rest : Block) (env : Env) (t : Trace) → is_end (result_ends p) s ≡ ended → stays (run_statement s w most env t) ≡ true
       → unless_end ended false (is_left (result_ends p) rest) ≡ false → (is_left (result_ends p) rest ≡ false → (env' : Env) (t' : Trace) → stays (run_block rest w most env' t') ≡ true)
       → stays (then_flow (run_statement s w most env t) (run_block rest w most)) ≡ true
-  later_stays true s rest env t e h k go = subst (λ f. stays f ≡ true) (sym (ends_there s env t (run_block rest w most) e)) h
-  later_stays false s rest env t e h k go = then_stays (run_statement s w most env t) (run_block rest w most) h (go k)
+  later_stays ended s rest env t e h k go = grind (arith, common_steps, ends_there)
 
   mutual
     block_stays : (b : Block) (env : Env) (t : Trace) → is_left (result_ends p) b ≡ false → stays (run_block b w most env t) ≡ true
@@ -85,13 +61,10 @@ module _ (p : Notation) (w : World) (most : Option ℕ) (kind : w.multi ≡ not 
         later_stays (is_end (result_ends p) s) s rest env t refl (statement_stays s env t hs.0) hs.1 (λ k env' t'. block_stays rest env' t' k)
 
     statement_stays : (s : Statement) (env : Env) (t : Trace) → leaves_at (result_ends p) s ≡ false → stays (run_statement s w most env t) ≡ true
-    statement_stays (match_on u arms) env t h =
-        braces_stay env (on_content (held w env u.place) t (λ c. run_code_arms arms w most c env t)) (content_stays (held w env u.place) t (λ c. run_code_arms arms w most c env t) (λ c. arms_stay arms c env t h))
-    statement_stays (if_equal a b body) env t h =
-        braces_stay env (where_equal (held_value w env a) (held_value w env b) t (run_block body w most env t) (goes_on env t))
-        (equal_stays (held_value w env a) (held_value w env b) t (run_block body w most env t) (goes_on env t) (block_stays body env t h) refl)
-    statement_stays (for_each_of v from body) env t h = answers_stay (bound_to env from) (λ c t'. run_block body w most ((v, c) ∷ env) t') env t (λ c t'. block_stays body ((v, c) ∷ env) t' h)
-    statement_stays s env t h = grind (arith, common_steps, bound_stays, give_stays, label_stays)
+    statement_stays (match_on u arms) env t h = grind (arith, common_steps, arms_stay arms, braces_stay)
+    statement_stays (if_equal a b body) env t h = grind (arith, common_steps, block_stays body env t h, braces_stay, if_stays)
+    statement_stays (for_each_of v from body) env t h = grind (arith, block_stays body, each_stays)
+    statement_stays s env t h = grind (arith, common_steps, bound_stays, give_stays)
 
     arms_stay : (arms : CodeArms) (c : Content) (env : Env) (t : Trace) → leaves_arms (result_ends p) arms ≡ false → stays (run_code_arms arms w most c env t) ≡ true
     arms_stay (code_arm pattern fields body rest) c env t h = grind (arith, common_steps, block_stays body, arms_stay rest c env t, or_parts, met_stays)
@@ -118,10 +91,8 @@ module _ (p : Notation) (w : World) (most : Option ℕ) (kind : w.multi ≡ not 
 
     statement_runs : (s : Statement) (env : Env) (t : Trace) → run_statement (written_at p s) w most env t ≡ run_statement s w most env t
     statement_runs (match_on u arms) env t = same_content env (held w env u.place) t (λ c. run_code_arms (written_arms p arms) w most c env t) (λ c. run_code_arms arms w most c env t) (λ c. arms_run arms env c env t)
-    statement_runs (if_equal a b body) env t =
-        same_equal env (held_value w env a) (held_value w env b) t (run_block (unwrapped (is_bare p body) (written p body)) w most env t) (run_block body w most env t) (goes_on env t) (body_same body env env t (written_runs body))
-    statement_runs (for_each_of v from body) env t =
-        same_answers (bound_to env from) (λ c t'. run_block (unwrapped (is_bare p body) (written p body)) w most ((v, c) ∷ env) t') (λ c t'. run_block body w most ((v, c) ∷ env) t') env t (λ c t'. body_same body env ((v, c) ∷ env) t' (written_runs body))
+    statement_runs (if_equal a b body) env t = grind (arith, common_steps, written_runs body, same_equal, body_same)
+    statement_runs (for_each_of v from body) env t = grind (arith, common_steps, written_runs body, same_answers, body_same)
     statement_runs (labelled body) env t = ap (in_label env) (written_runs body env t)
     statement_runs s env t = grind (arith, common_steps)
 

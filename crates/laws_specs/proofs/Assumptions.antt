@@ -2,12 +2,12 @@
 use Rattle.std.proofs.Common.{◌≡◌, ℕ, zero, ◌&&◌, Bool, true, false, List, [], ◌∷◌, Option, Some, slice_get, Contains, sym, ap, subst, ◌∙◌, arith}
 use Rattle.std.proofs.lemmas.Grind.{common_steps}
 use Rattle.model.specs.rules.Values.{Value, Values, no_value, value_and, of_list, args_well_typed}
-use Rattle.model.specs.rules.Meaning.{Content, one, parts, nothing, just, many, Contents, contents, constant_value, extractor_answer}
+use Rattle.model.specs.rules.Meaning.{Content, one, parts, many, Contents, contents, constant_value, extractor_answer}
 use Rattle.model.specs.rules.Outcome.{then_option}
 use Rattle.model.specs.rules.Program.{Kind, a_call, kind, arg_types}
 use Rattle.model.specs.rules.Picks.{picked, call_answer}
 use Rattle.model.specs.rules.Typed.{TypedRule}
-use Rattle.model.specs.sites.Sites.{Constraint, is_variant, is_struct, is_bool, is_int, is_prim, is_present, SiteTerm, prim_term, extractor_call, constructor_call, pick_of, SiteTerms}
+use Rattle.model.specs.sites.Sites.{Constraint, SiteTerm, prim_term, extractor_call, constructor_call, pick_of, SiteTerms}
 use Rattle.model.specs.sites.Closure.{DemandsHold, IsMet, AreEqual}
 use Rattle.model.specs.sites.Serves.{term_args, term_results, typed_as, fits_one, fits_answer, fits_extractor, fits_constructor}
 use Rattle.model.specs.trees.Run.{as_value}
@@ -18,7 +18,7 @@ use Rattle.model.proofs.Options.{then_some}
 use Rattle.laws_trees.proofs.Shapes.{HasForm, has_form}
 use Rattle.laws_specs.specs.Words.{Denoted, DenotedList, no_denoted, denoted_and}
 use Rattle.laws_specs.specs.Specs.{IsRequired}
-use Rattle.laws_specs.specs.Conditions.{ToldContent, told, told_outputs, answered_as, as_denoted, result_as, is_of_type, are_of_entries, IsTypedAs, IsMetAs, IsExtractedAsSaid, IsConstructedAsSaid, IsAnsweredAsSaid, is_impure_call, condition, IsAssumed}
+use Rattle.laws_specs.specs.Conditions.{ToldContent, told, told_outputs, answered_as, result_as, is_of_type, are_of_entries, IsTypedAs, IsMetAs, IsExtractedAsSaid, IsConstructedAsSaid, IsAnsweredAsSaid, is_impure_call, condition, IsAssumed}
 use Rattle.laws_specs.specs.Meets.{Atoms, stands_for, stand_for, content_as, answers_in}
 use Rattle.laws_specs.proofs.PlainOutcomes.{Served}
 use Rattle.laws_specs.proofs.Valuations.{Called, content, values, sites_as, args_as, each_told, told_site, told_there, told_same, is_value, values_there, value_held, value_there, site_held, site_formed, value_typed, values_formed, values_typed}
@@ -29,12 +29,7 @@ module _ (k : Called) where
 
   -- 1. what is demanded
   form_met : (s : SiteTerm) (c : Constraint) (x : Content) → content k s ≡ Some x → HasForm k.meaning x c → IsMetAs k.specs (sites_as k) s c
-  form_met s (is_variant ty variant n) x e h = (stand_for d h.0, told_site k s x e ∙ ap (λ y. Some (content_as d y)) h.1)
-  form_met s (is_struct ty n) x e h = (stand_for d h.0, told_site k s x e ∙ ap (λ y. Some (content_as d y)) h.1)
-  form_met s (is_bool b ty) x e h = told_site k s x e ∙ ap (λ y. Some (content_as d y)) h.1 ∙ ap (λ y. Some (told y)) (k.meets.bools b ty h.0 h.2)
-  form_met s (is_int z ty) x e h = λ y l. told_site k s x e ∙ ap (λ w. Some (content_as d w)) h.1 ∙ ap (λ w. Some (told w)) (k.meets.ints z ty h.0 y h.2 l)
-  form_met s (is_prim name) x e h = λ y l. told_site k s x e ∙ ap (λ w. Some (content_as d w)) h.1 ∙ ap (λ w. Some (told w)) (k.meets.constants name h.0 y h.2 l)
-  form_met s is_present x e h = (content_as d h.0, told_site k s x e ∙ ap (λ y. Some (content_as d y)) h.1)
+  form_met s c x e h = grind (arith, common_steps, told_site k s x e)
 
   pub met : (s : SiteTerm) (c : Constraint) → IsMet k.meaning k.args k.pick s c → IsMetAs k.specs (sites_as k) s c
   met s c h = form_met s c h.content h.held (has_form k.meaning c h.content h.meets)
@@ -43,23 +38,11 @@ module _ (k : Called) where
   same a b h = (stands_for d h.value, told_site k a (one h.value) h.first, told_site k b (one h.value) h.second)
 
   -- 2. calls
-  -- the own site of a multi call says nothing
-  own_extracted : (t : ℕ) (x : Denoted) (c : Content) → ((a : Content) → Contains (answers_in c) a → IsExtractedAsSaid k.specs t x (content_as d a)) → IsExtractedAsSaid k.specs t x (content_as d c)
-  own_extracted t x (one v) f = f (one v) (in_head (one v) [])
-  own_extracted t x (parts vs) f = f (parts vs) (in_head (parts vs) [])
-  own_extracted t x nothing f = f nothing (in_head nothing [])
-  own_extracted t x (just c) f = f (just c) (in_head (just c) [])
-  own_extracted t x (many cs) f = λ xs e. absurd (none_some xs e)
-
   pub own_constructed : (t : ℕ) (xs : DenotedList) (c : Content) → ((a : Content) → Contains (answers_in c) a → IsConstructedAsSaid k.specs t xs (content_as d a)) → IsConstructedAsSaid k.specs t xs (content_as d c)
   own_constructed t xs c f = grind (arith, common_steps, in_head, none_some)
 
-  -- what is picked is one of the answers
-  place_there : (o : Option ℕ) (cs : Contents) (c : Content) → then_option o (slice_get (contents cs)) ≡ Some c → Contains (contents cs) c
-  place_there o cs c e = grind (arith, common_steps, none_some, contains_from_in, in_slice)
-
   pick_there : (o : Option Content) (s : SiteTerm) (c : Content) → then_option o (picked k.pick s) ≡ Some c → (cs : Contents) × (o ≡ Some (many cs)) × Contains (contents cs) c
-  pick_there o s c e = grind (arith, common_steps, place_there, none_some)
+  pick_there o s c e = grind (arith, common_steps, none_some, contains_from_in, in_slice)
 
   moved : (t : ℕ) (xs ys : DenotedList) (h g : ToldContent) → xs ≡ ys → h ≡ g → IsConstructedAsSaid k.specs t xs h → IsConstructedAsSaid k.specs t ys g
   moved t xs ys h g e q f = subst (λ zs. IsConstructedAsSaid k.specs t zs g) e (subst (IsConstructedAsSaid k.specs t xs) q f)
@@ -70,11 +53,7 @@ module _ (k : Called) where
   constructed t n ss f xs h e q = grind (arith, common_steps, each_told k ss, moved t, values_there, each_told, told_there, moved)
 
   extracted : (t : ℕ) (s : SiteTerm) → IsAnsweredAsSaid k.specs (sites_as k) (extractor_call t s) (extractor_call t s)
-  extracted t s x h e q =
-      let a = value_there d (content k s) x e in
-      let b = told_there d (content k (extractor_call t s)) h q in
-      let answer : extractor_answer k.meaning t a.0 ≡ Some b.0 = sym (ap (λ o. then_option (then_option o as_value) (extractor_answer k.meaning t)) a.1) ∙ b.1 in
-      subst (λ y. IsExtractedAsSaid k.specs t y h) a.2 (subst (IsExtractedAsSaid k.specs t (stands_for d a.0)) b.2 (own_extracted t (stands_for d a.0) b.0 (λ c i. k.meets.extractors t a.0 b.0 c answer i)))
+  extracted t s x h e q = grind (arith, value_there, content, told_there)
 
   answered : (s : SiteTerm) → is_impure_call s ≡ false → IsAnsweredAsSaid k.specs (sites_as k) s s
   answered (extractor_call t s) e = extracted t s
@@ -116,11 +95,8 @@ module _ (k : Called) where
       → are_of_entries k.program k.specs (term_args (slice_get k.program.terms t)) xs ≡ true
   extractor_typed t c x xs f e = grind (arith, common_steps, answer_typed)
 
-  as_output : (h : ToldContent) (x : Denoted) → as_denoted h ≡ Some x → told_outputs h ≡ Some (denoted_and x no_denoted)
-  as_output h x e = grind (arith, common_steps, some_is, none_some)
-
   result_output : (h : ToldContent) (x : Denoted) → result_as h ≡ Some x → answered_as h ≡ Some (denoted_and x no_denoted)
-  result_output h x e = grind (arith, common_steps, as_output, none_some)
+  result_output h x e = grind (arith, common_steps, none_some)
 
   constructor_typed : (t : ℕ) (c : Kind) (y : Content) (x : Denoted) → fits_constructor k.program t c y ≡ true → result_as (content_as d y) ≡ Some x
       → are_of_entries k.program k.specs (term_results (slice_get k.program.terms t)) (denoted_and x no_denoted) ≡ true
@@ -149,9 +125,6 @@ module _ (k : Called) where
       let v = value_held d (constant_value k.meaning name) b.0 b.1 in
       let same : x ≡ stands_for d v.0 = told_same x (stands_for d v.0) (sym w ∙ sym b.2 ∙ v.2) in
       subst (λ y. is_of_type k.program.types k.specs ty y ≡ true) (sym same) (value_typed k ty v.0 (subst (λ o. typed_as k.program o v.0 ≡ true) e (a.prims name v.0 i v.1)))
-
-  no_pick : (name : ℕ) (h : ToldContent) → sites_as k (pick_of (prim_term name)) ≡ Some h → ⊥
-  no_pick name h q = grind (arith, common_steps, pick_there (content k (prim_term name)) (prim_term name), told_there, pick_there, value_held)
 
   site_typed : (ds : Demands) → Served k.program k.meaning k.args k.pick ds.made → (s : SiteTerm) (h : ToldContent) → In ds.made s → is_impure_call s ≡ false → sites_as k s ≡ Some h → IsTypedAs k.program k.specs s h
   site_typed ds a (prim_term name) h i e q = constant_typed ds a name h i q
@@ -193,7 +166,7 @@ module _ (k : Called) where
   picks_typed : (ds : Demands) → Served k.program k.meaning k.args k.pick ds.made → (s : SiteTerm) (h : ToldContent) → In ds.made s → is_impure_call s ≡ false → sites_as k (pick_of s) ≡ Some h → IsTypedAs k.program k.specs s h
   picks_typed ds a (extractor_call t s) h i e q = extraction_picks_typed t s (λ v c g o. a.extractors t s v c i g o) h q
   picks_typed ds a (constructor_call t ss zero) h i e q = call_picks_typed t ss (λ vs c g o. a.pures t ss vs c i g o) h q
-  picks_typed ds a h i j e q = grind (arith, common_steps, no_pick)
+  picks_typed ds a h i j e q = grind (arith, common_steps)
 
   -- 4. all that a condition assumes
   pub assumed : (r : TypedRule) → Served k.program k.meaning k.args k.pick (demands_of k.program r).made → args_well_typed k.program.types (arg_types k.program r.root_term) k.args ≡ true → IsRequired k.specs r.root_term (args_as k)

@@ -1,5 +1,5 @@
 -- Each result that a term whose rules make no impure call collects is as its spec says, where its rules' conditions are valid.
-use Rattle.std.proofs.Common.{◌≡◌, ℕ, Bool, List, [], Option, Some, is_some, All, Contains, flat_map, refl, sym, ap, subst, ◌∙◌, arith}
+use Rattle.std.proofs.Common.{◌≡◌, ℕ, Bool, List, [], Option, Some, is_some, All, Contains, sym, ap, subst, ◌∙◌, arith}
 use Rattle.std.proofs.lemmas.Grind.{common_steps}
 use Rattle.std.proofs.lemmas.List.Elements.{All-contains}
 use Rattle.std.proofs.lemmas.List.Sorted.{All-permutation}
@@ -7,7 +7,7 @@ use Rattle.model.specs.rules.Values.{Value}
 use Rattle.model.specs.rules.Meaning.{Content, Meaning}
 use Rattle.model.specs.rules.RightSide.{Eval, result_content, outcome_of}
 use Rattle.model.specs.rules.Program.{Program, is_partial, rules_of}
-use Rattle.model.specs.rules.Picks.{Pick, SitedVars, matches_under, eval_under, right_side_under, results_with, results_under, picks, site_content, bag}
+use Rattle.model.specs.rules.Picks.{Pick, SitedVars, matches_under, eval_under, right_side_under, results_with, picks, site_content, bag}
 use Rattle.model.specs.rules.Typed.{TypedRule}
 use Rattle.model.specs.trees.Collects.{as_list, HasCollectedResults}
 use Rattle.model.specs.trees.Run.{run, world_of}
@@ -68,9 +68,7 @@ module _ (p : Program) (specs : Specs) (t : ℕ) (d : Atoms) (m : Meaning) (args
 
   bag_as_said : All (IsResultAsSaid p specs t d args) (bag p m (rules_of p t) args)
   bag_as_said =
-      all_from_in (IsResultAsSaid p specs t d args) (bag p m (rules_of p t) args) (λ x i. (let a = from_flat_map (λ (r : TypedRule). flat_map (results_under p m args r) (picks p m args r)) (rules_of p t) x i in
-      let b = from_flat_map (results_under p m args a.0) (picks p m args a.0) x a.2 in
-      of_pick a.0 b.0 x (contains_from_in (rules_of p t) a.0 a.1) (contains_from_in (picks p m args a.0) b.0 b.1) (matches_under p m b.0 a.0 args) refl b.2))
+      all_from_in (IsResultAsSaid p specs t d args) (bag p m (rules_of p t) args) (λ x i. grind (arith, common_steps, from_flat_map, of_pick, contains_from_in))
 
 pub bags_are_as_said_lem : BagsAreAsSaid
 bags_are_as_said_lem p specs t d m args h quiet valid c = bag_as_said p specs t d m args h quiet valid c

@@ -1,11 +1,11 @@
 -- The impure calls that a right side makes, by their sites: each has values for its arguments, and those before it gave something.
-use Rattle.std.proofs.Common.{◌≡◌, ◌⊎◌, ℕ, suc, ◌+◌, true, arith, slice_get, List, [], ◌∷◌, ◌++◌, length, Option, Some, None, is_some, refl, sym, ap, subst, ◌∙◌, inl, inr, append_assoc, append-nil}
+use Rattle.std.proofs.Common.{◌≡◌, ◌⊎◌, ℕ, suc, ◌+◌, arith, slice_get, List, [], ◌∷◌, ◌++◌, length, Option, Some, None, refl, sym, ap, subst, ◌∙◌, inl, inr, append_assoc, append-nil}
 use Rattle.std.proofs.lemmas.Grind.{common_steps}
 use Rattle.std.proofs.lemmas.List.{length_push}
 use Rattle.model.specs.rules.Values.{Value, Values}
 use Rattle.model.specs.rules.Meaning.{Content, Meaning}
 use Rattle.model.specs.rules.Outcome.{Call}
-use Rattle.model.specs.rules.Picks.{Pick, call_answer, site_content, site_values, HasContent}
+use Rattle.model.specs.rules.Picks.{Pick, site_content, site_values, HasContent}
 use Rattle.model.specs.sites.Sites.{SiteTerm, constructor_call, some_part, SiteTerms}
 use Rattle.model.proofs.Elements.{In, in_either}
 use Rattle.model.proofs.Options.{is_there, then_some}
@@ -59,21 +59,11 @@ module _ (m : Meaning) (args : List Value) (k : Pick) where
     values = a.values;
   }
 
-  pushed : (u : SiteTerm) (us : List SiteTerm) (t n : ℕ) (ss : SiteTerms) (vs : Values) (calls : List Call) (call : Call) → answered_call u ≡ constructor_call t ss n → site_values m args k ss ≡ Some vs
-      → In (calls ++ record { term = t; args = vs } ∷ []) call → WasMade calls (u ∷ us) call
-  pushed u us t n ss vs calls call e q i = grind (arith, common_steps, in_either calls, first_call u us t n ss vs call e q, in_either, first_call)
-
   with_call : (u : SiteTerm) (us : List SiteTerm) (calls : List Call) (call : Call) (t n : ℕ) (ss : SiteTerms) (o : Option Values) (c : Option Content)
       → answered_call u ≡ constructor_call t ss n → site_values m args k ss ≡ o → site_content m args k u ≡ c
       → ((made : List Call) → In (calls_of (follow m args k us made)) call → WasMade made us call)
       → In (calls_of (then_follow (follow_with t o c calls) (follow m args k us))) call → WasMade calls (u ∷ us) call
-  with_call u us calls call t n ss None c e q g rest i = inl i
-  with_call u us calls call t n ss (Some vs) None e q g rest i = pushed u us t n ss vs calls call e q i
-  with_call u us calls call t n ss (Some vs) (Some x) e q g rest i =
-      elim (rest (calls ++ record { term = t; args = vs } ∷ []) i) [
-        | inl j ↦ pushed u us t n ss vs calls call e q j
-        | inr a ↦ inr (later_call u us call (ap is_some g) a)
-      ]
+  with_call u us calls call t n ss o c e q g rest i = grind (arith, common_steps, later_call, in_either, first_call)
 
   pub calls_made : (made before us : List SiteTerm) (calls : List Call) (call : Call) → InOrder made before us → In (calls_of (follow m args k us calls)) call → WasMade calls us call
   calls_made made before [] calls call h i = inl i
@@ -107,12 +97,8 @@ module _ (m : Meaning) (args : List Value) (k : Pick) where
   get_after [] more call = refl
   get_after (c ∷ calls) more call = get_after calls more call
 
-  -- an answer's call has values for its arguments
-  call_values : (t n : ℕ) (ss : SiteTerms) → is_some (site_content m args k (constructor_call t ss n)) ≡ true → (vs : Values) × (site_values m args k ss ≡ Some vs)
-  call_values t n ss h = let a = is_there (site_content m args k (constructor_call t ss n)) h in let b = then_some (site_values m args k ss) (call_answer m t n) a.0 a.1 in (b.0, b.1)
-
   answer_values : (u : SiteTerm) (t n : ℕ) (ss : SiteTerms) → answered_call u ≡ constructor_call t ss n → (u ≡ answered_call u) ⊎ (u ≡ some_part (answered_call u)) → HasContent m args k u → (vs : Values) × (site_values m args k ss ≡ Some vs)
-  answer_values u t n ss e h i = grind (arith, common_steps, call_values, is_there, then_some)
+  answer_values u t n ss e h i = grind (arith, common_steps, is_there, then_some)
 
   -- the call of an answer stands at its place, where those before it gave something
   here_made : (u : SiteTerm) (us : List SiteTerm) (t n : ℕ) (ss : SiteTerms) (vs : Values) (c : Option Content) (calls : List Call) → site_content m args k u ≡ c

@@ -1,13 +1,11 @@
 -- Functions that do the same have the same whole runs: by the depth to which calls nest.
-use Rattle.std.proofs.Common.{◌≡◌, ℕ, zero, suc, Bool, false, List, [], ◌∷◌, sym, subst, ◌∙◌, inl, inr, arith}
+use Rattle.std.proofs.Common.{◌≡◌, ℕ, zero, suc, Bool, List, [], ◌∷◌, sym, subst, inl, inr, arith}
 use Rattle.std.proofs.lemmas.Grind.{common_steps}
-use Rattle.std.proofs.lemmas.List.Elements.{All-contains}
 use Rattle.model.specs.rules.Values.{listed}
 use Rattle.model.specs.rules.Meaning.{Content, Meaning}
 use Rattle.model.specs.rules.Outcome.{Call, Outcome}
-use Rattle.model.specs.rules.Program.{Program, is_multi, is_partial}
-use Rattle.model.specs.claims.Layers.{AreLowered, LoweredTerm, IsLoweredTerm}
-use Rattle.laws_code.specs.CodeChoices.{OnServed}
+use Rattle.model.specs.rules.Program.{Program, is_partial}
+use Rattle.model.specs.claims.Layers.{AreLowered, LoweredTerm}
 use Rattle.laws_code.proofs.TextRuns.{lowered_there}
 use Rattle.laws_specs.specs.WholeRuns.{Outside, Functions, by_rules, has_rules, IsAnswer, Either, AreMadeCalls, IsAround, IsRun, WholeRun}
 use Rattle.laws_specs.specs.ProgramLaws.{DoTheSame, RunTrees, RunCode, LikeFunctionsHaveLikeRuns, LoweredProgramsRunAsTheirSource}
@@ -19,8 +17,7 @@ either b A B C f x = grind (arith, common_steps)
 module _ (N M : Call → List Call → Content → List Call → Type 0) (p : Program) (o : Outside) (so : (call : Call) (before : List Call) (c : Content) (after : List Call) → N call before c after → M call before c after) where
   made : (m : Meaning) (n : ℕ) (calls before after : List Call) → AreMadeCalls N p o m n calls before after → AreMadeCalls M p o m n calls before after
   made m n [] before after e = e
-  made m n (call ∷ rest) before after a =
-      (a.0, a.1, a.2, either (has_rules p call.term) _ _ _ (so call before a.0 a.1) a.3, made m (suc n) rest a.1 after a.4)
+  made m n (call ∷ rest) before after a = grind (arith, common_steps, made m (suc n) rest a.1 after a.4, either)
 
   pub around : (call : Call) (m : Meaning) → IsAround N p o call m → IsAround M p o call m
   around call m r = record {
@@ -49,8 +46,7 @@ module _ (N M : Call → List Call → Content → List Call → Type 0) (p : Pr
 same_runs : (p : Program) (f g : Functions) (o : Outside) → DoTheSame p f g → (n : ℕ) (call : Call) (before : List Call) (c : Content) (after : List Call)
     → WholeRun f p o n call before c after → WholeRun g p o n call before c after
 same_runs p f g o same zero call before c after r = r
-same_runs p f g o same (suc n) call before c after r =
-    within (WholeRun f p o n) (WholeRun g p o n) p o (same_runs p f g o same n) f g call before c after same r
+same_runs p f g o same (suc n) call before c after r = grind (arith, same_runs p f g o same n, within)
 
 pub turned : (p : Program) (f g : Functions) → DoTheSame p f g → DoTheSame p g f
 turned p f g same t known single m args typed serves apart = sym (same t known single m args typed serves apart)
@@ -60,10 +56,7 @@ like_functions_have_like_runs_lem p f g same o n call before c after = grind (ar
 
 -- the headline of each, by its tree or its code
 pub trees_do : (p : Program) (terms : List LoweredTerm) (f : Functions) → AreLowered p terms → RunTrees p terms f → DoTheSame p f (by_rules p)
-trees_do p terms f low runs t known single m args typed serves apart =
-    let l = lowered_there p terms t low known in
-    subst (λ u. is_multi p u ≡ false → OnServed p u (λ m' args'. f u m' args' ≡ by_rules p u m' args')) l.2
-    (λ one m' args' w s a. runs l.0 l.1 m' args' ∙ ((All-contains (IsLoweredTerm p) terms l.0 low.lowered l.1).headline.runs one m' args' w s a).0) single m args typed serves apart
+trees_do p terms f low runs t known single m args typed serves apart = grind (arith, common_steps, lowered_there p terms t low known)
 
 pub code_does : (p : Program) (terms : List LoweredTerm) (f : Functions) → AreLowered p terms → RunCode p terms f → DoTheSame p f (by_rules p)
 code_does p terms f low runs t known single m args typed serves apart = grind (arith, common_steps, lowered_there p terms t low known, lowered_there)

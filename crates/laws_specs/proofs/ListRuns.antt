@@ -2,7 +2,7 @@
 use Rattle.std.proofs.Common.{◌≡◌, ℕ, zero, suc, true, false, List, All, Contains, refl, sym, ap, ◌∙◌, inl, inr, arith}
 use Rattle.std.proofs.lemmas.Grind.{common_steps}
 use Rattle.std.proofs.lemmas.List.Elements.{All-contains}
-use Rattle.std.proofs.lemmas.List.Sorted.{IsPermutation-refl, IsPermutation-sym, IsPermutation-trans}
+use Rattle.std.proofs.lemmas.List.Sorted.{IsPermutation-sym, IsPermutation-trans}
 use Rattle.model.specs.rules.Values.{Value, listed}
 use Rattle.model.specs.rules.Meaning.{Content, Meaning}
 use Rattle.model.specs.rules.Outcome.{Call, Outcome}
@@ -58,9 +58,6 @@ whole_runs_are_list_runs_lem f p o (suc n) call before c after r =
 pub single_is : (p : Program) (t : ℕ) (m : Meaning) (args : List Value) → is_multi p t ≡ false → by_rules p t m args ≡ by_bags p t m args
 single_is p t m args e = ap (λ b. bag_or_choice b p t m args) (sym e)
 
-bag_is_collected : (p : Program) (t : ℕ) (m : Meaning) (args : List Value) → is_multi p t ≡ true → Collects (by_bags p t m args) (bag p m (rules_of p t) args)
-bag_is_collected p t m args e = grind (arith, common_steps, IsPermutation-refl (bag p m (rules_of p t) args), IsPermutation-refl)
-
 -- what collects one bag collects the same
 as_other : (x y : Outcome) (all expected : List Content) → Collects x all → Collects y all → Collects x expected → Collects y expected
 as_other x y all expected a b c = grind (arith, common_steps, IsPermutation-trans, IsPermutation-sym)
@@ -73,7 +70,7 @@ abbrev CollectBags : Program → Functions → ℕ → Type 0
 CollectBags p f t = is_multi p t ≡ true → All (HasCollectedResults p) (rules_of p t) → OnServed p t (λ m args. Collects (f t m args) (bag p m (rules_of p t) args))
 
 collects_as_bags : (p : Program) (f : Functions) → ((t : ℕ) → Contains (terms_with_rules p) t → CollectBags p f t) → CollectTheSame p f (by_bags p)
-collects_as_bags p f each t known multi collected m args typed serves apart expected = grind (arith, common_steps, bag_is_collected, as_other)
+collects_as_bags p f each t known multi collected m args typed serves apart expected = grind (arith, common_steps, as_other)
 
 trees_collect : (p : Program) (terms : List LoweredTerm) (f : Functions) → AreLowered p terms → RunTrees p terms f → (t : ℕ) → Contains (terms_with_rules p) t → CollectBags p f t
 trees_collect p terms f low runs t known = grind (arith, common_steps, lowered_there p terms t low known, All-contains (IsLoweredTerm p) terms, lowered_there, All-contains)

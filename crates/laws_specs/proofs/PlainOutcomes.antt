@@ -1,6 +1,7 @@
 -- What a rule without multi calls comes to, where it matches, by what its sites hold; and what a meaning that serves its term's
 -- rules answers to the calls that it makes.
-use Rattle.std.proofs.Common.{◌≡◌, ℕ, suc, Bool, true, false, Option, Some, None, List, [], is_some, take, All, Contains, flat_map, IsSomeAnd, IsTrue, refl, sym, ap, subst, ◌∙◌, inr}
+use Rattle.std.proofs.Common.{◌≡◌, ℕ, suc, Bool, true, false, Option, Some, List, [], is_some, take, All, Contains, flat_map, IsSomeAnd, IsTrue, sym, ap, subst, ◌∙◌, inr, arith}
+use Rattle.std.proofs.lemmas.Grind.{common_steps}
 use Rattle.model.specs.rules.Values.{Value, Values, args_well_typed}
 use Rattle.model.specs.rules.Meaning.{Content, one, Meaning, constant_value, extractor_answer, pure_answer, impure_answer}
 use Rattle.model.specs.rules.Matching.{Vars, matches}
@@ -93,5 +94,4 @@ module _ (p : Program) (t : ℕ) (m : Meaning) (args : List Value) (r : TypedRul
       }
     where
       some_there : (o : Option Content) (f : Content → Bool) → IsSomeAnd o (λ c. IsTrue (f c)) → (c : Content) × (o ≡ Some c) × (f c ≡ true)
-      some_there None f i = absurd i
-      some_there (Some c) f i = (c, refl, i)
+      some_there o f i = grind (arith, common_steps)

@@ -1,12 +1,12 @@
 -- Whole runs answer as specs say: by the depth to which calls nest, each call is answered as its term's spec says, so that the law of
 -- one term speaks of the next call around it.
-use Rattle.std.proofs.Common.{◌≡◌, ℕ, zero, suc, ◌+◌, Bool, true, false, Some, List, [], ◌∷◌, ◌++◌, slice_get, Contains, refl, sym, ap, subst, ◌∙◌, inl, inr, arith}
+use Rattle.std.proofs.Common.{◌≡◌, ℕ, zero, suc, ◌+◌, Bool, true, false, Some, List, [], ◌∷◌, ◌++◌, slice_get, Contains, refl, sym, ap, subst, ◌∙◌, arith}
 use Rattle.std.proofs.lemmas.Grind.{common_steps}
 use Rattle.std.proofs.lemmas.List.{append_assoc, append-nil}
 use Rattle.model.specs.rules.Values.{Value, Values, no_value, value_and, listed, of_list}
 use Rattle.model.specs.rules.Meaning.{Content, nothing, Meaning, bool_literal, int_literal, impure_answer}
 use Rattle.model.specs.rules.Outcome.{Call, Outcome}
-use Rattle.model.specs.rules.Program.{Program, is_partial, rules_of}
+use Rattle.model.specs.rules.Program.{Program, rules_of}
 use Rattle.model.specs.rules.Choice.{choice}
 use Rattle.model.specs.rules.RightSide.{result_content}
 use Rattle.model.specs.claims.Layers.{own_program}
@@ -15,7 +15,7 @@ use Rattle.model.proofs.Elements.{In, in_from_contains, contains_from_in, in_eit
 use Rattle.laws_typing.specs.WellTypedPrograms.{IsWellTypedProgram}
 use Rattle.laws_typing.proofs.WellTypedRules.{elaborated_programs_are_well_typed_lem}
 use Rattle.laws_specs.specs.Words.{Denoted}
-use Rattle.laws_specs.specs.Specs.{Specs, IsRequired, IsProvided}
+use Rattle.laws_specs.specs.Specs.{Specs, IsRequired}
 use Rattle.laws_specs.specs.Conditions.{result_as, IsConstructedAsSaid}
 use Rattle.laws_specs.specs.Meets.{Atoms, stands_for, stand_for, content_as, IsDenotation, answers_in, MeetsSpecs, AnswersAsSaid}
 use Rattle.laws_specs.specs.ConditionLaws.{IsCalled, ChoosesAsSaid, ChoosesAsSaidByPriority}
@@ -28,22 +28,15 @@ back no_value = refl
 back (value_and v vs) = ap (value_and v) (back vs)
 
 -- 1. what an answer stands for
-the_only : (c a : Content) → Contains (c ∷ []) a → a ≡ c
-the_only c a i = elim (in_from_contains (c ∷ []) a i) [ inl e ↦ sym e | inr n ↦ absurd n ]
-
 result_stands : (d : Atoms) (partial : Bool) (v : Value) (c a : Content) → c ≡ result_content partial v → Contains (answers_in c) a → result_as (content_as d a) ≡ Some (stands_for d v)
-result_stands d partial v c a e i = grind (arith, common_steps, the_only)
+result_stands d partial v c a e i = grind (arith, common_steps)
 
 nothing_stands : (d : Atoms) (c a : Content) (x : Denoted) → c ≡ nothing → Contains (answers_in c) a → result_as (content_as d a) ≡ Some x → ⊥
-nothing_stands d c a x e i r = grind (arith, common_steps, the_only nothing a, the_only)
-
-some_is : (x y : Denoted) → Some x ≡ Some y → x ≡ y
-some_is x y e = cc
+nothing_stands d c a x e i r = grind (arith, common_steps)
 
 -- 2. of two cases, one by whether a term has rules
 pick : (b : Bool) (A B : Type 0) (C : Type 0) → (b ≡ true → A → C) → (b ≡ false → B → C) → Either b A B → C
-pick true A B C f g x = f refl x
-pick false A B C f g x = g refl x
+pick b A B C f g x = grind (arith, common_steps)
 
 -- 3. calls made one after another, each of them required
 abbrev Follow : Specs → Atoms → List Call → List Call → Type 0
@@ -55,9 +48,6 @@ module _ (p : Program) (specs : Specs) (d : Atoms) (o : Outside) (N : Call → L
   nested_said : (call : Call) (before : List Call) (c a : Content) (after : List Call) → N call before c after → Contains (answers_in c) a → IsConstructedAsSaid specs call.term (stand_for d call.args) (content_as d a)
   nested_said call before c a after n i required x r = (said call before c after n required).provides a x i r
 
-  made_said : (call : Call) (before : List Call) (c a : Content) (after : List Call) → IsMadeCall N p o call before c after → Contains (answers_in c) a → IsConstructedAsSaid specs call.term (stand_for d call.args) (content_as d a)
-  made_said call before c a after k i = grind (arith, common_steps, nested_said call before c a after, nested_said)
-
   made_follows : (call : Call) (before : List Call) (c : Content) (after : List Call) → IsMadeCall N p o call before c after → IsRequired specs call.term (stand_for d call.args) → Follow specs d before after
   made_follows call before c after k required = grind (arith, common_steps, contains_from_in)
 
@@ -65,21 +55,8 @@ module _ (p : Program) (specs : Specs) (d : Atoms) (o : Outside) (N : Call → L
   made_at : (m : Meaning) (n k : ℕ) (calls before after : List Call) (call : Call) (c a : Content) → AreMadeCalls N p o m n calls before after → slice_get calls k ≡ Some call
       → impure_answer m call.term (k + n) ≡ Some c → Contains (answers_in c) a → IsConstructedAsSaid specs call.term (stand_for d call.args) (content_as d a)
   made_at m n k [] before after call c a are e q i = grind (arith, common_steps)
-  made_at m n zero (first ∷ rest) before after call c a are e q i =
-      let same : first ≡ call = first_is e in
-      let is : c ≡ are.0 = content_is (sym (subst (λ x. impure_answer m call.term x ≡ Some c) none_before q) ∙ ap (λ (x : Call). impure_answer m x.term n) (sym same) ∙ are.2) in
-      subst (λ (x : Call). IsConstructedAsSaid specs x.term (stand_for d x.args) (content_as d a)) same (made_said first before are.0 a are.1 are.3 (subst (λ x. Contains (answers_in x) a) is i))
-    where
-      first_is : slice_get (first ∷ rest) 0 ≡ Some call → first ≡ call
-      first_is x = cc
-
-      content_is : Some c ≡ Some are.0 → c ≡ are.0
-      content_is x = cc
-
-      none_before : 0 + n ≡ n
-      none_before = omega arith
-  made_at m n (suc k) (first ∷ rest) before after call c a are e q i =
-      made_at m (suc n) k rest are.1 after call c a are.4 e (subst (λ x. impure_answer m call.term x ≡ Some c) (omega arith) q) i
+  made_at m n zero (first ∷ rest) before after call c a are e q i = grind arith
+  made_at m n (suc k) (first ∷ rest) before after call c a are e q i = grind (arith, common_steps, made_at m (suc n) k rest are.1 after call c a are.4 e)
 
   follow_all : (m : Meaning) (n : ℕ) (calls before after : List Call) → AreMadeCalls N p o m n calls before after → ((k : Call) → In calls k → IsRequired specs k.term (stand_for d k.args)) → Follow specs d before after
   follow_all m n (call ∷ rest) before after are required = grind (arith, common_steps, follow_all m (suc n) rest are.1 after are.4, made_follows, append_assoc, in_either)
@@ -99,7 +76,7 @@ module _ (p : Program) (specs : Specs) (d : Atoms) (o : Outside) (N : Call → L
 -- 4. by the depth
 -- an answer that stands for something is the result
 answered_by : (d : Atoms) (partial : Bool) (o : Outcome) (c a : Content) (x : Denoted) → IsAnswer partial o c → Contains (answers_in c) a → result_as (content_as d a) ≡ Some x → (v : Value) × (o.results ≡ result_content partial v ∷ []) × (stands_for d v ≡ x)
-answered_by d partial o c a x v i e = grind (arith, common_steps, some_is, result_stands, nothing_stands)
+answered_by d partial o c a x v i e = grind (arith, common_steps, result_stands, nothing_stands)
 
 module _ (p : Program) (specs : Specs) (d : Atoms) (denotes : IsDenotation p specs d) (choose : AllChooseAsSaid p specs d) (o : Outside) (outside : MeetsSpecsOutside p specs d o) where
   -- one function, where what it calls is as said
@@ -119,10 +96,7 @@ module _ (p : Program) (specs : Specs) (d : Atoms) (denotes : IsDenotation p spe
       let answers : AnswersAsSaid p specs call.term d args out = choose call.term r.known r.single r.meaning args called in
       let follows = follow_all p specs d o N said outside r.meaning 0 out.calls before after r.calls (λ k i. answers.calls k (contains_from_in out.calls k i)) in
       record {
-        provides = λ a x i e.
-            (let w = answered_by d (is_partial p call.term) out c a x r.answer i e in
-            subst (IsProvided specs call.term (stand_for d call.args)) w.2
-            (subst (λ vs. IsProvided specs call.term (stand_for d vs) (stands_for d w.0)) (back call.args) (answers.result w.0 w.1)));
+        provides = grind (arith, common_steps, answered_by, back);
         made = follows.0;
         after_those = follows.1;
         required = λ k i. follows.2 k (in_from_contains follows.0 k i);
@@ -138,11 +112,7 @@ runs_are_said p specs d denotes choose o n call before c after outside r require
 
 -- conditions that are valid
 pub all_choose : ChoosesAsSaid → ChoosesAsSaidByPriority → (p : Program) (specs : Specs) (d : Atoms) → IsWellTypedProgram p → AllAreValid p specs d → AllChooseAsSaid p specs d
-all_choose chooses by_priority p specs d well valid t known single m args called =
-    elim (valid t known single) [
-      | inl v ↦ chooses p specs t d m args well single v called
-      | inr v ↦ by_priority p specs t d m args well single v.0 v.1 called
-    ]
+all_choose chooses by_priority p specs d well valid t known single m args called = grind arith
 
 pub programs_compute_as_said_lem : ChoosesAsSaid → ChoosesAsSaidByPriority → ProgramsComputeAsSaid
 programs_compute_as_said_lem chooses by_priority p specs d well denotes valid = runs_are_said p specs d denotes (all_choose chooses by_priority p specs d well valid)

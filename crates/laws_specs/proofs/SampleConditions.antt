@@ -1,20 +1,20 @@
 -- The conditions of the samples: those that are valid, and valuations that refute the others.
-use Rattle.std.proofs.Common.{◌≡◌, ℕ, Bool, true, false, List, [], ◌∷◌, Option, Some, None, All, ◌++◌, refl, sym, ap, subst, ◌∙◌, inl, inr, arith}
+use Rattle.std.proofs.Common.{◌≡◌, Bool, true, false, List, [], ◌∷◌, Option, Some, None, All, ◌++◌, refl, sym, ap, subst, ◌∙◌, inl, inr, arith}
 use Rattle.std.proofs.lemmas.Grind.{common_steps}
-use Rattle.std.proofs.lemmas.Bool.{and_parts, cases_Bool, cond-true, cond-false, false≢true}
+use Rattle.std.proofs.lemmas.Bool.{and_parts, false≢true}
 use Rattle.std.proofs.lemmas.List.Elements.{All-nil, All-cons, All-contains}
 use Rattle.model.specs.rules.Meaning.{look}
 use Rattle.model.specs.rules.Outcome.{then_option}
 use Rattle.model.specs.rules.Program.{Program}
 use Rattle.model.specs.rules.Typed.{TypedExpr}
-use Rattle.model.specs.sites.Sites.{SiteTerm, argument, extractor_call, constructor_call, pick_of, SiteTerms, no_site_term, site_term_and}
+use Rattle.model.specs.sites.Sites.{SiteTerm, argument, constructor_call, pick_of, SiteTerms, no_site_term, site_term_and}
 use Rattle.model.specs.visits.Demands.{site_term_eq}
 use Rattle.model.proofs.Elements.{in_from_contains, contains_from_in, some_is, none_some}
 use Rattle.model.proofs.Options.{then_some}
 use Rattle.model.proofs.SameSites.{term_means}
 use Rattle.laws_specs.specs.Words.{Denoted, a_truth, a_word, DenotedList, no_denoted, denoted_and, equals}
 use Rattle.laws_specs.specs.Specs.{SpecExpr, its_argument, its_result, the_same, operation, Specs, IsSaid, IsRequired, IsProvided, no_unknown}
-use Rattle.laws_specs.specs.Conditions.{ToldContent, told, as_denoted, result_as, call_of, are_of_entries, is_impure_call, IsAnsweredAsSaid, IsTypedAs, Valuation, denoted_at, denoted_at_each, is_told_formed, IsHeldAs, IsAssumed, AreMade, condition}
+use Rattle.laws_specs.specs.Conditions.{ToldContent, told, as_denoted, result_as, are_of_entries, IsAnsweredAsSaid, IsTypedAs, Valuation, denoted_at, denoted_at_each, is_told_formed, IsHeldAs, IsAssumed, AreMade, condition}
 use Rattle.laws_specs.specs.Samples.{of_two, two, byte, is_sum, x, adding, noting, rule_of, program_with, specs_with, doubled, below_itself, IsRight, SumsAreRight, CallsAreRequired}
 
 -- 1. valuations that are listed
@@ -27,19 +27,11 @@ EachHeld P (e ∷ entries) = P e.0 e.1 × EachHeld P entries
 
 pub each_held : (P : SiteTerm → ToldContent → Type 0) (entries : List (SiteTerm × ToldContent)) → EachHeld P entries → (s : SiteTerm) (h : ToldContent) → listed_as entries s ≡ Some h → P s h
 each_held P [] a s h e = absurd (none_some h e)
-each_held P (y ∷ entries) a s h e =
-    elim (cases_Bool (site_term_eq y.0 s)) [
-      | inl t ↦
-          subst (λ z. P z h) (term_means y.0 s t)
-          (subst (P y.0) (some_is y.1 h (sym (cond-true (site_term_eq y.0 s) (Some y.1) (listed_as entries s) t) ∙ e)) a.0)
-      | inr f ↦ each_held P entries a.1 s h (sym (cond-false (site_term_eq y.0 s) (Some y.1) (listed_as entries s) f) ∙ e)
-    ]
+each_held P (y ∷ entries) a s h e = grind (arith, common_steps, each_held P entries a.1 s h, term_means y.0 s, some_is y.1 h)
 
 -- where no answer of a multi call is listed
 pub no_picks : (specs : Specs) (f : Valuation) → ((s : SiteTerm) (h : ToldContent) → f (pick_of s) ≡ Some h → ⊥) → (s : SiteTerm) → IsAnsweredAsSaid specs f s (pick_of s)
-no_picks specs f n (extractor_call t s) = λ y h e there. absurd (n (extractor_call t s) h there)
-no_picks specs f n (constructor_call t ss i) = λ xs h e there. absurd (n (constructor_call t ss i) h there)
-no_picks specs f n h = tt
+no_picks specs f n h = grind arith
 
 -- 2. what is provided, as one fact
 pub only_one : {X : Type 0} (P : X → Type 0) (y : X) → All P (y ∷ []) → P y
@@ -111,22 +103,7 @@ pub truths_same : (a b : Bool) → Some (a_truth a) ≡ Some (a_truth b) → a �
 truths_same a b e = cc
 
 argument_assumed : (provided : List SpecExpr) → Assumed x (specs_with provided [] []) one_argument alone
-argument_assumed provided =
-    let specs = specs_with provided [] [] in
-    record {
-      arguments = refl;
-      formed_args = refl;
-      required = All-nil (IsSaid no_unknown one_argument None);
-      unknowns = λ g s xs e sorted formed. absurd (none_some s e);
-      held = alone_held specs;
-      formed = alone_formed;
-      constraints = λ s k i. absurd (in_from_contains [] (s, k) i);
-      equalities = λ a b i. absurd (in_from_contains [] (a, b) i);
-      calls = λ s i e. elim (in_from_contains (argument 0 ∷ []) s i) [ inl q ↦ subst (λ z. IsAnsweredAsSaid specs alone z z) q tt | inr n ↦ absurd n ];
-      typed = λ s h i e there. elim (in_from_contains (argument 0 ∷ []) s i) [ inl q ↦ subst (λ z. IsTypedAs (program_with x) specs z h) q tt | inr n ↦ absurd n ];
-      picks = λ s i e. no_picks specs alone (λ u h there. none_some h there) s;
-      typed_picks = λ s h i e there. absurd (none_some h there);
-    }
+argument_assumed provided = grind (arith, common_steps, none_some, alone_held, alone_formed, in_from_contains, no_picks)
 
 pub none_made : (p : Program) (specs : Specs) (f : Valuation) → AreMade p specs f []
 none_made p specs f u i = absurd (in_from_contains [] u i)
@@ -175,10 +152,7 @@ call_assumed = record {
     | inl q ↦ subst (λ z. IsAnsweredAsSaid failing called z z) q tt
     | inr j ↦ elim j [ inl q ↦ subst (λ z. IsAnsweredAsSaid failing called z z) q (λ xs h there answer required. absurd (never_below xs there required)) | inr n ↦ absurd n ]
   ];
-  typed = λ s h i e there. elim (in_from_contains (argument 0 ∷ (sum_call ∷ [])) s i) [
-    | inl q ↦ subst (λ z. IsTypedAs (program_with (adding x x)) failing z h) q tt
-    | inr j ↦ elim j [ inl q ↦ subst (λ z. called z ≡ Some h → IsTypedAs (program_with (adding x x)) failing z h) q (call_typed h) there | inr n ↦ absurd n ]
-  ];
+  typed = grind (arith, common_steps, in_from_contains, call_typed);
   picks = λ s i e. no_picks failing called (λ u h there. none_some h there) s;
   typed_picks = λ s h i e there. absurd (none_some h there);
 }
@@ -192,37 +166,14 @@ pub sums_are_right_lem : SumsAreRight
 sums_are_right_lem = (sum_right, argument_wrong, failing_wrong)
 
 -- 6. an impure call
-note_term : (before after : List SiteTerm) (u : SiteTerm) (t n : ℕ) (ss : SiteTerms) → note_call ∷ [] ≡ before ++ u ∷ after → call_of u ≡ constructor_call t ss n → 2 ≡ t
-note_term [] after u t n ss e q = grind (arith, common_steps)
-note_term (y ∷ before) after u t n ss e q = grind (arith, common_steps, none_first before after u, none_first)
-
 note_right : IsRight [] [] [] (noting x)
-note_right args f a = record { provides = λ h y made e q. All-nil (IsSaid no_unknown args (Some y)); requires = λ before after u t n ss xs split made e q. subst (λ m. IsRequired (specs_with [] [] []) m xs) (note_term before after u t n ss split e) (All-nil (IsSaid no_unknown xs None)) }
+note_right args f a = grind (arith, none_first)
 
 abbrev noted : Specs
 noted = specs_with [] [] (below_itself ∷ [])
 
 note_assumed : Assumed (noting x) noted one_argument alone
-note_assumed = record {
-  arguments = refl;
-  formed_args = refl;
-  required = All-nil (IsSaid no_unknown one_argument None);
-  unknowns = λ g s xs e sorted formed. absurd (none_some s e);
-  held = alone_held noted;
-  formed = alone_formed;
-  constraints = λ s k i. absurd (in_from_contains [] (s, k) i);
-  equalities = λ a b i. absurd (in_from_contains [] (a, b) i);
-  calls = λ s i e. elim (in_from_contains (argument 0 ∷ (note_call ∷ [])) s i) [
-    | inl q ↦ subst (λ z. IsAnsweredAsSaid noted alone z z) q tt
-    | inr j ↦ elim j [ inl q ↦ absurd (false≢true (sym (ap is_impure_call q ∙ e))) | inr n ↦ absurd n ]
-  ];
-  typed = λ s h i e there. elim (in_from_contains (argument 0 ∷ (note_call ∷ [])) s i) [
-    | inl q ↦ subst (λ z. IsTypedAs (program_with (noting x)) noted z h) q tt
-    | inr j ↦ elim j [ inl q ↦ absurd (false≢true (sym (ap is_impure_call q ∙ e))) | inr n ↦ absurd n ]
-  ];
-  picks = λ s i e. no_picks noted alone (λ u h there. none_some h there) s;
-  typed_picks = λ s h i e there. absurd (none_some h there);
-}
+note_assumed = grind (arith, common_steps, none_some, alone_held, alone_formed, in_from_contains, no_picks)
 
 note_wrong : IsRight [] [] (below_itself ∷ []) (noting x) → ⊥
 note_wrong right =

@@ -1,51 +1,22 @@
 -- A multi term runs, and answers are lists of all results.
-use Rattle.std.proofs.Common.{◌≡◌, ◌∷◌, [], ℕ, List, length, Some, Contains, refl, sym, ap, subst, ◌∙◌, inl, inr, arith}
+use Rattle.std.proofs.Common.{◌≡◌, ◌∷◌, [], ℕ, List, length, refl, sym, ap, ◌∙◌, arith}
 use Rattle.std.proofs.lemmas.Grind.{common_steps}
 use Rattle.std.proofs.lemmas.List.Sorted.{IsPermutation-refl, IsPermutation-swap, length_permutation}
-use Rattle.model.specs.rules.Values.{Values}
 use Rattle.model.specs.rules.Meaning.{Content, many, Contents, contents}
 use Rattle.model.specs.rules.Outcome.{Call, Outcome, ended, ran_through}
-use Rattle.model.specs.rules.Program.{rules_of, terms_with_rules}
-use Rattle.model.specs.rules.Typed.{TypedRule}
-use Rattle.model.specs.trees.Collects.{HasCollectedResults}
-use Rattle.model.specs.visits.Demands.{demands_of}
 use Rattle.model.proofs.Elements.{contains_from_in}
-use Rattle.model.proofs.Members.{in_alone}
-use Rattle.laws_specs.specs.Samples.{rule_of}
-use Rattle.laws_specs.specs.SampleLists.{lists_with, liking, twice_200, liking_100}
+use Rattle.laws_specs.specs.SampleLists.{lists_with, liking, twice_200}
 use Rattle.laws_specs.specs.SampleRuns.{call_of}
-use Rattle.laws_specs.specs.WholeRuns.{IsPureAnswer, WholeRun}
+use Rattle.laws_specs.specs.WholeRuns.{WholeRun}
 use Rattle.laws_specs.specs.ListRuns.{by_bags, IsListAnswer, ListRun}
 use Rattle.laws_specs.specs.SampleListRuns.{likes, bytes, listed_bytes, gave, ListRunsAreJudged}
 use Rattle.laws_specs.proofs.SampleConditions.{just_one}
-use Rattle.laws_specs.proofs.SampleLists.{answered, serves}
+use Rattle.laws_specs.proofs.SampleLists.{serves}
 use Rattle.laws_specs.proofs.SampleRuns.{apart_of}
 
 -- 1. `alike` of 100
-liked : (N : Call → List Call → Content → List Call → Type 0) (t : ℕ) (vs : Values) (a : Content) → liking_100.pures t vs ≡ Some a → IsPureAnswer N (lists_with liking) likes t vs a
-liked N t vs a e = grind (arith, common_steps, answered t vs a e, answered)
-
-untested : (r : TypedRule) → Contains (rules_of (lists_with liking) 0) r → (demands_of (lists_with liking) r).constraints ≡ []
-untested r i = subst (λ q. (demands_of (lists_with liking) q).constraints ≡ []) (in_alone (rule_of liking) r i) refl
-
 alike_runs : (before : List Call) → ListRun (by_bags (lists_with liking)) (lists_with liking) likes 1 (call_of 0 100) before (many twice_200) before
-alike_runs before = inr record {
-  known = contains_from_in (terms_with_rules (lists_with liking)) 0 (inl refl);
-  multi = refl;
-  collected = just_one (HasCollectedResults (lists_with liking)) (rule_of liking) (record { no_calls = refl; no_call_unused = refl });
-  meaning = liking_100;
-  around = record {
-    literals = λ l. refl;
-    constants = λ name. refl;
-    extractors = λ t v. refl;
-    pures = λ t vs a e. liked (ListRun (by_bags (lists_with liking)) (lists_with liking) likes 0) t vs a e;
-    typed = refl;
-    serves = serves;
-    apart = apart_of (lists_with liking) liking_100 0 refl untested;
-  };
-  calls = refl;
-  answer = (twice_200, refl, record { calls = refl; ending = refl; same = IsPermutation-refl (contents twice_200) });
-}
+alike_runs before = grind (arith, common_steps, contains_from_in, just_one, serves, apart_of)
 
 no_run : (n : ℕ) (before after : List Call) (c : Content) → WholeRun (by_bags (lists_with liking)) (lists_with liking) likes n (call_of 0 100) before c after → ⊥
 no_run n before after c r = grind (arith, common_steps)

@@ -1,5 +1,5 @@
 -- A rule that gives the answers of a multi call is right where the call's spec says so of each, and the premises hold of an example.
-use Rattle.std.proofs.Common.{◌≡◌, ◌==◌, ℕ, ℤ, suc, Bool, true, false, List, [], ◌∷◌, Some, None, slice_get, IsSomeAnd, IsTrue, Contains, refl, sym, ap, subst, ◌∙◌, inl, inr, arith}
+use Rattle.std.proofs.Common.{◌≡◌, ◌==◌, ℕ, ℤ, true, false, List, [], ◌∷◌, Some, None, slice_get, Contains, refl, ap, subst, ◌∙◌, inl, inr, arith}
 use Rattle.std.proofs.lemmas.Grind.{common_steps}
 use Rattle.std.proofs.lemmas.Bool.{and_parts, false≢true, eqb-true}
 use Rattle.std.proofs.lemmas.List.Elements.{All-nil}
@@ -7,29 +7,25 @@ use Rattle.std.proofs.Math.Nat.{suc-ne-zero}
 use Rattle.model.specs.lists.Tables.{TypeEntry, TermEntry, variant_term, struct_term}
 use Rattle.model.specs.lists.KnownTypes.{entry_id}
 use Rattle.model.specs.rules.Values.{Values, no_value, value_and, of_list}
-use Rattle.model.specs.rules.Meaning.{Content, one, many, pure_answer}
+use Rattle.model.specs.rules.Meaning.{Content, many, pure_answer}
 use Rattle.model.specs.rules.Outcome.{then_option}
-use Rattle.model.specs.rules.Picks.{Pick, site_values}
-use Rattle.model.specs.rules.Program.{is_partial, kind, rules_of}
-use Rattle.model.specs.rules.Typed.{TypedRule}
-use Rattle.model.specs.sites.Serves.{asked, fits_constructor, Serves}
-use Rattle.model.specs.sites.Sites.{SiteTerm, bool_term, int_term, prim_term, argument, extractor_call, constructor_call, pick_of, SiteTerms, no_site_term, site_term_and}
+use Rattle.model.specs.rules.Program.{is_partial, rules_of}
+use Rattle.model.specs.sites.Serves.{asked, Serves}
+use Rattle.model.specs.sites.Sites.{SiteTerm, int_term, prim_term, argument, extractor_call, constructor_call, pick_of, SiteTerms, no_site_term, site_term_and}
 use Rattle.model.specs.visits.Demands.{demands_of}
 use Rattle.model.proofs.Elements.{In, in_from_contains, contains_from_in, some_is, none_some}
-use Rattle.model.proofs.Members.{in_cases, in_alone}
+use Rattle.model.proofs.Members.{in_alone}
 use Rattle.model.proofs.Options.{then_some}
 use Rattle.model.proofs.ValuesEqual.{eq_all_means}
-use Rattle.laws_typing.specs.WellTypedPrograms.{IsWellTypedRule}
 use Rattle.laws_specs.specs.Words.{Denoted, no_denoted, denoted_and}
-use Rattle.laws_specs.specs.WordOperators.{word_of}
 use Rattle.laws_specs.specs.Specs.{IsSaid, IsProvided, no_unknown}
-use Rattle.laws_specs.specs.Conditions.{ToldContent, told, told_many, result_as, Valuation, denoted_at, denoted_at_each, IsConstructedAsSaid, condition, IsAssumed, IsValid}
-use Rattle.laws_specs.specs.Meets.{stand_for, content_as, answers_in, IsDenotation, MeetsSpecs}
+use Rattle.laws_specs.specs.Conditions.{ToldContent, told, told_many, result_as, Valuation, denoted_at, denoted_at_each, condition, IsAssumed, IsValid}
+use Rattle.laws_specs.specs.Meets.{stand_for, IsDenotation, MeetsSpecs}
 use Rattle.laws_specs.specs.Samples.{byte, x, a_term, rule_of, doubled}
 use Rattle.laws_specs.specs.SampleCalls.{bytes_as, a_byte, hundred}
 use Rattle.laws_specs.specs.SampleLists.{answering_lists, lists_with, liking, list_specs, twice_200, liking_100, ListsAreSaid, BagPremisesHold}
 use Rattle.laws_specs.proofs.SampleAnswers.{byte_formed, byte_sorted, byte_numbered}
-use Rattle.laws_specs.proofs.SampleConditions.{told_is, part_is, alone, one_argument, only_one, just_one, truths_same, none_first, none_made}
+use Rattle.laws_specs.proofs.SampleConditions.{told_is, part_is, alone, one_argument, only_one, truths_same, none_first, none_made}
 
 -- 1. (like x)
 abbrev like_args : SiteTerms
@@ -74,39 +70,13 @@ hundreds = value_and (a_byte 100) no_value
 pub answered : (t : ℕ) (vs : Values) (c : Content) → pure_answer liking_100 t vs ≡ Some c → (1 ≡ t) × (hundreds ≡ vs) × (many twice_200 ≡ c)
 answered t vs c e = grind (arith, common_steps, and_parts (1 == t), eqb-true 1 t, some_is (many twice_200) c, none_some c, and_parts, eqb-true, eq_all_means, some_is, none_some)
 
-answer_said : IsConstructedAsSaid list_specs 1 (denoted_and (byte 100) no_denoted) (told (byte 200))
-answer_said r y e = subst (IsProvided list_specs 1 (denoted_and (byte 100) no_denoted)) (some_is (byte 200) y e) (just_one (IsSaid no_unknown (denoted_and (byte 100) no_denoted) (Some (byte 200))) doubled refl)
-
-is_200 : (a : Content) → Contains (one (a_byte 200) ∷ (one (a_byte 200) ∷ [])) a → one (a_byte 200) ≡ a
-is_200 a i = elim (in_cases (one (a_byte 200)) a (one (a_byte 200) ∷ []) i) [ inl e ↦ e | inr j ↦ in_alone (one (a_byte 200)) a j ]
-
 denotes : IsDenotation (lists_with liking) list_specs bytes_as
-denotes = record {
-  formed = λ ty z. byte_formed z;
-  sorted = λ ty z s e. byte_sorted ty (word_of 8 z) s e;
-  numbers = λ ty z y own e. byte_numbered ty z y e;
-  plain = λ ty z h. refl;
-  unknowns = λ g s xs e sorted formed. absurd (none_some s e);
-}
+denotes = grind (arith, common_steps, byte_formed, byte_sorted, byte_numbered, none_some)
 
 meets : MeetsSpecs list_specs bytes_as liking_100 []
-meets = record {
-  bools = λ b ty v e. absurd (none_some v e);
-  ints = λ z ty v y e. absurd (none_some v e);
-  constants = λ name v y e. absurd (none_some v e);
-  extractors = λ t v c a e i. absurd (none_some c e);
-  pures = λ t vs c a e i.
-      (let w = answered t vs c e in
-      let same = is_200 a (subst (λ o. Contains (answers_in o) a) (sym w.2) i) in
-      subst (λ n. IsConstructedAsSaid list_specs n (stand_for bytes_as vs) (content_as bytes_as a)) w.0
-      (subst (λ ws. IsConstructedAsSaid list_specs 1 (stand_for bytes_as ws) (content_as bytes_as a)) w.1 (subst (λ o. IsConstructedAsSaid list_specs 1 (denoted_and (byte 100) no_denoted) (content_as bytes_as o)) same answer_said)));
-  impures = λ before call c a e o i. absurd (none_some call e);
-}
+meets = grind (arith, common_steps, none_some, answered)
 
 -- 4. what is asked
-no_bool : (b : Bool) (ty : ℕ) → Contains (asked (lists_with liking) (rules_of (lists_with liking) 0)) (bool_term b ty) → ⊥
-no_bool b ty i = grind (arith, common_steps, in_from_contains)
-
 no_int : (z : ℤ) (ty : ℕ) → Contains (asked (lists_with liking) (rules_of (lists_with liking) 0)) (int_term z ty) → ⊥
 no_int z ty i = grind (arith, common_steps, in_from_contains)
 
@@ -123,57 +93,25 @@ call_term : (t n : ℕ) (ss : SiteTerms) → like_call ≡ constructor_call t ss
 call_term t n ss e = (cc, cc, cc)
 
 pub serves : Serves (lists_with liking) liking_100 hundred (rules_of (lists_with liking) 0)
-serves = record {
-  bools = λ b ty i. absurd (no_bool b ty i);
-  ints = λ z ty i. absurd (no_int z ty i);
-  written_bools = λ b ty i. absurd (no_bool b ty i);
-  written_ints = λ z ty i own. absurd (no_int z ty i);
-  prims = λ name i. absurd (no_prim name i);
-  extractors = λ k t s v i e. absurd (no_extractor t s i);
-  pures = λ k t ss vs i e. (let c = call_term t 0 ss (one_call t 0 ss (in_from_contains made_sites (constructor_call t ss 0) i)) in pure_served k t ss vs c.0 c.1 e);
-  impures = λ k r t before ss vs i matched made gave e. absurd (not_impure r t before ss i made);
-}
-  where
-    pure_served : (k : Pick) (t : ℕ) (ss : SiteTerms) (vs : Values) → 1 ≡ t → like_args ≡ ss → site_values liking_100 hundred k ss ≡ Some vs
-        → IsSomeAnd (pure_answer liking_100 t vs) (λ c. IsTrue (fits_constructor (lists_with liking) t (kind (lists_with liking) t) c))
-    pure_served k t ss vs a b e =
-        let same : hundreds ≡ vs = some_is hundreds vs (subst (λ us. site_values liking_100 hundred k us ≡ Some vs) (sym b) e) in
-        subst (λ n. IsSomeAnd (pure_answer liking_100 n vs) (λ c. IsTrue (fits_constructor (lists_with liking) n (kind (lists_with liking) n) c))) a
-        (subst (λ ws. IsSomeAnd (pure_answer liking_100 1 ws) (λ c. IsTrue (fits_constructor (lists_with liking) 1 (kind (lists_with liking) 1) c))) same refl)
-
-    not_impure : (r : TypedRule) (t before : ℕ) (ss : SiteTerms) → Contains (rules_of (lists_with liking) 0) r → Contains (demands_of (lists_with liking) r).made (constructor_call t ss (suc before)) → ⊥
-    not_impure r t before ss i made =
-        let here = subst (λ q. Contains (demands_of (lists_with liking) q).made (constructor_call t ss (suc before))) (sym (in_alone (rule_of liking) r i)) made in
-        suc-ne-zero before (sym (call_term t (suc before) ss (one_call t (suc before) ss (in_from_contains made_sites (constructor_call t ss (suc before)) here))).2)
+serves = grind (arith, common_steps, no_int, no_prim, no_extractor, call_term, one_call, in_from_contains, some_is, in_alone, suc-ne-zero)
 
 -- 5. the program
 ids : (i : ℕ) (t : TypeEntry) → slice_get (lists_with liking).types i ≡ Some t → entry_id t ≡ i
 ids i t e = grind (arith, common_steps, some_is, none_some)
 
-not_variant : (id i : ℕ) → (answering_lists (a_term id (1 ∷ []))).kind ≡ variant_term i → ⊥
-not_variant id i q = cc
-
 not_struct : (id : ℕ) → (answering_lists (a_term id (1 ∷ []))).kind ≡ struct_term → ⊥
 not_struct id q = cc
 
 declared : (t : ℕ) (e : TermEntry) → slice_get (lists_with liking).terms t ≡ Some e → ((i : ℕ) → e.kind ≡ variant_term i → ⊥) × (e.kind ≡ struct_term → ⊥)
-declared t e h = grind (arith, common_steps, some_is, not_variant, not_struct, none_some)
+declared t e h = grind (arith, common_steps, some_is, not_struct, none_some)
 
 not_partial : (t : ℕ) → is_partial (lists_with liking) t ≡ false
 not_partial t = grind (arith, common_steps)
 
-the_rule : IsWellTypedRule (lists_with liking) (rule_of liking)
-the_rule = record { formed = refl; patterns = λ e. (tt, tt); conditions = tt; right = (refl, (tt, tt)); no_priority = λ e. refl }
-
 -- 6. the premises
 pub bag_premises_hold_lem : BagPremisesHold
 bag_premises_hold_lem = record {
-  well_typed = record {
-    types = record { ids = ids; first = refl };
-    parts = record { variants = λ t e h i k. absurd ((declared t e h).0 i k); structs = λ t e h k. absurd ((declared t e h).1 k) };
-    not_both = λ t e f. false≢true (sym (not_partial t) ∙ f);
-    rules = λ r i. subst (IsWellTypedRule (lists_with liking)) (in_alone (rule_of liking) r i) the_rule;
-  };
+  well_typed = grind (arith, common_steps, ids, declared, not_partial, in_alone);
   multi = refl;
   quiet = λ r i. subst (λ q. (demands_of (lists_with liking) q).impure ≡ []) (in_alone (rule_of liking) r i) refl;
   valid = λ r i. subst (λ q. IsValid (lists_with liking) list_specs (condition (lists_with liking) q)) (in_alone (rule_of liking) r i) like_right;

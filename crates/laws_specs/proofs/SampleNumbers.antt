@@ -1,11 +1,10 @@
 -- A rule that is wrong of a number is refuted by a run on another value that stands for the number too.
-use Rattle.std.proofs.Common.{◌≡◌, ℕ, pos, true, false, List, [], ◌∷◌, Some, None, slice_get, Contains, refl, sym, subst, inl, inr, arith}
+use Rattle.std.proofs.Common.{◌≡◌, ℕ, pos, true, false, List, [], ◌∷◌, Some, None, slice_get, Contains, refl, subst, inl, inr, arith}
 use Rattle.std.proofs.lemmas.Grind.{common_steps}
 use Rattle.std.specs.List.{AllByRecursion}
 use Rattle.std.proofs.lemmas.Bool.{and_parts, false≢true}
 use Rattle.std.proofs.lemmas.List.Elements.{All-nil}
-use Rattle.model.specs.lists.Tables.{TypeEntry, TermEntry, TermKindEntry, variant_term, struct_term, declared_term, internal_constructor}
-use Rattle.model.specs.lists.KnownTypes.{entry_id}
+use Rattle.model.specs.lists.Tables.{TermEntry, TermKindEntry, variant_term, struct_term, declared_term, internal_constructor}
 use Rattle.model.specs.rules.Values.{Value, of_list}
 use Rattle.model.specs.rules.Choice.{choice}
 use Rattle.model.specs.rules.Program.{is_multi, rules_of}
@@ -13,9 +12,8 @@ use Rattle.model.specs.sites.Sites.{Constraint, is_int, SiteTerm, int_term, argu
 use Rattle.model.proofs.Elements.{in_from_contains, contains_from_in, some_is, none_some}
 use Rattle.laws_typing.specs.WellTypedPrograms.{IsWellTypedRule, IsWellTypedProgram}
 use Rattle.laws_specs.specs.Words.{Denoted, DenotedList, no_denoted, denoted_and}
-use Rattle.laws_specs.specs.WordOperators.{word_of}
 use Rattle.laws_specs.specs.Specs.{IsSaid, no_unknown}
-use Rattle.laws_specs.specs.Conditions.{told, IsPartHeld, Valuation, condition, IsAssumed, IsValidBelow}
+use Rattle.laws_specs.specs.Conditions.{told, Valuation, condition, IsAssumed, IsValidBelow}
 use Rattle.laws_specs.specs.Meets.{stand_for, IsDenotation, AnswersAsSaid}
 use Rattle.laws_specs.specs.ConditionLaws.{AreValidBelow, IsCalled}
 use Rattle.laws_specs.specs.Samples.{byte}
@@ -39,16 +37,13 @@ five_listed : Contains (asked_five ∷ []) asked_five
 five_listed = contains_from_in (asked_five ∷ []) asked_five (inl refl)
 
 is_five : (b : Denoted) (f : Valuation) → IsAssumed numbers number_specs (condition numbers for_five) (one_number b) f → b ≡ byte 5
-is_five b f a =
-    let part : IsPartHeld (one_number b) 0 (told (byte 5)) = a.held (argument 0) (told (byte 5)) (a.constraints (argument 0) (is_int (pos 5) 1) five_listed (byte 5) refl) in
-    sym (part_is b part.part (byte 5) part.there part.held)
+is_five b f a = grind (arith, common_steps, part_is b, a.held (argument 0) (told (byte 5)), a.constraints (argument 0) (is_int (pos 5) 1) five_listed (byte 5) refl)
 
 five_right : IsValidBelow numbers number_specs for_five
 five_right (denoted_and b no_denoted) f a none = record {
   provides = λ h y made e q.
       just_one (IsSaid no_unknown (one_number b) (Some y)) (ten_where (byte 5))
-      (subst (λ z. IsSaid no_unknown (one_number b) (Some z) (ten_where (byte 5))) (given_is 10 h y (a.held (int_term (pos 10) 1) h e) q)
-      (subst (λ z. IsSaid no_unknown (one_number z) (Some (byte 10)) (ten_where (byte 5))) (sym (is_five b f a)) refl));
+      (grind (arith, common_steps, given_is 10 h y (a.held (int_term (pos 10) 1) h e) q, is_five b f a));
   requires = λ before after u t n ss xs split made e q. absurd (none_first before after u split);
 }
 five_right h f a none = grind (arith, common_steps, and_parts)
@@ -64,29 +59,17 @@ plain_sites : AllByRecursion IsPlainSite asked_sites
 plain_sites = (inl refl, (inr (pos 10, refl), (inr (pos 5, refl), (inl refl, (inr (pos 20, refl), tt)))))
 
 denotes : IsDenotation numbers number_specs bytes_as
-denotes = record {
-  formed = λ ty z. byte_formed z;
-  sorted = λ ty z s e. byte_sorted ty (word_of 8 z) s e;
-  numbers = λ ty z y own e. byte_numbered ty z y e;
-  plain = λ ty z h. refl;
-  unknowns = λ g s xs e sorted formed. absurd (none_some s e);
-}
+denotes = grind (arith, common_steps, byte_formed, byte_sorted, byte_numbered, none_some)
 
 -- 3. the program
-ids : (i : ℕ) (t : TypeEntry) → slice_get numbers.types i ≡ Some t → entry_id t ≡ i
-ids i t e = grind (arith, common_steps, some_is, none_some)
-
 abbrev code_kind : TermKindEntry
 code_kind = declared_term (record { pure = true; multi = false; partial = false; rec = false }) (Some internal_constructor) None
-
-not_variant : (i : ℕ) → code_kind ≡ variant_term i → ⊥
-not_variant i q = cc
 
 not_struct : code_kind ≡ struct_term → ⊥
 not_struct q = cc
 
 declared : (t : ℕ) (e : TermEntry) → slice_get numbers.terms t ≡ Some e → ((i : ℕ) → e.kind ≡ variant_term i → ⊥) × (e.kind ≡ struct_term → ⊥)
-declared t e h = grind (arith, common_steps, some_is, not_variant, not_struct, none_some)
+declared t e h = grind (arith, common_steps, some_is, not_struct, none_some)
 
 not_multi : (t : ℕ) → is_multi numbers t ≡ false
 not_multi t = grind (arith, common_steps)
@@ -98,7 +81,7 @@ rest_typed : IsWellTypedRule numbers for_rest
 rest_typed = record { formed = refl; patterns = λ e. (tt, tt); conditions = tt; right = tt; no_priority = λ e. refl }
 
 well_typed_program : IsWellTypedProgram numbers
-well_typed_program = grind (arith, common_steps, in_from_contains (for_five ∷ (for_rest ∷ [])), ids, declared, not_multi, in_from_contains, five_typed, rest_typed)
+well_typed_program = grind (arith, common_steps, in_from_contains (for_five ∷ (for_rest ∷ [])), declared, not_multi, in_from_contains, five_typed, rest_typed)
 
 -- 4. so the lower rule is wrong
 rest_wrong : IsValidBelow numbers number_specs for_rest → ⊥

@@ -1,5 +1,5 @@
 -- The sample's whole run.
-use Rattle.std.proofs.Common.{◌≡◌, ◌⊎◌, ◌&&◌, ℕ, ℤ, suc, Bool, true, if◌then◌else◌, Option, List, [], ◌∷◌, Some, None, IsSomeAnd, IsTrue, Contains, refl, sym, subst, inl, inr, arith}
+use Rattle.std.proofs.Common.{◌≡◌, ◌⊎◌, ◌&&◌, ℕ, suc, true, if◌then◌else◌, Option, List, [], ◌∷◌, Some, None, IsSomeAnd, IsTrue, Contains, refl, sym, inl, inr, arith}
 use Rattle.std.proofs.lemmas.Grind.{common_steps}
 use Rattle.std.specs.Bool.{◌==◌}
 use Rattle.std.specs.List.{AllByRecursion}
@@ -11,7 +11,7 @@ use Rattle.model.specs.rules.Picks.{Pick, site_values}
 use Rattle.model.specs.rules.Program.{Program, kind, rules_of, terms_with_rules}
 use Rattle.model.specs.rules.Typed.{TypedRule}
 use Rattle.model.specs.sites.Serves.{asked, tested_constants, fits_constructor, Serves, TellsConstantsApart}
-use Rattle.model.specs.sites.Sites.{is_prim, SiteTerm, bool_term, int_term, prim_term, argument, extractor_call, constructor_call, SiteTerms, site_term_and, no_site_term}
+use Rattle.model.specs.sites.Sites.{SiteTerm, argument, constructor_call, SiteTerms, site_term_and, no_site_term}
 use Rattle.model.specs.visits.Demands.{demands_of}
 use Rattle.model.proofs.Elements.{in_from_contains, contains_from_in, some_is, none_some}
 use Rattle.model.proofs.ValuesEqual.{eq_all_means}
@@ -34,37 +34,12 @@ abbrev IsServed : Meaning → List Value → SiteTerm → Type 0
 IsServed m args u = (argument 0 ≡ u) ⊎ (IsPureSite m args u ⊎ IsImpureSite m u)
 
 module _ (m : Meaning) (args : List Value) where
-  no_bool : (b : Bool) (ty : ℕ) → IsServed m args (bool_term b ty) → ⊥
-  no_bool b ty h = grind (arith, common_steps)
-
-  no_int : (z : ℤ) (ty : ℕ) → IsServed m args (int_term z ty) → ⊥
-  no_int z ty h = grind (arith, common_steps)
-
-  no_prim : (name : ℕ) → IsServed m args (prim_term name) → ⊥
-  no_prim name h = grind (arith, common_steps)
-
-  no_extractor : (u : ℕ) (s : SiteTerm) → IsServed m args (extractor_call u s) → ⊥
-  no_extractor u s h = grind (arith, common_steps)
-
-  same_pure : (t u n : ℕ) (ss us : SiteTerms) → constructor_call t ss 0 ≡ constructor_call u us n → (t ≡ u) × (ss ≡ us) × (0 ≡ n)
-  same_pure t u n ss us e = (cc, cc, cc)
-
-  same_impure : (t u n b : ℕ) (ss us : SiteTerms) → constructor_call t ss (suc b) ≡ constructor_call u us n → (t ≡ u) × (suc b ≡ n)
-  same_impure t u n b ss us e = (cc, cc)
-
-  pure_served : (k : Pick) (u : ℕ) (us : SiteTerms) (ws : Values) → IsServed m args (constructor_call u us 0) → site_values m args k us ≡ Some ws
-      → IsSomeAnd (pure_answer m u ws) (λ c. IsTrue (fits_constructor noting_program u (kind noting_program u) c))
-  pure_served k u us ws h i = grind (arith, common_steps, same_pure, some_is, same_impure)
-
   serves_by : (t : ℕ) → AllByRecursion (IsServed m args) (asked noting_program (rules_of noting_program t)) → Serves noting_program m args (rules_of noting_program t)
   serves_by t sites = grind (arith, common_steps)
 
 -- rules that name no constant
 pub apart_of : (p : Program) (m : Meaning) (t : ℕ) → tested_constants p (rules_of p t) ≡ [] → ((r : TypedRule) → Contains (rules_of p t) r → (demands_of p r).constraints ≡ []) → TellsConstantsApart p m (rules_of p t)
-apart_of p m t none bare = record {
-  different = λ a b ty v i j open_ s w e f. absurd (in_from_contains [] a (subst (λ xs. Contains xs a) none i));
-  without_parts = λ r s name ty i j e. absurd (in_from_contains [] (s, is_prim name) (subst (λ xs. Contains xs (s, is_prim name)) (bare r i) j));
-}
+apart_of p m t none bare = grind (arith, common_steps, in_from_contains)
 
 -- 2. `twice` of 100
 abbrev from_outside : (ℕ → Values → Option Content) → (ℕ → ℕ → Option Content) → Meaning
@@ -91,8 +66,7 @@ twice_run before = record {
     extractors = λ t v. refl;
     pures = λ t vs a e. added (WholeRun (by_rules noting_program) noting_program adds_and_notes 0) t vs a e;
     typed = refl;
-    serves = serves_by twice_meaning (a_byte 100 ∷ []) 0
-        (inl refl, (inr (inl (1, site_term_and (argument 0) (site_term_and (argument 0) no_site_term), hundreds, one (a_byte 200), refl, λ k. refl, refl, refl)), tt));
+    serves = grind (arith, common_steps, serves_by);
     apart = apart_of noting_program twice_meaning 0 refl (λ r i. only_rule 0 (rule_of (adding x x)) r refl refl i);
   };
   calls = refl;
@@ -119,13 +93,7 @@ noted_run = record {
     extractors = λ t v. refl;
     pures = doubled_within;
     typed = refl;
-    serves = serves_by noted_meaning (a_byte 100 ∷ []) 3 (
-      inl refl,
-      (
-        inr (inl (0, site_term_and (argument 0) no_site_term, value_and (a_byte 100) no_value, one (a_byte 200), refl, λ k. refl, refl, refl)),
-        (inr (inr (2, site_term_and (constructor_call 0 (site_term_and (argument 0) no_site_term) 0) no_site_term, 0, one (a_byte 7), refl, refl, refl)), tt),
-      ),
-    );
+    serves = grind (arith, common_steps, serves_by);
     apart = apart_of noting_program noted_meaning 3 refl (λ r i. only_rule 3 noted_rule r refl refl i);
   };
   calls = (one (a_byte 7), call_of 2 200 ∷ [], refl, (refl, refl), refl);

@@ -81,9 +81,7 @@ none_above args f n = record {
   met = n.met;
   equal = n.equal;
   decided = λ q s k a i g w. n.decided a_in_set s k above_in_set (subst (λ (z : TypedRule). Contains (demands_of codes z).constraints (s, k)) (sym (above_is q a)) i) g w;
-  none = λ q a h e.
-      n.none a_in_set above_in_set (λ s k i. h s k (subst (λ (z : TypedRule). Contains (demands_of codes z).constraints (s, k)) (above_is q a) i))
-      (λ u v i. e u v (subst (λ (z : TypedRule). Contains (demands_of codes z).equalities (u, v)) (above_is q a) i));
+  none = grind (arith, common_steps, above_is, n.none a_in_set above_in_set);
 }
 
 others_below : PrioritiesCount → IsValidBelowInSet codes code_specs 2 codes_set others_in_set

@@ -29,8 +29,7 @@ sorted_right g (denoted_and b no_denoted) f a = record {
       let byte_like : is_of_sort (words 8) b ≡ true = byte_of_type g b (and_parts (is_of_type (program_with x).types (by_unknown g of_bytes) 1 b) true a.arguments).0 in
       let known = a.unknowns 0 byte_to_byte (denoted_and b no_denoted) refl (ap (λ t. t && true) byte_like) (ap (λ t. t && true) formed) in
       just_one (IsSaid g (denoted_and b no_denoted) (Some y)) answers_a_byte
-      (subst (λ z. IsSaid g (denoted_and b no_denoted) (Some z) answers_a_byte) (sym same)
-      (width_said g (denoted_and b no_denoted) (Some b) (g 0 (denoted_and b no_denoted)) known.0)));
+      (grind (arith, common_steps, width_said)));
   requires = λ before after u t n ss xs split made e q. absurd (none_first before after u split);
 }
 sorted_right g h f a = grind (arith, common_steps, and_parts)

@@ -1,12 +1,13 @@
 -- A valuation under which an unused call gives no value refutes a wrong rule.
-use Rattle.std.proofs.Common.{◌≡◌, true, false, List, [], ◌∷◌, Some, None, refl, ap, subst, ◌∙◌, inl, inr}
+use Rattle.std.proofs.Common.{◌≡◌, true, false, List, [], ◌∷◌, Some, None, refl, ap, ◌∙◌, arith}
 use Rattle.std.proofs.lemmas.Bool.{false≢true}
 use Rattle.std.proofs.lemmas.List.Elements.{All-nil}
-use Rattle.model.specs.sites.Sites.{SiteTerm, argument, constructor_call, some_part, no_site_term, site_term_and}
+use Rattle.std.proofs.lemmas.Grind.{common_steps}
+use Rattle.model.specs.sites.Sites.{SiteTerm, argument, constructor_call, no_site_term, site_term_and}
 use Rattle.model.proofs.Elements.{in_from_contains, some_is, none_some}
 use Rattle.laws_specs.specs.Words.{Denoted, no_denoted, denoted_and}
 use Rattle.laws_specs.specs.Specs.{IsSaid, no_unknown}
-use Rattle.laws_specs.specs.Conditions.{ToldContent, told, told_nothing, result_as, Valuation, is_told_formed, IsHeldAs, IsAnsweredAsSaid, IsTypedAs, condition, IsAssumed}
+use Rattle.laws_specs.specs.Conditions.{ToldContent, told, told_nothing, result_as, Valuation, is_told_formed, IsHeldAs, condition, IsAssumed}
 use Rattle.laws_specs.specs.Samples.{byte, doubled}
 use Rattle.laws_specs.specs.SampleUnwraps.{unused_rule, maybes, maybe_specs, UnusedCallsShowNothing}
 use Rattle.laws_specs.proofs.SampleConditions.{no_picks, listed_as, each_held, only_one, truths_same, none_made, one_argument}
@@ -33,20 +34,8 @@ unused_assumed = record {
   formed = each_held (λ s h. is_told_formed h ≡ true) sites (refl, (refl, tt));
   constraints = λ s k i. absurd (in_from_contains [] (s, k) i);
   equalities = λ a b i. absurd (in_from_contains [] (a, b) i);
-  calls = λ s i e. elim (in_from_contains (argument 0 ∷ (maybe_call ∷ (some_part maybe_call ∷ []))) s i) [
-    | inl q ↦ subst (λ z. IsAnsweredAsSaid maybe_specs f z z) q tt
-    | inr j ↦ elim j [
-      | inl q ↦ subst (λ z. IsAnsweredAsSaid maybe_specs f z z) q (λ xs h there answer required y g. absurd (no_result h y answer g))
-      | inr l ↦ elim l [ inl q ↦ subst (λ z. IsAnsweredAsSaid maybe_specs f z z) q tt | inr n ↦ absurd n ]
-    ]
-  ];
-  typed = λ s h i e there. elim (in_from_contains (argument 0 ∷ (maybe_call ∷ (some_part maybe_call ∷ []))) s i) [
-    | inl q ↦ subst (λ z. IsTypedAs maybes maybe_specs z h) q tt
-    | inr j ↦ elim j [
-      | inl q ↦ subst (λ z. f z ≡ Some h → IsTypedAs maybes maybe_specs z h) q (λ answer y g. absurd (no_result h y answer g)) there
-      | inr l ↦ elim l [ inl q ↦ subst (λ z. IsTypedAs maybes maybe_specs z h) q tt | inr n ↦ absurd n ]
-    ]
-  ];
+  calls = grind (arith, common_steps, in_from_contains, no_result);
+  typed = grind (arith, common_steps, in_from_contains, no_result);
   picks = λ s i e. no_picks maybe_specs f (λ u h there. none_some h there) s;
   typed_picks = λ s h i e there. absurd (none_some h there);
 }

@@ -1,14 +1,13 @@
 -- Listed widths: what they leave an argument, and atoms.
-use Rattle.std.proofs.Common.{◌≡◌, ℕ, ℤ, pos, true, false, List, [], ◌∷◌, Some, None, refl, sym, ap, subst, ◌∙◌, inl, inr, arith}
+use Rattle.std.proofs.Common.{◌≡◌, ℕ, ℤ, pos, true, false, List, [], ◌∷◌, Some, refl, sym, ap, ◌∙◌, arith}
 use Rattle.std.proofs.lemmas.Grind.{common_steps}
 use Rattle.std.proofs.lemmas.Bool.{and_parts, false≢true, eqb-true}
-use Rattle.std.proofs.lemmas.List.Elements.{All-nil}
 use Rattle.model.specs.sites.Sites.{SiteTerm, argument}
 use Rattle.model.proofs.Elements.{in_from_contains, or_split, some_is, none_some}
 use Rattle.laws_specs.specs.Words.{Denoted, a_word, DenotedList, no_denoted, denoted_and}
 use Rattle.laws_specs.specs.WordOperators.{word_of}
 use Rattle.laws_specs.specs.Specs.{Sort, words_among, is_of_sort, sort_of, literal_of, IsSaid, no_unknown}
-use Rattle.laws_specs.specs.Conditions.{ToldContent, told, result_as, is_told_formed, is_of_type, IsPartHeld, IsHeldAs, IsAnsweredAsSaid, IsTypedAs, Valuation, IsAssumed, condition}
+use Rattle.laws_specs.specs.Conditions.{ToldContent, told, result_as, is_of_type, IsPartHeld, Valuation, IsAssumed, condition}
 use Rattle.laws_specs.specs.Meets.{IsDenotation}
 use Rattle.laws_specs.specs.Samples.{x, rule_of, program_with}
 use Rattle.laws_specs.specs.SampleCalls.{bytes_as}
@@ -26,8 +25,7 @@ byte_right (denoted_and b no_denoted) f a = record {
       (let part : IsPartHeld (denoted_and b no_denoted) 0 h = a.held (argument 0) h e in
       let same : b ≡ y = some_is b part.part part.there ∙ some_is part.part y (sym (ap result_as part.held) ∙ q) in
       just_one (IsSaid no_unknown (denoted_and b no_denoted) (Some y)) has_eight_bits
-      (subst (λ z. IsSaid no_unknown (denoted_and b no_denoted) (Some z) has_eight_bits) same
-      (a_byte_is_said b (and_parts (is_of_type (program_with x).types (among (8 ∷ [])) 1 b) true a.arguments).0)));
+      (grind (arith, common_steps, a_byte_is_said, and_parts)));
   requires = λ before after u t n ss xs split made e q. absurd (none_first before after u split);
 }
 byte_right h f a = grind (arith, common_steps, and_parts)
@@ -46,22 +44,7 @@ abbrev wide : Valuation
 wide = listed_as wide_sites
 
 wide_assumed : IsAssumed (program_with x) (among (8 ∷ (16 ∷ []))) (condition (program_with x) (rule_of x)) wide_argument wide
-wide_assumed =
-    let specs = among (8 ∷ (16 ∷ [])) in
-    record {
-      arguments = refl;
-      formed_args = refl;
-      required = All-nil (IsSaid no_unknown wide_argument None);
-      unknowns = λ g s xs e sorted formed. absurd (none_some s e);
-      held = each_held (IsHeldAs specs wide_argument wide) wide_sites (record { part = a_wide_one; there = refl; held = refl }, tt);
-      formed = each_held (λ s h. is_told_formed h ≡ true) wide_sites (refl, tt);
-      constraints = λ s k i. absurd (in_from_contains [] (s, k) i);
-      equalities = λ a b i. absurd (in_from_contains [] (a, b) i);
-      calls = λ s i e. elim (in_from_contains (argument 0 ∷ []) s i) [ inl q ↦ subst (λ z. IsAnsweredAsSaid specs wide z z) q tt | inr n ↦ absurd n ];
-      typed = λ s h i e there. elim (in_from_contains (argument 0 ∷ []) s i) [ inl q ↦ subst (λ z. IsTypedAs (program_with x) specs z h) q tt | inr n ↦ absurd n ];
-      picks = λ s i e. no_picks specs wide (λ u h there. none_some h there) s;
-      typed_picks = λ s h i e there. absurd (none_some h there);
-    }
+wide_assumed = grind (arith, common_steps, none_some, each_held, in_from_contains, no_picks)
 
 wide_wrong : IsRightAmong (8 ∷ (16 ∷ [])) → ⊥
 wide_wrong right =

@@ -1,22 +1,21 @@
 -- What the sites of a run stand for: values, fields, answers and results, by their parts.
-use Rattle.std.proofs.Common.{◌≡◌, ℕ, ℤ, suc, ◌==◌, ◌&&◌, ◌||◌, not, true, List, ◌∷◌, Option, Some, slice_get, refl, sym, ap, subst, ◌∙◌, inl, inr, arith}
+use Rattle.std.proofs.Common.{◌≡◌, ℕ, ℤ, suc, ◌&&◌, true, List, ◌∷◌, Option, Some, slice_get, refl, sym, ap, subst, ◌∙◌, arith}
 use Rattle.std.proofs.lemmas.Grind.{common_steps}
-use Rattle.std.proofs.lemmas.Bool.{and_parts, and_from, cases_Bool, eqb-true}
+use Rattle.std.proofs.lemmas.Bool.{and_parts, and_from, eqb-true}
 use Rattle.model.specs.lists.Tables.{TypeEntry}
-use Rattle.model.specs.rules.Values.{Value, truth, atom, of_variant, of_struct, Values, no_value, value_and, listed, of_list, well_typed, all_well_typed, is_truth_type, has_atoms, variant_types, struct_types}
-use Rattle.model.specs.rules.Meaning.{Content, one, parts, just, Meaning, bool_literal, int_literal, literal_value, constant_value, extractor_answer}
+use Rattle.model.specs.rules.Values.{Value, truth, atom, of_variant, of_struct, Values, no_value, value_and, listed, of_list, well_typed, all_well_typed, is_truth_type, variant_types, struct_types}
+use Rattle.model.specs.rules.Meaning.{Content, one, parts, just, Meaning, constant_value, extractor_answer}
 use Rattle.model.specs.rules.Outcome.{Call, then_option}
 use Rattle.model.specs.rules.Program.{Program}
-use Rattle.model.specs.rules.Picks.{Pick, picked, part_of_some, field_of_variant, field_of_struct, call_answer, site_content, site_values}
+use Rattle.model.specs.rules.Picks.{Pick, part_of_some, field_of_variant, field_of_struct, call_answer, site_content, site_values}
 use Rattle.model.specs.sites.Sites.{SiteTerm, bool_term, int_term, prim_term, argument, extractor_call, constructor_call, pick_of, variant_made, variant_field, struct_made, struct_field, some_made, some_part, tuple_part, no_site, SiteTerms, no_site_term, site_term_and}
-use Rattle.model.specs.sites.Serves.{is_type_with_parts}
 use Rattle.model.specs.trees.Run.{as_value, from_value, part_at}
 use Rattle.model.proofs.Elements.{or_left, or_right, some_is, none_some}
 use Rattle.model.proofs.Options.{then_some}
 use Rattle.laws_trees.proofs.picks.HeldContents.{is_just}
-use Rattle.laws_specs.specs.Words.{Denoted, DenotedList, denoted_and, denoted_list, is_plain, is_formed, are_formed}
-use Rattle.laws_specs.specs.Specs.{Sort, Specs, sort_of}
-use Rattle.laws_specs.specs.Conditions.{ToldContent, told, told_many, is_told_formed, as_denoted, denoted_at_each, IsPartHeld, IsHeldAs, is_modelled_as, is_atom_as, is_of_atoms, is_of_type, are_of_types}
+use Rattle.laws_specs.specs.Words.{Denoted, DenotedList, denoted_list, is_formed, are_formed}
+use Rattle.laws_specs.specs.Specs.{Specs, sort_of}
+use Rattle.laws_specs.specs.Conditions.{ToldContent, told, is_told_formed, as_denoted, denoted_at_each, IsPartHeld, IsHeldAs, is_atom_as, is_of_type, are_of_types}
 use Rattle.laws_specs.specs.Meets.{Atoms, stands_for, stand_for, content_as, IsDenotation, MeetsSpecs}
 
 -- 1. optional contents
@@ -34,10 +33,6 @@ all_denoted_of d o = then_option o (λ vs. Some (stand_for d vs))
 
 value_told : (d : Atoms) (o : Option Content) → then_option (told_of d o) as_denoted ≡ denoted_of d (then_option o as_value)
 value_told d o = grind (arith, common_steps)
-
-both_told : (d : Atoms) (o : Option Value) (q : Option Values)
-    → then_option (denoted_of d o) (λ x. then_option (all_denoted_of d q) (λ xs. Some (denoted_and x xs))) ≡ all_denoted_of d (then_option o (λ v. then_option q (λ vs. Some (value_and v vs))))
-both_told d o q = grind (arith, common_steps)
 
 pub told_same : (x y : Denoted) → told x ≡ told y → x ≡ y
 told_same x y e = cc
@@ -94,9 +89,6 @@ struct_there i v c e = grind (arith, common_steps, none_some)
 parts_there : (i : ℕ) (a c : Content) → part_at a i ≡ Some c → (vs : Values) × (a ≡ parts vs) × (from_value (slice_get (listed vs) i) ≡ Some c)
 parts_there i a c e = grind (arith, common_steps, none_some)
 
-many_there : (d : Atoms) (k : Pick) (s : SiteTerm) (a c : Content) → picked k s a ≡ Some c → content_as d a ≡ told_many
-many_there d k s a c e = grind (arith, common_steps, none_some)
-
 -- 3. the sites of a run, under a pick
 pub record Called : Type 0 where
   pub program : Program
@@ -129,7 +121,7 @@ module _ (k : Called) where
   args_as = stand_for k.atoms (of_list k.args)
 
   pub each_told : (ss : SiteTerms) → denoted_at_each sites_as ss ≡ all_denoted_of d (values ss)
-  each_told (site_term_and s ss) = grind (arith, common_steps, each_told ss, value_told, both_told)
+  each_told (site_term_and s ss) = grind (arith, common_steps, each_told ss, value_told)
   each_told no_site_term = refl
 
   pub told_values : (ss : SiteTerms) (vs : Values) → values ss ≡ Some vs → denoted_at_each sites_as ss ≡ Some (stand_for d vs)
@@ -139,17 +131,14 @@ module _ (k : Called) where
   told_site s c e = ap (told_of d) e
 
   content_held : (s : SiteTerm) (c : Content) → content s ≡ Some c → IsHeldAs k.specs args_as sites_as s (content_as d c)
-  content_held (bool_term b ty) c e =
-      let a = value_held d (literal_value m (bool_literal b ty)) c e in a.2 ∙ ap told (k.meets.bools b ty a.0 a.1)
-  content_held (int_term z ty) c e = λ x l.
-      let a = value_held d (literal_value m (int_literal z ty)) c e in a.2 ∙ ap told (k.meets.ints z ty a.0 x a.1 l)
+  content_held (bool_term b ty) c e = grind (arith, common_steps, value_held)
+  content_held (int_term z ty) c e = grind (arith, common_steps, value_held)
   content_held (prim_term name) c e = λ x l. let a = value_held d (constant_value m name) c e in a.2 ∙ ap told (k.meets.constants name a.0 x a.1 l)
-  content_held (argument i) c e =
-      let a = value_held d (slice_get k.args i) c e in record { part = stands_for d a.0; there = argument_there d k.args i a.0 a.1; held = a.2 }
+  content_held (argument i) c e = grind (arith, common_steps, value_held, argument_there)
   content_held (extractor_call t s) c e =
       let a = then_some (then_option (content s) as_value) (extractor_answer m t) c e in (stands_for d a.0, told_site s (one a.0) (is_value (content s) a.0 a.1))
   content_held (constructor_call t ss n) c e = let a = then_some (values ss) (call_answer m t n) c e in (stand_for d a.0, told_values ss a.0 a.1)
-  content_held (pick_of s) c e = let a = then_some (content s) (picked k.pick s) c e in told_site s a.0 a.1 ∙ ap Some (many_there d k.pick s a.0 c a.2)
+  content_held (pick_of s) c e = grind (arith, then_some, told_site, none_some)
   content_held (variant_made ty variant ss) c e =
       let a = then_some (values ss) (λ vs. Some (one (of_variant ty variant vs))) c e in
       (stand_for d a.0, told_values ss a.0 a.1, ap (content_as d) (sym (some_is (one (of_variant ty variant a.0)) c a.2)))
@@ -198,32 +187,15 @@ module _ (k : Called) where
   abbrev types : List TypeEntry
   types = k.program.types
 
-  atoms_typed : (ty : ℕ) (x : Denoted) → is_of_atoms types k.specs ty x ≡ true → is_of_type types k.specs ty x ≡ true
-  atoms_typed ty x h = grind (arith, common_steps, or_left)
-
-  modelled : (ty : ℕ) (z : ℤ) (o : Option Sort) → sort_of k.specs ty ≡ o → is_modelled_as o (d ty z) ≡ true
-  modelled ty z o e = grind (arith, common_steps)
-
   atom_as : (ty : ℕ) (z : ℤ) → is_atom_as (slice_get types ty) (sort_of k.specs ty) (d ty z) ≡ true
-  atom_as ty z =
-      let parts = is_type_with_parts (slice_get types ty) in
-      and_from (is_modelled_as (sort_of k.specs ty) (d ty z)) (not parts || is_plain (d ty z)) (modelled ty z (sort_of k.specs ty) refl)
-      (elim (cases_Bool parts) [ inl t ↦ or_right (not parts) (is_plain (d ty z)) (k.denotes.plain ty z t) | inr f ↦ or_left (not parts) (is_plain (d ty z)) (ap not f) ])
+  atom_as ty z = grind (arith, common_steps, and_from, or_right, or_left)
 
   mutual
     pub value_typed : (ty : ℕ) (v : Value) → well_typed types ty v ≡ true → is_of_type types k.specs ty (stands_for d v) ≡ true
     value_typed ty (truth b) h = or_left (is_truth_type (slice_get types ty) && true) _ (and_from (is_truth_type (slice_get types ty)) true h refl)
-    value_typed ty (atom s z) h =
-        let a = and_parts (s == ty) (has_atoms (slice_get types ty)) h in
-        let same = eqb-true s ty a.0 in
-        subst (λ n. is_of_type types k.specs ty (d n z) ≡ true) (sym same)
-        (atoms_typed ty (d ty z) (or_right _ _ (and_from (has_atoms (slice_get types ty)) (is_atom_as (slice_get types ty) (sort_of k.specs ty) (d ty z)) a.1 (atom_as ty z))))
-    value_typed ty (of_variant s i vs) h =
-        let a = and_parts (s == ty) (all_well_typed types (variant_types (slice_get types ty) i) vs) h in
-        or_right _ _ (and_from (s == ty) (are_of_types types k.specs (variant_types (slice_get types ty) i) (stand_for d vs)) a.0 (values_typed (variant_types (slice_get types ty) i) vs a.1))
-    value_typed ty (of_struct s vs) h =
-        let a = and_parts (s == ty) (all_well_typed types (struct_types (slice_get types ty)) vs) h in
-        or_right _ _ (and_from (s == ty) (are_of_types types k.specs (struct_types (slice_get types ty)) (stand_for d vs)) a.0 (values_typed (struct_types (slice_get types ty)) vs a.1))
+    value_typed ty (atom s z) h = grind (arith, common_steps, and_parts, eqb-true, or_right, and_from, atom_as)
+    value_typed ty (of_variant s i vs) h = grind (arith, common_steps, values_typed (variant_types (slice_get types ty) i) vs, and_parts, or_right, and_from)
+    value_typed ty (of_struct s vs) h = grind (arith, common_steps, values_typed (struct_types (slice_get types ty)) vs, and_parts, or_right, and_from)
 
     pub values_typed : (tys : Option (List ℕ)) (vs : Values) → all_well_typed types tys vs ≡ true → are_of_types types k.specs tys (stand_for d vs) ≡ true
     values_typed (Some (ty ∷ tys)) (value_and v vs) h = grind (arith, common_steps, value_typed ty v, values_typed (Some tys) vs, and_parts, and_from)

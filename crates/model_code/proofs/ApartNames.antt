@@ -36,9 +36,6 @@ IsFound w = (word_of (word_text w) ≡ Some w) × (slice_get all_words (order_of
 pub found : (w : Word) → IsFound w
 found w = grind (arith, common_steps)
 
-same_text : (v w : Word) → word_text v ≡ word_text w → v ≡ w
-same_text v w e = let s : Some v ≡ Some w = sym (found v).0 ∙ ap word_of e ∙ (found w).0 in cc
-
 only_word : (w : Word) (t : Token) → is_word w t ≡ true → t ≡ word w
 only_word w t e = grind (arith, common_steps)
 
@@ -61,7 +58,7 @@ own_token (a_label n) = label_name n
 
 -- only the dot has its text
 only_dot : (t : OwnToken) → own_text t ≡ codes "." → t ≡ an_own_word dot
-only_dot t e = grind (arith, common_steps, same_text)
+only_dot t e = grind (arith, common_steps)
 
 -- no digits are the name of a method
 no_digits : (n : ℕ) → n < 2 ^ 64 → (c : ℕ) (cs : List ℕ) → 57 < c → decimal n ≢ c ∷ cs
@@ -176,7 +173,7 @@ module _ (names : Names) (p : Notation) (known : Token → Bool) (a : AreNamesAp
     on h k = grind (arith, more_words)
 
     pair : Look names known o ws → Look names known q vs → IsTold (anything inside) o q rest
-    pair (an_own t h m x f) (an_own u k r y g) = grind (arith, common_steps, on f g, same f g, same_text, found, decimal_injective)
+    pair (an_own t h m x f) (an_own u k r y g) = grind (arith, common_steps, on f g, same f g, found, decimal_injective)
     pair (an_own t h m x f) (a_break y g) = grind (arith, same, not_own)
     pair (an_own t h m x f) (a_part i k y g) =
         inr (λ xs more w s. grind (arith, common_steps, behind_dot, only_dot, same, on))
@@ -224,7 +221,7 @@ module _ (names : Names) (p : Notation) (known : Token → Bool) (a : AreNamesAp
   one_token s t u v rest h k e = grind (arith, common_steps, same, nothing_more)
 
   methods : (s : Next) (t u : Token) (rest : List (List ℕ)) → is_name_of_method t ≡ true → is_name_of_method u ≡ true → lexed (token_text names u) ≡ lexed (token_text names t) ++ rest → IsTold s (Some t) (Some u) rest
-  methods s t u rest h k e = grind (arith, common_steps, method_word, method_text, one_token, same_text)
+  methods s t u rest h k e = grind (arith, common_steps, method_word, method_text, one_token)
 
   -- a field, or the end of fields
   data FieldLook (o : Owner) (t : Token) : Type 0 where

@@ -1,5 +1,5 @@
 -- The functions of terms, listed, and the first of a list that passes a test.
-use Rattle.std.proofs.Common.{◌≡◌, ℕ, zero, suc, ◌+◌, Bool, true, false, not, cond, List, [], ◌∷◌, Option, Some, None, slice_get, refl, ap, ◌⊎◌, inr, arith}
+use Rattle.std.proofs.Common.{◌≡◌, ℕ, zero, suc, ◌+◌, Bool, true, false, List, [], ◌∷◌, Option, Some, None, slice_get, refl, ap, ◌⊎◌, inr, arith}
 use Rattle.std.proofs.lemmas.Grind.{common_steps}
 use Rattle.std.specs.List.{position_or_len}
 use Rattle.std.proofs.lemmas.Bool.{eqb-true, eq-eqb}
@@ -13,14 +13,11 @@ module _ {X : Type 0} (q : X → Bool) where
   abbrev pub First : List X → Type 0
   First xs = ((x : X) × (slice_get xs (position_or_len q xs) ≡ Some x) × (q x ≡ true)) ⊎ ((slice_get xs (position_or_len q xs) ≡ None) × ((i : ℕ) (x : X) → slice_get xs i ≡ Some x → q x ≡ false))
 
-  here : (x : X) (xs : List X) (b : Bool) → q x ≡ b → slice_get (x ∷ xs) (position_or_len q (x ∷ xs)) ≡ slice_get (x ∷ xs) (cond (not b) (1 + position_or_len q xs) 0)
-  here x xs b e = ap (λ c. slice_get (x ∷ xs) (cond (not c) (1 + position_or_len q xs) 0)) e
-
   later : (x : X) (xs : List X) (n : ℕ) → slice_get (x ∷ xs) (1 + n) ≡ slice_get xs n
   later x xs n = let e : 1 + n ≡ suc n = omega arith in ap (slice_get (x ∷ xs)) e
 
   first_step : (x : X) (xs : List X) (b : Bool) → q x ≡ b → First xs → First (x ∷ xs)
-  first_step x xs b e f = grind (arith, common_steps, here, later)
+  first_step x xs b e f = grind (arith, common_steps, later)
 
   pub first : (xs : List X) → First xs
   first [] = inr (refl, λ i x e. absurd (cc))

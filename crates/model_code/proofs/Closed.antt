@@ -2,7 +2,7 @@
 use Rattle.std.proofs.Common.{◌≡◌, ◌&&◌, ◌||◌, ◌++◌, ◌==◌, ◌∷◌, [], ℕ, Bool, true, false, not, List, if◌then◌else◌, refl, ap, ◌∙◌, sym, arith}
 use Rattle.std.proofs.lemmas.Bool.{and_parts, and_from, false≢true, not-true}
 use Rattle.std.proofs.lemmas.Grind.{common_steps}
-use Rattle.model_code.specs.Lexing.{is_letter, is_raw, joins, State, between, in_word, behind_mark, in_quotes, behind_backslash, begun, word_goes_on, escapes, lexed_from, lexed, ends_word_before, starts_apart, IsWholeText, IsWholeWord}
+use Rattle.model_code.specs.Lexing.{is_letter, is_raw, joins, State, between, in_word, behind_mark, in_quotes, behind_backslash, begun, word_goes_on, mark_goes_on, escapes, lexed_from, lexed, ends_word_before, starts_apart, IsWholeText, IsWholeWord}
 use Rattle.model_code.specs.Closed.{is_closed, quotes_close, escape_closes, stays_quoted, escape_stays, in_quotation, all_letters, all_plain, all_named, ClosedTexts, ClosedNamesAreWhole}
 use Rattle.model_code.proofs.Lexing.{word_ends, word_stops}
 
@@ -40,6 +40,10 @@ module _ (rest : List ℕ) (apart : starts_apart rest ≡ true) where
   closed_behind : (c : ℕ) (cs : List ℕ) → (c == 34) ≡ false → is_closed (c ∷ cs) ≡ true → is_closed cs ≡ true
   closed_behind c cs e h = (and_parts (not (c == 47) && not (c == 46)) (is_closed cs) (sym (ap (λ b. if b then quotes_close cs else (not (c == 47) && not (c == 46)) && is_closed cs) e) ∙ h)).1
 
+  mark_at : (b : Bool) (m c : ℕ) (cs : List ℕ) → begun c (lexed_from (cs ++ rest)) ≡ begun c (lexed_from cs) ++ lexed rest → (b ≡ true → Reads cs between)
+      → mark_goes_on b m c (lexed_from (cs ++ rest)) ≡ mark_goes_on b m c (lexed_from cs) ++ lexed rest
+  mark_at b m c cs begins on = grind (arith, common_steps)
+
   joins_no_quote : (m c : ℕ) → joins m c ≡ true → (c == 34) ≡ false
   joins_no_quote m c h = grind (arith, common_steps)
 
@@ -49,7 +53,15 @@ module _ (rest : List ℕ) (apart : starts_apart rest ≡ true) where
 
   closed_read : (text : List ℕ) → AreRead text
   closed_read [] = grind (arith, common_steps, word_ends)
-  closed_read (c ∷ cs) = grind (arith, closed_read cs, begun_at, word_at, closed_behind, no_quote, joins_no_quote, quotes_at)
+  closed_read (c ∷ cs) =
+      let r : AreRead cs = closed_read cs in
+      record {
+        outside = λ h. begun_at c cs (c == 34) refl h r;
+        word = λ w h. word_at (is_letter c || is_raw w c) c cs w (begun_at c cs (c == 34) refl h r) (λ b. r.word (w ++ (c ∷ [])) (closed_behind c cs (no_quote w c b) h));
+        mark = λ m d h. mark_at (joins m c) m c cs (begun_at c cs (c == 34) refl h r) (λ b. r.outside (closed_behind c cs (joins_no_quote m c b) h));
+        quotes = λ q h. quotes_at cs (q ++ (c ∷ [])) (c == 92) (c == 34) h r;
+        escape = λ q h. r.quotes (q ++ (c ∷ [])) h;
+      }
 
 pub closed_whole : (text : List ℕ) → is_closed text ≡ true → IsWholeText text
 closed_whole text h rest r = (closed_read rest r text).outside h

@@ -29,12 +29,9 @@ outside b h = grind (arith, common_steps)
 clean_push : (sites : List Site) (env : Env) (s : ℕ) (c : Content) → Clean sites env → not_in_place sites s ≡ true → Clean sites ((s, c) ∷ env)
 clean_push sites env s c k h x i = grind (arith, common_steps, outside)
 
-else_none : {X : Type 0} (o : Option X) → o ≡ or_else o None
-else_none o = grind (arith, common_steps)
-
 module _ (w : World) (env : Env) (p : Passes) (clean : Clean w.sites env) where
   held_used : (s : ℕ) → held w env (place_of (slice_get w.sites s) s) ≡ used w env s
-  held_used s = grind (arith, else_none)
+  held_used s = grind arith
 
   value_used : (taker : Taker) (s : ℕ) → held_value w env (use_at w.sites p taker s) ≡ used_value w env s
   value_used taker s = ap (λ o. then_option o as_value) (held_used s)
@@ -141,10 +138,6 @@ met_step sites o fields env t go ho other x clean n h k = grind (arith, common_s
 
 -- 6. by induction on the tree
 module _ (w : World) (p : Passes) where
-  loop_braced : (o : Option Site) (s : ℕ) (body : Block) (env : Env) (t : Trace) → in_braces env (run_statement (loop_code o s body) w None env t) ≡ run_statement (loop_code o s body) w None env t
-  loop_braced (Some (iterator_site source)) s body env t = grind (arith, each_braced)
-  loop_braced _ s body env t = refl
-
   loop_step : (o : Option Site) (s : ℕ) (body : Block) (env : Env) (t : Trace) (ho : Content → Trace → Outcome)
       → ((c : Content) (t' : Trace) → outcome_of (run_block body w None ((s, c) ∷ env) t') ≡ ho c t')
       → outcome_of (run_statement (loop_code o s body) w None env t) ≡ on_many (then_option (then_option o iterated) (used w env)) ho t
@@ -156,7 +149,7 @@ module _ (w : World) (p : Passes) where
       → in_braces env (run_statement (check_code check w.sites p) w None env t) ≡ run_statement (check_code check w.sites p) w None env t
   check_braced (match_at source arms) env t = grind arith
   check_braced (equal_at a b body) env t = grind arith
-  check_braced (loop_at result body) env t = loop_braced (slice_get w.sites result) result (tree_code body w.sites p) env t
+  check_braced (loop_at result body) env t = grind (arith, each_braced)
   check_braced (return_at at result) env t = grind arith
 
   mutual

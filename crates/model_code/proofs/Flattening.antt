@@ -32,9 +32,6 @@ stays_each : (cs : List Content) (go : Content → Trace → Flow) (env : Env) �
 stays_each [] go env h t = tt
 stays_each (c ∷ cs) go env h t = stays_then (in_braces env (go c t)) (λ env' t'. each_flow cs go env t') (stays_in_braces env (go c t) (h c t)) (λ env' t'. stays_each cs go env h t')
 
-braces_over_braces : (e env : Env) (f : Flow) → in_braces e (in_braces env f) ≡ in_braces e f
-braces_over_braces e env f = grind (arith, common_steps)
-
 -- 2. the same in braces
 pub same_content : (e : Env) (o : Option Content) (t : Trace) (go ho : Content → Flow) → ((c : Content) → in_braces e (go c) ≡ in_braces e (ho c)) → in_braces e (on_content o t go) ≡ in_braces e (on_content o t ho)
 same_content e o t go ho h = grind (arith, common_steps)
@@ -84,7 +81,7 @@ module _ (w : World) (most : Option ℕ) where
     body_same : (b : Bool) (e : Env) (opened flattened body : Block) (env : Env) (t : Trace) → Stays (run_block body w most env t)
         → in_label env (run_block opened w most env t) ≡ in_label env (run_block body w most env t) → run_block flattened w most env t ≡ run_block body w most env t
         → in_braces e (run_block (within b opened flattened) w most env t) ≡ in_braces e (run_block body w most env t)
-    body_same b e opened flattened body env t s o f = grind (arith, common_steps, alone, braces_over_braces)
+    body_same b e opened flattened body env t s o f = grind (arith, common_steps, alone)
 
     mutual
       flat_same : (b : Block) → unlabelled b ≡ true → (n : ℕ) (env : Env) (t : Trace) → run_block (flat b deep n) w most env t ≡ run_block b w most env t

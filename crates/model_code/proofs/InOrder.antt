@@ -2,15 +2,14 @@
 use Rattle.std.proofs.Common.{◌≡◌, ◌&&◌, ◌∷◌, [], ℕ, zero, suc, Bool, true, false, List, Option, Some, None, refl, arith}
 use Rattle.std.proofs.lemmas.Bool.{and_parts, and_from}
 use Rattle.std.proofs.lemmas.Grind.{common_steps}
-use Rattle.model.specs.lists.Syntax.{Position}
 use Rattle.model.specs.sites.Sites.{Constraint, is_variant, is_struct, is_bool, is_int, is_prim, is_present}
-use Rattle.model_code.specs.Code.{Place, Pass, PlaceUse, Expr, truth_written, read, extraction, call, variant_of, struct_of, some_of, Block, no_statement, statement, Statement, bind, bind_some, no_way, match_on, if_equal, for_each_of, give, labelled, unless_let, unless_equal, CodeArms, no_code_arm, code_arm}
+use Rattle.model_code.specs.Code.{PlaceUse, Expr, truth_written, read, extraction, call, variant_of, struct_of, some_of, Block, no_statement, statement, Statement, bind, bind_some, no_way, match_on, if_equal, for_each_of, give, labelled, unless_let, unless_equal, CodeArms, no_code_arm, code_arm}
 use Rattle.model_code.specs.Tokens.{star, comma, colon, arrow, equal_to, opening_brace, Owner, field_name}
-use Rattle.model_code.specs.Notation.{Notation, Shape, no_fields, named_fields, unnamed_fields, Callee, extractor_of, constructor_of}
-use Rattle.model_code.specs.Pieces.{CodePiece, token, space, line_end, Margin, inside, in_braces_at, put, put_first, put_first_if, put_between, put_if, passed_before, use_before, truth_word, args_before, named_values, unnamed_values, made_before, answer_before, binding_before, named_bindings, unnamed_bindings, constant_before, pattern_before, is_constant, condition_before, arm_pattern, open_body, close_body, one_line, call_lines, bind_lines, bind_some_line, log_lines, equal_head, unless_line, arm_head, match_end, label_before, is_left, result_ends, block_before, statement_before, arms_before}
+use Rattle.model_code.specs.Notation.{Notation, Callee}
+use Rattle.model_code.specs.Pieces.{CodePiece, token, space, line_end, Margin, inside, in_braces_at, put, put_first, put_first_if, put_between, put_if, use_before, truth_word, args_before, named_values, unnamed_values, answer_before, binding_before, named_bindings, unnamed_bindings, constant_before, pattern_before, arm_pattern, open_body, close_body, one_line, bind_lines, equal_head, arm_head, label_before, is_left, result_ends, block_before, statement_before, arms_before}
 use Rattle.model_code.specs.Written.{is_bare, unwrapped, written, written_at, written_arms}
 use Rattle.model_code.specs.Reading.{same_owner}
-use Rattle.model_code.specs.OneReading.{signs_of, Next, anything, a_field, behind_owner, in_order, place_unnamed, use_unnamed, uses_unnamed, expr_unnamed, unnamed, unnamed_at, unnamed_arms, PrintedTokensAreInOrder}
+use Rattle.model_code.specs.OneReading.{signs_of, Next, anything, a_field, in_order, use_unnamed, uses_unnamed, expr_unnamed, unnamed, unnamed_at, unnamed_arms, PrintedTokensAreInOrder}
 use Rattle.model_code.proofs.Uses.{same_owner-refl}
 
 module _ (p : Notation) where
@@ -21,11 +20,8 @@ module _ (p : Notation) where
   FitsAll rest = Fits (anything None) rest
 
   -- 1. places, uses, and what is bound: within braces or not
-  pass_fits : (inside : Option Owner) (place : Place) (pass : Pass) (rest : List CodePiece) → place_unnamed p place ≡ true → Fits (anything inside) rest → Fits (anything inside) (passed_before p place pass rest)
-  pass_fits inside place pass rest n h = grind (arith, common_steps)
-
   use_fits : (inside : Option Owner) (u : PlaceUse) (rest : List CodePiece) → use_unnamed p u ≡ true → Fits (anything inside) rest → Fits (anything inside) (use_before p u rest)
-  use_fits inside u rest n h = pass_fits inside u.place u.pass rest n h
+  use_fits inside u rest n h = grind arith
 
   args_fit : (us : List PlaceUse) (rest : List CodePiece) → uses_unnamed p us ≡ true → FitsAll rest → FitsAll (args_before p us rest)
   args_fit [] rest n h = h
@@ -56,11 +52,6 @@ module _ (p : Notation) where
   unnamed_fit : (us : List PlaceUse) (rest : List CodePiece) → uses_unnamed p us ≡ true → FitsAll rest → FitsAll (unnamed_values p 0 us rest)
   unnamed_fit [] rest n h = h
   unnamed_fit (u ∷ us) rest n h = let ns = and_parts (use_unnamed p u) (uses_unnamed p us) n in use_fits None u (unnamed_values p 1 us rest) ns.0 (unnamed_behind 0 us rest ns.1 h)
-
-  made_fits : (o : Owner) (shape : Shape) (us : List PlaceUse) (rest : List CodePiece) → uses_unnamed p us ≡ true → FitsAll rest → Fits (behind_owner None o shape) (made_before p o shape us rest)
-  made_fits o no_fields us rest n h = h
-  made_fits o (named_fields k) us rest n h = named_fit o 0 us rest n h
-  made_fits o (unnamed_fields k) us rest n h = unnamed_fit us rest n h
 
   truth_fits : (b : Bool) (rest : List CodePiece) → FitsAll rest → FitsAll (put (truth_word b) rest)
   truth_fits b rest h = grind (arith, common_steps)
@@ -99,10 +90,6 @@ module _ (p : Notation) where
   pattern_fits c fields rest h = grind (arith, common_steps, named_bindings_fit, unnamed_bindings_fit)
 
   -- 3. tests
-  condition_fits : (constant : Bool) (u : PlaceUse) (c : Constraint) (fields : List (Option ℕ)) (rest : List CodePiece) → use_unnamed p u ≡ true → FitsAll rest → FitsAll (condition_before constant p u c fields rest)
-  condition_fits true u c fields rest n h = grind (arith, constant_fits, star_fits, use_fits)
-  condition_fits false u c fields rest n h = grind (arith, pattern_fits, use_fits)
-
   arm_pattern_fits : (u : PlaceUse) (c : Constraint) (fields : List (Option ℕ)) (rest : List CodePiece) → use_unnamed p u ≡ true → FitsAll rest → FitsAll (arm_pattern p u c fields rest)
   arm_pattern_fits u (is_prim name) fields rest n h = grind (arith, constant_fits, star_fits, use_fits)
   arm_pattern_fits u (is_variant ty variant k) fields rest n h = pattern_fits (is_variant ty variant k) fields rest h
@@ -113,40 +100,23 @@ module _ (p : Notation) where
 
   -- 4. lines
   one_fits : (at : Margin) (v : ℕ) (x : Expr) (rest : List CodePiece) → expr_unnamed p x ≡ true → FitsAll rest → FitsAll (one_line p at v x rest)
-  one_fits at v x rest n h = grind (arith, truth_fits, use_fits, answer_fits, and_from, made_fits)
-
-  call_fits : (many : Bool) (at : Margin) (v : ℕ) (f : Callee) (us : List PlaceUse) (x : Expr) (rest : List CodePiece) → uses_unnamed p us ≡ true → expr_unnamed p x ≡ true → FitsAll rest → FitsAll (call_lines many p at v f us x rest)
-  call_fits true at v f us x rest m n h = grind (arith, args_fit)
-  call_fits false at v f us x rest m n h = one_fits at v x rest n h
+  one_fits at v x rest n h = grind (arith, truth_fits, use_fits, answer_fits, and_from, named_fit, unnamed_fit)
 
   bind_fits : (at : Margin) (v : ℕ) (x : Expr) (rest : List CodePiece) → expr_unnamed p x ≡ true → FitsAll rest → FitsAll (bind_lines p at v x rest)
-  bind_fits at v (extraction term u) rest n h = call_fits (p.has_many (extractor_of term)) at v (extractor_of term) (u ∷ []) (extraction term u) rest (and_from (use_unnamed p u) true n refl) n h
-  bind_fits at v (call term us instance) rest n h = call_fits (p.has_many (constructor_of term)) at v (constructor_of term) us (call term us instance) rest n n h
+  bind_fits at v (extraction term u) rest n h = grind (arith, and_from, args_fit, one_fits)
+  bind_fits at v (call term us instance) rest n h = grind (arith, args_fit, one_fits)
   bind_fits at v (truth_written b ty) rest n h = one_fits at v (truth_written b ty) rest n h
   bind_fits at v (read u) rest n h = one_fits at v (read u) rest n h
   bind_fits at v (variant_of ty variant us) rest n h = one_fits at v (variant_of ty variant us) rest n h
   bind_fits at v (struct_of ty us) rest n h = one_fits at v (struct_of ty us) rest n h
   bind_fits at v (some_of u) rest n h = one_fits at v (some_of u) rest n h
 
-  bind_some_fits : (at : Margin) (v : ℕ) (u : PlaceUse) (rest : List CodePiece) → use_unnamed p u ≡ true → FitsAll rest → FitsAll (bind_some_line p at v u rest)
-  bind_some_fits at v u rest n h = grind (arith, common_steps, use_fits)
-
-  logged_fits : (logged : Bool) (at : Margin) (place : Position) (rest : List CodePiece) → FitsAll rest → FitsAll (log_lines logged at place rest)
-  logged_fits logged at place rest h = grind (arith, common_steps)
-
   equal_fits : (at : Margin) (a b : PlaceUse) (rest : List CodePiece) → use_unnamed p a ≡ true → use_unnamed p b ≡ true → FitsAll rest → FitsAll (equal_head p at a b rest)
   equal_fits at a b rest m n h = use_fits None a (put_between equal_to (use_before p b (open_body rest))) m (use_fits None b (open_body rest) n h)
 
-  unless_fits : (constant : Bool) (at : Margin) (u : PlaceUse) (c : Constraint) (fields : List (Option ℕ)) (rest : List CodePiece) → use_unnamed p u ≡ true → FitsAll rest → FitsAll (unless_line constant p at u c fields rest)
-  unless_fits true at u c fields rest n h = grind (arith, constant_fits, star_fits, use_fits)
-  unless_fits false at u c fields rest n h = grind (arith, pattern_fits, use_fits)
-
   arm_fits : (alone : Bool) (at : Margin) (u : PlaceUse) (c : Constraint) (fields : List (Option ℕ)) (rest : List CodePiece) → use_unnamed p u ≡ true → FitsAll rest → FitsAll (arm_head alone p at u c fields rest)
-  arm_fits true at u c fields rest n h = condition_fits (is_constant c) u c fields (open_body rest) n h
+  arm_fits true at u c fields rest n h = grind (arith, constant_fits, star_fits, use_fits, pattern_fits)
   arm_fits false at u c fields rest n h = arm_pattern_fits u c fields (space ∷ put arrow (open_body rest)) n h
-
-  match_end_fits : (alone : Bool) (at : Margin) (rest : List CodePiece) → FitsAll rest → FitsAll (match_end alone at rest)
-  match_end_fits alone at rest h = grind (arith, common_steps)
 
   label_fits : (left : Bool) (at : Margin) (rest : List CodePiece) → FitsAll rest → FitsAll (label_before left at rest)
   label_fits left at rest h = grind (arith, common_steps)
@@ -159,18 +129,18 @@ module _ (p : Notation) where
 
     statement_fits : (s : Statement) (at : Margin) (rest : List CodePiece) → unnamed_at p s ≡ true → FitsAll rest → FitsAll (statement_before p at s rest)
     statement_fits (bind v x) at rest n h = bind_fits at v x rest n h
-    statement_fits (bind_some v u) at rest n h = bind_some_fits at v u rest n h
+    statement_fits (bind_some v u) at rest n h = grind (arith, use_fits)
     statement_fits no_way at rest n h = h
-    statement_fits (match_on u arms) at rest n h = grind (arith, common_steps, arms_fit arms, and_parts, match_end_fits)
+    statement_fits (match_on u arms) at rest n h = grind (arith, common_steps, arms_fit arms, and_parts)
     statement_fits (if_equal a b body) at rest n h =
         let ns = and_parts (use_unnamed p a) (use_unnamed p b && unnamed p body) n in
         let ms = and_parts (use_unnamed p b) (unnamed p body) ns.1 in
         equal_fits at a b (block_before p (inside at) body (close_body at rest)) ns.0 ms.0 (block_fits body (inside at) (close_body at rest) ms.1 h)
     statement_fits (for_each_of v from body) at rest n h = block_fits body (inside at) (close_body at rest) n h
-    statement_fits (give place u) at rest n h = grind (arith, logged_fits, use_fits)
+    statement_fits (give place u) at rest n h = grind (arith, use_fits)
     statement_fits (labelled body) at rest n h =
         label_fits (is_left (result_ends p) body) at (put opening_brace (line_end ∷ block_before p (in_braces_at (is_left (result_ends p) body) at) body (close_body at rest))) (block_fits body (in_braces_at (is_left (result_ends p) body) at) (close_body at rest) n h)
-    statement_fits (unless_let u c fields) at rest n h = unless_fits (is_constant c) at u c fields rest n h
+    statement_fits (unless_let u c fields) at rest n h = grind (arith, constant_fits, star_fits, use_fits, pattern_fits)
     statement_fits (unless_equal a b) at rest n h = grind (arith, and_parts, use_fits)
 
     arms_fit : (arms : CodeArms) (alone : Bool) (at : Margin) (u : PlaceUse) (rest : List CodePiece) → use_unnamed p u ≡ true → unnamed_arms p arms ≡ true → FitsAll rest → FitsAll (arms_before alone p at u arms rest)

@@ -4,35 +4,26 @@ use Rattle.std.proofs.lemmas.Bool.{false≢true}
 use Rattle.std.proofs.lemmas.Grind.{common_steps}
 use Rattle.model.specs.lists.Syntax.{Position}
 use Rattle.model.specs.sites.Sites.{Constraint, is_variant, is_struct, is_bool, is_int, is_prim, is_present}
-use Rattle.model_code.specs.Code.{Place, Pass, PlaceUse, Expr, truth_written, read, extraction, call, variant_of, struct_of, some_of, Block, no_statement, statement, Statement, bind, bind_some, no_way, match_on, if_equal, for_each_of, give, labelled, unless_let, unless_equal, CodeArms, no_code_arm, code_arm}
-use Rattle.model_code.specs.Tokens.{Word, ampersand, closing, arrow, equals, Owner}
-use Rattle.model_code.specs.Notation.{Notation, Shape, Callee, extractor_of, constructor_of}
-use Rattle.model_code.specs.Pieces.{CodePiece, space, tokens_of, Margin, inside, in_braces_at, put, put_first_if, put_between, put_if, passed_before, use_before, args_before, called_before, named_values, unnamed_values, made_before, answer_before, named_bindings, place_in_order, unnamed_bindings, inner_before, constant_before, pattern_before, is_constant, let_before, condition_before, arm_pattern, open_body, close_body, one_line, call_lines, bind_lines, bind_some_line, log_lines, result_lines, unless_line, is_alone, arm_head, match_end, is_left, result_ends, block_before, statement_before, arms_before}
+use Rattle.model_code.specs.Code.{PlaceUse, Expr, truth_written, read, extraction, call, variant_of, struct_of, some_of, Block, no_statement, statement, Statement, bind, bind_some, no_way, match_on, if_equal, for_each_of, give, labelled, unless_let, unless_equal, CodeArms, no_code_arm, code_arm}
+use Rattle.model_code.specs.Tokens.{arrow, Owner}
+use Rattle.model_code.specs.Notation.{Notation, Callee}
+use Rattle.model_code.specs.Pieces.{CodePiece, space, tokens_of, Margin, inside, in_braces_at, put, use_before, args_before, named_values, unnamed_values, answer_before, named_bindings, unnamed_bindings, constant_before, pattern_before, is_constant, condition_before, arm_pattern, open_body, close_body, one_line, bind_lines, result_lines, unless_line, is_alone, arm_head, match_end, is_left, result_ends, block_before, statement_before, arms_before}
 use Rattle.model_code.specs.ReadsBack.{expr_size, size, size_at, size_of_arms}
 
 abbrev long : List CodePiece → ℕ
 long pieces = length (tokens_of pieces)
 
-put_if_long : (b : Bool) (w : Word) (rest : List CodePiece) → long rest ≤ long (put_if b w rest)
-put_if_long b w rest = grind (arith, common_steps)
-
-put_first_if_long : (b : Bool) (w : Word) (rest : List CodePiece) → long rest ≤ long (put_first_if b w rest)
-put_first_if_long b w rest = grind (arith, common_steps)
-
 module _ (p : Notation) where
   -- 1. places, uses, and what is bound
-  pass_long : (place : Place) (pass : Pass) (rest : List CodePiece) → suc (long rest) ≤ long (passed_before p place pass rest)
-  pass_long place pass rest = grind (arith, common_steps)
-
   use_long : (u : PlaceUse) (rest : List CodePiece) → suc (long rest) ≤ long (use_before p u rest)
-  use_long u rest = pass_long u.place u.pass rest
+  use_long u rest = grind arith
 
   args_long : (us : List PlaceUse) (rest : List CodePiece) → length us + long rest ≤ long (args_before p us rest)
   args_long [] rest = omega arith
   args_long (u ∷ us) rest = omega (arith, use_long u (args_before p us rest), args_long us rest)
 
   answer_long : (f : Callee) (us : List PlaceUse) (rest : List CodePiece) → suc (length us) + long rest ≤ long (answer_before p f us rest)
-  answer_long f us rest = omega (arith, put_if_long (p.gives_composed f) ampersand (called_before p f us (put closing rest)), args_long us (put closing rest))
+  answer_long f us rest = grind (arith, args_long)
 
   named_long : (o : Owner) (i : ℕ) (us : List PlaceUse) (rest : List CodePiece) → long rest ≤ long (named_values p o i us rest)
   named_long o i [] rest = omega arith
@@ -42,41 +33,29 @@ module _ (p : Notation) where
   unnamed_long i [] rest = omega arith
   unnamed_long i (u ∷ us) rest = grind (arith, common_steps, unnamed_long (suc i) us rest, use_long)
 
-  made_long : (o : Owner) (shape : Shape) (us : List PlaceUse) (rest : List CodePiece) → long rest ≤ long (made_before p o shape us rest)
-  made_long o shape us rest = grind (arith, common_steps, named_long, unnamed_long)
-
   -- 2. patterns
   named_fields_long : (o : Owner) (i : ℕ) (bound lacking : Bool) (fields : List (Option ℕ)) (rest : List CodePiece) → long rest ≤ long (named_bindings p o i bound lacking fields rest)
   named_fields_long o i bound lacking [] rest = grind arith
   named_fields_long o i bound lacking (None ∷ fields) rest = named_fields_long o (suc i) bound true fields rest
-  named_fields_long o i bound lacking (Some v ∷ fields) rest = grind (arith, named_fields_long o (suc i) true lacking fields rest, put_first_if_long)
-
-  in_order_long : (o : Owner) (i : ℕ) (field : Option ℕ) (rest : List CodePiece) → long rest ≤ long (place_in_order p o i field rest)
-  in_order_long o i field rest = grind (arith, common_steps)
+  named_fields_long o i bound lacking (Some v ∷ fields) rest = grind (arith, named_fields_long o (suc i) true lacking fields rest)
 
   unnamed_fields_long : (o : Owner) (i : ℕ) (fields : List (Option ℕ)) (rest : List CodePiece) → long rest ≤ long (unnamed_bindings p o i fields rest)
   unnamed_fields_long o i [] rest = omega arith
-  unnamed_fields_long o i (field ∷ fields) rest = grind (arith, common_steps, unnamed_fields_long o (suc i) fields rest, in_order_long)
-
-  inner_long : (fields : List (Option ℕ)) (rest : List CodePiece) → long rest ≤ long (inner_before fields rest)
-  inner_long fields rest = grind (arith, common_steps)
+  unnamed_fields_long o i (field ∷ fields) rest = grind (arith, common_steps, unnamed_fields_long o (suc i) fields rest)
 
   constant_long : (c : Constraint) (rest : List CodePiece) → long rest ≤ long (constant_before p c rest)
   constant_long c rest = grind (arith, common_steps)
 
   pattern_long : (c : Constraint) (fields : List (Option ℕ)) (rest : List CodePiece) → long rest ≤ long (pattern_before p c fields rest)
-  pattern_long c fields rest = grind (arith, common_steps, inner_long, named_fields_long, unnamed_fields_long)
+  pattern_long c fields rest = grind (arith, common_steps, named_fields_long, unnamed_fields_long)
 
   -- 3. tests
-  let_long : (u : PlaceUse) (c : Constraint) (fields : List (Option ℕ)) (rest : List CodePiece) → suc (long rest) ≤ long (let_before p u c fields rest)
-  let_long u c fields rest = omega (arith, pattern_long c fields (put_between equals (use_before p u rest)), use_long u rest)
-
   condition_long : (constant : Bool) (u : PlaceUse) (c : Constraint) (fields : List (Option ℕ)) (rest : List CodePiece) → suc (long rest) ≤ long (condition_before constant p u c fields rest)
-  condition_long true u c fields rest = grind (arith, put_if_long, use_long, constant_long)
-  condition_long false u c fields rest = let_long u c fields rest
+  condition_long true u c fields rest = grind (arith, use_long, constant_long)
+  condition_long false u c fields rest = grind (arith, pattern_long, use_long)
 
   arm_pattern_long : (u : PlaceUse) (c : Constraint) (fields : List (Option ℕ)) (rest : List CodePiece) → long rest ≤ long (arm_pattern p u c fields rest)
-  arm_pattern_long u (is_prim name) fields rest = grind (arith, put_if_long, use_long, constant_long)
+  arm_pattern_long u (is_prim name) fields rest = grind (arith, use_long, constant_long)
   arm_pattern_long u (is_variant ty variant n) fields rest = pattern_long (is_variant ty variant n) fields rest
   arm_pattern_long u (is_struct ty n) fields rest = pattern_long (is_struct ty n) fields rest
   arm_pattern_long u (is_bool b ty) fields rest = pattern_long (is_bool b ty) fields rest
@@ -85,32 +64,22 @@ module _ (p : Notation) where
 
   -- 4. lines
   one_long : (at : Margin) (v : ℕ) (x : Expr) (rest : List CodePiece) → suc (expr_size x) + long rest ≤ long (one_line p at v x rest)
-  one_long at v x rest = grind (arith, use_long, answer_long, made_long)
-
-  call_long : (many : Bool) (at : Margin) (v : ℕ) (f : Callee) (us : List PlaceUse) (x : Expr) (rest : List CodePiece) → expr_size x ≤ suc (length us) → suc (expr_size x) + long rest ≤ long (call_lines many p at v f us x rest)
-  call_long true at v f us x rest h = grind (arith, args_long)
-  call_long false at v f us x rest h = one_long at v x rest
+  one_long at v x rest = grind (arith, use_long, answer_long, named_long, unnamed_long)
 
   bind_long : (at : Margin) (v : ℕ) (x : Expr) (rest : List CodePiece) → suc (expr_size x) + long rest ≤ long (bind_lines p at v x rest)
-  bind_long at v (extraction term u) rest = call_long (p.has_many (extractor_of term)) at v (extractor_of term) (u ∷ []) (extraction term u) rest (omega arith)
-  bind_long at v (call term us instance) rest = call_long (p.has_many (constructor_of term)) at v (constructor_of term) us (call term us instance) rest (omega arith)
+  bind_long at v (extraction term u) rest = grind (arith, args_long, one_long)
+  bind_long at v (call term us instance) rest = grind (arith, args_long, one_long)
   bind_long at v (truth_written b ty) rest = one_long at v (truth_written b ty) rest
   bind_long at v (read u) rest = one_long at v (read u) rest
   bind_long at v (variant_of ty variant us) rest = one_long at v (variant_of ty variant us) rest
   bind_long at v (struct_of ty us) rest = one_long at v (struct_of ty us) rest
   bind_long at v (some_of u) rest = one_long at v (some_of u) rest
 
-  bind_some_long : (at : Margin) (v : ℕ) (u : PlaceUse) (rest : List CodePiece) → suc (long rest) ≤ long (bind_some_line p at v u rest)
-  bind_some_long at v u rest = grind (arith, common_steps, use_long)
-
-  logged_long : (logged : Bool) (at : Margin) (place : Position) (rest : List CodePiece) → long rest ≤ long (log_lines logged at place rest)
-  logged_long logged at place rest = grind (arith, common_steps)
-
   result_long : (at : Margin) (place : Position) (u : PlaceUse) (rest : List CodePiece) → suc (long rest) ≤ long (result_lines p at place u rest)
-  result_long at place u rest = grind (arith, logged_long, use_long)
+  result_long at place u rest = grind (arith, use_long)
 
   unless_long : (constant : Bool) (at : Margin) (u : PlaceUse) (c : Constraint) (fields : List (Option ℕ)) (rest : List CodePiece) → suc (long rest) ≤ long (unless_line constant p at u c fields rest)
-  unless_long constant at u c fields rest = grind (arith, common_steps, let_long)
+  unless_long constant at u c fields rest = grind (arith, common_steps, pattern_long, use_long)
 
   arm_long : (at : Margin) (u : PlaceUse) (c : Constraint) (fields : List (Option ℕ)) (rest : List CodePiece) → suc (suc (long rest)) ≤ long (arm_head false p at u c fields rest)
   arm_long at u c fields rest = omega (arith, arm_pattern_long u c fields (space ∷ put arrow (open_body rest)))
@@ -126,7 +95,7 @@ module _ (p : Notation) where
 
     statement_long : (s : Statement) (at : Margin) (rest : List CodePiece) → suc (size_at p s) + long rest ≤ long (statement_before p at s rest)
     statement_long (bind v x) at rest = bind_long at v x rest
-    statement_long (bind_some v u) at rest = omega (arith, bind_some_long at v u rest)
+    statement_long (bind_some v u) at rest = grind (arith, use_long)
     statement_long no_way at rest = omega arith
     statement_long (match_on u arms) at rest = grind (arith, alone_long arms at u rest, arms_long arms at u (match_end false at rest), use_long)
     statement_long (if_equal a b body) at rest = grind (arith, block_long body (inside at) (close_body at rest), use_long)

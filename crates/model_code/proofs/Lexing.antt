@@ -32,16 +32,13 @@ letters_go_on (d ∷ ds) w rest h = grind (arith, common_steps, letters_go_on ds
 word_read : (c : ℕ) (ds rest : List ℕ) → all_letters (c ∷ ds) ≡ true → ends_word_before rest ≡ true → lexed ((c ∷ ds) ++ rest) ≡ (c ∷ ds) ∷ lexed rest
 word_read c ds rest h r = grind (arith, common_steps, and_parts, letters_go_on, word_stops)
 
-word_whole : (text : List ℕ) → IsWholeWord text → IsWholeText text
-word_whole text h rest r = grind (arith, and_parts)
-
 letters_word : (ds : List ℕ) → all_letters ds ≡ true → IsWholeWord ds
 letters_word [] h rest r = refl
 letters_word (c ∷ ds) h rest r = word_read c ds rest h r ∙ ap (λ xs. xs ++ lexed rest) (sym (ap lexed (sym (append-nil (c ∷ ds))) ∙ word_read c ds [] h refl))
 
 -- letters are read by themselves
 pub letters_whole : (ds : List ℕ) → all_letters ds ≡ true → IsWholeText ds
-letters_whole ds h = word_whole ds (letters_word ds h)
+letters_whole ds h = grind (arith, letters_word, and_parts)
 
 -- a `'` begins a word
 label_read : (ds rest : List ℕ) → all_letters ds ≡ true → ends_word_before rest ≡ true → lexed ((39 ∷ ds) ++ rest) ≡ (39 ∷ ds) ∷ lexed rest
@@ -97,9 +94,6 @@ ends_mark_before (c ∷ cs) = not (is_second c)
 mark_stops : (m : ℕ) (rest : List ℕ) → ends_mark_before rest ≡ true → lexed_from rest (behind_mark m) ≡ (m ∷ []) ∷ lexed rest
 mark_stops m rest h = grind (arith, common_steps, not-true)
 
-letter_ends_mark : (text : List ℕ) → begins_letter text ≡ true → (rest : List ℕ) → ends_mark_before (text ++ rest) ≡ true
-letter_ends_mark text h rest = grind (arith, common_steps)
-
 -- 4. tokens
 abbrev goes_apart : Behind → List ℕ → Bool
 goes_apart nothing rest = true
@@ -111,7 +105,7 @@ abbrev IsToken : Behind → List ℕ → Type 0
 IsToken behind text = (rest : List ℕ) → goes_apart behind rest ≡ true → lexed (text ++ rest) ≡ lexed text ++ lexed rest
 
 part_whole : (ds : List ℕ) → begins_letter ds ≡ true → all_letters ds ≡ true → IsWholeText (46 ∷ ds)
-part_whole ds b h rest r = grind (arith, common_steps, letters_whole, append-nil, mark_stops, letter_ends_mark)
+part_whole ds b h rest r = grind (arith, common_steps, letters_whole, append-nil, mark_stops)
 
 -- 5. what may stand behind a token
 pub letters_before : (x y : List ℕ) → all_letters x ≡ true → all_letters y ≡ true → all_letters (x ++ y) ≡ true
@@ -182,7 +176,7 @@ one_label : (ds : List ℕ) → all_letters ds ≡ true → lexed (39 ∷ ds) �
 one_label ds h = ap (λ x. lexed (39 ∷ x)) (sym (append-nil ds)) ∙ label_read ds [] h refl
 
 dot_and_word : (ds : List ℕ) → begins_letter ds ≡ true → all_letters ds ≡ true → lexed (46 ∷ ds) ≡ (46 ∷ []) ∷ (ds ∷ [])
-dot_and_word ds b h = grind (arith, append-nil, one_word, mark_stops, letter_ends_mark)
+dot_and_word ds b h = grind (arith, append-nil, one_word, mark_stops)
 
 own_word : (w : Word) → lexed (word_text w) ≡ words_of_word w
 own_word w = grind (arith, common_steps)

@@ -7,7 +7,7 @@ use Rattle.model.specs.trees.Trees.{Tree, no_step, step, Check, match_at, equal_
 use Rattle.model_code.specs.Code.{Place, PlaceUse, Block, no_statement, statement, Statement, bind, bind_some, no_way, match_on, if_equal, for_each_of, give, CodeArms, no_code_arm, code_arm}
 use Rattle.model_code.specs.TreeCode.{Passes, use_at, arguments_from, fields_of, bind_code, binds_code, tree_code, check_code, arms_code, to_match}
 use Rattle.model_code.specs.Flat.{unlabelled, unlabelled_at, unlabelled_arms, within, flat, flat_at, flat_arms, leaving, leaving_last, leaving_match}
-use Rattle.model_code.specs.Modes.{BindingMode, Types, mode_at, is_new, is_value, is_owned, Given, gives_value, gives_reference, given_by, given, fits_value, fits_parameter, fits_equal, fits_pattern, fits_inside, fits_fields, fits_parameters, fit_values, block_fits, statement_fits, arms_fit, lend, keep_or_clone, look_at, place_in, passes_of, copy_is_value, is_typed_at, argument_typed, arguments_typed, fields_typed, inside_typed, site_typed, binds_typed, brought_typed, tree_typed, check_typed, arms_typed, FlatKeepsModes, PassesByTypesFit}
+use Rattle.model_code.specs.Modes.{BindingMode, Types, mode_at, is_new, is_value, is_owned, Given, gives_value, gives_reference, given_by, given, fits_value, fits_equal, fits_pattern, fits_inside, fits_fields, fits_parameters, fit_values, block_fits, statement_fits, arms_fit, keep_or_clone, look_at, place_in, passes_of, copy_is_value, is_typed_at, arguments_typed, fields_typed, inside_typed, site_typed, binds_typed, brought_typed, tree_typed, check_typed, arms_typed, FlatKeepsModes, PassesByTypesFit}
 use Rattle.model_code.proofs.PrintedCode.{tree_unlabelled}
 
 -- 1. labels
@@ -110,13 +110,9 @@ module _ (types : Types) (multi : Bool) (sites : List Site) where
   abbrev p : Passes
   p = passes_of types multi sites
 
-  argument_fits : (takes : Bool) (s : ℕ) → argument_typed types takes (place_in sites s) ≡ true
-      → fits_parameter takes (given_by (mode_at types (place_in sites s)) (is_new (place_in sites s) || types.is_copy (place_in sites s)) (is_owned types (place_in sites s)) (lend (mode_at types (place_in sites s)) (types.is_copy (place_in sites s)))) ≡ true
-  argument_fits takes s h = grind (arith, common_steps, and_parts)
-
   arguments_fit : (term i : ℕ) (ss : List ℕ) → arguments_typed types sites term i ss ≡ true → fits_parameters types term i (arguments_from sites p term i ss) ≡ true
   arguments_fit term i [] h = refl
-  arguments_fit term i (s ∷ ss) h = grind (arith, common_steps, arguments_fit term (suc i) ss, and_parts, and_from, argument_fits)
+  arguments_fit term i (s ∷ ss) h = grind (arith, common_steps, arguments_fit term (suc i) ss, and_parts, and_from)
 
   fields_fit : (ss : List ℕ) → fields_typed types sites ss ≡ true → fit_values types false (fields_of sites p ss) ≡ true
   fields_fit [] h = refl
@@ -127,7 +123,7 @@ module _ (types : Types) (multi : Bool) (sites : List Site) where
 
   bind_fits : (s : ℕ) (o : Option Site) → site_typed types sites s o ≡ true → statement_fits types multi false (bind_code sites p s o) ≡ true
   bind_fits s (Some (bool_site b ty)) h = h
-  bind_fits s (Some (extractor_site term source)) h = argument_fits (types.extracts_reference term) source h
+  bind_fits s (Some (extractor_site term source)) h = grind (arith, and_parts)
   bind_fits s (Some (constructor_site term sources instance)) h = arguments_fit term 0 sources h
   bind_fits s (Some (make_variant_site ty variant fields)) h = let hs = and_parts (is_value (types.variables s)) (fields_typed types sites fields) h in and_from _ _ hs.0 (fields_fit fields hs.1)
   bind_fits s (Some (make_struct_site ty fields)) h = let hs = and_parts (is_value (types.variables s)) (fields_typed types sites fields) h in and_from _ _ hs.0 (fields_fit fields hs.1)

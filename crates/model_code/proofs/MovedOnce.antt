@@ -4,11 +4,11 @@ use Rattle.std.proofs.lemmas.Grind.{common_steps}
 use Rattle.std.proofs.lemmas.Bool.{and_parts, and_from, false≢true, not-true}
 use Rattle.model.specs.sites.Sites.{Constraint}
 use Rattle.model.specs.trees.Places.{is_in, field_sites}
-use Rattle.model_code.specs.Code.{Place, variable, PlaceUse, Expr, truth_written, read, extraction, call, variant_of, struct_of, some_of, Block, no_statement, statement, Statement, bind, bind_some, no_way, match_on, if_equal, for_each_of, give, labelled, unless_let, unless_equal, CodeArms, no_code_arm, code_arm}
+use Rattle.model_code.specs.Code.{Place, variable, PlaceUse, Block, no_statement, statement, Statement, bind, bind_some, no_way, match_on, if_equal, for_each_of, give, labelled, unless_let, unless_equal, CodeArms, no_code_arm, code_arm}
 use Rattle.model_code.specs.Scopes.{unless_ended}
-use Rattle.model_code.specs.Modes.{Types, Given, given, is_value, fits_parameter, fits_equal, fits_pattern, fits_fields, fits_parameters, fit_values, expr_fits, block_fits, statement_fits, arms_fit}
+use Rattle.model_code.specs.Modes.{Types, Given, given, is_value, fits_parameter, fits_equal, fits_pattern, fits_fields, fits_parameters, fit_values, block_fits, statement_fits, arms_fit}
 use Rattle.model_code.specs.Moves.{other, others, fresh_after, block_takes, statement_takes, arms_take}
-use Rattle.model_code.specs.MovedOnce.{touches, any_touch, is_of, block_reads, statement_reads, arms_read, is_away, may_move, moves_well, beside, all_move_well, expr_moves, without, unlooked, movable_after, behind, around_arms, read_no_more, block_moves, statement_moves, arms_move, FittingCodeMovesOnce}
+use Rattle.model_code.specs.MovedOnce.{touches, any_touch, is_of, block_reads, statement_reads, arms_read, is_away, may_move, moves_well, beside, all_move_well, without, unlooked, movable_after, behind, around_arms, read_no_more, block_moves, statement_moves, arms_move, FittingCodeMovesOnce}
 
 pub or_false : (a b : Bool) → a ≡ false → b ≡ false → (a || b) ≡ false
 or_false a b h k = grind (arith, common_steps)
@@ -36,15 +36,6 @@ module _ (types : Types) where
   values_well : (inside : List ℕ) (later : Place → Bool) (before us : List PlaceUse) → fit_values types false us ≡ true → all_move_well types inside later before us ≡ true
   values_well inside later before [] h = refl
   values_well inside later before (u ∷ us) h = grind (arith, common_steps, values_well inside later (u ∷ before) us, and_parts, and_from, stays_well)
-
-  expr_well : (inside : List ℕ) (later : Place → Bool) (v : ℕ) (e : Expr) → expr_fits types false v e ≡ true → expr_moves types inside later e ≡ true
-  expr_well inside later v (truth_written b ty) h = refl
-  expr_well inside later v (read u) h = grind (arith, stays_well, and_parts)
-  expr_well inside later v (extraction term u) h = stays_well inside later u (parameter_stays (types.extracts_reference term) (given types u) h)
-  expr_well inside later v (call term us instance) h = parameters_well inside later term 0 [] us h
-  expr_well inside later v (variant_of ty variant us) h = values_well inside later [] us (and_parts (is_value (types.variables v)) (fit_values types false us) h).1
-  expr_well inside later v (struct_of ty us) h = values_well inside later [] us (and_parts (is_value (types.variables v)) (fit_values types false us) h).1
-  expr_well inside later v (some_of u) h = grind (arith, stays_well, and_parts)
 
 -- 2. what loops take is read by nothing else
 module _ (taken : ℕ → Bool) (c : ℕ) (takes : taken c ≡ true) where
@@ -93,13 +84,10 @@ module _ (types : Types) (multi : Bool) (taken : ℕ → Bool) where
   nothing_within : (inside : List ℕ) → Within [] inside
   nothing_within inside x t h = absurd (false≢true h)
 
-  within_unlooked : (fresh inside : List ℕ) (place : Place) → other taken place ≡ true → Within fresh inside → Within fresh (unlooked inside place)
-  within_unlooked fresh inside place o w x t h = grind (arith, common_steps, kept_without)
-
   -- behind a statement, where the rest moves well
   rest_well : (s : Statement) (rest : Block) (fresh inside : List ℕ) (after : Place → Bool) → ((next movable : List ℕ) → Within next movable → block_takes taken next rest ≡ true → block_moves types multi movable after rest ≡ true)
       → Within fresh inside → statement_takes taken fresh s ≡ true → unless_ended s (block_takes taken (fresh_after fresh s) rest) ≡ true → unless_ended s (block_moves types multi (movable_after inside s) after rest) ≡ true
-  rest_well s rest fresh inside after later w k h = grind (arith, common_steps, within_unlooked, nothing_within)
+  rest_well s rest fresh inside after later w k h = grind (arith, common_steps, nothing_within, kept_without)
 
   mutual
     block_well : (b : Block) (fresh inside : List ℕ) (after : Place → Bool) → Within fresh inside → Unread after → block_fits types multi false b ≡ true → block_takes taken fresh b ≡ true → block_moves types multi inside after b ≡ true
@@ -113,7 +101,7 @@ module _ (types : Types) (multi : Bool) (taken : ℕ → Bool) where
 
     statement_well : (s : Statement) (rest : Block) (fresh inside : List ℕ) (after : Place → Bool) → Within fresh inside → Unread after → statement_fits types multi false s ≡ true → statement_takes taken fresh s ≡ true
         → unless_ended s (block_takes taken (fresh_after fresh s) rest) ≡ true → statement_moves types multi inside (behind s rest after) s ≡ true
-    statement_well (bind v e) rest fresh inside after w n f h k = expr_well types inside (behind (bind v e) rest after) v e f
+    statement_well (bind v e) rest fresh inside after w n f h k = grind (arith, stays_well, and_parts, parameter_stays, parameters_well, values_well)
     statement_well (bind_some v u) rest fresh inside after w n f h k = grind (arith, stays_well)
     statement_well (match_on u arms) rest fresh inside after w n f h k =
         arms_well arms (unlooked inside u.place) (behind (match_on u arms) rest after) (given types u) (moves_well types inside (around_arms arms (behind (match_on u arms) rest after)) u)

@@ -3,13 +3,12 @@ use Rattle.std.proofs.Common.{◌≡◌, ◌<◌, ◌==◌, ◌∷◌, [], ℕ, 
 use Rattle.std.proofs.lemmas.Bool.{and_parts, false≢true, eqb-true}
 use Rattle.std.proofs.lemmas.Grind.{common_steps}
 use Rattle.model.specs.sites.Sites.{Constraint, is_variant, is_struct, is_bool, is_int, is_prim, is_present}
-use Rattle.model_code.specs.Tokens.{comma, colon, Owner, variant_owner, struct_owner, Token, field_name}
+use Rattle.model_code.specs.Tokens.{Owner, variant_owner, struct_owner, Token}
 use Rattle.model_code.specs.Notation.{Notation, Shape}
-use Rattle.model_code.specs.Pieces.{CodePiece, token, tokens_of, put_first, put_first_if, named_bindings, unnamed_bindings, bindings_before, pattern_before}
+use Rattle.model_code.specs.Pieces.{CodePiece, tokens_of, named_bindings, unnamed_bindings, bindings_before, pattern_before}
 use Rattle.model_code.specs.Shown.{shown_constraint}
 use Rattle.model_code.specs.Reading.{TokenReading, then_read, where_found, read_binding, next_field, read_named_bindings, read_unnamed_bindings, asked_of, read_bindings, read_pattern}
 use Rattle.model_code.specs.ReadsBack.{takes, pattern_writable}
-use Rattle.model_code.proofs.Uses.{that_field}
 use Rattle.model_code.proofs.Values.{comma_skipped}
 
 -- 1. fields with names
@@ -17,9 +16,6 @@ use Rattle.model_code.proofs.Values.{comma_skipped}
 no_field : (p : Notation) (o : Owner) (i j : ℕ) (bound : Bool) (fields : List (Option ℕ)) (rest : List CodePiece) → i < j → next_field o i bound (tokens_of (named_bindings p o j bound true fields rest)) ≡ None
 no_field p o i j bound (None ∷ fields) rest h = no_field p o i (suc j) bound fields rest (omega arith)
 no_field p o i j bound fields rest h = grind (arith, common_steps)
-
-this_field : (o : Owner) (i : ℕ) (bound : Bool) (rest : List CodePiece) → next_field o i bound (tokens_of (put_first_if bound comma (token (field_name o i) ∷ put_first colon rest))) ≡ Some (tokens_of rest)
-this_field o i bound rest = grind (arith, common_steps, that_field)
 
 abbrev behind_gap : Owner → (i n : ℕ) → (bound : Bool) → List Token → TokenReading (List (Option ℕ))
 behind_gap o i n bound later = then_read (read_named_bindings o (suc i) n bound true later) (λ fields end. Some (None ∷ fields, end))
@@ -34,7 +30,7 @@ named_back p o i bound lacking (None ∷ fields) rest =
     let n : ℕ = length fields in
     ap (λ r. where_found r (with_binding o i n lacking) (behind_gap o i n bound) (tokens_of (named_bindings p o (suc i) bound true fields rest))) (no_field p o i (suc i) bound fields rest (omega arith))
     ∙ ap (λ r. then_read r (λ later end. Some (None ∷ later, end))) (named_back p o (suc i) bound true fields rest)
-named_back p o i bound lacking (Some v ∷ fields) rest = grind (arith, common_steps, named_back p o (suc i) true lacking fields rest, this_field)
+named_back p o i bound lacking (Some v ∷ fields) rest = grind (arith, common_steps, named_back p o (suc i) true lacking fields rest)
 
 -- 2. fields in order
 unnamed_back : (p : Notation) (o : Owner) (i : ℕ) (fields : List (Option ℕ)) (rest : List CodePiece) → read_unnamed_bindings i (length fields) (tokens_of (unnamed_bindings p o i fields rest)) ≡ Some (fields, tokens_of rest)

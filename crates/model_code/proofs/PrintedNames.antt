@@ -7,11 +7,8 @@ use Rattle.model_code.specs.PrintedNames.{PrintedName, printed_name, NamesAreApa
 abbrev first_letter : List ℕ → ℕ
 first_letter xs = get_or xs 0 0
 
-not_context : (a : PrintedName) → printed_name a ≡ codes "ctx" → ⊥
-not_context a e = grind (arith, common_steps)
-
 not_results : (a : PrintedName) → printed_name a ≡ codes "returns" → ⊥
 not_results a e = grind (arith, common_steps)
 
 pub names_are_apart_lem : NamesAreApart
-names_are_apart_lem = grind (arith, not_context, not_results, decimal_injective)
+names_are_apart_lem = grind (arith, not_results, decimal_injective)

@@ -6,17 +6,17 @@ use Rattle.model.specs.lists.Syntax.{Position}
 use Rattle.model.specs.sites.Sites.{Constraint, is_bool, is_int, is_prim}
 use Rattle.model.specs.rules.Outcome.{then_option}
 use Rattle.model.proofs.SameSites.{number_same}
-use Rattle.model_code.specs.Code.{Place, PlaceUse, Expr, truth_written, read, extraction, call, variant_of, struct_of, some_of, Block, Statement, bind, bind_some, match_on, if_equal, for_each_of, give, labelled, unless_let, unless_equal, CodeArms, no_code_arm, code_arm}
+use Rattle.model_code.specs.Code.{PlaceUse, Expr, truth_written, read, extraction, call, variant_of, struct_of, some_of, Block, Statement, bind, bind_some, match_on, if_equal, for_each_of, give, labelled, unless_let, unless_equal, CodeArms, no_code_arm, code_arm}
 use Rattle.model_code.specs.Tokens.{else_word, opening, closing, opening_brace, closing_brace, semicolon, dot, next_word, ctx_word, arrow, Token}
 use Rattle.model_code.specs.Notation.{Notation, Callee, extractor_of, constructor_of}
-use Rattle.model_code.specs.Pieces.{CodePiece, space, line_end, set_in, tokens_of, Margin, inside, put, end_line, pattern_before, is_constant, let_before, break_before, open_body, close_body, one_line, call_lines, bind_lines, bind_some_line, log_lines, give_lines, result_lines, equal_head, loop_head, unless_line, unless_equal_line, arm_head, in_braces_at, label_before, match_head, arms_at, match_end, block_before, arms_before}
+use Rattle.model_code.specs.Pieces.{CodePiece, line_end, set_in, tokens_of, Margin, inside, put, pattern_before, is_constant, open_body, close_body, one_line, call_lines, bind_lines, bind_some_line, result_lines, equal_head, loop_head, unless_line, unless_equal_line, arm_head, in_braces_at, label_before, match_head, arms_at, match_end, block_before, arms_before}
 use Rattle.model_code.specs.Shown.{nowhere, shown_use, shown_uses, shown_expr, shown_constraint, shown, shown_at}
-use Rattle.model_code.specs.Reading.{TokenReading, then_read, expect, expect_all, Pattern, Compared, equal_of, Inner, read_body, done, read_else, read_let, read_let_pattern, read_if, read_arms, read_statement, read_block}
+use Rattle.model_code.specs.Reading.{TokenReading, then_read, expect, expect_all, Pattern, Compared, equal_of, Inner, read_body, done, read_else, read_let, read_let_pattern, read_arms, read_statement, read_block}
 use Rattle.model_code.specs.ReadsBack.{pattern_writable, match_writable, expr_writable, expr_size, ends_block}
 use Rattle.model_code.proofs.Uses.{after_use, that_variable}
 use Rattle.model_code.proofs.Values.{call_back, expr_back}
 use Rattle.model_code.proofs.Patterns.{pattern_back}
-use Rattle.model_code.proofs.Tests.{plain_or_lent, lent_use, constant_use, after_second, constants_bind_nothing, if_back, arm_back, break_back}
+use Rattle.model_code.proofs.Tests.{plain_or_lent, after_second, constants_bind_nothing, if_back, arm_back, break_back}
 
 -- what ends a block begins no statement
 pub nothing_more : (p : Notation) (n : ℕ) (inner : Inner) (label : Option ℕ) (tokens : List Token) → ends_block tokens ≡ true → read_statement p n inner label tokens ≡ None
@@ -63,11 +63,8 @@ module _ (p : Notation) (n : ℕ) where
   bind_some_back at v u rest = grind (arith, common_steps, after_use)
 
   -- 2. results
-  logged_back : (logged : Bool) (at : Margin) (place : Position) (u : PlaceUse) (rest : List CodePiece) → IsBack at (log_lines logged at place (set_in at.depth ∷ give_lines p.kind p at u rest)) (give nowhere (shown_use p u)) rest
-  logged_back logged at place u rest = grind (arith, common_steps)
-
   pub result_back : (at : Margin) (place : Position) (u : PlaceUse) (rest : List CodePiece) → IsBack at (result_lines p at place u rest) (give nowhere (shown_use p u)) rest
-  result_back at place u rest = logged_back p.is_logged at place u rest
+  result_back at place u rest = grind arith
 
   -- 3. tests with a body
   abbrev with_body : Option ℕ → (Block → Statement) → List Token → TokenReading Statement
@@ -80,15 +77,10 @@ module _ (p : Notation) (n : ℕ) where
       → IsBack at (equal_head p at a b (block_before p (inside at) body (close_body at rest))) (shown_at p (if_equal a b body)) rest
   equal_back_at at a b body rest h = grind (arith, common_steps, if_back, after_use, after_second, body_back)
 
-  let_head : (at : Margin) (u : PlaceUse) (c : Constraint) (fields : List (Option ℕ)) (body : Block) (rest : List CodePiece) → is_constant c ≡ false → pattern_writable p c fields ≡ true
-      → BlockBack (inside at) body (close_body at rest)
-      → read_if p inner at.label (tokens_of (let_before p u c fields (open_body (block_before p (inside at) body (close_body at rest))))) ≡ Some (match_on (shown_use p u) (code_arm (shown_constraint p c) fields (shown p body) no_code_arm), tokens_of rest)
-  let_head at u c fields body rest k w h = grind (arith, common_steps, pattern_back, after_use, body_back)
-
   head_at : (constant : Bool) (at : Margin) (u : PlaceUse) (c : Constraint) (fields : List (Option ℕ)) (body : Block) (rest : List CodePiece) → is_constant c ≡ constant → pattern_writable p c fields ≡ true → match_writable p u c ≡ true
       → BlockBack (inside at) body (close_body at rest)
       → IsBack at (arm_head true p at u c fields (block_before p (inside at) body (close_body at rest))) (match_on (shown_use p u) (code_arm (shown_constraint p c) fields (shown p body) no_code_arm)) rest
-  head_at constant at u c fields body rest k w m h = grind (arith, common_steps, let_head)
+  head_at constant at u c fields body rest k w m h = grind (arith, common_steps, pattern_back, after_use, body_back)
 
   pub alone_back : (at : Margin) (u : PlaceUse) (c : Constraint) (fields : List (Option ℕ)) (body : Block) (rest : List CodePiece) → pattern_writable p c fields ≡ true → match_writable p u c ≡ true
       → BlockBack (inside at) body (close_body at rest)
@@ -96,13 +88,9 @@ module _ (p : Notation) (n : ℕ) where
   alone_back at u c fields body rest w m h = head_at (is_constant c) at u c fields body rest refl w m h
 
   -- 4. tests that leave a label
-  unless_lent : (at : Margin) (place : Place) (name : ℕ) (rest : List CodePiece) → is_some at.label ≡ true → p.is_constant_composed name ≡ true
-      → IsBack at (unless_line true p at (lent_use place) (is_prim name) [] rest) (unless_let (shown_use p (lent_use place)) (is_prim name) []) rest
-  unless_lent at place name rest l e = grind (arith, common_steps, lent_use, after_use, constant_use, break_back)
-
   unless_named : (at : Margin) (u : PlaceUse) (name : ℕ) (fields : List (Option ℕ)) (rest : List CodePiece) → is_some at.label ≡ true → pattern_writable p (is_prim name) fields ≡ true → match_writable p u (is_prim name) ≡ true
       → IsBack at (unless_line true p at u (is_prim name) fields rest) (unless_let (shown_use p u) (is_prim name) fields) rest
-  unless_named at u name fields rest l w m = grind (arith, common_steps, plain_or_lent, constants_bind_nothing, unless_lent)
+  unless_named at u name fields rest l w m = grind (arith, common_steps, plain_or_lent, constants_bind_nothing)
 
   unless_constant : (at : Margin) (u : PlaceUse) (c : Constraint) (fields : List (Option ℕ)) (rest : List CodePiece) → is_some at.label ≡ true → is_constant c ≡ true → pattern_writable p c fields ≡ true → match_writable p u c ≡ true
       → IsBack at (unless_line true p at u c fields rest) (unless_let (shown_use p u) (shown_constraint p c) fields) rest
@@ -116,13 +104,9 @@ module _ (p : Notation) (n : ℕ) where
       → read_let p n inner label (tokens_of (pattern_before p c fields rest)) ≡ read_let_pattern p label (tokens_of (pattern_before p c fields rest))
   bare_let label c fields rest k = grind (arith, common_steps)
 
-  left_back : (at : Margin) (u : PlaceUse) (c : Constraint) (fields : List (Option ℕ)) (rest : List CodePiece) → is_some at.label ≡ true
-      → then_else at.label (record { constraint = c; fields = fields }) u (tokens_of (space ∷ put else_word (break_before at (end_line rest)))) ≡ Some (unless_let u c fields, tokens_of rest)
-  left_back at u c fields rest l = rw (break_back at.label (tokens_of (end_line rest)) l)
-
   unless_pattern : (at : Margin) (u : PlaceUse) (c : Constraint) (fields : List (Option ℕ)) (rest : List CodePiece) → is_some at.label ≡ true → is_constant c ≡ false → pattern_writable p c fields ≡ true
       → IsBack at (unless_line false p at u c fields rest) (unless_let (shown_use p u) (shown_constraint p c) fields) rest
-  unless_pattern at u c fields rest l k w = grind (arith, common_steps, bare_let, pattern_back, after_use, left_back)
+  unless_pattern at u c fields rest l k w = grind (arith, common_steps, bare_let, pattern_back, after_use)
 
   pub unless_let_back : (at : Margin) (u : PlaceUse) (c : Constraint) (fields : List (Option ℕ)) (rest : List CodePiece) → is_some at.label ≡ true → pattern_writable p c fields ≡ true → match_writable p u c ≡ true
       → IsBack at (unless_line (is_constant c) p at u c fields rest) (unless_let (shown_use p u) (shown_constraint p c) fields) rest

@@ -44,11 +44,8 @@ module _ (sites : List Site) (p : Passes) where
     carried : (s : ℕ) → is_in s ts ≡ true → is_in s cs ≡ true
     carried s h = member_is_in s cs (k.there s (member_found s ts h))
 
-    known_at : (s : ℕ) (o : Option Site) → (is_in_place o ≡ true → Contains ts s → ⊥) → (is_in s ts || (is_in_place o && list_all (λ a. is_in a ts) (made_of o))) ≡ true → knows cs (place_of o s) ≡ true
-    known_at s o n h = grind (arith, common_steps, carried, or_split, member_found, each_passes, in_head)
-
     known : (s : ℕ) → can_be_used sites ts s ≡ true → knows cs (place_of (slice_get sites s) s) ≡ true
-    known s h = known_at s (slice_get sites s) (λ i c. k.outside s c i) h
+    known s h = grind (arith, carried, or_split, member_found, each_passes, in_head)
 
     abbrev AllUsable : List ℕ → Type 0
     AllUsable ss = (x : ℕ) → Contains ss x → can_be_used sites ts x ≡ true

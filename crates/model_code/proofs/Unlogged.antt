@@ -1,12 +1,11 @@
 -- Where the log is told nothing, the words and marks of a function's pieces are those of its tokens.
 use Rattle.std.proofs.Common.{◌≡◌, ◌++◌, ◌∷◌, [], ℕ, suc, Bool, true, false, List, Option, Some, None, refl, ap, ◌∙◌, arith}
 use Rattle.std.proofs.lemmas.Grind.{common_steps}
-use Rattle.model.specs.lists.Syntax.{Position}
 use Rattle.model.specs.sites.Sites.{Constraint, is_variant, is_struct, is_prim, is_present}
-use Rattle.model_code.specs.Code.{Place, Pass, PlaceUse, Expr, truth_written, read, extraction, call, variant_of, struct_of, some_of, Block, no_statement, statement, Statement, bind, bind_some, no_way, match_on, if_equal, for_each_of, give, labelled, unless_let, unless_equal, CodeArms, no_code_arm, code_arm}
+use Rattle.model_code.specs.Code.{PlaceUse, Expr, truth_written, read, extraction, call, variant_of, struct_of, some_of, Block, no_statement, statement, Statement, bind, bind_some, no_way, match_on, if_equal, for_each_of, give, labelled, unless_let, unless_equal, CodeArms, no_code_arm, code_arm}
 use Rattle.model_code.specs.Tokens.{Word, ref_word, closing, comma, colon, arrow, ampersand, Owner, variable_name, field_name}
-use Rattle.model_code.specs.Notation.{Notation, Shape, no_fields, named_fields, unnamed_fields, Callee, extractor_of, constructor_of}
-use Rattle.model_code.specs.Pieces.{CodePiece, token, space, set_in, line_end, rule_comment, log_line, tokens_of, Margin, inside, put, put_first, put_first_if, put_if, passed_before, use_before, args_before, called_before, named_values, unnamed_values, made_before, answer_before, binding_before, named_bindings, place_in_order, unnamed_bindings, constant_before, pattern_before, is_constant, condition_before, arm_pattern, open_body, close_body, one_line, call_lines, bind_lines, bind_some_line, result_lines, unless_line, is_alone, match_head, arms_at, arm_head, match_end, block_before, statement_before, arms_before}
+use Rattle.model_code.specs.Notation.{Notation, Callee}
+use Rattle.model_code.specs.Pieces.{CodePiece, token, space, set_in, line_end, rule_comment, log_line, tokens_of, Margin, inside, put, put_first, put_first_if, put_if, use_before, args_before, called_before, named_values, unnamed_values, answer_before, binding_before, named_bindings, unnamed_bindings, constant_before, pattern_before, arm_pattern, open_body, close_body, one_line, bind_lines, is_alone, match_head, arms_at, arm_head, match_end, block_before, statement_before, arms_before}
 use Rattle.model_code.specs.Spelling.{Names, token_text}
 use Rattle.model_code.specs.Lexing.{lexed, pieces_lexed}
 use Rattle.model_code.specs.ReadTexts.{words_of, UnloggedTextIsItsTokens}
@@ -34,11 +33,8 @@ put_first_if_quiet b w rest = grind (arith, common_steps)
 
 module _ (p : Notation) where
   -- 1. places, uses, and what is bound
-  pass_quiet : (place : Place) (pass : Pass) (rest : List CodePiece) → AsQuiet (passed_before p place pass rest) rest
-  pass_quiet place pass rest = grind (arith, common_steps)
-
   use_quiet : (u : PlaceUse) (rest : List CodePiece) → AsQuiet (use_before p u rest) rest
-  use_quiet u rest = pass_quiet u.place u.pass rest
+  use_quiet u rest = grind arith
 
   args_quiet : (us : List PlaceUse) (rest : List CodePiece) → AsQuiet (args_before p us rest) rest
   args_quiet [] rest = refl
@@ -55,11 +51,6 @@ module _ (p : Notation) where
   unnamed_quiet i [] rest = refl
   unnamed_quiet i (u ∷ us) rest = grind (arith, common_steps, unnamed_quiet (suc i) us rest, use_quiet)
 
-  made_quiet : (o : Owner) (shape : Shape) (us : List PlaceUse) (rest : List CodePiece) → AsQuiet (made_before p o shape us rest) rest
-  made_quiet o no_fields us rest = refl
-  made_quiet o (named_fields n) us rest = named_quiet o 0 us rest
-  made_quiet o (unnamed_fields n) us rest = unnamed_quiet 0 us rest
-
   -- 2. patterns
   binding_quiet : (o : Owner) (i v : ℕ) (rest : List CodePiece) → AsQuiet (binding_before p o i v rest) rest
   binding_quiet o i v rest = put_first_if_quiet (p.is_field_composed o i) ref_word (token (variable_name v) ∷ rest)
@@ -71,12 +62,9 @@ module _ (p : Notation) where
       let behind : List CodePiece = named_bindings p o (suc i) true lacking fields rest in
       put_first_if_quiet bound comma (token (field_name o i) ∷ put_first colon (binding_before p o i v behind)) ∙ (binding_quiet o i v behind ∙ named_fields_quiet o (suc i) true lacking fields rest)
 
-  in_order_quiet : (o : Owner) (i : ℕ) (field : Option ℕ) (rest : List CodePiece) → AsQuiet (place_in_order p o i field rest) rest
-  in_order_quiet o i field rest = grind (arith, common_steps, binding_quiet)
-
   unnamed_fields_quiet : (o : Owner) (i : ℕ) (fields : List (Option ℕ)) (rest : List CodePiece) → AsQuiet (unnamed_bindings p o i fields rest) rest
   unnamed_fields_quiet o i [] rest = refl
-  unnamed_fields_quiet o i (field ∷ fields) rest = grind (arith, common_steps, unnamed_fields_quiet o (suc i) fields rest, in_order_quiet)
+  unnamed_fields_quiet o i (field ∷ fields) rest = grind (arith, common_steps, unnamed_fields_quiet o (suc i) fields rest)
 
   constant_quiet : (c : Constraint) (rest : List CodePiece) → AsQuiet (constant_before p c rest) rest
   constant_quiet c rest = grind (arith, common_steps)
@@ -85,10 +73,6 @@ module _ (p : Notation) where
   pattern_quiet c fields rest = grind (arith, common_steps, named_fields_quiet, unnamed_fields_quiet)
 
   -- 3. tests
-  condition_quiet : (constant : Bool) (u : PlaceUse) (c : Constraint) (fields : List (Option ℕ)) (rest : List CodePiece) → AsQuiet (condition_before constant p u c fields rest) rest
-  condition_quiet true u c fields rest = grind (arith, put_if_quiet, use_quiet, constant_quiet)
-  condition_quiet false u c fields rest = grind (arith, pattern_quiet, use_quiet)
-
   arm_pattern_quiet : (u : PlaceUse) (c : Constraint) (fields : List (Option ℕ)) (rest : List CodePiece) → AsQuiet (arm_pattern p u c fields rest) rest
   arm_pattern_quiet u (is_prim name) fields rest = grind (arith, put_if_quiet, use_quiet, constant_quiet)
   arm_pattern_quiet u (is_variant ty variant n) fields rest = pattern_quiet (is_variant ty variant n) fields rest
@@ -98,27 +82,16 @@ module _ (p : Notation) where
 
   -- 4. lines
   one_quiet : (at : Margin) (v : ℕ) (x : Expr) (rest : List CodePiece) → AsQuiet (one_line p at v x rest) rest
-  one_quiet at v x rest = grind (arith, use_quiet, answer_quiet, made_quiet)
-
-  call_quiet : (many : Bool) (at : Margin) (v : ℕ) (f : Callee) (us : List PlaceUse) (x : Expr) (rest : List CodePiece) → AsQuiet (call_lines many p at v f us x rest) rest
-  call_quiet true at v f us x rest = grind (arith, args_quiet)
-  call_quiet false at v f us x rest = one_quiet at v x rest
+  one_quiet at v x rest = grind (arith, use_quiet, answer_quiet, named_quiet, unnamed_quiet)
 
   bind_quiet : (at : Margin) (v : ℕ) (x : Expr) (rest : List CodePiece) → AsQuiet (bind_lines p at v x rest) rest
-  bind_quiet at v (extraction term u) rest = call_quiet (p.has_many (extractor_of term)) at v (extractor_of term) (u ∷ []) (extraction term u) rest
-  bind_quiet at v (call term us instance) rest = call_quiet (p.has_many (constructor_of term)) at v (constructor_of term) us (call term us instance) rest
+  bind_quiet at v (extraction term u) rest = grind (arith, args_quiet, one_quiet)
+  bind_quiet at v (call term us instance) rest = grind (arith, args_quiet, one_quiet)
   bind_quiet at v (truth_written b ty) rest = one_quiet at v (truth_written b ty) rest
   bind_quiet at v (read u) rest = one_quiet at v (read u) rest
   bind_quiet at v (variant_of ty variant us) rest = one_quiet at v (variant_of ty variant us) rest
   bind_quiet at v (struct_of ty us) rest = one_quiet at v (struct_of ty us) rest
   bind_quiet at v (some_of u) rest = one_quiet at v (some_of u) rest
-
-  bind_some_quiet : (at : Margin) (v : ℕ) (u : PlaceUse) (rest : List CodePiece) → AsQuiet (bind_some_line p at v u rest) rest
-  bind_some_quiet at v u rest = grind (arith, common_steps, use_quiet)
-
-  unless_quiet : (constant : Bool) (at : Margin) (u : PlaceUse) (c : Constraint) (fields : List (Option ℕ)) (rest : List CodePiece) → AsQuiet (unless_line constant p at u c fields rest) rest
-  unless_quiet true at u c fields rest = grind (arith, put_if_quiet, use_quiet, constant_quiet)
-  unless_quiet false at u c fields rest = grind (arith, pattern_quiet, use_quiet)
 
   head_quiet : (alone : Bool) (at : Margin) (u : PlaceUse) (rest : List CodePiece) → AsQuiet (match_head alone p at u rest) rest
   head_quiet alone at u rest = grind (arith, common_steps)
@@ -127,14 +100,11 @@ module _ (p : Notation) where
   last_quiet alone at rest = grind (arith, common_steps)
 
   arm_quiet : (alone : Bool) (at : Margin) (u : PlaceUse) (c : Constraint) (fields : List (Option ℕ)) (rest : List CodePiece) → AsQuiet (arm_head alone p at u c fields rest) rest
-  arm_quiet true at u c fields rest = condition_quiet (is_constant c) u c fields (open_body rest)
+  arm_quiet true at u c fields rest = grind (arith, put_if_quiet, use_quiet, constant_quiet, pattern_quiet)
   arm_quiet false at u c fields rest = arm_pattern_quiet u c fields (space ∷ put arrow (open_body rest))
 
   -- 5. blocks, where the log is told nothing
   module _ (silent : p.is_logged ≡ false) where
-    result_quiet : (at : Margin) (place : Position) (u : PlaceUse) (rest : List CodePiece) → AsQuiet (result_lines p at place u rest) rest
-    result_quiet at place u rest = grind (arith, use_quiet)
-
     mutual
       block_quiet : (b : Block) (at : Margin) (rest : List CodePiece) → AsQuiet (block_before p at b rest) rest
       block_quiet no_statement at rest = refl
@@ -142,16 +112,16 @@ module _ (p : Notation) where
 
       statement_quiet : (s : Statement) (at : Margin) (rest : List CodePiece) → AsQuiet (statement_before p at s rest) rest
       statement_quiet (bind v x) at rest = bind_quiet at v x rest
-      statement_quiet (bind_some v u) at rest = bind_some_quiet at v u rest
+      statement_quiet (bind_some v u) at rest = grind (arith, use_quiet)
       statement_quiet no_way at rest = refl
       statement_quiet (match_on u arms) at rest =
           head_quiet (is_alone arms) at u (arms_before (is_alone arms) p (arms_at (is_alone arms) at) u arms (match_end (is_alone arms) at rest))
           ∙ (arms_quiet arms (is_alone arms) (arms_at (is_alone arms) at) u (match_end (is_alone arms) at rest) ∙ last_quiet (is_alone arms) at rest)
       statement_quiet (if_equal a b body) at rest = grind (arith, block_quiet body (inside at) (close_body at rest), use_quiet)
       statement_quiet (for_each_of v from body) at rest = block_quiet body (inside at) (close_body at rest)
-      statement_quiet (give place u) at rest = result_quiet at place u rest
+      statement_quiet (give place u) at rest = grind (arith, use_quiet)
       statement_quiet (labelled body) at rest = grind (arith, common_steps, block_quiet body)
-      statement_quiet (unless_let u c fields) at rest = unless_quiet (is_constant c) at u c fields rest
+      statement_quiet (unless_let u c fields) at rest = grind (arith, put_if_quiet, use_quiet, constant_quiet, pattern_quiet)
       statement_quiet (unless_equal a b) at rest = grind (arith, use_quiet)
 
       arms_quiet : (arms : CodeArms) (alone : Bool) (at : Margin) (u : PlaceUse) (rest : List CodePiece) → AsQuiet (arms_before alone p at u arms rest) rest

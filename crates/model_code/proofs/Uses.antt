@@ -1,12 +1,12 @@
 -- Places and uses are read back, where what follows is no part of them.
-use Rattle.std.proofs.Common.{◌≡◌, ◌&&◌, ◌==◌, ◌∷◌, ℕ, Bool, true, false, List, Some, None, ap, arith}
+use Rattle.std.proofs.Common.{◌≡◌, ◌&&◌, ◌==◌, ◌∷◌, ℕ, Bool, true, false, List, Some, None, arith}
 use Rattle.std.proofs.lemmas.Bool.{and_parts, and_from}
 use Rattle.std.proofs.lemmas.Grind.{common_steps}
 use Rattle.model.proofs.SameSites.{number_same}
-use Rattle.model_code.specs.Code.{Place, Pass, PlaceUse}
+use Rattle.model_code.specs.Code.{Place, PlaceUse}
 use Rattle.model_code.specs.Tokens.{dot, colon, Owner, Token, word, part_name, field_name, variable_name}
 use Rattle.model_code.specs.Notation.{Notation}
-use Rattle.model_code.specs.Pieces.{CodePiece, tokens_of, place_before, passed_before, use_before, clone_call}
+use Rattle.model_code.specs.Pieces.{CodePiece, tokens_of, place_before, use_before, clone_call}
 use Rattle.model_code.specs.Shown.{shown_place, shown_use}
 use Rattle.model_code.specs.Reading.{TokenReading, then_read, expect_all, expect_variable, expect_field, same_owner, read_place, cloned_or_not, read_use}
 
@@ -31,13 +31,9 @@ place_back p place rest h = grind (arith, common_steps)
 abbrev or_cloned : Place → List Token → TokenReading PlaceUse
 or_cloned place rest = cloned_or_not place rest (expect_all clone_call rest)
 
-pass_back : (p : Notation) (place : Place) (pass : Pass) (rest : List CodePiece) → follows (tokens_of rest) ≡ true
-    → read_use (tokens_of (passed_before p place pass rest)) ≡ Some (record { place = shown_place p place; pass = pass }, tokens_of rest)
-pass_back p place pass rest h = grind (arith, common_steps, and_parts, place_back, no_clone)
-
 pub after_use : {B : Type 0} (p : Notation) (u : PlaceUse) (rest : List CodePiece) (go : PlaceUse → List Token → TokenReading B) → follows (tokens_of rest) ≡ true
     → then_read (read_use (tokens_of (use_before p u rest))) go ≡ go (shown_use p u) (tokens_of rest)
-after_use p u rest go h = ap (λ r. then_read r go) (pass_back p u.place u.pass rest h)
+after_use p u rest go h = grind (arith, and_parts, place_back, no_clone)
 
 -- single tokens
 pub that_variable : (v : ℕ) (rest : List Token) → expect_variable v (variable_name v ∷ rest) ≡ Some rest

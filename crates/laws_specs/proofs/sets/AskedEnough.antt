@@ -4,7 +4,7 @@ use Rattle.std.proofs.Common.{◌≡◌, ℕ, ◌≤◌, true, false, List, [], 
 use Rattle.std.proofs.lemmas.Grind.{common_steps}
 use Rattle.model.specs.rules.Program.{Program, arg_types}
 use Rattle.model.specs.rules.Typed.{TypedRule}
-use Rattle.model.specs.sites.Sites.{Constraint, SetRule, SiteSet, SiteTerm, bool_term, int_term, prim_term, argument, extractor_call, constructor_call, pick_of, variant_made, variant_field, struct_made, struct_field, some_made, some_part, tuple_part, no_site, unfold_site}
+use Rattle.model.specs.sites.Sites.{Constraint, SetRule, SiteSet, SiteTerm, pick_of, unfold_site}
 use Rattle.model.specs.sites.Overlap.{BuiltRule}
 use Rattle.model.specs.sites.RuleSets.{IsRuleOf, IsBuilt}
 use Rattle.model.specs.trees.Places.{return_uses}
@@ -31,58 +31,30 @@ module _ (p : Program) (specs : Specs) (c : Condition) (args : DenotedList) (f :
   abbrev Made : SiteTerm → Type 0
   Made u = In c.made u
 
-  there : (u : SiteTerm) → Made u → Contains c.made u
-  there u i = contains_from_in c.made u i
-
   answered : (s : SiteTerm) → CallsAre Made s → is_impure_call s ≡ false → IsAnsweredAsSaid specs f s s
-  answered (extractor_call t u) h e = a.calls (extractor_call t u) (there (extractor_call t u) h.0) e
-  answered (constructor_call t ss n) h e = a.calls (constructor_call t ss n) (there (constructor_call t ss n) h.0) e
-  answered s h e = tt
+  answered s h e = grind (arith, common_steps, contains_from_in)
 
   pub call_answered : (s : SiteTerm) → CallsAre Made s → is_impure_call s ≡ false → IsAnsweredAsSaid specs g s s
   call_answered s h e = calls_stay specs args f a.held s (answered s h e)
 
   picked : (s : SiteTerm) → CallsAre Made s → is_impure_call s ≡ false → IsAnsweredAsSaid specs f s (pick_of s)
-  picked (extractor_call t u) h e = a.picks (extractor_call t u) (there (extractor_call t u) h.0) e
-  picked (constructor_call t ss n) h e = a.picks (constructor_call t ss n) (there (constructor_call t ss n) h.0) e
-  picked (bool_term b ty) h e = tt
-  picked (int_term z ty) h e = tt
-  picked (prim_term name) h e = tt
-  picked (argument i) h e = tt
-  picked (pick_of s) h e = tt
-  picked (variant_made ty variant ss) h e = tt
-  picked (variant_field s variant i) h e = tt
-  picked (struct_made ty ss) h e = tt
-  picked (struct_field s i) h e = tt
-  picked (some_made s) h e = tt
-  picked (some_part s) h e = tt
-  picked (tuple_part s i) h e = tt
-  picked no_site h e = tt
+  picked s h e = grind (arith, common_steps, contains_from_in)
 
   pub pick_answered : (s : SiteTerm) → CallsAre Made s → is_impure_call s ≡ false → IsAnsweredAsSaid specs g s (pick_of s)
   pick_answered s h e = picks_stay specs args f a.held s (picked s h e)
 
   pub call_typed : (s : SiteTerm) (h : ToldContent) → CallsAre Made s → is_impure_call s ≡ false → g s ≡ Some h → IsTypedAs p specs s h
-  call_typed (extractor_call t u) h m e q = a.typed (extractor_call t u) h (there (extractor_call t u) m.0) e q
-  call_typed (constructor_call t ss n) h m e q = a.typed (constructor_call t ss n) h (there (constructor_call t ss n) m.0) e q
-  call_typed (prim_term name) h m e q = a.typed (prim_term name) h (there (prim_term name) m) e q
-  call_typed s h m e q = tt
+  call_typed s h m e q = grind (arith, common_steps, contains_from_in)
 
   pub pick_typed : (s : SiteTerm) (h : ToldContent) → CallsAre Made s → is_impure_call s ≡ false → g (pick_of s) ≡ Some h → IsTypedAs p specs s h
-  pick_typed (extractor_call t u) h m e q = a.typed_picks (extractor_call t u) h (there (extractor_call t u) m.0) e q
-  pick_typed (constructor_call t ss n) h m e q = a.typed_picks (constructor_call t ss n) h (there (constructor_call t ss n) m.0) e q
-  pick_typed (prim_term name) h m e q = a.typed_picks (prim_term name) h (there (prim_term name) m) e q
-  pick_typed s h m e q = tt
+  pick_typed s h m e q = grind (arith, common_steps, contains_from_in)
 
   -- 2. an impure call that was made was made under the completed valuation too
-  still_typed : (s : SiteTerm) → ((h : ToldContent) → f s ≡ Some h → IsTypedAs p specs s h) → (h : ToldContent) → g s ≡ Some h → IsTypedAs p specs s h
-  still_typed s k h e = grind (arith, common_steps)
-
   still_there : (u : SiteTerm) → is_some (f u) ≡ true → is_some (g u) ≡ true
   still_there u e = grind (arith, common_steps, stays specs args f a.held u, stays)
 
   still_made : (us : List SiteTerm) → AreMade p specs f us → AreMade p specs g us
-  still_made us m u i = grind (arith, common_steps, still_there u, calls_stay specs args f a.held (call_of u), still_typed (call_of u), still_there, answered, calls_stay, still_typed)
+  still_made us m u i = grind (arith, common_steps, still_there u, calls_stay specs args f a.held (call_of u), still_there, answered, calls_stay)
 
   -- what is shown under the completed valuation of a condition with the same impure calls and the same result
   pub shown_back : (b : Condition) → b.term ≡ c.term → b.impure ≡ c.impure → b.result ≡ c.result → IsShown p specs b args g → IsShown p specs c args f
@@ -142,12 +114,7 @@ module _ (p : Program) (t : ℕ) (set : SiteSet) (built : IsBuilt p t set) (b : 
         ]
 
     returned_made : (s : ℕ) → In (return_uses (Some r)) s → AreMadeBelow d (tree s)
-    returned_made s i =
-        let made = rule_makes_calls p q in
-        elim (in_either r.impure (r.result ∷ []) s i) [
-          | inl j ↦ made.0.impure (tree s) (subst (λ us. In us (tree s)) is.impure.1 (map_in tree r.impure s j))
-          | inr j ↦ elim j [ inl e ↦ subst (λ n. AreMadeBelow d (tree n)) e (subst (AreMadeBelow d) (sym is.result.1) made.1) | inr n ↦ absurd n ]
-        ]
+    returned_made s i = grind (arith, common_steps, rule_makes_calls p q, in_either r.impure (r.result ∷ []) s i, map_in tree r.impure s)
 
     site_made : (s : SiteTerm) → In c.made s → AreMadeBelow d s
     site_made s i = grind (arith, common_steps, in_either (tested_sites r) (return_uses (Some r)), in_map, all_calls_below, in_either, tested_made, returned_made)

@@ -1,11 +1,11 @@
 -- The calls and the named constants at and below what a rule demands, calls impurely or gives are made by its visit.
-use Rattle.std.proofs.Common.{◌≡◌, ℕ, true, false, List, [], ◌∷◌, refl, subst, inl, inr, arith}
+use Rattle.std.proofs.Common.{◌≡◌, true, false, List, [], ◌∷◌, refl, subst, inl, inr, arith}
 use Rattle.std.proofs.lemmas.Grind.{common_steps}
 use Rattle.model.specs.rules.Program.{Program}
 use Rattle.model.specs.rules.Typed.{TypedRule}
-use Rattle.model.specs.sites.Sites.{Constraint, is_present, SiteTerm, bool_term, int_term, prim_term, argument, extractor_call, constructor_call, pick_of, variant_made, variant_field, struct_made, struct_field, some_made, some_part, tuple_part, no_site, SiteTerms, no_site_term, site_term_and}
+use Rattle.model.specs.sites.Sites.{Constraint, SiteTerm, bool_term, int_term, prim_term, argument, extractor_call, constructor_call, pick_of, variant_made, variant_field, struct_made, struct_field, some_made, some_part, tuple_part, no_site, SiteTerms, no_site_term, site_term_and}
 use Rattle.model.specs.visits.Demands.{Demands, demands_of, result_of, Visit, making, asking, iterating, calling, unwraps, unwraps_all, asking_all}
-use Rattle.model.specs.sites.DemandedGates.{IsPureCall, GatesDemanded, AllGatesDemanded}
+use Rattle.model.specs.sites.DemandedGates.{GatesDemanded, AllGatesDemanded}
 use Rattle.model.proofs.Elements.{In, in_left, in_either}
 use Rattle.laws_sites.proofs.Patterns.{by_field}
 use Rattle.laws_sites.proofs.AskedSites.{equated}
@@ -59,13 +59,10 @@ module _ (P : SiteTerm → Type 0) (cs : List (SiteTerm × Constraint)) (calls :
   abbrev pub IsPure : SiteTerm → Type 0
   IsPure u = P u × (is_impure_call u ≡ false)
 
-  pure_number : (t i : ℕ) (ss : SiteTerms) → IsPureCall true i → is_impure_call (constructor_call t ss i) ≡ false
-  pure_number t i ss h = grind (arith, common_steps)
-
   mutual
     pub calls_pure : (s : SiteTerm) → GatesDemanded true true cs calls s → CallsAre P s → CallsAre IsPure s
     calls_pure (extractor_call t a) g h = ((h.0, refl), calls_pure a g h.1)
-    calls_pure (constructor_call t args i) g h = ((h.0, pure_number t i args g.0), all_pure args g.1 h.1)
+    calls_pure (constructor_call t args i) g h = grind (arith, all_pure args g.1 h.1)
     calls_pure (pick_of a) g h = calls_pure a g.1 h
     calls_pure (variant_made ty variant fields) g h = all_pure fields g h
     calls_pure (variant_field a variant i) g h = calls_pure a g.1 h
@@ -98,56 +95,20 @@ abbrev OnwardMade : Demands → Demands → Type 0
 OnwardMade = Onward MakesCalls AreMadeBelow
 
 making_on : (ts : List SiteTerm) (v : Visit) → MakesCalls v.demands → OnwardMade v.demands (making ts v).demands
-making_on ts v h = record {
-  holds = record { asked = λ e i. more e.0 (h.asked e i); equal = λ e i. (more e.0 (h.equal e i).0, more e.1 (h.equal e i).1); impure = λ u i. more u (h.impure u i) };
-  stays = more;
-}
-  where
-    more : (s : SiteTerm) → AreMadeBelow v.demands s → AreMadeBelow (making ts v).demands s
-    more s m = calls_weaken (IsMadeBy v.demands) (IsMadeBy (making ts v).demands) (λ u i. in_left v.demands.made ts u i) s m
+making_on ts v h = grind (arith, common_steps, calls_weaken, in_left)
 
 asking_on : (s : SiteTerm) (c : Constraint) (v : Visit) → AreMadeBelow v.demands s → MakesCalls v.demands → OnwardMade v.demands (asking s c v).demands
-asking_on s c v m h = record {
-  holds = record {
-    asked = λ e i. elim (in_either v.demands.constraints ((s, c) ∷ []) e i) [
-      | inl j ↦ h.asked e j
-      | inr j ↦ elim j [ inl q ↦ subst (λ (x : SiteTerm × Constraint). AreMadeBelow v.demands x.0) q m | inr n ↦ absurd n ]
-    ];
-    equal = h.equal;
-    impure = h.impure;
-  };
-  stays = λ u k. k;
-}
+asking_on s c v m h = grind (arith, common_steps, in_either)
 
 asking_all_on : (ss : List SiteTerm) (v : Visit) → ((s : SiteTerm) → In ss s → AreMadeBelow v.demands s) → MakesCalls v.demands → OnwardMade v.demands (asking_all ss v).demands
 asking_all_on [] v f h = no_step MakesCalls AreMadeBelow v.demands h
-asking_all_on (s ∷ ss) v f h =
-    let w = asking s is_present v in
-    let a = asking_on s is_present v (f s (inl refl)) h in
-    then_onward MakesCalls AreMadeBelow v.demands w.demands (asking_all ss w).demands a (asking_all_on ss w (λ u i. f u (inr i)) a.holds)
+asking_all_on (s ∷ ss) v f h = grind (arith, common_steps, asking_all_on ss, asking_on, then_onward)
 
 equated_on : (a b : SiteTerm) (v : Visit) → AreMadeBelow v.demands a → AreMadeBelow v.demands b → MakesCalls v.demands → OnwardMade v.demands (equated a b v).demands
-equated_on a b v m n h = record {
-  holds = record {
-    asked = h.asked;
-    equal = λ e i. elim (in_either v.demands.equalities ((a, b) ∷ []) e i) [
-      | inl j ↦ h.equal e j
-      | inr j ↦ elim j [ inl q ↦ subst (λ (x : SiteTerm × SiteTerm). AreMadeBelow v.demands x.0 × AreMadeBelow v.demands x.1) q (m, n) | inr x ↦ absurd x ]
-    ];
-    impure = h.impure;
-  };
-  stays = λ s k. k;
-}
+equated_on a b v m n h = grind (arith, common_steps, in_either)
 
 calling_on : (s : SiteTerm) (v : Visit) → AreMadeBelow v.demands s → MakesCalls v.demands → OnwardMade v.demands (calling s v).demands
-calling_on s v m h = record {
-  holds = record {
-    asked = h.asked;
-    equal = h.equal;
-    impure = λ u i. elim (in_either v.demands.impure (s ∷ []) u i) [ inl j ↦ h.impure u j | inr j ↦ elim j [ inl q ↦ subst (AreMadeBelow v.demands) q m | inr n ↦ absurd n ] ];
-  };
-  stays = λ u k. k;
-}
+calling_on s v m h = grind (arith, common_steps, in_either)
 
 iterating_on : (s : SiteTerm) (v : Visit) → MakesCalls v.demands → OnwardMade v.demands (iterating s v).demands
 iterating_on s v h = record { holds = record { asked = h.asked; equal = h.equal; impure = h.impure }; stays = λ u k. k }
@@ -194,12 +155,8 @@ calls_kept p = record {
   equates = λ a b v h m n. by_equating (λ w. OnwardMade v.demands w.demands) a b v (no_step MakesCalls AreMadeBelow v.demands h) (equated_on a b v m n h);
   asks = λ s c v f h m. asking_on s c v m h;
   asks_all = λ s v h m. asking_all_on (unwraps s) v (unwrapped_made (IsMadeBy v.demands) s m) h;
-  asks_call = λ t s v flags e f c n h m.
-      let call = extractor_call t s in
-      record { onward = asking_on call is_present v (c, m) h; site = (c, m) };
-  iterates_extractor = λ t s v flags b e f c n h m.
-      let call = extractor_call t s in
-      record { onward = iterating_on call v h; site = (c, m) };
+  asks_call = grind (arith, common_steps, asking_on);
+  iterates_extractor = grind (arith, common_steps, iterating_on);
   iterates_constructor = λ t i ss v flags b e f n m h. iterating_on (constructor_call t ss i) v h;
 }
 

@@ -4,13 +4,12 @@ use Rattle.std.proofs.Common.{◌≡◌, ℕ, suc, ◌==◌, true, Option, Some,
 use Rattle.std.proofs.lemmas.Grind.{common_steps}
 use Rattle.std.proofs.lemmas.Bool.{cond-true, and_parts}
 use Rattle.std.specs.Prelude.{IsTrue}
-use Rattle.model.specs.rules.Outcome.{then_option}
 use Rattle.model.specs.sites.Sites.{Constraint, SiteTerm, extractor_call, constructor_call, pick_of, variant_field, struct_field, SiteTerms, no_site_term, site_term_and}
 use Rattle.model.proofs.Elements.{some_is, none_some}
 use Rattle.model.proofs.Options.{then_some}
 use Rattle.laws_specs.specs.Words.{Denoted, variant_of, struct_of, DenotedList, denoted_and, denoted_list, is_formed, are_formed}
 use Rattle.laws_specs.specs.Specs.{Specs}
-use Rattle.laws_specs.specs.Conditions.{ToldContent, told, told_many, Valuation, as_denoted, denoted_at, denoted_at_each, is_of_parts, IsPartHeld, IsHeldAs, IsMetAs, is_told_formed, IsAnsweredAsSaid}
+use Rattle.laws_specs.specs.Conditions.{ToldContent, told, told_many, Valuation, denoted_at_each, is_of_parts, IsPartHeld, IsHeldAs, IsMetAs, is_told_formed, IsAnsweredAsSaid}
 
 -- 1. fields
 abbrev pub part_told : Option Denoted → Option ToldContent
@@ -30,14 +29,8 @@ completed f (variant_field s variant i) = variant_part variant i (completed f s)
 completed f (struct_field s i) = struct_part i (completed f s)
 completed f s = f s
 
-part_from : (o : Option Denoted) (h : ToldContent) → part_told o ≡ Some h → (x : Denoted) × (o ≡ Some x) × (h ≡ told x)
-part_from o h e = grind (arith, common_steps, none_some, some_is)
-
 part_held : (xs : DenotedList) (i : ℕ) (h : ToldContent) → part_told (slice_get (denoted_list xs) i) ≡ Some h → IsPartHeld xs i h
-part_held xs i h e = let a = part_from (slice_get (denoted_list xs) i) h e in record { part = a.0; there = a.1; held = a.2 }
-
-part_there : (xs : DenotedList) (i : ℕ) (h : ToldContent) → IsPartHeld xs i h → part_told (slice_get (denoted_list xs) i) ≡ Some h
-part_there xs i h a = ap part_told a.there ∙ ap Some (sym a.held)
+part_held xs i h e = grind (arith, none_some, some_is)
 
 pub variant_there : (ty variant : ℕ) (xs : DenotedList) (i : ℕ) → variant_part variant i (Some (told (variant_of ty variant xs))) ≡ part_told (slice_get (denoted_list xs) i)
 variant_there ty variant xs i = cond-true (variant == variant) (part_told (slice_get (denoted_list xs) i)) None (eq-eqb variant variant refl)
@@ -50,17 +43,9 @@ struct_back i o h e = grind (arith, common_steps, part_held, none_some)
 
 -- 2. where more is there, what was there is as it was
 module _ (f g : Valuation) (more : (s : SiteTerm) (h : ToldContent) → f s ≡ Some h → g s ≡ Some h) where
-  denoted_more : (s : SiteTerm) (x : Denoted) → denoted_at f s ≡ Some x → denoted_at g s ≡ Some x
-  denoted_more s x e = let a = then_some (f s) as_denoted x e in ap (λ o. then_option o as_denoted) (more s a.0 a.1) ∙ a.2
-
   pub each_more : (ss : SiteTerms) (xs : DenotedList) → denoted_at_each f ss ≡ Some xs → denoted_at_each g ss ≡ Some xs
   each_more no_site_term xs e = e
-  each_more (site_term_and s ss) xs e =
-      let a = then_some (denoted_at f s) (λ x. then_option (denoted_at_each f ss) (λ ys. Some (denoted_and x ys))) xs e in
-      let b = then_some (denoted_at_each f ss) (λ ys. Some (denoted_and a.0 ys)) xs a.2 in
-      ap (λ o. then_option o (λ x. then_option (denoted_at_each g ss) (λ ys. Some (denoted_and x ys)))) (denoted_more s a.0 a.1)
-      ∙ ap (λ o. then_option o (λ ys. Some (denoted_and a.0 ys))) (each_more ss b.0 b.1)
-      ∙ b.2
+  each_more (site_term_and s ss) xs e = grind (arith, common_steps, each_more ss, then_some)
 
   pub met_more : (specs : Specs) (s : SiteTerm) (c : Constraint) → IsMetAs specs f s c → IsMetAs specs g s c
   met_more specs s c h = grind (arith, common_steps)
@@ -76,12 +61,8 @@ part_formed xs i x h e = grind (arith, common_steps, none_some, some_is, and_par
 module _ (specs : Specs) (args : DenotedList) (f : Valuation) (held : (s : SiteTerm) (h : ToldContent) → f s ≡ Some h → IsHeldAs specs args f s h) where
   -- what was there stays
   pub stays : (s : SiteTerm) (h : ToldContent) → f s ≡ Some h → completed f s ≡ Some h
-  stays (variant_field s variant i) h e =
-      let a = held (variant_field s variant i) h e in
-      ap (variant_part variant i) (stays s (told (variant_of a.0 variant a.1)) a.2) ∙ variant_there a.0 variant a.1 i ∙ part_there a.1 i h a.3
-  stays (struct_field s i) h e =
-      let a = held (struct_field s i) h e in
-      ap (struct_part i) (stays s (told (struct_of a.0 a.1)) a.2) ∙ part_there a.1 i h a.3
+  stays (variant_field s variant i) h e = grind (arith, common_steps, stays s, variant_there, held (variant_field s variant i) h e)
+  stays (struct_field s i) h e = grind (arith, common_steps, stays s, held (struct_field s i) h e)
   stays s h e = grind (arith, common_steps)
 
   kept : (s : SiteTerm) (h : ToldContent) → f s ≡ Some h → IsHeldAs specs args (completed f) s h

@@ -33,10 +33,6 @@ there_within [] i n e l = absurd (omega (arith, e, l))
 there_within (x ∷ xs) zero n e l = (x, refl)
 there_within (x ∷ xs) (suc i) n e l = there_within xs i (length xs) refl (omega (arith, e, l))
 
--- a completed valuation gives equal sites equal fields
-field_of_equal : (f : Valuation) (k : Constraint) (a b : SiteTerm) (i : ℕ) (x y : SiteTerm) → completed f a ≡ completed f b → slice_get (field_terms k a) i ≡ Some x → slice_get (field_terms k b) i ≡ Some y → completed f x ≡ completed f y
-field_of_equal f k a b i x y e p q = grind (arith, common_steps, first_field, none_some)
-
 -- what a constraint says of a site it says of what the site stands for
 moved_met : (specs : Specs) (f : Valuation) (a b : SiteTerm) (c : Constraint) → f a ≡ f b → IsMetAs specs f a c → IsMetAs specs f b c
 moved_met specs f a b c e h = grind (arith, common_steps)
@@ -51,11 +47,7 @@ module _ (d : Demands) (made : MakesCalls d) where
   joined_calls itself = (λ h. h, λ h. h)
   joined_calls (turned j) = let r = joined_calls j in (r.1, r.0)
   joined_calls (chained j l) = let r = joined_calls j in let q = joined_calls l in (λ h. q.0 (r.0 h), λ h. r.1 (q.1 h))
-  joined_calls (at_field {a = a} {b = b} {x = x} {y = y} {k = k} i j l c e g) =
-      let r = joined_calls j in
-      let u = field_calls (IsMadeBy d) k a i x e in
-      let w = field_calls (IsMadeBy d) k b i y g in
-      (λ h. w.0 (r.0 (u.1 h)), λ h. u.0 (r.1 (w.1 h)))
+  joined_calls (at_field {a = a} {b = b} {x = x} {y = y} {k = k} i j l c e g) = grind (arith, common_steps, joined_calls j, field_calls)
 
   -- of different sites that must be equal both have their calls made
   pub joined_made : {a b : SiteTerm} → Joined d a b → (a ≡ b) ⊎ (AreMadeBelow d a × AreMadeBelow d b)
@@ -63,11 +55,7 @@ module _ (d : Demands) (made : MakesCalls d) where
   joined_made itself = inl refl
   joined_made (turned j) = elim (joined_made j) [ inl e ↦ inl (sym e) | inr m ↦ inr (m.1, m.0) ]
   joined_made (chained {a = a} {b = b} {c = c} j l) = grind (arith, common_steps, joined_made j, joined_made l)
-  joined_made (at_field {a = a} {b = b} {x = x} {y = y} {k = k} i j l c e g) =
-      elim (joined_made j) [
-        | inl q ↦ inl (some_is x y (sym e ∙ ap (λ u. slice_get (field_terms k u) i) q ∙ g))
-        | inr m ↦ inr ((field_calls (IsMadeBy d) k a i x e).0 m.0, (field_calls (IsMadeBy d) k b i y g).0 m.1)
-      ]
+  joined_made (at_field {a = a} {b = b} {x = x} {y = y} {k = k} i j l c e g) = grind (arith, common_steps, joined_made j, some_is, field_calls)
 
 -- 3. what is assumed of a source rule
 module _ (p : Program) (r : TypedRule) (specs : Specs) (args : DenotedList) (f : Valuation) (a : IsAssumed p specs (condition p r) args f) (well : IsWellTypedProgram p) (typed : IsWellTypedRule p r) where
@@ -103,7 +91,7 @@ module _ (p : Program) (r : TypedRule) (specs : Specs) (args : DenotedList) (f :
   joined_same itself = refl
   joined_same (turned j) = sym (joined_same j)
   joined_same (chained j l) = joined_same j ∙ joined_same l
-  joined_same (at_field {a = s} {b = u} {x = x} {y = y} {k = c} i j l m e q) = field_of_equal f c s u i x y (joined_same j) e q
+  joined_same (at_field {a = s} {b = u} {x = x} {y = y} {k = c} i j l m e q) = grind (arith, joined_same j, first_field, none_some)
 
   -- a field that a demanded site has is there
   field_told : (c : Constraint) (t s : SiteTerm) (i : ℕ) (x : SiteTerm) → Contains d.constraints (t, c) → g t ≡ g s → slice_get (field_terms c s) i ≡ Some x → (y : Denoted) × (g x ≡ Some (told y))

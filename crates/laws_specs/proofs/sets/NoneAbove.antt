@@ -2,6 +2,7 @@
 use Rattle.std.proofs.Common.{◌≡◌, ◌≢◌, ◌↔◌, ℕ, ℤ, ◌==◌, ◌<ℤ◌, ◌≤ℤ◌, ◌≤◌, length, Bool, true, false, List, [], flat_map, Some, is_some, slice_get, Contains, refl, sym, subst, ◌∙◌, inl, inr, arith, eqb-true, eq-eqb}
 use Rattle.std.proofs.lemmas.Bool.{cases_Bool, false≢true}
 use Rattle.std.proofs.lemmas.Int.{ints}
+use Rattle.std.proofs.lemmas.Grind.{common_steps}
 use Rattle.model.specs.rules.Values.{Value}
 use Rattle.model.specs.rules.Meaning.{Meaning}
 use Rattle.model.specs.rules.Choice.{choice}
@@ -110,8 +111,7 @@ module _ (p : Program) (t : ℕ) (set : SiteSet) (well : IsWellTypedProgram p) (
                 subst (λ x. IsMet m args [] x k) n.2
                 (is_met_at (tree n.0) k (constraints (tree n.0) k (map_in (λ (e : ℕ × Constraint). (tree e.0, e.1)) r.constraints (n.0, k) (in_from_contains r.constraints (n.0, k) n.1)))));
             classes = λ class u v l i j.
-                (let n = s.is.classes.all_joined class u v l i j in
-                subst (λ x. AreEqual m args [] x v) n.3 (subst (AreEqual m args [] (tree n.0)) n.4 (members_equal n.0 n.1 n.2)));
+                (grind (arith, common_steps, members_equal, s.is.classes.all_joined class u v l i j));
           })
 
       matched : is_some (matches p m b.rule args) ≡ true

@@ -1,9 +1,9 @@
 -- The numbers of a rule of a set: what stands at and below a number is below its tree, and a class has two members at least.
-use Rattle.std.proofs.Common.{◌≡◌, ◌≢◌, ℕ, zero, suc, ◌==◌, ◌≤◌, not, Bool, true, false, List, [], ◌∷◌, ◌++◌, length, map, filter, flat_map, Option, Some, None, slice_get, refl, sym, subst, ◌∙◌, inl, inr, arith, eqb-true, eq-eqb}
+use Rattle.std.proofs.Common.{◌≡◌, ◌≢◌, ℕ, zero, suc, ◌==◌, ◌≤◌, not, Bool, true, List, [], ◌∷◌, ◌++◌, length, map, filter, flat_map, Option, Some, None, refl, sym, subst, ◌∙◌, inl, inr, arith, eqb-true, eq-eqb}
 use Rattle.std.proofs.lemmas.Grind.{common_steps}
 use Rattle.std.proofs.lemmas.Bool.{cases_Bool, and_parts, and_from, false≢true}
 use Rattle.model.specs.lists.Names.{IsDistinct}
-use Rattle.model.specs.sites.Sites.{Site, sources_of, sources_at, SiteTerm, each_term, layer, layer_at, unfold_site}
+use Rattle.model.specs.sites.Sites.{Site, sources_of, sources_at, SiteTerm, each_term, layer, unfold_site}
 use Rattle.model.specs.trees.Places.{is_in, joins_in, below, all_below}
 use Rattle.model.proofs.DistinctJoined.{distinct_tail, not_in_tail}
 use Rattle.model.proofs.Elements.{In, contains_from_in, from_flat_map, in_map, map_in, in_flat_map, in_filter, filter_from, passed_filter, any_in, in_any}
@@ -24,17 +24,11 @@ module _ (P : SiteTerm → Type 0) (sites : List Site) (first : SourcesFirst sit
   each_source (s ∷ ss) h a (inl e) = subst (λ n. CallsAre P (at n)) e h.0
   each_source (s ∷ ss) h a (inr i) = each_source ss h.1 a i
 
-  only_source : (s a : ℕ) → CallsAre P (at s) → In (s ∷ []) a → CallsAre P (at a)
-  only_source s a h i = grind (arith, common_steps)
-
   layer_sources : (b : Site) → CallsAre P (layer at b) → (a : ℕ) → In (sources_of b) a → CallsAre P (at a)
-  layer_sources b h a i = grind (arith, common_steps, only_source, each_source)
-
-  optional_sources : (o : Option Site) → CallsAre P (layer_at at o) → (a : ℕ) → In (sources_in o) a → CallsAre P (at a)
-  optional_sources o h a i = grind (arith, common_steps, layer_sources)
+  layer_sources b h a i = grind (arith, common_steps, each_source)
 
   source_calls : (s : ℕ) → CallsAre P (at s) → (a : ℕ) → In (sources_at sites s) a → CallsAre P (at a)
-  source_calls s h a i = optional_sources (slice_get sites s) (subst (CallsAre P) (unfolds sites first s) h) a i
+  source_calls s h a i = grind (arith, unfolds, layer_sources)
 
   calls_below : (n s : ℕ) → CallsAre P (at s) → (u : ℕ) → In (below n sites s) u → CallsAre P (at u)
   calls_below zero s h u i = absurd i
@@ -69,12 +63,8 @@ another_member classes once (x ∷ (y ∷ rest)) c many a i =
     ]
 another_member classes once a c many h i = grind (arith, common_steps)
 
--- the class that joins two numbers
-is_member : (class : List ℕ) (a : ℕ) → is_in a class ≡ true → In class a
-is_member class a h = let m = in_any (λ y. y == a) class h in subst (In class) (eqb-true m.0 a m.2) m.1
-
 pub joining_class : (classes : List (List ℕ)) (a b : ℕ) → joins_in classes a b ≡ true → (class : List ℕ) × In classes class × In class a × In class b
-joining_class classes a b h = grind (arith, common_steps, in_any, and_parts, is_member)
+joining_class classes a b h = grind (arith, common_steps, in_any, and_parts)
 
 -- a pair of a class: two different members
 pub members_pair : (class : List ℕ) (a b : ℕ) → In class a → In class b → a ≢ b → In (pairs_of class) (a, b)
@@ -83,8 +73,7 @@ members_pair class a b i j n =
     (map_in (λ y. (a, y)) (filter (λ y. not (a == y)) class) b (filter_from (λ y. not (a == y)) class b j (passes (a == b) refl)))
   where
     passes : (c : Bool) → (a == b) ≡ c → not c ≡ true
-    passes true e = absurd (n (eqb-true a b e))
-    passes false e = refl
+    passes c e = grind (arith, common_steps)
 
 pub pair_members : (class : List ℕ) (e : ℕ × ℕ) → In (pairs_of class) e → In class e.0 × In class e.1 × (e.0 ≢ e.1)
 pair_members class e i = grind (arith, common_steps, from_flat_map, in_map, passed_filter, in_filter, eq-eqb)

@@ -1,5 +1,5 @@
 -- Under what a rule's condition assumes, a site that is asked to be a variant or a struct stands for one with as many fields as its type has.
-use Rattle.std.proofs.Common.{◌≡◌, ℕ, ◌+◌, ◌==◌, ◌&&◌, not, Bool, true, false, List, [], ◌∷◌, length, Some, None, slice_get, if◌then◌else◌, refl, sym, ap, subst, ◌∙◌, arith, eq-eqb}
+use Rattle.std.proofs.Common.{◌≡◌, ℕ, ◌+◌, ◌==◌, ◌&&◌, not, Bool, true, false, List, [], ◌∷◌, length, Some, None, slice_get, refl, sym, ap, subst, ◌∙◌, arith, eq-eqb}
 use Rattle.std.proofs.lemmas.Grind.{common_steps}
 use Rattle.std.proofs.lemmas.Bool.{and_parts, and_from}
 use Rattle.model.specs.lists.Tables.{TermEntry}
@@ -23,7 +23,7 @@ use Rattle.laws_sites.proofs.WithTypes.{Facts, AtEachTyped, ValuesAtEach, IsGive
 use Rattle.laws_trees.proofs.Shapes.{literal_without_parts}
 use Rattle.laws_specs.specs.Words.{Denoted, a_truth, variant_of, struct_of, DenotedList, no_denoted, denoted_and, denoted_list}
 use Rattle.laws_specs.specs.Specs.{Specs}
-use Rattle.laws_specs.specs.Conditions.{ToldContent, told, told_parts, told_nothing, told_just, told_many, Valuation, as_denoted, denoted_at, denoted_at_each, told_outputs, answered_as, IsPartHeld, are_of_entries, Condition, is_impure_call, IsAssumed}
+use Rattle.laws_specs.specs.Conditions.{ToldContent, told, told_parts, told_just, Valuation, as_denoted, denoted_at, denoted_at_each, told_outputs, answered_as, IsPartHeld, are_of_entries, Condition, is_impure_call, IsAssumed}
 use Rattle.laws_specs.proofs.Valuations.{told_same}
 use Rattle.laws_specs.proofs.sets.CallsMade.{CallsAre, AllCallsAre}
 use Rattle.laws_specs.proofs.sets.Shapes.{is_shaped, are_shaped, plain_shaped, of_type_shaped, of_types_shaped, variant_fields, struct_fields, field_shaped, as_many_fields}
@@ -171,11 +171,7 @@ module _ (k : Assuming) where
       (and_from (is_shaped p.types ty b.0) (are_shaped p.types (Some tys) c.0) (h.0 calls.0 b.0 (d.1 ∙ ap Some (is_told d.0 b.0 d.2))) (values_shaped ss tys c.0 h.1 calls.1 c.1))
     where
       is_told : (g : ToldContent) (x : Denoted) → as_denoted g ≡ Some x → g ≡ told x
-      is_told (told y) x e = ap told (some_is y x e)
-      is_told (told_parts ys) x e = absurd (cc)
-      is_told told_nothing x e = absurd (cc)
-      is_told (told_just g) x e = absurd (cc)
-      is_told told_many x e = absurd (cc)
+      is_told g x e = grind (arith, common_steps, some_is)
   values_shaped ss tys xs h calls e = grind (arith, common_steps, some_is)
 
   variant_shaped : (ty i : ℕ) (ss : SiteTerms) (tys : List ℕ) → variant_types (slice_get p.types ty) i ≡ Some tys → ValuesAtEach facts ss tys → IsShapedAt (variant_made ty i ss) ty
@@ -216,13 +212,9 @@ module _ (k : Assuming) where
       let call = constructor_call t ss n in
       result_shaped t ty x e (a.typed_picks call (told x) (contains_from_in k.condition.made call calls.0.0) calls.0.1 q x refl)
 
-  result_at : (partial multi : Bool) (t n ty : ℕ) (ss : SiteTerms) → term_results (slice_get p.terms t) ≡ ty ∷ []
-      → IsShapedAt (if partial then some_part (constructor_call t ss n) else (if multi then pick_of (constructor_call t ss n) else constructor_call t ss n)) ty
-  result_at partial multi t n ty ss e = grind (arith, common_steps, answer_shaped, pick_shaped, call_shaped)
-
   call_given : (pure multi partial rec : Bool) (t ty : ℕ) (ss : SiteTerms) (v : Visit) → term_results (slice_get p.terms t) ≡ ty ∷ [] → AreAsked v.demands
       → IsGiven facts (visit_call (record { pure = pure; multi = multi; partial = partial; rec = rec }) t ss v) ty
-  call_given pure multi partial rec t ty ss v e h = grind (arith, common_steps, result_at)
+  call_given pure multi partial rec t ty ss v e h = grind (arith, common_steps, answer_shaped, pick_shaped, call_shaped)
 
   term_given : (t : ℕ) (e : TermEntry) → slice_get p.terms t ≡ Some e → (n : Kind) → kind p t ≡ n → kind_of e ≡ n → (w : ValuedAll) → ValuesAtEach facts w.sites e.arg_tys → AreAsked w.visit.demands → IsGiven facts (visit_term n t w) e.ret_ty
   term_given t e there (a_variant ty i) q m w h g = grind (arith, common_steps, variant_shaped ty i w.sites e.arg_tys, variant_takes, variant_shaped)

@@ -1,12 +1,12 @@
 -- Values with as many fields as their types have: of what types without parts stand for nothing is said.
-use Rattle.std.proofs.Common.{◌≡◌, ℕ, suc, ◌==◌, ◌&&◌, ◌||◌, not, Bool, true, false, List, [], ◌∷◌, length, Option, Some, None, slice_get, refl, ap, inl, inr, arith}
+use Rattle.std.proofs.Common.{◌≡◌, ℕ, suc, ◌==◌, ◌&&◌, ◌||◌, not, Bool, true, false, List, [], ◌∷◌, length, Option, Some, slice_get, refl, ap, inl, inr, arith}
 use Rattle.std.proofs.lemmas.Grind.{common_steps}
-use Rattle.std.proofs.lemmas.Bool.{and_parts, and_from, false≢true}
+use Rattle.std.proofs.lemmas.Bool.{and_parts, and_from}
 use Rattle.model.specs.lists.Tables.{TypeEntry}
-use Rattle.model.specs.rules.Values.{is_truth_type, variant_types, struct_types}
+use Rattle.model.specs.rules.Values.{variant_types, struct_types}
 use Rattle.model.specs.sites.Serves.{is_type_with_parts}
 use Rattle.model.proofs.Elements.{or_split, or_left, or_right, some_is, none_some}
-use Rattle.laws_specs.specs.Words.{Denoted, a_truth, an_integer, a_word, variant_of, struct_of, DenotedList, no_denoted, denoted_and, denoted_list, is_plain}
+use Rattle.laws_specs.specs.Words.{Denoted, variant_of, struct_of, DenotedList, no_denoted, denoted_and, denoted_list, is_plain}
 use Rattle.laws_specs.specs.Specs.{Specs, sort_of}
 use Rattle.laws_specs.specs.Conditions.{is_modelled_as, is_of_atoms, is_of_type, are_of_types}
 
@@ -22,9 +22,6 @@ abbrev mutual
   are_shaped types _ _ = false
 
 -- 1. types
-truth_without_parts : (o : Option TypeEntry) → is_truth_type o ≡ true → is_type_with_parts o ≡ false
-truth_without_parts o h = grind (arith, common_steps)
-
 variants_have_parts : (o : Option TypeEntry) (i : ℕ) (tys : List ℕ) → variant_types o i ≡ Some tys → is_type_with_parts o ≡ true
 variants_have_parts o i tys e = grind (arith, common_steps, none_some)
 
@@ -37,7 +34,7 @@ no_atom parts plain e h = grind (arith, common_steps)
 
 -- an atom with parts is of a type without parts
 atoms_plain : (types : List TypeEntry) (specs : Specs) (ty : ℕ) (x : Denoted) → is_plain x ≡ false → is_of_atoms types specs ty x ≡ true → is_type_with_parts (slice_get types ty) ≡ false
-atoms_plain types specs ty x p h = grind (arith, common_steps, and_parts (is_modelled_as (sort_of specs ty) x), or_split, truth_without_parts, and_parts, no_atom)
+atoms_plain types specs ty x p h = grind (arith, common_steps, and_parts (is_modelled_as (sort_of specs ty) x), or_split, and_parts, no_atom)
 
 mutual
   pub of_type_shaped : (types : List TypeEntry) (specs : Specs) (ty : ℕ) (x : Denoted) → is_of_type types specs ty x ≡ true → is_shaped types ty x ≡ true
@@ -57,26 +54,17 @@ mutual
             let a = and_parts (t == ty) (are_of_types types specs parts xs) k in
             or_right (not (is_type_with_parts (slice_get types ty))) ((t == ty) && are_shaped types parts xs) (and_from (t == ty) (are_shaped types parts xs) a.0 (of_types_shaped types specs parts xs a.1))
       ]
-  of_type_shaped types specs ty (a_truth b) h = refl
-  of_type_shaped types specs ty (an_integer z) h = refl
-  of_type_shaped types specs ty (a_word w n) h = refl
+  of_type_shaped types specs ty _ h = refl
 
   pub of_types_shaped : (types : List TypeEntry) (specs : Specs) (tys : Option (List ℕ)) (xs : DenotedList) → are_of_types types specs tys xs ≡ true → are_shaped types tys xs ≡ true
-  of_types_shaped types specs (Some []) no_denoted h = refl
   of_types_shaped types specs (Some (ty ∷ tys)) (denoted_and x xs) h =
       let a = and_parts (is_of_type types specs ty x) (are_of_types types specs (Some tys) xs) h in
       and_from (is_shaped types ty x) (are_shaped types (Some tys) xs) (of_type_shaped types specs ty x a.0) (of_types_shaped types specs (Some tys) xs a.1)
-  of_types_shaped types specs (Some []) (denoted_and x xs) h = absurd (false≢true h)
-  of_types_shaped types specs (Some (ty ∷ tys)) no_denoted h = absurd (false≢true h)
-  of_types_shaped types specs None no_denoted h = absurd (false≢true h)
-  of_types_shaped types specs None (denoted_and x xs) h = absurd (false≢true h)
+  of_types_shaped types specs tys xs h = grind (arith, common_steps)
 
 -- 3. fields
-no_parts_left : (b c : Bool) → b ≡ true → (not b || c) ≡ true → c ≡ true
-no_parts_left b c e h = grind (arith, common_steps)
-
 pub variant_fields : (types : List TypeEntry) (ty t i : ℕ) (xs : DenotedList) (tys : List ℕ) → variant_types (slice_get types ty) i ≡ Some tys → is_shaped types ty (variant_of t i xs) ≡ true → are_shaped types (Some tys) xs ≡ true
-variant_fields types ty t i xs tys e h = grind (arith, common_steps, no_parts_left, variants_have_parts, and_parts)
+variant_fields types ty t i xs tys e h = grind (arith, common_steps, variants_have_parts, and_parts)
 
 pub struct_fields : (types : List TypeEntry) (ty t : ℕ) (xs : DenotedList) (tys : List ℕ) → struct_types (slice_get types ty) ≡ Some tys → is_shaped types ty (struct_of t xs) ≡ true → are_shaped types (Some tys) xs ≡ true
 struct_fields types ty t xs tys e h = grind (arith, common_steps)
