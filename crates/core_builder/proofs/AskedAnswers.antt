@@ -1,13 +1,14 @@
 -- Calls that are asked to answer, in whatever order and however often, but for those that were asked.
-use Rattle.std.proofs.Common.{◌≡◌, ◌||◌, ◌⊎◌, ℕ, add-one, ◌+◌, ◌<◌, ◌≤◌, All, get_or, take, length, arith, if◌then◌else◌, List, [], ◌∷◌, ◌++◌, map, Option, Some, None, Contains, refl, sym, ap, ◌∙◌, subst, inl, inr}
-use Rattle.std.proofs.lemmas.Bool.{cases_Bool, cond-true, cond-false}
+use Rattle.std.proofs.Common.{◌≡◌, ◌⊎◌, ℕ, add-one, ◌+◌, ◌<◌, ◌≤◌, All, get_or, take, length, arith, if◌then◌else◌, List, [], ◌∷◌, ◌++◌, map, Option, Some, None, Contains, refl, sym, ap, ◌∙◌, subst, inl, inr}
+use Rattle.std.proofs.lemmas.Bool.{cases_Bool}
 use Rattle.std.proofs.lemmas.List.{append_assoc, append-nil, map-append, take_all}
 use Rattle.std.proofs.lemmas.List.Elements.{Contains-append_left, Contains-append_right, Contains-append_cases}
 use Rattle.std.proofs.Math.Seq.{take-suc}
+use Rattle.std.proofs.lemmas.Grind.{common_steps}
 use Rattle.laws_sites.proofs.FollowingDemands.{constraint_there}
 use Rattle.core_syntax.specs.Stable.{Members}
 use Rattle.model.specs.sites.Sites.{Constraint, is_present, SiteTerm, unfold_site}
-use Rattle.model.specs.visits.Demands.{site_term_eq, has_site, Visit, asking, asking_all, unwraps}
+use Rattle.model.specs.visits.Demands.{has_site, Visit, asking, asking_all, unwraps}
 use Rattle.model.specs.sites.Closure.{conflict_with, conflicts_met, constraint_of, with_constraints, before_closing}
 use Rattle.model.proofs.Elements.{In, in_from_contains, contains_from_in, in_either, none_some}
 use Rattle.model.proofs.Members.{from_map, in_map}
@@ -29,22 +30,12 @@ answering us v = record v { demands = record v.demands { constraints = v.demands
 
 asks_all : (us : List SiteTerm) (v : Visit) → asking_all us v ≡ answering us v
 asks_all [] v = sym (λ i. record v { demands = record v.demands { constraints = append-nil v.demands.constraints i } })
-asks_all (s ∷ ss) v =
-    asks_all ss (asking s is_present v)
-    ∙ (λ i. record v { demands = record v.demands { constraints = append_assoc v.demands.constraints ((s, is_present) ∷ []) (presents ss) i } })
+asks_all (s ∷ ss) v = grind (arith, common_steps, asks_all ss (asking s is_present v), append_assoc v.demands.constraints ((s, is_present) ∷ []) (presents ss))
 
 -- 2. what sites are asked
 of_presents : (us : List SiteTerm) (u : SiteTerm) → constraint_of (presents us) u ≡ (if has_site us u then Some is_present else None)
 of_presents [] u = refl
-of_presents (s ∷ ss) u =
-    elim (cases_Bool (site_term_eq s u)) [
-      | inl t ↦
-          cond-true (site_term_eq s u) (Some is_present) (constraint_of (presents ss) u) t
-          ∙ ap (λ b. if (b || has_site ss u) then Some is_present else None) (sym t)
-      | inr f ↦
-          cond-false (site_term_eq s u) (Some is_present) (constraint_of (presents ss) u) f ∙ of_presents ss u
-          ∙ ap (λ b. if (b || has_site ss u) then Some is_present else None) (sym f)
-    ]
+of_presents (s ∷ ss) u = grind (arith, common_steps, of_presents ss u)
 
 -- some of these sites are asked to answer, and the others were before
 record AskTheOthers (cs : List (SiteTerm × Constraint)) (us ws : List SiteTerm) : Type 0 where
@@ -60,11 +51,7 @@ module _ (cs : List (SiteTerm × Constraint)) (us ws : List SiteTerm) (h : AskTh
               | inl i ↦ t ∙ sym (in_has ws u (in_from_contains ws u i))
               | inr i ↦ let r = constraint_there cs u is_present (in_from_contains cs (u, is_present) i) in absurd (none_some r.0 (sym none ∙ r.1))
             ]
-        | inr f ↦
-            elim (cases_Bool (has_site ws u)) [
-              | inl t ↦ in_has us u (in_from_contains us u (h.few u (contains_from_in ws u (has_in ws u t)))) ∙ sym t
-              | inr g ↦ f ∙ sym g
-            ]
+        | inr f ↦ grind (arith, common_steps, in_has us u, in_from_contains us u, contains_from_in ws u, has_in ws u)
       ]
 
   asked_same : (u : SiteTerm) → constraint_of (with_constraints [] (cs ++ presents us)) u ≡ constraint_of (with_constraints [] (cs ++ presents ws)) u
@@ -72,11 +59,7 @@ module _ (cs : List (SiteTerm × Constraint)) (us ws : List SiteTerm) (h : AskTh
       firsts_same (cs ++ presents us) [] u ∙ of_both cs (presents us) u ∙ either_same ∙ sym (of_both cs (presents ws) u) ∙ sym (firsts_same (cs ++ presents ws) [] u)
     where
       either_same : either_of (constraint_of cs u) (constraint_of (presents us) u) ≡ either_of (constraint_of cs u) (constraint_of (presents ws) u)
-      either_same =
-          elim (constraint_of cs u) as (λ o. constraint_of cs u ≡ o → either_of o (constraint_of (presents us) u) ≡ either_of o (constraint_of (presents ws) u)) [
-            | None ↦ λ e. of_presents us u ∙ ap (λ b. if b then Some is_present else None) (has_same u e) ∙ sym (of_presents ws u)
-            | Some b ↦ λ e. refl
-          ] refl
+      either_same = grind (arith, common_steps, either_of, of_presents us u, has_same u, of_presents ws u)
 
   asked_too : (u : SiteTerm) → Contains (cs ++ presents ws) (u, is_present) → Contains (cs ++ presents us) (u, is_present)
   asked_too u i =
@@ -89,8 +72,7 @@ module _ (cs : List (SiteTerm × Constraint)) (us ws : List SiteTerm) (h : AskTh
 
 -- 3. no conflicts are met, where nothing else is asked of them
 agrees : (o : Option Constraint) → ((c : Constraint) → o ≡ Some c → c ≡ is_present) → conflict_with o is_present ≡ []
-agrees None h = refl
-agrees (Some c) h = ap (λ b. conflict_with (Some b) is_present) (h c refl)
+agrees o h = grind (arith, common_steps)
 
 no_conflicts : (us : List SiteTerm) (cs : List (SiteTerm × Constraint)) → ((s : SiteTerm) (c : Constraint) → In us s → In cs (s, c) → c ≡ is_present)
     → conflicts_met [] (cs ++ presents us) ≡ conflicts_met [] cs
@@ -98,11 +80,7 @@ no_conflicts [] cs h = ap (conflicts_met []) (append-nil cs)
 no_conflicts (s ∷ ss) cs h =
     ap (conflicts_met []) (sym (append_assoc cs ((s, is_present) ∷ []) (presents ss)))
     ∙ no_conflicts ss (cs ++ (s, is_present) ∷ [])
-    (λ t c i j.
-    elim (in_either cs ((s, is_present) ∷ []) (t, c) j) [
-      | inl k ↦ h t c (inr i) k
-      | inr k ↦ elim k [ inl e ↦ ap (λ (x : SiteTerm × Constraint). x.1) (sym e) | inr n ↦ absurd n ]
-    ])
+    (λ t c i j. grind (arith, common_steps, in_either cs ((s, is_present) ∷ []) (t, c) j))
     ∙ conflicts_push cs [] (s, is_present)
     ∙ ap (λ l. conflicts_met [] cs ++ l) (agrees (constraint_of cs s) (λ c e. h s c (inl refl) (found_constraint cs s c e)))
     ∙ append-nil (conflicts_met [] cs)

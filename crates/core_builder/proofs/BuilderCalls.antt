@@ -1,17 +1,16 @@
 -- A constructor's call by a builder, step by step.
-use Rattle.std.proofs.Common.{◌≡◌, ℕ, suc, ◌<◌, Bool, true, false, if◌then◌else◌, List, [], ◌∷◌, All, Contains, refl, sym, ap, ◌∙◌, subst}
+use Rattle.std.proofs.Common.{◌≡◌, ℕ, suc, ◌<◌, Bool, false, if◌then◌else◌, List, [], ◌∷◌, All, Contains, refl, sym, ap, ◌∙◌, subst, arith}
 use Rattle.std.specs.Prelude.{length, map, Result, IfOk, IfErr}
-use Rattle.std.proofs.lemmas.Result.{MatchResult-from_both}
 use Rattle.core_types.specs.declared.ids.TypeId.{TypeId}
 use Rattle.core_typed.specs.VisitAnswers.{typed_inputs}
 use Rattle.core_rule_sets.proofs.SitesAdded.{weaker_ok}
-use Rattle.std.proofs.lemmas.Bool.{cond-true, cond-false}
 use Rattle.std.proofs.lemmas.List.{append-nil}
+use Rattle.std.proofs.lemmas.Grind.{common_steps}
 use Rattle.model.specs.lists.Tables.{Flags}
 use Rattle.model.specs.sites.Sites.{SiteTerm, SiteTerms, constructor_call, each_term, pick_of, some_part, unfold_site}
 use Rattle.model.specs.visits.Demands.{Visit, Valued, valued, call_result, call_sites, calling, iterating, making, visit_call, where_multi, value_made as value_made_of}
 use Rattle.core_syntax.specs.declared.visit_fault.VisitFault.{VisitFault}
-use Rattle.core_builder.specs.VisitedSites.{EndsBefore, GoesTo, HaveSites, IsNextCall, IsSiteOf, BuilderStandsAt, MakesSite, MakesValue, ValuesTo, GivesValue, built_sites, call_number, input_ids, input_terms, value_sites}
+use Rattle.core_builder.specs.VisitedSites.{EndsBefore, GoesTo, HaveSites, IsNextCall, IsSiteOf, BuilderStandsAt, MakesSite, MakesValue, ValuesTo, GivesValue, built_sites, input_ids, input_terms, value_sites}
 use Rattle.core_builder.specs.declared.ruleset_builder.RuleSetBuilder.{RuleSetBuilder}
 use Rattle.core_builder.proofs.CallNumbers.{result_number}
 use Rattle.core_builder.proofs.BuilderFields.{making_twice, goes_further, site_stays, ends_later}
@@ -21,9 +20,7 @@ below_all n xs w a c = subst (λ x. x < n) c.2 (w c.0 a c.1)
 
 sites_by : (p m : Bool) (call : SiteTerm) → call ∷ (if p then some_part call ∷ [] else (if m then pick_of call ∷ [] else []))
     ≡ (if p then call ∷ (some_part call ∷ []) else (if m then call ∷ (pick_of call ∷ []) else call ∷ []))
-sites_by true m call = refl
-sites_by false true call = refl
-sites_by false false call = refl
+sites_by p m call = grind (arith, common_steps)
 
 module _ (flags : Flags) (call : SiteTerm) (v : Visit) where
   -- the visit once what the call gives is made, and once a multi call is gone over
@@ -42,27 +39,16 @@ module _ (flags : Flags) (call : SiteTerm) (v : Visit) where
 -- the call by its number among the rule's calls
 called_same : (flags : Flags) (t : ℕ) (args : SiteTerms) (v : Visit) (pure : Bool) (i : ℕ) → flags.pure ≡ pure → i ≡ (if pure then 0 else suc v.impure_calls)
     → valued (call_result flags (constructor_call t args i)) (Called flags (constructor_call t args i) v pure) ≡ visit_call flags t args v
-called_same flags t args v true i is number =
-    ap (λ k. valued (call_result flags (constructor_call t args k)) (Over flags (constructor_call t args k) v)) number
-    ∙ ap (λ w. valued (call_result flags (constructor_call t args 0)) (where_multi flags (constructor_call t args 0) w)) (value_made flags (constructor_call t args 0) v)
-    ∙ sym (cond-true flags.pure _ _ is)
-called_same flags t args v false i is number =
-    let call = constructor_call t args (suc v.impure_calls) in
-    ap (λ k. valued (call_result flags (constructor_call t args k)) (calling (call_result flags (constructor_call t args k)) (Over flags (constructor_call t args k) v))) number
-    ∙ ap (λ w. valued (call_result flags call) (calling (call_result flags call) (where_multi flags call w))) (value_made flags call v)
-    ∙ sym (cond-false flags.pure _ _ is)
+called_same flags t args v pure i is number = grind (arith, common_steps, value_made flags (constructor_call t args 0) v)
 
 over_makes : (m : Bool) (call : SiteTerm) (w : Visit) → (if m then iterating call w else w).demands.made ≡ w.demands.made
-over_makes true call w = refl
-over_makes false call w = refl
+over_makes m call w = grind (arith, common_steps)
 
 over_calls : (m : Bool) (call : SiteTerm) (w : Visit) → (if m then iterating call w else w).impure_calls ≡ w.impure_calls
-over_calls true call w = refl
-over_calls false call w = refl
+over_calls m call w = grind (arith, common_steps)
 
 called_makes : (pure : Bool) (u : SiteTerm) (w : Visit) → (if pure then w else calling u w).demands.made ≡ w.demands.made
-called_makes true u w = refl
-called_makes false u w = refl
+called_makes pure u w = grind (arith, common_steps)
 
 module _ (before : List SiteTerm) (old : RuleSetBuilder) (v : Visit) (flags : Flags) (pure : Bool) (is : flags.pure ≡ pure) (t : ℕ) (args : SiteTerms) (i : ℕ) (h : BuilderStandsAt before old v)
     (own : i ≡ (if pure then 0 else suc (length old.impure.items))) where
@@ -77,9 +63,7 @@ module _ (before : List SiteTerm) (old : RuleSetBuilder) (v : Visit) (flags : Fl
 
   -- an impure call is the next one
   next_call : (b : RuleSetBuilder) (n : ℕ) → IsSiteOf b (call_result flags Call) n → pure ≡ false → IsNextCall b (Over flags Call v) n
-  next_call b n site f =
-      ap call_number site.number ∙ result_number flags Call ∙ own ∙ cond-false pure 0 (suc (length old.impure.items)) f ∙ ap suc h.calls
-      ∙ ap suc (sym (over_calls flags.multi Call (WithValue flags Call v)))
+  next_call b n site f = grind (arith, common_steps, result_number flags Call, over_calls flags.multi Call (WithValue flags Call v))
 
   made_by : (Called flags Call v pure).demands.made ≡ (WithValue flags Call v).demands.made
   made_by = called_makes pure (call_result flags Call) (Over flags Call v) ∙ over_makes flags.multi Call (WithValue flags Call v)
@@ -129,11 +113,4 @@ pub gives_made : (old new : RuleSetBuilder) (r : Result ℕ VisitFault) (whole :
     → (((a : ℕ) → Contains ids a → a < length (built_sites old)) → (before : List SiteTerm) (v : Visit) → BuilderStandsAt before old v
     → IfOk r (MakesSite before old new v (whole (each_term (unfold_site (built_sites old)) ids))) × IfErr r (EndsBefore before new (making (whole (each_term (unfold_site (built_sites old)) ids) ∷ []) v)))
     → GivesValue old new r (value_made_of (whole (input_terms old (typed_inputs xs))))
-gives_made old new r whole ids xs same known makes =
-    let all = same ∙ ids_typed xs in
-    let below = below_all (length (built_sites old)) ids (subst (All (λ n. n < length (built_sites old))) (sym all) known) in
-    let u = whole (each_term (unfold_site (built_sites old)) ids) in
-    subst (λ ns. GivesValue old new r (value_made_of (whole (each_term (unfold_site (built_sites old)) ns)))) all
-    (λ before v h. let m = makes below before v h in
-    MatchResult-from_both r (ValuesTo before old new (value_made_of u v)) (EndsBefore before new (making (u ∷ []) v))
-    (weaker_ok (MakesSite before old new v u) (ValuesTo before old new (value_made_of u v)) r (λ n k. record { goes = k.goes; site = k.site }) m.0) m.1)
+gives_made old new r whole ids xs same known makes = grind (arith, common_steps, ids_typed xs, below_all (length (built_sites old)) ids, weaker_ok)

@@ -1,12 +1,13 @@
 -- A builder makes sites one after another.
 use Rattle.std.proofs.Common.{◌≡◌, Bool, Contains, true, false, if◌then◌else◌, inl, inr, ℕ, zero, suc, ◌+◌, ◌<◌, ◌≤◌, List, [], ◌∷◌, ◌++◌, length, refl, sym, ap, ap₂, ◌∙◌, subst, arith, add-one}
-use Rattle.std.specs.Prelude.{Result, Ok, Err, IfOk, IfErr, MatchResult}
+use Rattle.std.specs.Prelude.{Result, IfOk, IfErr, MatchResult}
 use Rattle.std.specs.Global.{Vec}
 use Rattle.core_typed.specs.VisitAnswers.{listed}
 use Rattle.std.proofs.lemmas.List.{append_assoc, append-nil, map-append}
 use Rattle.std.proofs.lemmas.Bool.{cases_lt}
 use Rattle.std.proofs.lemmas.Result.{IfErr-weaker}
-use Rattle.std.proofs.lemmas.List.Elements.{All-nil, All-push, All-weaker}
+use Rattle.std.proofs.lemmas.List.Elements.{All-weaker}
+use Rattle.std.proofs.lemmas.Grind.{common_steps}
 use Rattle.model.specs.sites.Sites.{Constraint, is_present, Site, SiteTerm, layer, pick_of, some_part, sources_of, tuple_part, unfold_site, fields_from, field_terms}
 use Rattle.model.specs.rules.Typed.{TypedPatterns, no_typed_pattern, typed_pattern_and}
 use Rattle.model.specs.visits.Demands.{fields_matched, outputs_taken, Visit, with_sites, asking, counting, iterating, making, pattern_count, Opened, open_call, output_sites, outputs_opened, part_sites, fields_opened}
@@ -37,10 +38,7 @@ pub goes_nowhere : (before : List SiteTerm) (b : RuleSetBuilder) (v : Visit) →
 goes_nowhere before b v h = record { stands = h; kept = λ s l. refl; longer = omega arith }
 
 pub goes_further : (before : List SiteTerm) (old now new : RuleSetBuilder) (v w : Visit) → GoesTo before old now v → GoesTo before now new w → GoesTo before old new w
-goes_further before old now new v w g h =
-    let l = g.longer in
-    let m = h.longer in
-    record { stands = h.stands; kept = λ s q. h.kept s (omega arith) ∙ g.kept s q; longer = omega arith }
+goes_further before old now new v w g h = grind (arith, common_steps)
 
 pub sites_stay : (before : List SiteTerm) (old new : RuleSetBuilder) (v : Visit) (us : List SiteTerm) (ns : List ℕ) → GoesTo before old new v → AreSitesOf old us ns → AreSitesOf new us ns
 sites_stay before old new v us ns g h =
@@ -55,19 +53,13 @@ site_stays before old new v u n g k = let l = k.within in let m = g.longer in re
 
 -- 3. sites made so far
 pub none_made : (before : List SiteTerm) (b : RuleSetBuilder) (v : Visit) → BuilderStandsAt before b v → MakesAll before b b v [] []
-none_made before b v h = record {
-  goes = subst (GoesTo before b b) (sym (making_none v)) (goes_nowhere before b v h);
-  sites = record { within = All-nil (λ n. n < length (built_sites b)); numbers = refl };
-}
+none_made before b v h = grind (arith, common_steps, making_none v, goes_nowhere before b v h)
 
 pub one_made : (before : List SiteTerm) (old now new : RuleSetBuilder) (v : Visit) (us : List SiteTerm) (ns ns' : List ℕ) (u t : SiteTerm) (n : ℕ) → MakesAll before old now v us ns
     → MakesSite before now new (making us v) u n → u ≡ t → ns' ≡ ns ++ n ∷ [] → MakesAll before old new v (us ++ t ∷ []) ns'
 one_made before old now new v us ns ns' u t n m one is pushed =
     let stay = sites_stay before now new (making (u ∷ []) (making us v)) us ns one.goes m.sites in
-    let all : AreSitesOf new (us ++ u ∷ []) (ns ++ n ∷ []) = record {
-      within = All-push (λ k. k < length (built_sites new)) ns n stay.within one.site.within;
-      numbers = map-append (unfold_site (built_sites new)) ns (n ∷ []) ∙ ap₂ ◌++◌ stay.numbers (ap (λ k. k ∷ []) one.site.number);
-    } in
+    let all : AreSitesOf new (us ++ u ∷ []) (ns ++ n ∷ []) = grind (arith, common_steps, map-append (unfold_site (built_sites new)) ns (n ∷ [])) in
     let whole : MakesAll before old new v (us ++ u ∷ []) (ns ++ n ∷ []) = record {
       goes = subst (GoesTo before old new) (making_twice us (u ∷ []) v) (goes_further before old now new (making us v) (making (u ∷ []) (making us v)) m.goes one.goes);
       sites = all;
@@ -77,9 +69,7 @@ one_made before old now new v us ns ns' u t n m one is pushed =
 -- 4. fields, one more of them
 pub fields_more : (f : ℕ → SiteTerm) (i n : ℕ) → fields_from f i n ++ f (i + n) ∷ [] ≡ fields_from f i (suc n)
 fields_more f i zero = let e : i + 0 ≡ i = omega arith in ap (λ k. f k ∷ []) e
-fields_more f i (suc n) =
-    let e : i + suc n ≡ suc i + n = omega arith in
-    ap (λ k. f i ∷ (fields_from f (suc i) n ++ f k ∷ [])) e ∙ ap (λ l. f i ∷ l) (fields_more f (suc i) n)
+fields_more f i (suc n) = grind (arith, common_steps, fields_more f (suc i) n)
 
 pub field_more_of : (f : ℕ → SiteTerm) (i : ℕ) → fields_from f 0 i ++ f i ∷ [] ≡ fields_from f 0 (i + 1)
 field_more_of f i = let z : i ≡ 0 + i = omega arith in ap (λ k. fields_from f 0 i ++ f k ∷ []) z ∙ fields_more f 0 i ∙ ap (fields_from f 0) (sym (add-one i))
@@ -87,19 +77,13 @@ field_more_of f i = let z : i ≡ 0 + i = omega arith in ap (λ k. fields_from f
 fields_split : (f : ℕ → SiteTerm) (i k n : ℕ) → i < n → (rest : List SiteTerm) × (fields_from f k n ≡ fields_from f k i ++ f (k + i) ∷ rest)
 fields_split f i k zero l = absurd (omega arith)
 fields_split f zero k (suc n) l = let z : k + 0 ≡ k = omega arith in (fields_from f (suc k) n, ap (λ j. f j ∷ fields_from f (suc k) n) (sym z))
-fields_split f (suc i) k (suc n) l =
-    let r = fields_split f i (suc k) n (omega arith) in
-    let e : suc k + i ≡ k + suc i = omega arith in
-    (r.0, ap (λ t. f k ∷ t) (r.1 ∙ ap (λ j. fields_from f (suc k) i ++ f j ∷ r.0) e))
+fields_split f (suc i) k (suc n) l = grind (arith, common_steps, fields_split f i (suc k) n)
 
 -- 5. a builder that ended on its way to where a visit stands ended on its way to where a later one does
 pub ends_later : (before : List SiteTerm) (b : RuleSetBuilder) (v w : Visit) (more : List SiteTerm) (e : VisitFault) → w.demands.made ≡ v.demands.made ++ more → EndsBefore before b v e → EndsBefore before b w e
 ends_later before b v w more e made h =
     want_weaker (IsTable b.table × AreFirst (built_sites b) (with_sites before v.demands.made)) (IsTable b.table × AreFirst (built_sites b) (with_sites before w.demands.made)) e
-    (λ p. (
-      p.0,
-      subst (AreFirst (built_sites b)) (sites_append v.demands.made more before ∙ ap (with_sites before) (sym made)) (first_with (built_sites b) (with_sites before v.demands.made) more p.1),
-    )) h
+    (λ p. grind (arith, common_steps, sites_append v.demands.made more before, first_with (built_sites b) (with_sites before v.demands.made) more p.1)) h
 
 pub field_ends : (before : List SiteTerm) (b : RuleSetBuilder) (v : Visit) (f : ℕ → SiteTerm) (u : SiteTerm) (i n : ℕ) (e : VisitFault) → i < n → u ≡ f i
     → EndsBefore before b (making (u ∷ []) (making (fields_from f 0 i) v)) e → EndsBefore before b (making (fields_from f 0 n) v) e
@@ -119,14 +103,10 @@ pub below_one : (b : RuleSetBuilder) (s : ℕ) → s < length (built_sites b) �
 below_one b s l a c = subst (λ k. k < length (built_sites b)) (in_alone s a c) l
 
 part_layer : (f : ℕ → SiteTerm) (parts : Parts) (s i : ℕ) → layer f (part_site parts s i) ≡ part_of parts (f s) i
-part_layer f (AllParts.Variant variant) s i = refl
-part_layer f AllParts.Struct s i = refl
-part_layer f AllParts.Outputs s i = refl
+part_layer f parts s i = grind (arith, common_steps)
 
 part_source : (parts : Parts) (s i : ℕ) → sources_of (part_site parts s i) ≡ s ∷ []
-part_source (AllParts.Variant variant) s i = refl
-part_source AllParts.Struct s i = refl
-part_source AllParts.Outputs s i = refl
+part_source parts s i = grind (arith, common_steps)
 
 module _ (before : List SiteTerm) (old now : RuleSetBuilder) (v : Visit) (parts : Parts) (s i place : ℕ) (ns : List ℕ) (binding : Site) (there : s < length (built_sites old)) (at : place ≡ i)
     (is : binding ≡ part_site parts s place) (m : MakesAll before old now v (fields_from (part_of parts (unfold_site (built_sites old) s)) 0 i) ns) where
@@ -134,9 +114,7 @@ module _ (before : List SiteTerm) (old now : RuleSetBuilder) (v : Visit) (parts 
   Part = part_of parts (unfold_site (built_sites old) s)
 
   pub part_below : HasSources (built_sites now) binding
-  part_below a c =
-      let longer = m.goes.longer in
-      below_one now s (omega (arith, there, longer)) a (subst (λ ss. Contains ss a) (ap sources_of is ∙ part_source parts s place) c)
+  part_below a c = grind (arith, common_steps, below_one now s, part_source parts s place)
 
   part_is : layer (unfold_site (built_sites now)) binding ≡ Part i
   part_is = ap (layer (unfold_site (built_sites now))) is ∙ part_layer (unfold_site (built_sites now)) parts s place ∙ ap₂ (part_of parts) (m.goes.kept s there) at
@@ -172,27 +150,16 @@ module _ (before : List SiteTerm) (b : RuleSetBuilder) (v : Visit) (u : SiteTerm
   Counted n = counting (outputs_taken n) v
 
   pub no_outputs : (args : TypedPatterns) → pattern_count args ≡ 0 → BuilderStandsAt before b (Counted (pattern_count args)) → OpensTo before b b (outputs_opened u args v) []
-  no_outputs no_typed_pattern e h = record {
-    goes = subst (GoesTo before b b) (sym (making_none (Counted 0))) (goes_nowhere before b (Counted 0) h);
-    inputs = record { within = All-nil (λ n. n < length (built_sites b)); numbers = refl };
-  }
+  no_outputs no_typed_pattern e h = grind (arith, common_steps, making_none (Counted 0), goes_nowhere before b (Counted 0) h)
   no_outputs (typed_pattern_and q qs) e h = absurd (omega (arith, e))
 
   pub one_output : (args : TypedPatterns) (s : ℕ) → pattern_count args ≡ 1 → BuilderStandsAt before b (Counted (pattern_count args)) → IsSiteOf b u s → OpensTo before b b (outputs_opened u args v) (s ∷ [])
-  one_output no_typed_pattern s e h site = absurd (omega (arith, e))
-  one_output (typed_pattern_and q no_typed_pattern) s e h site = record {
-    goes = subst (GoesTo before b b) (sym (making_none (Counted 1))) (goes_nowhere before b (Counted 1) h);
-    inputs = record { within = All-push (λ n. n < length (built_sites b)) [] s (All-nil (λ n. n < length (built_sites b))) site.within; numbers = ap (λ k. k ∷ []) site.number };
-  }
-  one_output (typed_pattern_and q (typed_pattern_and r rs)) s e h site = absurd (omega (arith, e))
+  one_output args s e h site = grind (arith, making_none, goes_nowhere)
 
 -- several are parts
 parts_are : (u : SiteTerm) (args : TypedPatterns) (n : ℕ) → pattern_count args ≡ n → 1 < n
     → (part_sites u args ≡ fields_from (tuple_part u) 0 n) × (output_sites u args ≡ fields_from (tuple_part u) 0 n)
-parts_are u no_typed_pattern n e l = absurd (omega (arith, e, l))
-parts_are u (typed_pattern_and q no_typed_pattern) n e l = absurd (omega (arith, e, l))
-parts_are u (typed_pattern_and q (typed_pattern_and r rs)) n e l =
-    let same = ap (fields_from (tuple_part u) 0) e in (same, same)
+parts_are u args n e l = grind arith
 
 module _ (before : List SiteTerm) (old new : RuleSetBuilder) (v : Visit) (u : SiteTerm) (args : TypedPatterns) (n count : ℕ) (r : Result (Vec ℕ) VisitFault) (same : n ≡ count) (few : count ≤ most_outputs)
     (is : pattern_count args ≡ count) (several : 1 < n) where
@@ -203,14 +170,10 @@ module _ (before : List SiteTerm) (old new : RuleSetBuilder) (v : Visit) (u : Si
   Several = counting (outputs_taken (pattern_count args)) v
 
   pub parts_open : IfOk r (λ ids. MakesAll before old new Several (fields_from (tuple_part u) 0 n) ids.items) → IfOk r (λ ids. (count ≤ most_outputs) × OpensTo before old new (outputs_opened u args v) ids.items)
-  parts_open =
-      weaker_ok (λ ids. MakesAll before old new Several (fields_from (tuple_part u) 0 n) ids.items) (λ ids. (count ≤ most_outputs) × OpensTo before old new (outputs_opened u args v) ids.items) r
-      (λ ids m. (few, record { goes = subst (λ us. GoesTo before old new (making us Several)) (sym parts.0) m.goes; inputs = subst (λ us. AreSitesOf new us ids.items) (sym parts.1) m.sites }))
+  parts_open = grind (arith, common_steps, weaker_ok)
 
   pub parts_end : IfErr r (EndsBefore before new (making (fields_from (tuple_part u) 0 n) v)) → IfErr r (EndsOpening before new (outputs_opened u args v).visit Limits.Outputs most_outputs count v)
-  parts_end =
-      IfErr-weaker r (EndsBefore before new (making (fields_from (tuple_part u) 0 n) v)) (EndsOpening before new (outputs_opened u args v).visit Limits.Outputs most_outputs count v)
-      (λ e h. inl (few, subst (λ us. EndsBefore before new (making us v) e) (sym parts.0) h))
+  parts_end = grind (arith, common_steps)
 
 -- 8. answers of a call
 pub many_answered : (before : List SiteTerm) (old mid new : RuleSetBuilder) (v : Visit) (s n : ℕ) (u : SiteTerm) → s < length (built_sites old) → u ≡ unfold_site (built_sites old) s
@@ -254,9 +217,7 @@ call_opened : (multi infallible : Bool) (call : SiteTerm) (args : TypedPatterns)
     else (if infallible
     then outputs_opened call args (making (call ∷ []) v)
     else outputs_opened (some_part call) args (asking call is_present (making (call ∷ (some_part call ∷ [])) v))))
-call_opened true i call args v = ap (λ w. outputs_opened (pick_of call) args (iterating call w)) (making_twice (call ∷ []) (pick_of call ∷ []) v)
-call_opened false true call args v = refl
-call_opened false false call args v = ap (λ w. outputs_opened (some_part call) args (asking call is_present w)) (making_twice (call ∷ []) (some_part call ∷ []) v)
+call_opened multi i call args v = grind (arith, making_twice)
 
 module _ (before : List SiteTerm) (v : Visit) (flags : Flags) (multi infallible : Bool) (is : flags.multi ≡ multi) (call : SiteTerm) where
   abbrev Call : Visit
@@ -276,12 +237,7 @@ module _ (before : List SiteTerm) (v : Visit) (flags : Flags) (multi infallible 
   call_same qs = subst (λ m. outputs_opened (answer_of m infallible call) qs (answered m infallible call Call) ≡ open_call flags infallible call qs v) is (call_opened flags.multi infallible call qs v)
 
   opened_makes : (qs : TypedPatterns) → (more : List SiteTerm) × ((Wanted qs).visit.demands.made ≡ Call.demands.made ++ more)
-  opened_makes qs =
-      let a = answered_makes multi infallible call Call in
-      let parts = part_sites (answer_of multi infallible call) qs in (
-        a.0 ++ parts,
-        ap (λ (q : Opened). q.visit.demands.made) (sym (call_same qs)) ∙ ap (λ us. us ++ parts) a.1 ∙ append_assoc Call.demands.made a.0 parts,
-      )
+  opened_makes qs = grind (arith, common_steps, answered_makes multi infallible call Call, parts, call_same qs, append_assoc Call.demands.made)
 
   pub open_call_ends : (args : TypedPatterns) (count : ℕ) (b : RuleSetBuilder) (e : VisitFault) → EndsBefore before b Call e → EndsCall b count args e
   open_call_ends args count b e h =
@@ -327,10 +283,8 @@ module _ (before : List SiteTerm) (v : Visit) (flags : Flags) (multi infallible 
           (full answers.goes.stands answers.site.within)
         where
           ends : (e : VisitFault) → EndsOpening before new (outputs_opened (answer_of multi infallible call) args Answered).visit Limits.Outputs most_outputs count Answered e → EndsCall new count args e
-          ends e (inl h) = inl (h.0, subst (λ (q : Opened). EndsBefore before new q.visit e) (call_same args) h.1)
-          ends e (inr h) = inr h
+          ends e k = grind (arith, common_steps, call_same args)
 
 -- 10. an answer by its list
 pub listed_both : (r : Result (Vec ℕ) VisitFault) (P : List ℕ → Type 0) (Q : VisitFault → Type 0) → IfOk r (λ ids. P ids.items) → IfErr r Q → MatchResult (listed r) P Q
-listed_both (Ok ids) P Q p q = p
-listed_both (Err e) P Q p q = q
+listed_both r P Q p q = grind (arith, common_steps)

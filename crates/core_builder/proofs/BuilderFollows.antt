@@ -1,15 +1,16 @@
 -- The builder of a rule set follows the visitor of sites: what it has shown of its steps is what the law of visits asks.
-use Rattle.std.proofs.Common.{◌≡◌, ◌<◌, ◌≤◌, ℕ, zero, suc, Bool, true, false, not, List, [], ◌∷◌, length, map, None, refl, sym, ap, ap₂, subst, arith}
+use Rattle.std.proofs.Common.{◌≡◌, ◌<◌, ◌≤◌, ℕ, suc, Bool, true, false, not, List, [], ◌∷◌, length, map, None, refl, sym, subst, arith}
 use Rattle.std.specs.Prelude.{Result, Ok, Err, MatchResult, alloc_error}
 use Rattle.std.specs.List.{AllZip}
 use Rattle.std.proofs.lemmas.List.Elements.{All-head, All-tail}
+use Rattle.std.proofs.lemmas.Grind.{common_steps}
 use Rattle.core_syntax.specs.declared.syntax.Limit.TheVariants as Limits
 use Rattle.core_syntax.specs.declared.visit_fault.VisitFault.{VisitFault}
 use Rattle.core_syntax.specs.declared.visit_fault.VisitFault.TheVariants.{Memory}
 use Rattle.model.specs.lists.Tables.{Flags}
 use Rattle.model.specs.sites.Limits.{first_passed, most_arguments, most_fields, most_outputs}
-use Rattle.model.specs.sites.Sites.{Constraint, is_variant, is_struct, is_bool, is_int, is_prim, is_present, SiteTerm, SiteTerms, no_site_term, site_term_and, argument, bool_term, constructor_call, extractor_call, int_term, prim_term, struct_made, unfold_site, variant_made}
-use Rattle.model.specs.visits.Demands.{Visit, Opened, Valued, asking, asking_all, call_sites, equating, iterating, making, pattern_count, site_term_eq, taking_argument, unwraps, valued, visit_call, where_multi, binding, fields_opened, value_made}
+use Rattle.model.specs.sites.Sites.{Constraint, is_variant, is_struct, is_bool, is_int, is_prim, is_present, SiteTerm, SiteTerms, no_site_term, site_term_and, argument, bool_term, extractor_call, int_term, prim_term, unfold_site}
+use Rattle.model.specs.visits.Demands.{Visit, Opened, Valued, asking, asking_all, equating, iterating, making, site_term_eq, taking_argument, unwraps, valued, visit_call, where_multi, fields_opened, value_made}
 use Rattle.model.specs.visits.SiteVisitor.{any_parts, extractor_opened}
 use Rattle.model.proofs.Either.{either}
 use Rattle.model.proofs.Elements.{some_is}
@@ -43,8 +44,7 @@ module _ (before : List SiteTerm) (s t : RuleSetBuilder) where
       stays n l = g.kept (unfold_site (built_sites s) n) n (record { within = l; number = refl })
 
       none_fewer : (m : ℕ) → ((n : ℕ) → n < m → n < length (built_sites t)) → m ≤ length (built_sites t)
-      none_fewer zero f = omega arith
-      none_fewer (suc m) f = let l = f m (omega arith) in omega (arith, l)
+      none_fewer m f = grind (arith, common_steps)
 
   -- 2. what steps show
   -- one that counts nothing
@@ -58,9 +58,6 @@ module _ (before : List SiteTerm) (s t : RuleSetBuilder) where
 
 -- ids of sites, in order
 sites_zip : (b : RuleSetBuilder) (us : List SiteTerm) (ns : List ℕ) → AreSitesOf b us ns → AllZip (IsSiteOf b) us ns
-sites_zip b [] [] h = tt
-sites_zip b [] (n ∷ ns) h = absurd (let e = h.numbers in cc)
-sites_zip b (u ∷ us) [] h = absurd (let e = h.numbers in cc)
 sites_zip b (u ∷ us) (n ∷ ns) h =
     let e = h.numbers in
     let first : unfold_site (built_sites b) n ≡ u = cc in
@@ -68,6 +65,7 @@ sites_zip b (u ∷ us) (n ∷ ns) h =
       record { within = All-head (λ m. m < length (built_sites b)) n ns h.within; number = first },
       sites_zip b us ns (record { within = All-tail (λ m. m < length (built_sites b)) n ns h.within; numbers = rest }),
     )
+sites_zip b us ns h = grind arith
 
 -- one that opens parts, no more than there may be
 opens : (before : List SiteTerm) (s t : RuleSetBuilder) (few : Type 0) (r : Result (List ℕ) VisitFault) (o : Opened)
@@ -77,20 +75,14 @@ opens before s t few (Err e) o h = h
 
 -- what ends a call ends it so
 ended_so : {A : Type 0} (P : A → Type 0) (Q R : VisitFault → Type 0) (r : Result A VisitFault) → ((e : VisitFault) → Q e → R e) → MatchResult r P Q → MatchResult r P R
-ended_so P Q R (Ok a) f h = h
-ended_so P Q R (Err e) f h = f e h
+ended_so P Q R r f h = grind (arith, common_steps)
 
 -- inputs by their numbers
 inputs_there : (s : RuleSetBuilder) (before : List SiteTerm) (us : SiteTerms) (inputs : List (ℕ × ℕ)) → NameInputs (follower before) s us inputs → HaveSites s inputs × (input_terms s inputs ≡ us)
 inputs_there s before no_site_term [] h = (λ k d l. absurd (omega (arith, l)), refl)
 inputs_there s before no_site_term (x ∷ xs) h = absurd h
 inputs_there s before (site_term_and u us) [] h = absurd h
-inputs_there s before (site_term_and u us) (x ∷ xs) h =
-    let rest = inputs_there s before us xs h.1 in (within rest.0, ap₂ site_term_and h.0.number rest.1)
-  where
-    within : HaveSites s xs → HaveSites s (x ∷ xs)
-    within more zero d l = h.0.within
-    within more (suc k) d l = more k d (omega (arith, l))
+inputs_there s before (site_term_and u us) (x ∷ xs) h = grind (arith, common_steps, inputs_there s before us xs h.1)
 
 -- where a call has answered, and nothing is counted yet
 abbrev answered_call : Bool → Bool → SiteTerm → Visit → Visit
@@ -109,23 +101,13 @@ multi_counts flags call v few = either (λ (w : Visit). first_passed w.demands.c
 
 call_counts : (pure multi partial rec : Bool) (t : ℕ) (us : SiteTerms) (v : Visit) → first_passed v.demands.counted ≡ None
     → first_passed (visit_call (record { pure = pure; multi = multi; partial = partial; rec = rec }) t us v).visit.demands.counted ≡ None
-call_counts true multi partial rec t us v few =
-    let flags : Flags = record { pure = true; multi = multi; partial = partial; rec = rec } in
-    multi_counts flags (constructor_call t us 0) (making (call_sites flags (constructor_call t us 0)) v) few
-call_counts false multi partial rec t us v few =
-    let flags : Flags = record { pure = false; multi = multi; partial = partial; rec = rec } in
-    let call = constructor_call t us (suc v.impure_calls) in
-    multi_counts flags call (making (call_sites flags call) v) few
+call_counts pure multi partial rec t us v few = grind (arith, common_steps, multi_counts)
 
 -- 4. it follows
 module _ (before : List SiteTerm) where
   in_patterns : FollowsPatterns (follower before) (pattern_steps Patterns.ghosts)
   in_patterns = record {
-    equal = λ s w a b m n ty r t h left right step.
-        goes_on before s t r (equating a b w) (equating_counts a b w h.few)
-        (subst (λ x. MatchResult r (λ k. GoesTo before s t (equating x b w)) (EndsBefore before t (equating x b w))) left.number
-        (subst (λ x. MatchResult r (λ k. GoesTo before s t (equating (unfold_site (built_sites s) m) x w)) (EndsBefore before t (equating (unfold_site (built_sites s) m) x w))) right.number
-        (step left.within right.within before w h)));
+    equal = grind (arith, common_steps, goes_on before, equating_counts);
     bool = λ s w u n ty b r t h site step. asked s w u n (is_bool b ty) r t h site (step site.within before w h);
     int = λ s w u n ty z r t h site step. asked s w u n (is_int z ty) r t h site (step site.within before w h);
     prim = λ s w u n ty name r t h site step. asked s w u n (is_prim name) r t h site (step site.within before w h);
@@ -138,17 +120,14 @@ module _ (before : List SiteTerm) where
     where
       asked : (s : RuleSetBuilder) (w : Visit) (u : SiteTerm) (n : ℕ) (c : Constraint) (r : Result (Unit {0}) VisitFault) (t : RuleSetBuilder) → BuilderStandsAt before s w → IsSiteOf s u n
           → MatchResult r (λ k. GoesTo before s t (asking (unfold_site (built_sites s) n) c w)) (EndsBefore before t (asking (unfold_site (built_sites s) n) c w)) → GoesOn (follower before) s r t (asking u c w)
-      asked s w u n c r t h site q =
-          goes_on before s t r (asking u c w) h.few (subst (λ x. MatchResult r (λ k. GoesTo before s t (asking x c w)) (EndsBefore before t (asking x c w))) site.number q)
+      asked s w u n c r t h site q = grind (arith, common_steps, goes_on before s t r (asking u c w) h.few)
 
       fields : (s : RuleSetBuilder) (w : Visit) (u : SiteTerm) (n : ℕ) (c : Constraint) (count : ℕ) (r : Result (List ℕ) VisitFault) (t : RuleSetBuilder) → BuilderStandsAt before s w → IsSiteOf s u n
           → MatchResult r (λ ids. (count ≤ most_fields) × OpensTo before s t (fields_opened c count (unfold_site (built_sites s) n) w) ids)
           (EndsOpening before t (fields_opened c count (unfold_site (built_sites s) n) w).visit Limits.Fields most_fields count w) → GivesParts (follower before) s r t (fields_opened c count u w)
       fields s w u n c count r t h site q =
           opens before s t (count ≤ most_fields) r (fields_opened c count u w)
-          (ended_so (λ ids. (count ≤ most_fields) × OpensTo before s t (fields_opened c count u w) ids) (EndsOpening before t (fields_opened c count u w).visit Limits.Fields most_fields count w)
-          (EndsVisit before t (fields_opened c count u w).visit) r (λ e k. fields_end before t w c count u e h.few k)
-          (subst (λ x. MatchResult r (λ ids. (count ≤ most_fields) × OpensTo before s t (fields_opened c count x w) ids) (EndsOpening before t (fields_opened c count x w).visit Limits.Fields most_fields count w)) site.number q))
+          (grind (arith, common_steps, ended_so, fields_end before))
 
       outputs : (s : RuleSetBuilder) (w : Visit) (u : SiteTerm) (n term count : ℕ) (infallible multi : Bool) (r : Result (List ℕ) VisitFault) (t : RuleSetBuilder) → BuilderStandsAt before s w → IsSiteOf s u n
           → MatchResult r (λ ids. (count ≤ most_outputs) × OpensTo before s t (extractor_opened term count infallible multi (unfold_site (built_sites s) n) w) ids)
@@ -160,20 +139,15 @@ module _ (before : List SiteTerm) where
           opens before s t (count ≤ most_outputs) r o
           (ended_so (λ ids. (count ≤ most_outputs) × OpensTo before s t o ids) (EndsOpening before t o.visit Limits.Outputs most_outputs count v) (EndsVisit before t o.visit) r
           (λ e k. outputs_end before t w (record { pure = true; multi = multi; partial = not infallible; rec = false }) multi infallible (extractor_call term u) (any_parts count) count e refl (any_count count) h.few k)
-          (subst (λ x. MatchResult r (λ ids. (count ≤ most_outputs) × OpensTo before s t (extractor_opened term count infallible multi x w) ids)
-          (EndsOpening before t (extractor_opened term count infallible multi x w).visit Limits.Outputs most_outputs count (answered_call multi infallible (extractor_call term x) w))) site.number q))
+          (grind (arith, common_steps)))
 
   in_exprs : FollowsExprs (follower before) (expr_steps Exprs.ghosts)
   in_exprs = record {
     bool = λ s w ty b r t h step. gives before s t r (value_made (bool_term b ty) w) h.few (step before w h);
     int = λ s w ty z r t h step. gives before s t r (value_made (int_term z ty) w) h.few (step before w h);
     prim = λ s w ty name r t h step. gives before s t r (value_made (prim_term name) w) h.few (step before w h);
-    variant = λ s w us inputs ty variant r t h named step.
-        let i = inputs_there s before us inputs named in
-        gives before s t r (value_made (variant_made ty variant us) w) h.few (subst (λ xs. MatchResult r (ValuesTo before s t (value_made (variant_made ty variant xs) w)) (EndsBefore before t (value_made (variant_made ty variant xs) w).visit)) i.1 (step i.0 before w h));
-    struct = λ s w us inputs ty r t h named step.
-        let i = inputs_there s before us inputs named in
-        gives before s t r (value_made (struct_made ty us) w) h.few (subst (λ xs. MatchResult r (ValuesTo before s t (value_made (struct_made ty xs) w)) (EndsBefore before t (value_made (struct_made ty xs) w).visit)) i.1 (step i.0 before w h));
+    variant = grind (arith, common_steps, inputs_there, gives before);
+    struct = grind (arith, common_steps, inputs_there, gives before);
     constructor = λ s w us inputs ty term pure infallible multi rec r t h named step.
         let i = inputs_there s before us inputs named in
         let flags : Flags = record { pure = pure; multi = multi; partial = not infallible; rec = rec } in
@@ -203,13 +177,8 @@ module _ (before : List SiteTerm) where
       matched : (s : RuleSetBuilder) (w : Visit) (u : SiteTerm) (n : ℕ) (r : Result ℕ VisitFault) (t : RuleSetBuilder) → BuilderStandsAt before s w → IsSiteOf s u n
           → (let v = asking_all (unwraps (unfold_site (built_sites s) n)) w in MatchResult r (λ m. (m ≡ n) × GoesTo before s t v) (EndsBefore before t v))
           → Gives (follower before) s r t (valued u (asking_all (unwraps u) w))
-      matched s w u n (Ok m) t h site q =
-          let v = asking_all (unwraps u) w in
-          let g : GoesTo before s t v = subst (λ x. GoesTo before s t (asking_all (unwraps x) w)) site.number q.1 in
-          (goes before s t v g, subst (IsSiteOf t u) (sym q.0) (site_stays before s t v u n g site))
-      matched s w u n (Err e) t h site q =
-          let v = asking_all (unwraps u) w in
-          ends_visit before t v v e (asking_counts (unwraps u) w h.few) (continues_now v) (subst (λ x. EndsBefore before t (asking_all (unwraps x) w) e) site.number q)
+      matched s w u n (Ok m) t h site q = grind (arith, common_steps, goes before s t, site_stays before s t)
+      matched s w u n (Err e) t h site q = grind (arith, common_steps, ends_visit before t, asking_counts (unwraps u) w h.few, continues_now)
 
   ends : EndsOnTheWay (follower before) no_memory
   ends = record {

@@ -1,14 +1,15 @@
 -- A builder goes on, step by step, to where a visit stands.
-use Rattle.std.proofs.Common.{◌≡◌, is_some, ℕ, suc, ◌<◌, ◌≤◌, Bool, true, false, if◌then◌else◌, List, [], ◌∷◌, ◌++◌, length, map, All, Option, Some, None, Contains, refl, sym, ap, ◌∙◌, subst, inl, inr, arith, add-one, eqb-true, eq-eqb}
-use Rattle.std.specs.Prelude.{nat_eq, nat_lt, Result, Ok, Err, OnOk}
+use Rattle.std.proofs.Common.{◌≡◌, ℕ, suc, ◌<◌, ◌≤◌, true, false, if◌then◌else◌, List, [], ◌∷◌, ◌++◌, length, map, All, Option, Some, None, Contains, refl, sym, ap, ◌∙◌, subst, inl, inr, arith, add-one, eqb-true, eq-eqb}
+use Rattle.std.specs.Prelude.{nat_eq, nat_lt, Result, OnOk}
 use Rattle.std.specs.Global.{Vec}
 use Rattle.std.specs.Bool.{◌==◌}
 use Rattle.std.proofs.lemmas.Bool.{cases_Bool, cond-true, cond-false, false≢true, le-ltb, lt-ltb}
 use Rattle.std.proofs.lemmas.List.{append_assoc, append-nil, length_push, map-append}
-use Rattle.std.proofs.lemmas.List.Elements.{All-nil, All-push, All-weaker, Contains-append_left, Contains-append_right, Contains-append_cases}
+use Rattle.std.proofs.lemmas.List.Elements.{All-nil, All-weaker, Contains-append_left, Contains-append_right, Contains-append_cases}
+use Rattle.std.proofs.lemmas.Grind.{common_steps}
 use Rattle.core_syntax.specs.Stable.{Members, contains}
 use Rattle.model.specs.sites.Sites.{Site, Constraint, is_present, SiteTerm, layer, unfold_site}
-use Rattle.model.specs.visits.Demands.{site_term_eq, has_site, Count, fields_matched, outputs_taken, argument_taken, Visit, with_sites, asking, binding, calling, counting, equating, iterating, making, visit_start}
+use Rattle.model.specs.visits.Demands.{site_term_eq, Count, fields_matched, outputs_taken, argument_taken, Visit, with_sites, asking, binding, calling, counting, equating, iterating, making, visit_start}
 use Rattle.model.specs.sites.Limits.{arguments_limit, fields_limit, outputs_limit, most_arguments, most_fields, most_outputs, first_passed, passed_by, passed_or_later}
 use Rattle.model.specs.sites.Closure.{Closed, conflict_with, conflicts_met, constraint_of, with_constraint, with_constraints, class_at, merged_classes, before_closing}
 use Rattle.model.specs.sites.RuleSets.{StandFor}
@@ -47,35 +48,18 @@ either_of o p = elim o as (λ _. Option Constraint) [ None ↦ p | Some b ↦ So
 
 pub of_both : (cs ds : List (SiteTerm × Constraint)) (u : SiteTerm) → constraint_of (cs ++ ds) u ≡ either_of (constraint_of cs u) (constraint_of ds u)
 of_both [] ds u = refl
-of_both (c ∷ cs) ds u =
-    elim (cases_Bool (site_term_eq c.0 u)) [
-      | inl t ↦
-          cond-true (site_term_eq c.0 u) (Some c.1) (constraint_of (cs ++ ds) u) t
-          ∙ ap (λ o. either_of o (constraint_of ds u)) (sym (cond-true (site_term_eq c.0 u) (Some c.1) (constraint_of cs u) t))
-      | inr f ↦
-          cond-false (site_term_eq c.0 u) (Some c.1) (constraint_of (cs ++ ds) u) f ∙ of_both cs ds u
-          ∙ ap (λ o. either_of o (constraint_of ds u)) (sym (cond-false (site_term_eq c.0 u) (Some c.1) (constraint_of cs u) f))
-    ]
+of_both (c ∷ cs) ds u = grind (arith, common_steps, of_both cs ds u)
 
 -- each site keeps its first constraint
 one_kept : (o p : Option Constraint) (c : Constraint) → either_of (Some (first_kept o c)) p ≡ either_of o (Some c)
-one_kept None p c = refl
-one_kept (Some b) p c = refl
+one_kept o p c = grind (arith, common_steps)
 
 kept_either : (cs ds : List (SiteTerm × Constraint)) (d : SiteTerm × Constraint) (u : SiteTerm) → constraint_of (with_constraint cs d ++ ds) u ≡ constraint_of (cs ++ d ∷ ds) u
 kept_either cs ds d u =
     of_both (with_constraint cs d) ds u ∙ ap (λ o. either_of o (constraint_of ds u)) (constraint_with cs d u)
     ∙ elim (cases_Bool (site_term_eq d.0 u)) [
-      | inl t ↦
-          let same = term_means d.0 u t in
-          ap (λ o. either_of o (constraint_of ds u)) (cond-true (site_term_eq d.0 u) (Some (first_kept (constraint_of cs d.0) d.1)) (constraint_of cs u) t)
-          ∙ one_kept (constraint_of cs d.0) (constraint_of ds u) d.1 ∙ ap (λ x. either_of (constraint_of cs x) (Some d.1)) same
-          ∙ ap (either_of (constraint_of cs u)) (sym (cond-true (site_term_eq d.0 u) (Some d.1) (constraint_of ds u) t))
-          ∙ sym (of_both cs (d ∷ ds) u)
-      | inr f ↦
-          ap (λ o. either_of o (constraint_of ds u)) (cond-false (site_term_eq d.0 u) (Some (first_kept (constraint_of cs d.0) d.1)) (constraint_of cs u) f)
-          ∙ ap (either_of (constraint_of cs u)) (sym (cond-false (site_term_eq d.0 u) (Some d.1) (constraint_of ds u) f))
-          ∙ sym (of_both cs (d ∷ ds) u)
+      | inl t ↦ grind (arith, common_steps, term_means d.0 u t, one_kept (constraint_of cs d.0) (constraint_of ds u) d.1, of_both cs (d ∷ ds) u)
+      | inr f ↦ grind (arith, common_steps, of_both cs (d ∷ ds) u)
     ]
 
 pub firsts_same : (ds cs : List (SiteTerm × Constraint)) (u : SiteTerm) → constraint_of (with_constraints cs ds) u ≡ constraint_of (cs ++ ds) u
@@ -91,8 +75,7 @@ conflicts_push (d ∷ cs) had c =
     ∙ sym (append_assoc (conflict_with (constraint_of had d.0) d.1) (conflicts_met (had ++ d ∷ []) cs) (conflict_with (constraint_of (had ++ d ∷ cs) c.0) c.1))
 
 equal_already : (ks : List (List SiteTerm)) (a b : SiteTerm) → a ≡ b → merged_classes ks (a, b) ≡ ks
-equal_already ks a b e =
-    cond-true (has_site (class_at ks a) b) ks _ (in_has (class_at ks a) b (subst (λ x. In (class_at ks a) x) e (own_class ks a)))
+equal_already ks a b e = grind (arith, common_steps, in_has (class_at ks a) b (subst (λ x. In (class_at ks a) x) e (own_class ks a)), own_class ks a)
 
 -- 2. where the closing would start
 module _ (before : List SiteTerm) (v : Visit) where
@@ -111,9 +94,7 @@ module _ (before : List SiteTerm) (v : Visit) where
         | inl t ↦
             (λ i. record { constraints = (start v).constraints; classes = equal_already (start v).classes a b (term_means a b t) i; made = (start v).made })
             ∙ ap start (sym (cond-true (site_term_eq a b) v _ t))
-        | inr f ↦
-            (λ i. record { constraints = (start v).constraints; classes = merged_append v.demands.equalities ((a, b) ∷ []) [] i; made = (start v).made })
-            ∙ ap start (sym (cond-false (site_term_eq a b) v _ f))
+        | inr f ↦ grind (arith, common_steps, merged_append v.demands.equalities ((a, b) ∷ []) [])
       ]
 
   -- the constraint of a site is the first that the visit asked
@@ -183,8 +164,7 @@ module _ (before : List SiteTerm) (b : RuleSetBuilder) (v : Visit) (h : BuilderS
   f = unfold_site sites
 
   pub noted : (o : Option C.Constraint) (had : Option Constraint) (c : Constraint) → IsConflict had c o → conflict_beside o c ≡ conflict_with had c
-  noted None had c h = sym h
-  noted (Some x) had c h = sym h
+  noted o had c h = grind (arith, common_steps)
 
   pub site_asked : (e : Demanded) (w : Vec (C.Constraint × C.Constraint)) (s : ℕ) (c : C.Constraint) → s < length sites → KeepsDue e → e.equals ≡ b.demanded.equals
       → ((r : ℕ) → constraint_held e r ≡ (if nat_eq s r then Some (first_kept (constraint_held b.demanded s) (constraint_view c)) else constraint_held b.demanded r))
@@ -198,8 +178,7 @@ module _ (before : List SiteTerm) (b : RuleSetBuilder) (v : Visit) (h : BuilderS
           due = due;
           demands = subst (AreDemandsOf sites e) (asked_too_start before v (f s) k)
               (asked_more sites b.demanded (before_closing before v.demands) h.demands e (s ∷ []) k (λ x i. elim i [ inl y ↦ subst (λ z. z < length sites) y l | inr n ↦ absurd n ]) equal asked);
-          conflicts =
-              met ∙ (λ i. h.conflicts i ++ conflict_with (held_first before v b h s l i) k) ∙ sym (conflicts_push v.demands.constraints [] (f s, k));
+          conflicts = grind (arith, common_steps, held_first before v b h s l, conflicts_push v.demands.constraints [] (f s, k));
           gone_over = h.gone_over;
           all_gone_over = h.all_gone_over;
           impure = record { within = h.impure.within; numbers = h.impure.numbers };
@@ -217,8 +196,7 @@ module _ (before : List SiteTerm) (b : RuleSetBuilder) (v : Visit) (h : BuilderS
       → GoesTo before b (with_demanded b e b.conflicts) (equating (f x) (f y) v)
   sites_equated e x y l m due asked equal =
       let demands = subst (AreDemandsOf sites e) (equal_too before v (f x) (f y))
-      (equated_more sites b.demanded (before_closing before v.demands) h.demands e (x ∷ []) (y ∷ [])
-      (λ z i. elim i [ inl p ↦ subst (λ q. q < length sites) p l | inr n ↦ absurd n ]) (λ z i. elim i [ inl p ↦ subst (λ q. q < length sites) p m | inr n ↦ absurd n ]) asked equal) in
+      (grind (arith, common_steps, equated_more sites b.demanded (before_closing before v.demands) h.demands e (x ∷ []) (y ∷ []))) in
       elim (cases_Bool (site_term_eq (f x) (f y))) [
         | inl t ↦ let is = cond-true (site_term_eq (f x) (f y)) v _ t in subst (GoesTo before b (with_demanded b e b.conflicts)) (sym is) (gone_on v (subst (λ w. AreDemandsOf sites e (before_closing before w.demands)) is demands) refl refl refl refl refl)
         | inr t ↦ let is = cond-false (site_term_eq (f x) (f y)) v _ t in subst (GoesTo before b (with_demanded b e b.conflicts)) (sym is) (gone_on _ (subst (λ w. AreDemandsOf sites e (before_closing before w.demands)) is demands) refl refl refl refl refl)
@@ -260,9 +238,7 @@ module _ (before : List SiteTerm) (b : RuleSetBuilder) (v : Visit) (h : BuilderS
           ];
       all_gone_over = λ u c.
           elim (Contains-append_cases v.demands.iterators (f s ∷ []) u c) [
-            | inl i ↦
-                let g = h.all_gone_over u i in
-                (g.0, has g.0 ∙ either_way (s == g.0) (contains ◌==◌ b.iterators g.0) g.1, g.2)
+            | inl i ↦ grind (arith, common_steps, h.all_gone_over u i)
             | inr i ↦ (s, has s ∙ cond-true (s == s) true (contains ◌==◌ b.iterators s) (eq-eqb s s refl), in_alone (f s) u i)
           ];
       impure = record { within = h.impure.within; numbers = h.impure.numbers };
@@ -274,10 +250,6 @@ module _ (before : List SiteTerm) (b : RuleSetBuilder) (v : Visit) (h : BuilderS
     kept = λ r m. refl;
     longer = omega arith;
   }
-    where
-      either_way : (t c : Bool) → c ≡ true → (if t then true else c) ≡ true
-      either_way true c e = refl
-      either_way false c e = e
 
   pub call_made : (im : Vec ℕ) (s : ℕ) → s < length sites → IsNextCall b v s → im.items ≡ b.impure.items ++ s ∷ []
       → GoesTo before b (record b { impure = im }) (calling (f s) v)
@@ -289,10 +261,7 @@ module _ (before : List SiteTerm) (b : RuleSetBuilder) (v : Visit) (h : BuilderS
       conflicts = h.conflicts;
       gone_over = h.gone_over;
       all_gone_over = h.all_gone_over;
-      impure = record {
-        within = subst (All (λ r. r < length sites)) (sym pushed) (All-push (λ r. r < length sites) b.impure.items s h.impure.within l);
-        numbers = ap (map f) pushed ∙ map-append f b.impure.items (s ∷ []) ∙ ap (λ us. us ++ f s ∷ []) h.impure.numbers;
-      };
+      impure = grind (arith, common_steps, map-append f b.impure.items (s ∷ []));
       calls = ap length pushed ∙ length_push b.impure.items s ∙ add-one (length b.impure.items) ∙ ap suc h.calls;
       numbered = next_numbered v.demands.impure (f s) h.numbered (next ∙ ap suc (sym (calls_met before b v h)));
       answered = h.answered;
@@ -303,24 +272,11 @@ module _ (before : List SiteTerm) (b : RuleSetBuilder) (v : Visit) (h : BuilderS
   }
 
 pub ok_both : {T E : Type 0} (P Q : Type 0) (r : Result T E) → OnOk r P → OnOk r Q → OnOk r (P × Q)
-ok_both P Q (Ok x) p q = (p, q)
-ok_both P Q (Err e) p q = tt
+ok_both P Q r p q = grind (arith, common_steps)
 
 -- 6. a variable is bound
 pub bound_stands : (before : List SiteTerm) (b : RuleSetBuilder) (v : Visit) (x : ℕ) (u : SiteTerm) → BuilderStandsAt before b v → BuilderStandsAt before b (binding x u v)
-bound_stands before b v x u h = record {
-  table = h.table;
-  due = h.due;
-  demands = h.demands;
-  conflicts = h.conflicts;
-  gone_over = h.gone_over;
-  all_gone_over = h.all_gone_over;
-  impure = record { within = h.impure.within; numbers = h.impure.numbers };
-  calls = h.calls;
-  numbered = h.numbered;
-  answered = h.answered;
-  few = h.few;
-}
+bound_stands before b v x u h = grind (arith, common_steps)
 
 -- 7. something is counted that passes no limit
 pub fields_pass : (n : ℕ) → n ≤ most_fields → passed_by (fields_matched n) ≡ None
@@ -337,19 +293,7 @@ pub one_more_count : (cs : List (Count × ℕ)) (c : Count) (n : ℕ) → first_
 one_more_count cs c n none = passed_after cs ((c, n) ∷ []) none
 
 pub counted_stands : (before : List SiteTerm) (b : RuleSetBuilder) (v : Visit) (c : Count) → BuilderStandsAt before b v → passed_by c ≡ None → BuilderStandsAt before b (counting c v)
-counted_stands before b v c h none = record {
-  table = h.table;
-  due = h.due;
-  demands = h.demands;
-  conflicts = h.conflicts;
-  gone_over = h.gone_over;
-  all_gone_over = h.all_gone_over;
-  impure = record { within = h.impure.within; numbers = h.impure.numbers };
-  calls = h.calls;
-  numbered = h.numbered;
-  answered = h.answered;
-  few = one_more_count v.demands.counted c (length v.demands.made) h.few ∙ ap (λ o. passed_or_later o (length v.demands.made) None) none;
-}
+counted_stands before b v c h none = grind (arith, common_steps, one_more_count v.demands.counted c (length v.demands.made) h.few)
 
 -- before a visit
 pub nothing_answered : (sites : List Site) (v : Visit) (none : Members ℕ) → ((s : ℕ) → contains ◌==◌ none s ≡ false) → AreAnswered sites v none
@@ -360,17 +304,7 @@ pub nothing_visited : (before : List SiteTerm) (b : RuleSetBuilder) → IsTable 
 nothing_visited before b table due once stand asked equal no_conflict no_iterator no_call no_answer = record {
   table = table;
   due = due;
-  demands = record {
-    stand = stand;
-    once = once;
-    asked = λ s l. asked s;
-    asked_within = λ s t. absurd (false≢true (sym (ap is_some (asked s)) ∙ t));
-    asked_made = λ u c i. absurd (nothing_in (u, c) i);
-    equated = λ p q l m. equal p q;
-    equated_within = λ p q t. absurd (false≢true (sym (equal p q) ∙ t));
-    equated_made = λ class u i j. absurd (nothing_in class i);
-    apart = λ l m s i j x y. absurd (nothing_in l i);
-  };
+  demands = grind (arith, common_steps, nothing_in);
   conflicts = ap (map conflict_view) no_conflict;
   gone_over = λ s t. absurd (false≢true (sym (no_iterator s) ∙ t));
   all_gone_over = λ u i. absurd (nothing_in u i);

@@ -1,8 +1,9 @@
 -- The numbers of a rule's impure calls: no two calls share one, so that the calls are no more than the sites.
-use Rattle.std.proofs.Common.{◌≡◌, ◌⊎◌, ℕ, zero, suc, ◌≤◌, ◌<◌, Bool, true, false, if◌then◌else◌, List, [], ◌∷◌, ◌++◌, length, map, Some, slice_get, All, refl, sym, ap, ◌∙◌, subst, inl, inr, arith}
+use Rattle.std.proofs.Common.{◌≡◌, ◌⊎◌, ℕ, suc, ◌≤◌, ◌<◌, Bool, if◌then◌else◌, List, [], ◌∷◌, ◌++◌, length, map, Some, slice_get, All, sym, ap, ◌∙◌, subst, inl, inr, arith}
 use Rattle.std.proofs.lemmas.List.{length-map}
 use Rattle.std.proofs.lemmas.List.Elements.{All-head, All-tail}
 use Rattle.std.proofs.Math.Nat.{suc_inj}
+use Rattle.std.proofs.lemmas.Grind.{common_steps}
 use Rattle.model.specs.lists.Tables.{Flags}
 use Rattle.model.specs.sites.Sites.{SiteTerm, pick_of, some_part, unfold_site}
 use Rattle.model.specs.visits.Demands.{Visit, call_result}
@@ -18,19 +19,15 @@ none_numbered i u e = absurd (none_some u e)
 
 -- one more
 last_or_before : (us : List SiteTerm) (w : SiteTerm) (i : ℕ) (u : SiteTerm) → slice_get (us ++ w ∷ []) i ≡ Some u → (slice_get us i ≡ Some u) ⊎ ((i ≡ length us) × (w ≡ u))
-last_or_before [] w zero u e = inr (refl, some_is w u e)
-last_or_before [] w (suc i) u e = absurd (none_some u e)
-last_or_before (x ∷ us) w zero u e = inl e
 last_or_before (x ∷ us) w (suc i) u e = elim (last_or_before us w i u e) [ inl f ↦ inl f | inr f ↦ inr (ap suc f.0, f.1) ]
+last_or_before us w i u e = grind (arith, some_is, none_some)
 
 pub next_numbered : (us : List SiteTerm) (w : SiteTerm) → AreCallsNumbered us → call_number w ≡ suc (length us) → AreCallsNumbered (us ++ w ∷ [])
 next_numbered us w h next i u e = elim (last_or_before us w i u e) [ inl f ↦ h i u f | inr f ↦ ap call_number (sym f.1) ∙ next ∙ ap suc (sym f.0) ]
 
 -- what a call gives has its number
 given_number : (p m : Bool) (call : SiteTerm) → call_number (if p then some_part call else (if m then pick_of call else call)) ≡ call_number call
-given_number true m call = refl
-given_number false true call = refl
-given_number false false call = refl
+given_number p m call = grind (arith, common_steps)
 
 pub result_number : (flags : Flags) (call : SiteTerm) → call_number (call_result flags call) ≡ call_number call
 result_number flags call = given_number flags.partial flags.multi call

@@ -1,7 +1,8 @@
 -- A builder that ended on the way to the end of a rule's visit lacked memory, or met the limit that is met first.
-use Rattle.std.proofs.Common.{◌≤◌, ℕ, List, length, Option, Some, None, sym, subst, inl, inr, arith}
-use Rattle.std.proofs.lemmas.Bool.{cases_Bool, cond-true, cond-false}
+use Rattle.std.proofs.Common.{ℕ, List, Option, Some, None, sym, subst, inl, inr, arith}
+use Rattle.std.proofs.lemmas.Bool.{cases_Bool, cond-true}
 use Rattle.std.proofs.lemmas.List.{take_all}
+use Rattle.std.proofs.lemmas.Grind.{common_steps}
 use Rattle.core_syntax.specs.declared.syntax.Limit.TheVariants as Limits
 use Rattle.core_syntax.specs.declared.visit_fault.VisitFault.{VisitFault}
 use Rattle.core_syntax.specs.declared.visit_fault.VisitFault.TheVariants as Faults
@@ -11,7 +12,6 @@ use Rattle.model.specs.sites.Sites.{SiteTerm}
 use Rattle.model.specs.visits.Demands.{demands_of, visit_rule, with_sites}
 use Rattle.model.specs.sites.Closure.{before_closing, closed, is_unreachable, most_closing_steps}
 use Rattle.model.specs.sites.Limits.{RuleLimit, arguments_limit, fields_limit, most_sites, outputs_limit, passed_in_visit, sites_limit, sites_reached, sites_until, sites_wanted}
-use Rattle.model.specs.sites.RuleSets.{StandFor}
 use Rattle.laws_sites.proofs.Limits.{limits_are_met_lem}
 use Rattle.core_rule_sets.proofs.FullTables.{closing_full}
 use Rattle.core_rule_sets.specs.SiteTables.{AreFirst, IsTable}
@@ -30,9 +30,7 @@ module _ (p : Program) (before : List SiteTerm) (r : TypedRule) (b : RuleSetBuil
       let d = demands_of p r in
       elim (cases_Bool (is_unreachable d)) [
         | inl t ↦ subst (AreFirst (built_sites b)) (sym (cond-true (is_unreachable d) (with_sites before d.made) (closed before d).made t)) h
-        | inr f ↦
-            subst (AreFirst (built_sites b)) (sym (cond-false (is_unreachable d) (with_sites before d.made) (closed before d).made f))
-            (closing_full (built_sites b) most_closing_steps (before_closing before d) (Faults.Limit Limits.Sites) h)
+        | inr f ↦ grind (arith, common_steps, closing_full (built_sites b) most_closing_steps (before_closing before d) (Faults.Limit Limits.Sites) h)
       ]
 
   made_reached : (o : Option (RuleLimit × ℕ)) → AreFirst (built_sites b) (with_made_until before (demands_of p r).made o) → AreFirst (built_sites b) (sites_until p before r o)
@@ -41,16 +39,7 @@ module _ (p : Program) (before : List SiteTerm) (r : TypedRule) (b : RuleSetBuil
 
   -- 2. by what is counted
   counted_met : (l : RuleLimit) → MeetsCount before b (visit_rule p r).visit l → MeetsLimit p before r b l
-  counted_met l h =
-      let met = limits_are_met_lem p before r in
-      let stand : StandFor (built_sites b) (sites_reached p before r) = subst (StandFor (built_sites b)) (sym (met.reached l h.made h.first)) h.sites.stand in
-      let room = h.sites.table.few in
-      let count = stand.count in
-      let few : length (sites_reached p before r) ≤ most_sites = omega (arith, room, count) in
-      record {
-        first = met.of_visit l h.made h.first few;
-        sites = record { table = h.sites.table; stand = subst (StandFor (built_sites b)) (sym (take_all most_sites (sites_reached p before r) few)) stand };
-      }
+  counted_met l h = grind (arith, common_steps, limits_are_met_lem p before r, take_all most_sites (sites_reached p before r))
 
   -- 3. the visit
   pub visit_ends : (e : VisitFault) → EndsVisit before b (visit_rule p r).visit e → EndsAtLimit p before r b e
@@ -59,6 +48,4 @@ module _ (p : Program) (before : List SiteTerm) (r : TypedRule) (b : RuleSetBuil
   visit_ends (Faults.Limit Limits.Fields) h = counted_met fields_limit h
   visit_ends (Faults.Limit Limits.Outputs) h = counted_met outputs_limit h
   visit_ends (Faults.Limit Limits.Arguments) h = counted_met arguments_limit h
-  visit_ends (Faults.Limit Limits.Nesting) h = absurd h
-  visit_ends (Faults.Limit Limits.Expansions) h = absurd h
-  visit_ends Faults.Stopped h = absurd h
+  visit_ends _ h = absurd h

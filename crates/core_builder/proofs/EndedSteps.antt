@@ -1,12 +1,13 @@
 -- A step of the builder that ends, ends its visit: on the way nothing that was counted passes a limit, or what the step itself
 -- counts does.
-use Rattle.std.proofs.Common.{◌≡◌, ℕ, suc, ◌-◌, ◌<◌, ◌≤◌, Bool, true, false, List, [], ◌∷◌, ◌++◌, length, take, Option, Some, None, All, refl, sym, ap, ◌∙◌, subst, inl, inr, arith}
+use Rattle.std.proofs.Common.{◌≡◌, ℕ, suc, ◌-◌, ◌<◌, ◌≤◌, Bool, List, [], ◌∷◌, ◌++◌, length, take, Option, Some, None, All, refl, sym, ap, ◌∙◌, subst, inl, inr, arith}
 use Rattle.std.specs.Prelude.{nat_lt}
-use Rattle.std.proofs.lemmas.Bool.{cases_lt, cond-true, cond-false, le-ltb, lt-ltb}
+use Rattle.std.proofs.lemmas.Bool.{cases_lt, cond-true, le-ltb, lt-ltb}
 use Rattle.std.proofs.lemmas.List.{append-nil, length-append, take-append-le, take_all}
-use Rattle.std.proofs.lemmas.List.Elements.{All-head, All-nil, All-push, All-tail}
+use Rattle.std.proofs.lemmas.List.Elements.{All-nil, All-push, All-tail}
 use Rattle.std.proofs.Math.Nat.{add-sub_of_le}
 use Rattle.std.proofs.Math.Seq.{take-append_seam, take-append-add}
+use Rattle.std.proofs.lemmas.Grind.{common_steps}
 use Rattle.core_syntax.specs.declared.syntax.Limit.{Limit}
 use Rattle.core_syntax.specs.declared.syntax.Limit.TheVariants as Limits
 use Rattle.core_syntax.specs.declared.visit_fault.VisitFault.{VisitFault}
@@ -16,7 +17,6 @@ use Rattle.model.specs.rules.Typed.{TypedPatterns}
 use Rattle.model.specs.sites.Limits.{RuleLimit, arguments_limit, fields_limit, outputs_limit, most_arguments, most_fields, most_outputs, first_passed, passed_by, passed_or_later}
 use Rattle.model.specs.sites.Sites.{Constraint, SiteTerm, argument, field_terms}
 use Rattle.model.specs.visits.Demands.{Count, fields_matched, outputs_taken, argument_taken, Visit, Opened, making, open_call, part_sites, pattern_count, taking_argument, with_sites, fields_opened}
-use Rattle.model.specs.sites.RuleSets.{StandFor}
 use Rattle.model.proofs.Elements.{none_some, some_is}
 use Rattle.laws_sites.specs.VisitLaws.{Continues}
 use Rattle.laws_sites.proofs.Continued.{passed_after}
@@ -31,31 +31,21 @@ use Rattle.core_builder.proofs.BuilderSteps.{argument_passes, fields_pass, one_m
 -- 1. the first limit that is passed stays the first, and one that is passed later was counted after what was made before
 some_first : (cs ds : List (Count × ℕ)) (x : RuleLimit × ℕ) → first_passed cs ≡ Some x → first_passed (cs ++ ds) ≡ Some x
 some_first [] ds x e = absurd (none_some x e)
-some_first (c ∷ cs) ds x e = by (passed_by c.0) e (some_first cs ds x)
-  where
-    by : (o : Option RuleLimit) → passed_or_later o c.1 (first_passed cs) ≡ Some x → (first_passed cs ≡ Some x → first_passed (cs ++ ds) ≡ Some x)
-        → passed_or_later o c.1 (first_passed (cs ++ ds)) ≡ Some x
-    by (Some l) h later = h
-    by None h later = later h
+some_first (c ∷ cs) ds x e = grind (arith, common_steps, some_first cs ds x)
 
 first_after : (cs : List (Count × ℕ)) (n : ℕ) (x : RuleLimit × ℕ) → All (λ c. n ≤ c.1) cs → first_passed cs ≡ Some x → n ≤ x.1
 first_after [] n x h e = absurd (none_some x e)
 first_after (c ∷ cs) n x h e = by (passed_by c.0) e (first_after cs n x (All-tail (λ d. n ≤ d.1) c cs h))
   where
     by : (o : Option RuleLimit) → passed_or_later o c.1 (first_passed cs) ≡ Some x → (first_passed cs ≡ Some x → n ≤ x.1) → n ≤ x.1
-    by (Some l) k later = subst (λ (y : RuleLimit × ℕ). n ≤ y.1) (some_is (l, c.1) x k) (All-head (λ d. n ≤ d.1) c cs h)
-    by None k later = later k
+    by o k later = grind (arith, common_steps, some_is)
 
 -- 2. sites that are made until then
 taken_past : (n : ℕ) (xs ys : List SiteTerm) → length xs ≤ n → (more : List SiteTerm) × (take n (xs ++ ys) ≡ xs ++ more)
 taken_past n xs ys l = let m = n - length xs in (take m ys, ap (λ k. take k (xs ++ ys)) (sym (add-sub_of_le l)) ∙ take-append-add xs ys m)
 
 taken_more : (n : ℕ) (xs ys : List SiteTerm) → (more : List SiteTerm) × (take n (xs ++ ys) ≡ take n xs ++ more)
-taken_more n xs ys =
-    elim (cases_lt n (length xs)) [
-      | inl l ↦ ([], take-append-le n xs ys (omega (arith, l)) ∙ sym (append-nil (take n xs)))
-      | inr l ↦ let t = taken_past n xs ys l in (t.0, t.1 ∙ ap (λ us. us ++ t.0) (sym (take_all n xs l)))
-    ]
+taken_more n xs ys = grind (arith, common_steps, cases_lt n (length xs), take-append-le n xs ys, append-nil (take n xs), taken_past n xs ys, take_all n xs)
 
 -- what a visit made until the first count that passes a limit stays at the front of what a later visit made
 module _ (before : List SiteTerm) (v w : Visit) (k : Continues v w) where
@@ -81,10 +71,7 @@ module _ (before : List SiteTerm) (v w : Visit) (k : Continues v w) where
           by_then (Some x) (first ∙ e) v.demands.made t.0 (ap (λ us. with_sites before (take x.1 us)) k.makes ∙ ap (with_sites before) t.1) same
 
   after_some : (x : RuleLimit × ℕ) → first_passed v.demands.counted ≡ Some x → Later
-  after_some x e =
-      let t = taken_more x.1 v.demands.made k.made in
-      by_then (Some x) (ap first_passed k.counts ∙ some_first v.demands.counted k.counted x e) (take x.1 v.demands.made) t.0
-      (ap (λ us. with_sites before (take x.1 us)) k.makes ∙ ap (with_sites before) t.1) (ap (with_made_until before v.demands.made) e)
+  after_some x e = grind (arith, common_steps, taken_more x.1 v.demands.made k.made, by_then (Some x), some_first v.demands.counted k.counted x e)
 
   made_later : Later
   made_later = elim (first_passed v.demands.counted) as (λ o. first_passed v.demands.counted ≡ o → Later) [ None ↦ after_none | Some x ↦ after_some x ] refl
@@ -107,20 +94,11 @@ module _ (before : List SiteTerm) (v w : Visit) (k : Continues v w) where
   ends_further b (Faults.Limit Limits.Outputs) h = meets_further b outputs_limit h
   ends_further b (Faults.Limit Limits.Arguments) h = meets_further b arguments_limit h
   ends_further b (Faults.Limit Limits.Sites) h = (h.0, subst (AreFirst (built_sites b)) (sym made_later.1) (first_with (built_sites b) (sites_made before v) made_later.0 h.1))
-  ends_further b (Faults.Limit Limits.Nesting) h = absurd h
-  ends_further b (Faults.Limit Limits.Expansions) h = absurd h
-  ends_further b Faults.Stopped h = absurd h
+  ends_further b _ h = absurd h
 
 -- 3. on the way, where nothing that was counted passes a limit
 ends_now : (before : List SiteTerm) (b : RuleSetBuilder) (v : Visit) (e : VisitFault) → first_passed v.demands.counted ≡ None → EndsBefore before b v e → EndsVisit before b v e
-ends_now before b v (Faults.Memory a) none h = tt
-ends_now before b v (Faults.Limit Limits.Sites) none h = (h.0, subst (AreFirst (built_sites b)) (sym (ap (with_made_until before v.demands.made) none)) h.1)
-ends_now before b v (Faults.Limit Limits.Fields) none h = absurd h
-ends_now before b v (Faults.Limit Limits.Outputs) none h = absurd h
-ends_now before b v (Faults.Limit Limits.Arguments) none h = absurd h
-ends_now before b v (Faults.Limit Limits.Nesting) none h = absurd h
-ends_now before b v (Faults.Limit Limits.Expansions) none h = absurd h
-ends_now before b v Faults.Stopped none h = absurd h
+ends_now before b v e none h = grind arith
 
 pub ends_visit : (before : List SiteTerm) (b : RuleSetBuilder) (u v : Visit) (e : VisitFault) → first_passed u.demands.counted ≡ None → Continues u v → EndsBefore before b u e → EndsVisit before b v e
 ends_visit before b u v e none k h = ends_further before u v k b e (ends_now before b u e none h)
@@ -170,10 +148,7 @@ many_outputs : (n : ℕ) → PassesMany (outputs_taken n) most_outputs n outputs
 many_outputs n = record { few = outputs_pass n; many = λ l. cond-true (nat_lt most_outputs n) (Some outputs_limit) None (lt-ltb most_outputs n l) }
 
 many_arguments : (i : ℕ) → PassesMany (argument_taken i) most_arguments (suc i) arguments_limit
-many_arguments i = record {
-  few = λ l. argument_passes i (omega (arith, l));
-  many = λ l. cond-false (nat_lt i most_arguments) None (Some arguments_limit) (le-ltb i most_arguments (omega (arith, l)));
-}
+many_arguments i = grind (arith, common_steps, argument_passes i, le-ltb i most_arguments)
 
 pub fields_end : (before : List SiteTerm) (b : RuleSetBuilder) (v : Visit) (c : Constraint) (n : ℕ) (u : SiteTerm) (e : VisitFault) → first_passed v.demands.counted ≡ None
     → EndsOpening before b (fields_opened c n u v).visit Limits.Fields most_fields n v e → EndsVisit before b (fields_opened c n u v).visit e
@@ -186,9 +161,7 @@ argument_ends before b v i e none h =
     opening_ends before b v (taking_argument i v) (argument_taken i) arguments_limit Limits.Arguments most_arguments (suc i) e (record { made = argument i ∷ []; makes = refl; counts = refl }) (many_arguments i) (λ m. m) none h
 
 answer_counts : (multi infallible : Bool) (call : SiteTerm) (v : Visit) → first_passed v.demands.counted ≡ None → first_passed (answered multi infallible call (making (call ∷ []) v)).demands.counted ≡ None
-answer_counts true infallible call v none = none
-answer_counts false true call v none = none
-answer_counts false false call v none = none
+answer_counts multi infallible call v none = grind (arith, common_steps)
 
 pub outputs_end : (before : List SiteTerm) (b : RuleSetBuilder) (v : Visit) (flags : Flags) (multi infallible : Bool) (call : SiteTerm) (args : TypedPatterns) (count : ℕ) (e : VisitFault) → flags.multi ≡ multi → pattern_count args ≡ count
     → first_passed v.demands.counted ≡ None → EndsOpening before b (open_call flags infallible call args v).visit Limits.Outputs most_outputs count (answered multi infallible call (making (call ∷ []) v)) e

@@ -1,12 +1,12 @@
 -- The builder's visit of a rule follows the visit of sites, and so does the result that it makes at the end.
-use Rattle.std.proofs.Common.{◌≡◌, ◌<◌, ℕ, Bool, true, false, List, [], ◌∷◌, length, None, sym, subst}
-use Rattle.std.specs.Prelude.{Result, Ok, Err, IfErr, IfOk}
+use Rattle.std.proofs.Common.{◌≡◌, ◌<◌, ℕ, Bool, true, false, List, [], ◌∷◌, length, sym, subst, arith}
+use Rattle.std.specs.Prelude.{Result, Ok, IfErr, IfOk}
+use Rattle.std.proofs.lemmas.Grind.{common_steps}
 use Rattle.core_syntax.specs.declared.visit_fault.VisitFault.{VisitFault}
 use Rattle.model.specs.lists.Formed.{is_formed_rule}
 use Rattle.model.specs.lists.Tables.{TermEntry}
 use Rattle.model.specs.rules.Program.{Program, is_partial}
 use Rattle.model.specs.rules.Typed.{TypedRule}
-use Rattle.model.specs.sites.Limits.{first_passed}
 use Rattle.model.specs.sites.Sites.{SiteTerm, some_made, unfold_site}
 use Rattle.model.specs.visits.Demands.{Valued, Visit, finished, valued, value_of_rule, visit_rule, visit_start}
 use Rattle.model.specs.visits.RuleRuns.{RuleRun}
@@ -48,22 +48,9 @@ module _ (p : Program) (before : List SiteTerm) (r : TypedRule) where
     pub rule_finished : (partial : Bool) (result : Result ℕ VisitFault) → partial ≡ is_partial p r.root_term → Gives (follower before) old (Ok value) mid (value_of_rule p r)
         → ((w : Visit) → BuilderStandsAt before mid w → value < length (built_sites mid) → IfOk result (ValuesTo before mid new (finished partial (valued (unfold_site (built_sites mid) value) w))))
         → IfOk result (ValuesTo before old new (visit_rule p r))
-    rule_finished partial (Err e) is v finish = tt
-    rule_finished partial (Ok n) is v finish =
-        let a = value_of_rule p r in
-        let made = subst (λ b. ValuesTo before mid new (finished b a) n) is (subst (λ u. ValuesTo before mid new (finished partial (valued u a.visit)) n) v.1.number (finish a.visit v.0.stands v.1.within)) in
-        record { goes = goes_further before old mid new a.visit (visit_rule p r).visit (went before old mid a.visit v.0) made.goes; site = made.site }
+    rule_finished partial result is v finish = grind (arith, common_steps, goes_further before old mid new, went before old mid)
 
     pub rule_full : (partial : Bool) (result : Result ℕ VisitFault) → partial ≡ is_partial p r.root_term → Gives (follower before) old (Ok value) mid (value_of_rule p r)
         → ((w : Visit) → BuilderStandsAt before mid w → value < length (built_sites mid) → IfErr result (EndsBefore before new (finished partial (valued (unfold_site (built_sites mid) value) w)).visit))
         → IfErr result (EndsAtLimit p before r new)
-    rule_full partial (Ok n) is v finish = tt
-    rule_full partial (Err e) is v finish =
-        let a = value_of_rule p r in
-        let w = (visit_rule p r).visit in
-        let h = subst (λ b. EndsBefore before new (finished b a).visit e) is (subst (λ u. EndsBefore before new (finished partial (valued u a.visit)).visit e) v.1.number (finish a.visit v.0.stands v.1.within)) in
-        visit_ends p before r new e (ends_visit before new w w e (few_at (is_partial p r.root_term)) (continues_now w) h)
-      where
-        few_at : (b : Bool) → first_passed (finished b (value_of_rule p r)).visit.demands.counted ≡ None
-        few_at false = v.0.stands.few
-        few_at true = v.0.stands.few
+    rule_full partial result is v finish = grind (arith, common_steps, visit_ends p before r new, ends_visit before new, continues_now)

@@ -1,11 +1,11 @@
 -- Sites that were there stay first where more are made, so they stand for what they did.
-use Rattle.std.proofs.Common.{◌≡◌, ℕ, zero, suc, ◌<◌, ◌≤◌, List, [], ◌∷◌, ◌++◌, length, take, Option, Some, None, slice_get, refl, sym, ◌∙◌, subst, inl, inr, arith}
+use Rattle.std.proofs.Common.{◌≡◌, ℕ, suc, ◌<◌, ◌≤◌, List, ◌∷◌, ◌++◌, length, take, Option, Some, None, slice_get, refl, sym, subst, inl, inr, arith}
 use Rattle.std.proofs.lemmas.Bool.{cases_Bool, cond-true, cond-false}
 use Rattle.std.proofs.lemmas.List.{length-append, length-take}
 use Rattle.std.proofs.lemmas.Option.{same_Some}
 use Rattle.model.specs.rules.Program.{Program}
 use Rattle.model.specs.rules.Typed.{TypedRule}
-use Rattle.model.specs.sites.Sites.{Site, SiteTerm, unfold_site, field_terms}
+use Rattle.model.specs.sites.Sites.{Site, SiteTerm, field_terms}
 use Rattle.model.specs.visits.Demands.{Demands, demands_of, with_sites}
 use Rattle.model.specs.sites.Closure.{ascending, before_closing, class_at, closed, is_unreachable, most_closing_steps}
 use Rattle.model.specs.sites.Limits.{RuleLimit, most_sites, passed_in_visit, sites_after_rule, sites_reached, sites_until, sites_wanted}
@@ -16,6 +16,7 @@ use Rattle.core_rule_sets.proofs.FullTables.{grows}
 use Rattle.core_rule_sets.specs.SiteTables.{IsTable, table_sites}
 use Rattle.core_rule_sets.specs.declared.site_table.SiteTable.{SiteTable}
 use Rattle.std.specs.List.{flat_map}
+use Rattle.std.proofs.lemmas.Grind.{common_steps}
 
 -- sites stay at their places
 pub record StayFirst (before after : List SiteTerm) : Type 0 where
@@ -23,29 +24,21 @@ pub record StayFirst (before after : List SiteTerm) : Type 0 where
   pub there : (s : ℕ) → s < length before → slice_get after s ≡ slice_get before s
 
 at_place : (xs ys : List SiteTerm) (s : ℕ) → s < length xs → slice_get (xs ++ ys) s ≡ slice_get xs s
-at_place [] ys s l = absurd (let m : ⊥ = omega (arith, l) in m)
-at_place (x ∷ xs) ys zero l = refl
 at_place (x ∷ xs) ys (suc s) l = at_place xs ys s (omega (arith, l))
+at_place xs ys s l = grind arith
 
 in_front : (n : ℕ) (xs : List SiteTerm) (s : ℕ) → s < n → slice_get (take n xs) s ≡ slice_get xs s
-in_front zero xs s l = absurd (let m : ⊥ = omega (arith, l) in m)
-in_front (suc n) [] s l = refl
-in_front (suc n) (x ∷ xs) zero l = refl
 in_front (suc n) (x ∷ xs) (suc s) l = in_front n xs s (omega (arith, l))
+in_front n xs s l = grind arith
 
 pub stays_itself : (before : List SiteTerm) → StayFirst before before
 stays_itself before = record { longer = omega arith; there = λ s l. refl }
 
 pub stays_then : (before mid after : List SiteTerm) → StayFirst before mid → StayFirst mid after → StayFirst before after
-stays_then before mid after h g = record {
-  longer = let a = h.longer in let b = g.longer in omega (arith, a, b);
-  there = λ s l. g.there s (let a = h.longer in omega (arith, a, l)) ∙ h.there s l;
-}
+stays_then before mid after h g = grind (arith, common_steps)
 
 pub stays_with : (before made : List SiteTerm) → StayFirst before (with_sites before made)
-stays_with before made =
-    let g = grows made before in
-    subst (StayFirst before) (sym g.1) (record { longer = let e = length-append before g.0 in omega (arith, e); there = at_place before g.0 })
+stays_with before made = grind (arith, common_steps, grows made before, length-append before, at_place before)
 
 pub stays_closed : (before : List SiteTerm) (d : Demands) → StayFirst (with_sites before d.made) (closed before d).made
 stays_closed before d =
@@ -67,25 +60,11 @@ stays_until p before r None = stays_wanted p before r
 
 -- and where no more are kept than there may be
 pub stays_in_front : (before after : List SiteTerm) → length before ≤ most_sites → StayFirst before after → StayFirst before (take most_sites after)
-stays_in_front before after few h = record {
-  longer = let e = length-take most_sites after in let l = h.longer in omega (arith, e, l, few);
-  there = λ s l. in_front most_sites after s (omega (arith, l, few)) ∙ h.there s l;
-}
+stays_in_front before after few h = grind (arith, common_steps, length-take most_sites after, in_front most_sites after, h.longer, h.there)
 
 pub stays_after : (p : Program) (before : List SiteTerm) (r : TypedRule) → length before ≤ most_sites → StayFirst before (sites_after_rule p before r)
 stays_after p before r few = stays_in_front before (sites_reached p before r) few (stays_until p before r (passed_in_visit p r))
 
 -- a table whose sites stand for such has grown
 pub table_grown : (old : List Site) (new : SiteTable) (before after : List SiteTerm) → IsTable new → StandFor old before → StandFor (table_sites new) after → StayFirst before after → HaveGrown old (table_sites new)
-table_grown old new before after table h g stay =
-    let e = h.count in
-    let f = g.count in
-    let w = stay.longer in
-    record {
-      kept = λ s l.
-          same_Some (unfold_site (table_sites new) s) (unfold_site old s)
-          (sym (g.exact s (omega (arith, e, f, w, l))) ∙ stay.there s (omega (arith, e, l)) ∙ h.exact s l);
-      longer = omega (arith, e, f, w);
-      few = table.few;
-      sources = table.sources;
-    }
+table_grown old new before after table h g stay = grind (arith, common_steps, same_Some)

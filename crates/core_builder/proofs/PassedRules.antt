@@ -1,8 +1,8 @@
 -- The set of a term goes on past a rule: the rule is left out for a limit or since it can't be reached, or it is added.
-use Rattle.std.proofs.Common.{◌≡◌, ℕ, ◌<◌, ◌≤◌, true≢false, true, false, List, [], ◌∷◌, ◌++◌, length, map, take, All, None, Contains, refl, sym, ap, ◌∙◌, subst, inl, inr, arith}
+use Rattle.std.proofs.Common.{◌≡◌, ◌==◌, ℕ, ◌<◌, ◌≤◌, true≢false, true, false, List, [], ◌∷◌, ◌++◌, length, map, take, All, None, Contains, refl, sym, ap, ◌∙◌, subst, inl, inr, arith}
 use Rattle.std.proofs.lemmas.Bool.{cases_Bool, cond-true, cond-false}
 use Rattle.std.proofs.lemmas.List.Elements.{All-contains, All-head, All-tail}
-use Rattle.std.specs.Bool.{◌==◌}
+use Rattle.std.proofs.lemmas.Grind.{common_steps}
 use Rattle.core_syntax.specs.Stable.{contains}
 use Rattle.model.specs.rules.Program.{Program}
 use Rattle.model.specs.rules.Typed.{TypedRule}
@@ -40,12 +40,7 @@ same_grown b table = record { kept = λ s l. refl; longer = omega arith; few = t
 
 -- a set goes on that has grown before
 grown_then : (old mid new : List Site) → HaveGrown mid new → ((s : ℕ) → s < length old → unfold_site mid s ≡ unfold_site old s) → length old ≤ length mid → HaveGrown old new
-grown_then old mid new g kept longer = record {
-  kept = λ s l. g.kept s (omega (arith, l, longer)) ∙ kept s l;
-  longer = let m = g.longer in omega (arith, m, longer);
-  few = g.few;
-  sources = g.sources;
-}
+grown_then old mid new g kept longer = grind (arith, common_steps)
 
 module _ (p : Program) (before : List SiteTerm) (r : TypedRule) (rules : List SetRule) where
   -- 1. a limit is met
@@ -57,8 +52,7 @@ module _ (p : Program) (before : List SiteTerm) (r : TypedRule) (rules : List Se
   -- 2. the rule can't be reached
   module _ (b : RuleSetBuilder) (h : BuilderStandsAt before b (visit_rule p r).visit) where
     no_limit : (wanted : List SiteTerm) → sites_wanted p before r ≡ wanted → (sites : List Site) → length sites ≤ most_sites → StandFor sites wanted → first_limit p before r ≡ None
-    no_limit wanted e sites few stand =
-        (limits_are_met_lem p before r).none h.few (subst (λ ts. length ts ≤ most_sites) (sym e) (let n = stand.count in omega (arith, n, few)))
+    no_limit wanted e sites few stand = grind (arith, common_steps, limits_are_met_lem p before r)
 
     pub reachable_if : reported (with_sites before (demands_of p r).made) (demands_of p r) ≡ [] → is_unreachable (demands_of p r) ≡ false
     reachable_if e =
@@ -157,10 +151,7 @@ module _ (p : Program) (before : List SiteTerm) (r : TypedRule) (rules : List Se
                     (all_members (λ n. n < length (built_sites after)) b.impure.items (λ n i. further n (All-contains (λ n. n < length (built_sites b)) b.impure.items n h.impure.within i))),
                 ap (map (unfold_site (built_sites after))) impure ∙ all_kept b.impure.items h.impure.within ∙ h.impure.numbers,
               );
-              result = (
-                subst (λ n. n < length (built_sites after)) (sym l.result) (further value site.within),
-                ap (unfold_site (built_sites after)) l.result ∙ go.kept value site.within ∙ site.number,
-              );
+              result = grind (arith, common_steps, further value site.within);
             }
 
         pub passes_added : (from : Rule) (value : ℕ) (rule : SetRule) (more : List SetRule) → more ≡ rules ++ rule ∷ [] → rule_view from ≡ r → IsSiteOf b (visit_rule p r).site value

@@ -1,17 +1,16 @@
 -- The numbers below a bound that pass a test, as a list.
-use Rattle.std.proofs.Common.{◌≡◌, ◌⊎◌, ℕ, zero, suc, ◌<◌, Bool, true, [], ◌∷◌, ◌++◌, if◌then◌else◌, refl, sym, ap, ◌∙◌, subst, inl, inr, arith}
+use Rattle.std.proofs.Common.{◌≡◌, ◌⊎◌, ℕ, zero, suc, ◌<◌, Bool, true, [], ◌∷◌, ◌++◌, if◌then◌else◌, sym, ap, ◌∙◌, subst, inl, inr, arith}
 use Rattle.std.proofs.lemmas.Bool.{cases_Bool, cond-true, cond-false}
 use Rattle.std.proofs.lemmas.List.{append-nil}
+use Rattle.std.proofs.lemmas.Grind.{common_steps}
 use Rattle.model.specs.lists.Names.{IsDistinct}
 use Rattle.model.proofs.Elements.{In, in_either, in_left, in_right, in_slice}
 use Rattle.model.proofs.Positions.{distinct_nil, distinct_push}
 use Rattle.core_rule_sets.specs.SiteViews.{passing_below}
 
 at_last : (s n : ℕ) → s < suc n → (s ≡ n) ⊎ (s < n)
-at_last zero zero l = inl refl
-at_last zero (suc n) l = inr (omega arith)
-at_last (suc s) zero l = absurd (let m : ⊥ = omega (arith, l) in m)
 at_last (suc s) (suc n) l = elim (at_last s n (omega (arith, l))) [ inl e ↦ inl (ap suc e) | inr m ↦ inr (omega (arith, m)) ]
+at_last s n l = grind arith
 
 pub in_passing : (n : ℕ) (p : ℕ → Bool) (s : ℕ) → s < n → p s ≡ true → In (passing_below n p) s
 unfolding passing_below
@@ -24,11 +23,7 @@ in_passing (suc n) p s l h =
 
 -- what is listed last
 last_passes : (p : ℕ → Bool) (n s : ℕ) → In (if p n then n ∷ [] else []) s → (n ≡ s) × (p s ≡ true)
-last_passes p n s i =
-    elim (cases_Bool (p n)) [
-      | inl t ↦ elim (subst (λ xs. In xs s) (cond-true (p n) (n ∷ []) [] t) i) [ inl e ↦ (e, ap p (sym e) ∙ t) | inr j ↦ absurd j ]
-      | inr f ↦ absurd (subst (λ xs. In xs s) (cond-false (p n) (n ∷ []) [] f) i)
-    ]
+last_passes p n s i = grind (arith, common_steps)
 
 pub from_passing : (n : ℕ) (p : ℕ → Bool) (s : ℕ) → In (passing_below n p) s → (s < n) × (p s ≡ true)
 unfolding passing_below

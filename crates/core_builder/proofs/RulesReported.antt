@@ -1,6 +1,7 @@
 -- A set goes on past a rule, and errors are added: each case with what is reported.
-use Rattle.std.proofs.Common.{◌≡◌, ℕ, ◌<◌, ◌≤◌, false, List, [], ◌∷◌, ◌++◌, ◌==◌, true≢false, Bool, true, length, map, vec_len, if◌then◌else◌, Ok, Err, Result, OnOk, refl, sym, ap, ◌∙◌, subst, append-nil, arith, eqb-true}
+use Rattle.std.proofs.Common.{◌≡◌, ℕ, ◌<◌, ◌≤◌, false, List, [], ◌∷◌, ◌++◌, ◌==◌, true≢false, Bool, true, length, map, vec_len, if◌then◌else◌, Result, OnOk, refl, sym, ap, ◌∙◌, subst, append-nil, arith}
 use Rattle.std.specs.Global.{Vec}
+use Rattle.std.proofs.lemmas.Grind.{common_steps}
 use Rattle.core_syntax.specs.SyntaxViews.{position}
 use Rattle.core_syntax.specs.declared.syntax.Error.{Error}
 use Rattle.core_syntax.specs.declared.syntax.Limit.{Limit}
@@ -32,7 +33,7 @@ use Rattle.core_builder.specs.VisitedSites.{EndsAtLimit, IsSiteOf, MeetsLimit, B
 use Rattle.core_builder.specs.declared.ruleset_builder.RuleSetBuilder.{RuleSetBuilder}
 use Rattle.core_builder.specs.declared.term_sets.TermSet.{TermSet}
 use Rattle.core_builder.proofs.GrownSites.{StayFirst}
-use Rattle.core_builder.proofs.PassedRules.{closing_full_met, goes_past_from, passes_added, passes_limit, passes_unreachable, set_with}
+use Rattle.core_builder.proofs.PassedRules.{goes_past_from, passes_added, passes_limit, passes_unreachable, set_with}
 
 -- 1. reports as errors
 each_reported : {X : Type 0} (pos : Pos) (f : X → Unreachability) (xs : List X) → unreachable_each xs pos ≡ report_views (map (λ why. not_reached why (position pos)) (map f xs))
@@ -51,8 +52,7 @@ module _ (p : Program) (before : List SiteTerm) (r : TypedRule) (b : RuleSetBuil
   by_limit Limits.Outputs h e = record { limit = outputs_limit; meets = h; reports = e }
   by_limit Limits.Arguments h e = record { limit = arguments_limit; meets = h; reports = e }
   by_limit Limits.Sites h e = record { limit = sites_limit; meets = h; reports = e }
-  by_limit Limits.Nesting h e = absurd h
-  by_limit Limits.Expansions h e = absurd h
+  by_limit _ h e = absurd h
 
   -- 2. a limit that is met in the visit, or in the closing
   pub goes_on_limited : (old new : TermSet) (fault : VisitFault) (whole : List SiteTerm) → new.builder ≡ b → new.rules ≡ old.rules → position pos ≡ r.at
@@ -71,14 +71,7 @@ module _ (p : Program) (before : List SiteTerm) (r : TypedRule) (b : RuleSetBuil
 -- the closing ends at the limit on sites
 pub closing_ends : (p : Program) (before : List SiteTerm) (r : TypedRule) (rules : List SetRule) (b after : RuleSetBuilder) (h : BuilderStandsAt before b (visit_rule p r).visit) (reachable : is_unreachable (demands_of p r) ≡ false)
     → (fault : VisitFault) → ForWantOfRoom (IsTable after.table) fault → EndsFull (built_sites after) (closing most_closing_steps (before_closing before (demands_of p r))) fault → EndsAtLimit p before r after fault
-closing_ends p before r rules b after h reachable (Faults.Memory e) t f = tt
-closing_ends p before r rules b after h reachable (Faults.Limit Limits.Sites) t f = closing_full_met p before r rules b h reachable after t f
-closing_ends p before r rules b after h reachable (Faults.Limit Limits.Fields) t f = absurd f
-closing_ends p before r rules b after h reachable (Faults.Limit Limits.Outputs) t f = absurd f
-closing_ends p before r rules b after h reachable (Faults.Limit Limits.Arguments) t f = absurd f
-closing_ends p before r rules b after h reachable (Faults.Limit Limits.Nesting) t f = absurd f
-closing_ends p before r rules b after h reachable (Faults.Limit Limits.Expansions) t f = absurd f
-closing_ends p before r rules b after h reachable Faults.Stopped t f = absurd f
+closing_ends p before r rules b after h reachable fault t f = grind (arith, common_steps)
 
 -- 3. conflicts that the visit met, and what the verdict finds
 abbrev others : List SiteTerm → Demands → List Unreachability
@@ -102,18 +95,14 @@ module _ (p : Program) (before : List SiteTerm) (r : TypedRule) (s : TermSet) (h
 
   pub goes_on_conflicting : (cs : List (Constraint × Constraint)) → s.builder.conflicts.items ≡ cs → (cs ≡ [] → ⊥) → error_views more ≡ error_views errors ++ unreachable_each cs pos → SetGoesOn p before r s s errors more
   goes_on_conflicting [] e some rep = absurd (some refl)
-  goes_on_conflicting (c ∷ cs) e some rep =
-      goes_on_unreachable conflict_view c cs
-      (reported_first (with_sites before (demands_of p r).made) (demands_of p r) (map conflict_view (c ∷ cs)) (sym h.conflicts ∙ ap (map conflict_view) e)) rep
+  goes_on_conflicting (c ∷ cs) e some rep = grind (arith, common_steps, goes_on_unreachable conflict_view c cs, reported_first)
 
   pub goes_on_refused : (u : Unreachability) → reported (with_sites before (demands_of p r).made) (demands_of p r) ≡ u ∷ [] → error_views more ≡ error_views errors ++ unreachable (position pos) ∷ [] → SetGoesOn p before r s s errors more
   goes_on_refused u e rep = goes_on_unreachable (λ w. w) u [] e rep
 
 -- a visit that met no conflict, as the verdict takes it
 pub visited_fields : (p : Program) (before : List SiteTerm) (r : TypedRule) (b : RuleSetBuilder) → BuilderStandsAt before b (visit_rule p r).visit → b.conflicts.items ≡ [] → AreVisited (built_sites b) before (demands_of p r) b.demanded
-visited_fields p before r b h e =
-    let f = fields_are_given_lem p r in
-    record { held = h.demands; agreed = sym h.conflicts ∙ ap (map conflict_view) e; given = f.given; made = f.made }
+visited_fields p before r b h e = grind (arith, common_steps, fields_are_given_lem p r)
 
 -- 4. the rule is added
 module _ (p : Program) (before : List SiteTerm) (r : TypedRule) (old : TermSet) (h : BuilderStandsAt before old.builder (visit_rule p r).visit) (reachable : is_unreachable (demands_of p r) ≡ false)
@@ -143,16 +132,11 @@ goes_on_from p before r old mid new errors more same kept longer g = record {
 
 -- what follows of a call that didn't fail
 pub on_ok_then : {X E : Type 0} (P Q : Type 0) (r : Result X E) → (P → Q) → OnOk r P → OnOk r Q
-on_ok_then P Q (Ok x) f h = f h
-on_ok_then P Q (Err e) f h = tt
+on_ok_then P Q r f h = grind (arith, common_steps)
 
 -- whether a list has anything
 pub some_listed : {X : Type 0} (v : Vec X) (b : Bool) → b ≡ (vec_len v == 0) → b ≡ false → v.items ≡ [] → ⊥
 some_listed v b e n none = true≢false (sym (e ∙ ap (λ k. k == 0) (v.ok.0 ∙ ap length none)) ∙ n)
 
 pub none_listed : {X : Type 0} (v : Vec X) (b : Bool) → b ≡ (vec_len v == 0) → b ≡ true → v.items ≡ []
-none_listed {X} v b e n = by v.items (sym (e ∙ ap (λ k. k == 0) v.ok.0) ∙ n)
-  where
-    by : (xs : List X) → (length xs == 0) ≡ true → xs ≡ []
-    by [] g = refl
-    by (x ∷ xs) g = let l = eqb-true (length (x ∷ xs)) 0 g in absurd (let m : ⊥ = omega (arith, l) in m)
+none_listed {X} v b e n = grind (arith, common_steps)
