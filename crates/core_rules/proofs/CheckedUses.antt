@@ -1,12 +1,12 @@
 -- Checks of one use after another.
-use Rattle.std.proofs.Common.{◌≡◌, ℕ, ◌+◌, ◌<◌, All, List, [], ◌∷◌, ◌++◌, length, drop, get_or, Result, Ok, Err, OnOk, refl, sym, ap, subst, ◌∙◌, inl, inr, ◌⊎◌}
+use Rattle.std.proofs.Common.{◌≡◌, ℕ, ◌+◌, ◌<◌, All, List, [], ◌∷◌, ◌++◌, length, drop, get_or, Result, OnOk, refl, sym, ap, subst, ◌∙◌, inl, inr, ◌⊎◌, arith}
 use Rattle.std.specs.List.{flat_map}
 use Rattle.std.proofs.lemmas.List.{at_drop_more}
 use Rattle.std.proofs.lemmas.List.Elements.{All-nil, All-cons, All-head, All-append}
+use Rattle.std.proofs.lemmas.Grind.{common_steps}
 use Rattle.core_syntax.specs.declared.syntax.Def.{Def}
 use Rattle.core_syntax.specs.declared.syntax.Error.{Error}
 use Rattle.core_syntax.specs.SyntaxViews.{definition_view, definition_views}
-use Rattle.model.specs.lists.Syntax.{Definition, type_definition, declaration, extractor_definition, converter_definition, rule_definition, extern_definition, other_definition}
 use Rattle.model.specs.lists.TermTable.{rule_trees}
 use Rattle.core_syntax.specs.NotedErrors.{NotesMore}
 use Rattle.core_syntax.proofs.NotedErrors.{both}
@@ -16,13 +16,11 @@ use Rattle.core_types.proofs.RightTypes.{all_left, all_right}
 use Rattle.core_rules.proofs.PatternUsing.{checks_both}
 
 pub on_then : {A B : Type 0} (r : Result A B) (P Q : Type 0) → (P → Q) → OnOk r P → OnOk r Q
-on_then (Ok x) P Q f h = f h
-on_then (Err e) P Q f h = tt
+on_then r P Q f h = grind (arith, common_steps)
 
 -- the same fact in other words
 checks_as : (P Q : Type 0) (old new : List Error) → (P → Q) → (Q → P) → Checks old new P → Checks old new Q
-checks_as P Q old new f g (inl a) = inl (a.0, f a.1)
-checks_as P Q old new f g (inr a) = inr (a.0, λ h. a.1 (g h))
+checks_as P Q old new f g h = grind (arith, common_steps)
 
 module _ {X : Type 0} (P : X → Type 0) where
   -- some are left to be checked
@@ -40,8 +38,7 @@ module _ {X : Type 0} (P : X → Type 0) where
   checked_next all left xs rest old mid new split (inr a) (inr c) = inr (both old mid new a.0 c.0, a.1)
 
   pub checked_last : (all : List X) (old new : List Error) → CheckedAt all [] old new → Checks old new (All P all)
-  checked_last all old new (inl a) = inl (a.0, a.1 (All-nil P))
-  checked_last all old new (inr a) = inr a
+  checked_last all old new h = grind (arith, common_steps)
 
   -- a check of one
   pub checks_one : (x : X) (old new : List Error) → Checks old new (P x) → Checks old new (All P (x ∷ []))
@@ -57,13 +54,4 @@ pub left_at : {A X : Type 0} (f : A → List X) (g : List A → List X) → ((a 
 left_at f g law all i a within at = at_drop_more g all i a within ∙ ap (λ x. g (x ∷ drop (i + 1) all)) (sym at) ∙ law a (drop (i + 1) all)
 
 pub uses_split : (d : Def) (rest : List Def) → flat_map uses_of_rule (rule_trees (definition_views (d ∷ rest))) ≡ uses_of_definition (definition_view d) ++ flat_map uses_of_rule (rule_trees (definition_views rest))
-uses_split d rest = split (definition_view d) (definition_views rest)
-  where
-    split : (d : Definition) (rest : List Definition) → flat_map uses_of_rule (rule_trees (d ∷ rest)) ≡ uses_of_definition d ++ flat_map uses_of_rule (rule_trees rest)
-    split (type_definition t) rest = refl
-    split (declaration d) rest = refl
-    split (extractor_definition e) rest = refl
-    split (converter_definition c) rest = refl
-    split (rule_definition r) rest = refl
-    split (extern_definition e) rest = refl
-    split other_definition rest = refl
+uses_split d rest = grind (arith, common_steps)

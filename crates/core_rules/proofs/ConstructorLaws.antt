@@ -1,24 +1,23 @@
 -- Where each term that expressions name has a constructor they are typed as if every term had one; else they aren't typed.
-use Rattle.std.proofs.Common.{◌≡◌, ℕ, suc, ◌<◌, ◌&&◌, Bool, true, false, cond, eqb, eqb-true, IsTrue, All, List, [], ◌∷◌, ◌++◌, length, Option, Some, None, option_map, slice_get, unwrap_or, refl, sym, ap, subst, ◌∙◌, inl, inr, arith}
-use Rattle.std.specs.Bool.{◌==◌}
+use Rattle.std.proofs.Common.{◌≡◌, ℕ, suc, ◌<◌, true, IsTrue, All, List, [], ◌∷◌, ◌++◌, length, Option, Some, None, option_map, slice_get, unwrap_or, refl, sym, ap, subst, ◌∙◌, inl, inr, arith}
 use Rattle.std.specs.List.{flat_map}
-use Rattle.std.proofs.lemmas.Bool.{cases_Bool, false≢true}
+use Rattle.std.proofs.lemmas.Bool.{cases_Bool}
 use Rattle.std.proofs.lemmas.List.Elements.{All-nil, All-cons, All-head, All-tail, All-append}
 use Rattle.std.proofs.lemmas.Option.{none-some, same_Some}
+use Rattle.std.proofs.lemmas.Grind.{common_steps}
 use Rattle.core_syntax.specs.Expressions.{terms_of_expr, terms_of_exprs, terms_of_lets}
 use Rattle.model.proofs.Options.{options_one}
 use Rattle.laws_typing.proofs.TwoTables.{that_passes}
 use Rattle.model.specs.lists.Syntax.{Position, Name, ExprTree, term_expr, var_expr, ExprTrees, LetTrees, IfLetTree, RuleTree}
 use Rattle.model.specs.lists.Names.{number, has_name}
-use Rattle.model.specs.lists.Tables.{Flags, TermKindEntry, variant_term, struct_term, declared_term, TermEntry}
+use Rattle.model.specs.lists.Tables.{Flags, TermKindEntry, TermEntry}
 use Rattle.model.specs.lists.TermTable.{root_name}
-use Rattle.model.specs.rules.Meaning.{look}
 use Rattle.model.specs.rules.Outcome.{then_option}
 use Rattle.model.specs.rules.Typed.{TypedExpr, make_term, TypedExprs, TypedLets, TypedIfLet, TypedRule}
-use Rattle.model.specs.lists.Setting.{Setting, Scope, new_scope, entry_named, term_of, has_constructor, is_expected, is_callable, allow, converter, expr_converter, expr_type, on_lhs, declared_flags}
-use Rattle.model.specs.lists.Typings.{Typing, joined_typing, followed}
+use Rattle.model.specs.lists.Setting.{Setting, Scope, new_scope, entry_named, term_of, has_constructor, is_expected, is_callable, expr_converter, expr_type, on_lhs, declared_flags}
+use Rattle.model.specs.lists.Typings.{Typing, followed}
 use Rattle.model.specs.lists.Expansions.{term_name_at, wrapped_expr}
-use Rattle.model.specs.lists.Elaborated.{elaborated_pattern, elaborated_parts, elaborated_expr, elaborated_iflet, elaborated_iflets, elaborated_sides, elaborated_rule, typed_iflet, root_parts, sides_of, last_sides, finished_rule, may_have_priority, few_enough, most_nested, typed_rule, typed_rules, TypedRules, with_typed, with_own_name}
+use Rattle.model.specs.lists.Elaborated.{elaborated_pattern, elaborated_parts, elaborated_expr, elaborated_iflet, elaborated_iflets, elaborated_sides, elaborated_rule, typed_iflet, root_parts, sides_of, last_sides, few_enough, most_nested, typed_rule, typed_rules, TypedRules, with_typed, with_own_name}
 use Rattle.model.specs.lists.Elaborates.{ElaboratesExpr, ElaboratesArgs, ElaboratesLets, a_call, converted_call, a_variable, converted_variable, truth_expr, integer_expr, constant_expr, let_in, no_arg, an_arg, no_def, a_def, ElaboratesIfLets, no_iflet, an_iflet, ElaboratesRule, a_rule}
 use Rattle.model.proofs.Members.{get_within}
 use Rattle.model.proofs.Names.{found, absent, last, has_at, at_number}
@@ -37,59 +36,34 @@ use Rattle.core_rules.proofs.NamesKept.{Kept, kept_here, kept_on, kept_with, pat
 
 -- 1. lists and options
 pub with_some : (q : TypedRule) (o : Option TypedRules) (l : TypedRules) → with_typed q o ≡ Some l → (m : TypedRules) × (o ≡ Some m) × (l ≡ record { rules = q ∷ m.rules; names = m.names })
-with_some q None l h = absurd (none-some l h)
-with_some q (Some m) l h = (m, refl, sym (same_Some _ _ h))
+with_some q o l h = grind (arith, common_steps, none-some, same_Some)
 
 then_same : {X Y : Type 0} (o : Option X) (f g : X → Option Y) → ((x : X) → o ≡ Some x → f x ≡ g x) → then_option o f ≡ then_option o g
-then_same None f g h = refl
-then_same (Some x) f g h = h x refl
+then_same o f g h = grind (arith, common_steps)
 
 next_same : {X Y Z : Type 0} (f : X → Y → Z) (o : Option (Typing X)) (next more : Typing X → Option (Typing Y)) → ((a : Typing X) → o ≡ Some a → next a ≡ more a) → followed f o next ≡ followed f o more
-next_same f None next more h = refl
-next_same f (Some a) next more h = ap (joined_typing f a) (h a refl)
+next_same f o next more h = grind (arith, common_steps)
 
 none_of : (o : Option TermEntry) → ((t : TermEntry) → o ≡ Some t → ⊥) → o ≡ None
-none_of None h = refl
-none_of (Some t) h = absurd (h t refl)
+none_of o h = grind (arith, common_steps)
 
 pub mapped : (o : Option TermEntry) (r : TermEntry) → option_map made_entry o ≡ Some r → (x : TermEntry) × (o ≡ Some x) × (made_entry x ≡ r)
-mapped None r h = absurd (none-some r h)
-mapped (Some x) r h = (x, refl, same_Some _ _ h)
+mapped o r h = grind (arith, common_steps, none-some, same_Some)
 
 -- 2. constructors
-both_true : (a b : Bool) → a ≡ true → b ≡ true → a && b ≡ true
-both_true true b p q = q
-both_true false b p q = absurd (false≢true p)
-
-second_true : (a b : Bool) → a && b ≡ true → b ≡ true
-second_true true b h = h
-second_true false b h = absurd (false≢true h)
-
 callable_then : (flags : Flags) (k : TermKindEntry) → is_callable flags k ≡ true → is_callable flags (made_kind k) ≡ true
-callable_then flags (variant_term variant) h = refl
-callable_then flags struct_term h = refl
-callable_then flags (declared_term own constructor_kind extractor_kind) h = second_true _ (allow flags own) h
+callable_then flags k h = grind arith
 
 callable_before : (flags : Flags) (k : TermKindEntry) → is_callable flags (made_kind k) ≡ true → has_constructor k ≡ true → is_callable flags k ≡ true
-callable_before flags (variant_term variant) h c = refl
-callable_before flags struct_term h c = refl
-callable_before flags (declared_term own constructor_kind extractor_kind) h c = both_true _ (allow flags own) c h
+callable_before flags k h c = grind arith
 
 -- a converter of expressions is one of the terms, and has a constructor
 converter_is : (e : Setting) (i o : ℕ) (t : TermEntry) → expr_converter e i o ≡ Some t → (k : ℕ) × (slice_get e.terms k ≡ Some t) × (has_constructor t.kind ≡ true)
-converter_is e i o t h =
-    let a = that_passes (λ u. has_constructor u.kind) (converter e i o) t h in
-    let b = then_gives (look (λ k. (k.0 == i) && (k.1 == o)) e.converters) (slice_get e.terms) a.0 in
-    (b.0, b.2, a.1)
+converter_is e i o t h = grind (arith, common_steps, that_passes, then_gives)
 
 pub named_is : (name : ℕ) (ts : List TermEntry) (t : TermEntry) → entry_named name ts ≡ Some t → t.name ≡ name
 named_is name [] t h = absurd (none-some t h)
-named_is name (u ∷ us) t h = elim (cases_Bool (eqb u.name name)) [
-  | inl same ↦
-      let i : u ≡ t = same_Some u t (sym (ap (λ b. cond b (Some u) (entry_named name us)) same) ∙ h) in
-      ap (λ (v : TermEntry). v.name) (sym i) ∙ eqb-true u.name name same
-  | inr other ↦ named_is name us t (sym (ap (λ b. cond b (Some u) (entry_named name us)) other) ∙ h)
-]
+named_is name (u ∷ us) t h = grind (arith, common_steps, named_is name us t, same_Some)
 
 -- 3. what is typed is typed where each term has a constructor
 module _ (e : Setting) (flags : Flags) where
@@ -124,9 +98,7 @@ module _ (e : Setting) (names : List (List ℕ)) (k : AreTermsNamed e names) whe
   -- a text is that of the same term wherever the names are kept
   pub same_entry : (ms : List (List ℕ)) → Kept names ms → (x : List ℕ) → entry_named (number ms x) e.terms ≡ entry_named (number names x) e.terms
   same_entry ms w x = elim (cases_Bool (has_name names x)) [
-    | inl there ↦
-        let h = w.at (number names x) x (found names x there) in
-        ap (λ (j : ℕ). entry_named j e.terms) (w.once k.once (number ms x) (number names x) x (found ms x (has_at ms (number names x) x h)) h)
+    | inl there ↦ grind (arith, common_steps, found names x there, found ms x, has_at ms (number names x) x)
     | inr none ↦
         none_of (entry_named (number ms x) e.terms) (λ t h.
         let y = get_within names (number ms x) (term_below (number ms x) t h) in
@@ -136,11 +108,7 @@ module _ (e : Setting) (names : List (List ℕ)) (k : AreTermsNamed e names) whe
 
   -- the text of a term's name is that of the term
   same_term : (ms : List (List ℕ)) → Kept names ms → (i : ℕ) (t : TermEntry) → slice_get e.terms i ≡ Some t → entry_named (number names (unwrap_or (slice_get ms t.name) [])) e.terms ≡ Some t
-  same_term ms w i t h =
-      let y = get_within names t.name (k.met i t h) in
-      ap (λ o. entry_named (number names (unwrap_or o [])) e.terms) (w.at t.name y.0 y.1)
-      ∙ ap (λ (j : ℕ). entry_named j e.terms) (k.once (number names y.0) t.name y.0 (found names y.0 (has_at names t.name y.0 y.1)) y.1)
-      ∙ k.found i t h
+  same_term ms w i t h = grind (arith, common_steps, get_within names t.name (k.met i t h), found names, has_at names t.name)
 
   -- 5. what is typed names terms with constructors
   module _ (flags : Flags) where
@@ -150,12 +118,8 @@ module _ (e : Setting) (names : List (List ℕ)) (k : AreTermsNamed e names) whe
           All-cons P (at, name) (terms_of_exprs args) (ap has_constructor_if_there (sym (same_entry s.names w name.text) ∙ h) ∙ constructs flags entry.kind j) (args_uses g w)
       expr_uses (converted_call {name = name} {args = args} {at = at} {s = s} {by = by} h i j g) w =
           all_left P (terms_of_expr (term_expr name args at)) [] (All-tail P (at, term_name_at s by at) (terms_of_expr (term_expr name args at) ++ []) (expr_uses g w))
-      expr_uses (a_variable h i) w = All-nil P
-      expr_uses (converted_variable h i j g) w = All-nil P
-      expr_uses (truth_expr h) w = All-nil P
-      expr_uses (integer_expr h) w = All-nil P
-      expr_uses (constant_expr h i) w = All-nil P
       expr_uses (let_in {defs = defs} {body = body} g h) w = All-append P (terms_of_lets defs) (terms_of_expr body) (lets_uses g w) (expr_uses h (kept_on w (lets_keep e flags g)))
+      expr_uses _ w = All-nil P
 
       args_uses : {d n : ℕ} {xs : ExprTrees} {tys : List ℕ} {s t : Scope} {qs : TypedExprs} → ElaboratesArgs e flags d xs tys s qs t n → Kept names s.names → AreMadeUses e names (terms_of_exprs xs)
       args_uses no_arg w = All-nil P
@@ -170,11 +134,7 @@ module _ (e : Setting) (names : List (List ℕ)) (k : AreTermsNamed e names) whe
     -- 6. and back
     -- a converter's use names a term with a constructor
     converter_head : (s : Scope) → Kept names s.names → (i o : ℕ) (by own : TermEntry) → made_entry own ≡ by → expr_converter e i o ≡ Some own → IsTrue (has_constructor_if_there (entry_named (number names (unwrap_or (slice_get s.names by.name) [])) e.terms))
-    converter_head s w i o by own same h =
-        let c = converter_is e i o own h in
-        ap (λ (v : TermEntry). has_constructor_if_there (entry_named (number names (unwrap_or (slice_get s.names v.name) [])) e.terms)) (sym same)
-        ∙ ap has_constructor_if_there (same_term s.names w c.0 own c.1)
-        ∙ c.2
+    converter_head s w i o by own same h = grind (arith, common_steps, converter_is, same_term)
 
     call_back : {d n : ℕ} {ty : Option ℕ} {name : Name} {args : ExprTrees} {at : Position} {s t : Scope} {qs : TypedExprs} (own entry : TermEntry) → made_entry own ≡ entry → term_of e s name.text ≡ Some own → has_constructor own.kind ≡ true
         → is_expected ty entry.ret_ty ≡ true → is_callable flags entry.kind ≡ true → ElaboratesArgs e flags d args entry.arg_tys s qs t n
@@ -291,8 +251,7 @@ module _ (e : Setting) (names : List (List ℕ)) (k : AreTermsNamed e names) whe
   rule_same id d r ms w m =
       then_same (root_name r.pattern) _ _ (λ n _.
       then_same (term_of e (new_scope ms) n.text) _ _ (λ t _.
-      then_same (declared_flags t.kind) _ _ (λ flags _.
-      ap (λ o. cond (may_have_priority flags r) (finished_rule id r t o) None) (sides_same flags d r t m (new_scope ms) w))))
+      then_same (declared_flags t.kind) _ _ (λ flags _. grind (arith, common_steps, sides_same flags d r))))
 
   -- one that has a typed rule has terms with constructors
   pub rule_uses : (id d : ℕ) (r : RuleTree) (ms : List (List ℕ)) (a : Typing TypedRule) → Kept names ms → elaborated_rule e d id r ms ≡ Some a → AreMadeUses e names (uses_of_rule r)

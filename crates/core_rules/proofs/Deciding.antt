@@ -1,7 +1,8 @@
 -- Loops that decide whether something holds of each element of a list: they end at the first of which it doesn't.
-use Rattle.std.proofs.Common.{◌≡◌, ℕ, ◌+◌, ◌<◌, Bool, true, false, Decides, List, [], ◌∷◌, length, drop, get_or, refl, sym, ap, subst, ◌∙◌}
+use Rattle.std.proofs.Common.{◌≡◌, ℕ, ◌+◌, ◌<◌, Bool, true, false, Decides, List, [], ◌∷◌, length, drop, get_or, refl, sym, ap, subst, ◌∙◌, arith}
 use Rattle.std.proofs.lemmas.Bool.{false≢true}
 use Rattle.std.proofs.lemmas.List.{at_drop_more}
+use Rattle.std.proofs.lemmas.Grind.{common_steps}
 
 -- by what it is that it holds of each, and of one, as of none and of one before others
 module _ {X : Type 0} (Each : List X → Type 0) (One : X → Type 0) (none : Each []) (cons : (x : X) (xs : List X) → One x → Each xs → Each (x ∷ xs)) (head : (x : X) (xs : List X) → Each (x ∷ xs) → One x) (tail : (x : X) (xs : List X) → Each (x ∷ xs) → Each xs) where
@@ -13,9 +14,7 @@ module _ {X : Type 0} (Each : List X → Type 0) (One : X → Type 0) (none : Ea
   at_next all i x within at = at_drop_more (λ xs. xs) all i x within ∙ ap (λ y. y ∷ drop (i + 1) all) (sym at)
 
   pub decided_next : (all : List X) (i : ℕ) (x : X) → i < length all → x ≡ get_or all i x → One x → LeftToDecide all (drop i all) → LeftToDecide all (drop (i + 1) all)
-  decided_next all i x within at right left =
-      let next = at_next all i x within at in
-      (λ h. left.0 (subst Each (sym next) (cons x (drop (i + 1) all) right h)), λ h. tail x (drop (i + 1) all) (subst Each next (left.1 h)))
+  decided_next all i x within at right left = grind (arith, common_steps, at_next)
 
   pub decided_wrong : (all : List X) (i : ℕ) (x : X) → i < length all → x ≡ get_or all i x → (One x → ⊥) → LeftToDecide all (drop i all) → Each all → ⊥
   decided_wrong all i x within at wrong left h = wrong (head x (drop (i + 1) all) (subst Each (at_next all i x within at) (left.1 h)))

@@ -1,10 +1,11 @@
 -- Each declared term of a list has rules, an external constructor or an extractor exactly where each term of its table has
 -- something that makes it or takes it apart.
-use Rattle.std.proofs.Common.{◌≡◌, ℕ, ◌+◌, ◌||◌, Bool, true, false, cond, List, [], ◌∷◌, ◌++◌, map, All, Contains, IsTrue, Option, Some, None, option_map, is_some, refl, sym, ap, subst, ◌∙◌}
+use Rattle.std.proofs.Common.{◌≡◌, ℕ, ◌+◌, ◌||◌, Bool, true, cond, List, [], ◌∷◌, ◌++◌, map, All, Contains, IsTrue, Option, Some, option_map, is_some, refl, sym, ap, subst, ◌∙◌, arith}
 use Rattle.std.proofs.Math.Path.{ap₂}
 use Rattle.std.specs.List.{enumerate_from, find, flat_map}
 use Rattle.std.specs.Str.{bytes_eq}
 use Rattle.std.proofs.lemmas.List.Elements.{All-nil, All-cons, All-head, All-tail, All-append, All-contains, Contains-append_right}
+use Rattle.std.proofs.lemmas.Grind.{common_steps}
 use Rattle.model.specs.lists.Syntax.{Position, DeclTree, ExtractorTree, Definition}
 use Rattle.model.specs.lists.Names.{number, has_name}
 use Rattle.model.specs.lists.Tables.{internal_constructor, external_constructor, internal_extractor, external_extractor, TermEntry}
@@ -19,26 +20,17 @@ abbrev IsDefinedTerm : TermEntry → Type 0
 IsDefinedTerm t = IsTrue (is_defined_term t)
 
 mapped_is_some : {X Y : Type 0} (f : X → Y) (o : Option X) → is_some (option_map f o) ≡ is_some o
-mapped_is_some f None = refl
-mapped_is_some f (Some x) = refl
+mapped_is_some f o = grind (arith, common_steps)
 
 found_is_some : {X : Type 0} (text : X → List ℕ) (x : List ℕ) (es : List X) → is_some (find (λ e. bytes_eq (text e) x) es) ≡ has_name (map text es) x
 found_is_some text x [] = refl
-found_is_some text x (e ∷ es) =
-    elim (bytes_eq (text e) x) as (λ b. is_some (cond b (Some e) (find (λ e. bytes_eq (text e) x) es)) ≡ b || has_name (map text es) x) [
-      | true ↦ refl
-      | false ↦ found_is_some text x es
-    ]
+found_is_some text x (e ∷ es) = grind (arith, common_steps, found_is_some text x es)
 
 by_either : {X : Type 0} (b : Bool) (o p : Option X) → is_some (cond b o p) ≡ cond b (is_some o) (is_some p)
-by_either true o p = refl
-by_either false o p = refl
+by_either b o p = grind (arith, common_steps)
 
 made_or_apart : (r c i x : Bool) → cond r true c || cond i i x ≡ r || c || i || x
-made_or_apart true c i x = refl
-made_or_apart false true i x = refl
-made_or_apart false false true x = refl
-made_or_apart false false false x = refl
+made_or_apart r c i x = grind (arith, common_steps)
 
 module _ (k : KnownTypes) (defs : List Definition) where
   abbrev names : List (List ℕ)
@@ -58,9 +50,7 @@ module _ (k : KnownTypes) (defs : List Definition) where
       (mapped_is_some (λ (e : ExternalTree). external_extractor (number names e.function.text) e.infallible e.at) (find (λ e. bytes_eq e.term.text x) (external_trees defs)) ∙ found_is_some (λ (e : ExternalTree). e.term.text) x (external_trees defs))
 
   same_test : (d : DeclTree) (id : ℕ) → is_defined_term (decl_as_term k defs names d id) ≡ is_defined defs d.term.text
-  same_test d id =
-      ap₂ (λ a b. a || b) (has_made d.term.text) (has_apart d.term.text)
-      ∙ made_or_apart (has_rules defs d.term.text) (has_name (external_constructors defs) d.term.text) (has_name (internal_extractors defs) d.term.text) (has_name (external_extractors defs) d.term.text)
+  same_test d id = grind (arith, common_steps, has_made, has_apart, made_or_apart)
 
   abbrev Always : (ℕ → TermEntry) → Type 0
   Always f = (id : ℕ) → IsDefinedTerm (f id)

@@ -1,24 +1,23 @@
 -- From what reading terms and rules gave to what the environments show of the list.
-use Rattle.std.proofs.Common.{◌≡◌, ◌≢◌, ◌==◌, ℕ, Bool, true, false, cond, List, [], ◌∷◌, ◌++◌, length, Some, None, option_map, unwrap_or, OnErr, Result, Ok, Err, refl, sym, ap, subst, ◌∙◌, inl, inr, ◌⊎◌, arith, eqb-true}
-use Rattle.std.specs.List.{cons_option, flat_map}
+use Rattle.std.proofs.Common.{◌≡◌, ◌≢◌, ◌==◌, ℕ, Bool, true, false, List, [], ◌∷◌, ◌++◌, length, OnErr, Result, refl, sym, ap, subst, ◌∙◌, ◌⊎◌, arith, eqb-true}
+use Rattle.std.specs.List.{flat_map}
 use Rattle.std.proofs.lemmas.Bool.{false≢true}
 use Rattle.std.proofs.lemmas.List.{append_assoc}
 use Rattle.std.proofs.lemmas.Option.{same_Some}
+use Rattle.std.proofs.lemmas.Grind.{common_steps}
 use Rattle.core_syntax.specs.declared.syntax.Error.{Error}
-use Rattle.core_syntax.specs.Stable.{look_up}
 use Rattle.model.specs.lists.Syntax.{Definition}
 use Rattle.model.specs.lists.Names.{IsDistinct}
-use Rattle.model.specs.lists.TermTable.{decl_names, function_of, rule_trees}
-use Rattle.model.specs.lists.Elaborated.{TypedRules, RulesElaborate, rule_named}
+use Rattle.model.specs.lists.TermTable.{decl_names, function_of}
+use Rattle.model.specs.lists.Elaborated.{TypedRules, rule_named}
 use Rattle.model.specs.rules.Meaning.{look}
 use Rattle.model.specs.rules.Typed.{TypedRule}
 use Rattle.model.specs.claims.Environments.{TypesRead, AreReadable, setting_of, IsElaborated, IsReadAs, environment_of, with_read_names, rules_by_name, ShowsTerms, AreTermsOf, AreRulesOf, IsLeftByRefusal}
 use Rattle.model.proofs.NumbersOf.{environments_are_read}
 use Rattle.laws_typing.proofs.TypesStay.{types_are_shown_lem, types_stay_lem}
 use Rattle.core_types.specs.declared.type_env.TypeEnv.{TypeEnv}
-use Rattle.core_types.specs.Envs.{names_of, same_symbol, symbol, IsInterned}
+use Rattle.core_types.specs.Envs.{names_of, IsInterned}
 use Rattle.core_types.specs.EnvViews.{environment_view}
-use Rattle.core_types.specs.TypeViews.{type_views}
 use Rattle.core_terms.specs.declared.term_table.TermTable.{TermTable}
 use Rattle.core_terms.specs.ShownTables.{shown_by}
 use Rattle.core_terms.proofs.TypesStaying.{with_names_more}
@@ -35,11 +34,7 @@ use Rattle.core_rules.proofs.ShownSettings.{setting_shown, terms_once}
 -- the rule of a name is the first entry of that name
 look_rule : (rs : List TypedRule) (k : ℕ) → rule_named rs k ≡ look (λ n. n == k) (rules_by_name rs)
 look_rule [] k = refl
-look_rule (r ∷ rs) k =
-    elim (r.name) as (λ o. cond (unwrap_or (option_map (λ n. n == k) o) false) (Some r.id) (rule_named rs k) ≡ look (λ n. n == k) (cons_option (option_map (λ n. (n, r.id)) o) (rules_by_name rs))) [
-      | None ↦ look_rule rs k
-      | Some n ↦ ap (cond (n == k) (Some r.id)) (look_rule rs k)
-    ]
+look_rule (r ∷ rs) k = grind (arith, common_steps, look_rule rs k)
 
 -- where only names are added, the types stay
 pub left_by_keeping : (e : TypesRead) → AreReadable e → (old new : TypeEnv) → IsLeftByRefusal e (environment_view old) → Keeps old new → IsLeftByRefusal e (environment_view new)
@@ -52,22 +47,13 @@ left_by_keeping e r old new left k =
     let after = types_stay_lem e (environment_of e) (environment_of e') more r (types_are_shown_lem e r) (environments_are_read e' (subst IsDistinct names distinct)) in
     record {
       more = more;
-      types = record {
-        names = names;
-        inverse = record { numbered = k.inverse.numbered; named = k.inverse.named };
-        types = ap (λ v. type_views v.items) k.types ∙ left.types.types;
-        look_ups = λ n. ap (λ t. option_map (λ t. t.0) (look_up same_symbol t (symbol n))) k.type_map ∙ before.1 n ∙ sym (after.1 n);
-        constants = λ n. ap (λ t. option_map (λ t. t.0) (look_up same_symbol t (symbol n))) k.const_types ∙ left.types.constants n;
-        no_errors = ap (λ v. length v.items) k.errors ∙ left.types.no_errors;
-      };
+      types = grind (arith, common_steps);
     }
 
 module _ (e : TypesRead) (r : AreReadable e) (defs : List Definition) where
   -- what the terms leave
   pub left_by_terms : (table : TermTable) (tyenv : TypeEnv) → AreTermsOf e defs (shown_by table) (environment_view tyenv) → IsLeftByRefusal e (environment_view tyenv)
-  left_by_terms table tyenv a =
-      let m = with_names_more e.known.names (decl_names defs ++ flat_map function_of defs) in
-      record { more = m.0; types = subst (λ ns. IsReadAs (environment_view tyenv) (with_read_names e ns)) m.1 a.types }
+  left_by_terms table tyenv a = grind (arith, common_steps, with_names_more e.known.names (decl_names defs ++ flat_map function_of defs))
 
   -- what reading the rules gives of the list's own tables
   pub read_by_terms : (table : TermTable) (old new : TypeEnv) → AreTermsOf e defs (shown_by table) (environment_view old) → (env : TermEnv) → terms_shown_by env ≡ shown_by table → (expand : Bool) → env.expand_internal_extractors ≡ expand → (after : TermEnv) (errors : List Error) → ReadsRules env old new defs after errors
@@ -84,12 +70,7 @@ module _ (e : TypesRead) (r : AreReadable e) (defs : List Definition) where
 
     module _ (env : TermEnv) (shown : terms_shown_by env ≡ shown_by table) (expand : Bool) (flag : env.expand_internal_extractors ≡ expand) where
       elaborated : (l : TypedRules) → CanBeRead (setting_of e defs expand) defs (names_of old) l → IsElaborated e defs expand l
-      elaborated l c = record {
-        readable = r;
-        terms = a.valid;
-        defined = all_defined e.known defs c.defined;
-        elaborate = subst (λ ns. RulesElaborate (setting_of e defs expand) (rule_trees defs) ns l) a.types.names c.elaborate;
-      }
+      elaborated l c = grind (arith, common_steps, all_defined e.known defs c.defined)
 
       pub all_read : AreReadRules (setting_of e defs expand) defs old new env → AreRulesOf e defs expand (rules_of env new) (environment_shown_by env) (environment_view new)
       all_read x = record {
@@ -103,14 +84,10 @@ module _ (e : TypesRead) (r : AreReadable e) (defs : List Definition) where
 
     -- what can be said to be elaborated can be read
     pub could_be_read : (expand : Bool) (l : TypedRules) → IsElaborated e defs expand l → CanBeRead (setting_of e defs expand) defs (names_of old) l
-    could_be_read expand l x = record {
-      elaborate = subst (λ ns. RulesElaborate (setting_of e defs expand) (rule_trees defs) ns l) (sym a.types.names) x.elaborate;
-      defined = terms_defined e.known defs x.defined;
-    }
+    could_be_read expand l x = grind (arith, common_steps, terms_defined e.known defs x.defined)
 
 nothing : (xs : List Error) → length xs ≡ 0 → xs ≡ []
-nothing [] e = refl
-nothing (x ∷ xs) e = absurd (omega (arith, e))
+nothing xs e = grind (arith, common_steps)
 
 -- an empty list of errors has none
 pub is_nothing : (n : ℕ) (b : Bool) (xs : List Error) → n ≡ length xs → b ≡ (n == 0) → b ≡ true → xs ≡ []
@@ -122,15 +99,12 @@ is_something n b xs size test e none = false≢true (sym e ∙ test ∙ ap (λ k
 
 -- where there are errors
 pub wrong_in_the_end : {A B C : Type 0} (xs : List Error) → xs ≢ [] → ((xs ≡ []) × A) ⊎ ((xs ≢ []) × B) → (B → C) → C
-wrong_in_the_end xs some (inl x) f = absurd (some x.0)
-wrong_in_the_end xs some (inr x) f = f x.1
+wrong_in_the_end xs some h f = grind (arith, common_steps)
 
 -- where there are none
 pub right_in_the_end : {A B C : Type 0} (xs : List Error) → xs ≡ [] → ((xs ≡ []) × A) ⊎ ((xs ≢ []) × B) → (A → C) → C
-right_in_the_end xs none (inl x) f = f x.1
-right_in_the_end xs none (inr x) f = absurd (x.0 none)
+right_in_the_end xs none h f = grind (arith, common_steps)
 
 -- what holds anyway
 pub whatever : {T E : Type 0} (r : Result T E) (P : Type 0) → P → OnErr r P
-whatever (Ok x) P p = tt
-whatever (Err e) P p = p
+whatever r P p = grind (arith, common_steps)

@@ -1,14 +1,15 @@
 -- Errors that stand at positions of what is read, or of templates: from a part to the whole, and one step after another.
-use Rattle.std.proofs.Common.{ℕ, List, [], ◌∷◌, Result, Ok, Err, ap}
+use Rattle.std.proofs.Common.{ℕ, List, [], ◌∷◌, Result, Err, arith}
+use Rattle.std.proofs.lemmas.Grind.{common_steps}
 use Rattle.model.specs.lists.Syntax.{Position}
 use Rattle.core_syntax.specs.declared.syntax.Error.{Error}
 use Rattle.core_syntax.specs.declared.syntax.Pos.{Pos}
 use Rattle.core_syntax.specs.Positions.{NotesAt, OccurAmong}
-use Rattle.core_syntax.proofs.Positioned.{among_both, among_left, among_right, among_first, notes_nothing, notes_both, notes_among, among_join}
+use Rattle.core_syntax.proofs.Positioned.{among_both, among_left, among_right, among_first, notes_both, notes_among, among_join}
 use Rattle.core_terms.specs.TermViews.{term_views}
 use Rattle.core_rules.specs.declared.term_env.TermEnv.{TermEnv}
 use Rattle.core_rules.specs.declared.typing.progress.Stop.{Stop}
-use Rattle.core_rules.specs.declared.typing.progress.Stop.TheVariants.{Memory, Nesting, Expansions}
+use Rattle.core_rules.specs.declared.typing.progress.Stop.TheVariants.{Memory}
 use Rattle.core_rules.specs.declared.typing.progress.Progress.{Progress}
 use Rattle.core_rules.specs.Progress.{Counts}
 use Rattle.core_rules.specs.RuleLists.{NotesStop}
@@ -30,22 +31,17 @@ among_made env ps qs a =
 
 keeps_among : (ps qs : List Position) (a b : List Error) (stop : Stop) → OccurAmong ps qs → KeepsPlaced ps a b stop → KeepsPlaced qs a b stop
 keeps_among ps qs a b (Memory e) h n = n
-keeps_among ps qs a b Nesting h n = notes_among ps qs a b h n
-keeps_among ps qs a b Expansions h n = notes_among ps qs a b h n
+keeps_among ps qs a b _ h n = notes_among ps qs a b h n
 
 keeps_after : (ps : List Position) (a b c : List Error) (stop : Stop) → NotesAt ps a b → KeepsPlaced ps b c stop → KeepsPlaced ps a c stop
-keeps_after ps a b c (Memory e) m n = n
-keeps_after ps a b c Nesting m n = notes_both ps a b c m n
-keeps_after ps a b c Expansions m n = notes_both ps a b c m n
+keeps_after ps a b c stop m n = grind arith
 
 module _ {X : Type 0} where
   pub stays_among : (ps qs : List Position) (a b : List Error) (r : Result X Stop) → OccurAmong ps qs → StaysPlaced ps a b r → StaysPlaced qs a b r
-  stays_among ps qs a b (Ok x) h n = notes_among ps qs a b h n
-  stays_among ps qs a b (Err stop) h n = keeps_among ps qs a b stop h n
+  stays_among ps qs a b r h n = grind (arith, common_steps, notes_among)
 
   pub stays_after : (ps : List Position) (a b c : List Error) (r : Result X Stop) → NotesAt ps a b → StaysPlaced ps b c r → StaysPlaced ps a c r
-  stays_after ps a b c (Ok x) m n = notes_both ps a b c m n
-  stays_after ps a b c (Err stop) m n = keeps_after ps a b c stop m n
+  stays_after ps a b c r m n = grind (arith, common_steps, notes_both)
 
   -- what stands at the first position
   pub stays_head : (env : TermEnv) (p : Position) (ps : List Position) (a b : List Error) (r : Result X Stop) → StaysPlaced (p ∷ []) a b r → StaysPlaced (with_templates env (p ∷ ps)) a b r
@@ -64,12 +60,8 @@ stop_step ps qs all a b c stop g h m n = keeps_after all a b c stop (notes_among
 
 -- a limit that ended the work is noted after what else was
 pub stop_noted : (ps all : List Position) (a b c : List Error) (at : Pos) (stop : Stop) → OccurAmong ps all → KeepsPlaced all a b stop → NotesAt ps b c → NotesStop stop at b c → NotesAt all a c
-stop_noted ps all a b c at (Memory e) h n m s = absurd s
-stop_noted ps all a b c at Nesting h n m s = notes_both all a b c n (notes_among ps all b c h m)
-stop_noted ps all a b c at Expansions h n m s = notes_both all a b c n (notes_among ps all b c h m)
+stop_noted ps all a b c at stop h n m s = grind (arith, common_steps, notes_among ps all b c h m)
 
 -- an expansion that isn't made
 pub counted_stop : (ps : List Position) (n : ℕ) (old new : Progress) (stop : Stop) → Counts n old new (Err stop) → KeepsPlaced ps old.errors.items new.errors.items stop
-counted_stop ps n old new (Memory e) c = absurd c
-counted_stop ps n old new Nesting c = notes_nothing ps old.errors.items new.errors.items (ap (λ p. p.errors.items) c.1)
-counted_stop ps n old new Expansions c = notes_nothing ps old.errors.items new.errors.items (ap (λ p. p.errors.items) c.1)
+counted_stop ps n old new stop c = grind arith

@@ -1,6 +1,7 @@
 -- Expansions that are counted, or that no more may be of.
-use Rattle.std.proofs.Common.{◌≡◌, ℕ, zero, suc, ◌+◌, ◌<◌, ◌≤◌, false, cond, nat_le, List, [], length, Err, refl, sym, ap, subst, ◌∙◌, arith}
+use Rattle.std.proofs.Common.{◌≡◌, ℕ, zero, suc, ◌+◌, ◌<◌, ◌≤◌, cond, nat_le, [], Err, refl, sym, subst, ◌∙◌, arith}
 use Rattle.std.proofs.lemmas.Bool.{lt-leb, le-leb}
+use Rattle.std.proofs.lemmas.Grind.{common_steps}
 use Rattle.model.specs.lists.Elaborated.{most_expansions}
 use Rattle.model.specs.lists.Setting.{Setting, Scope}
 use Rattle.model.specs.claims.Refusals.{of_nesting, of_expansions}
@@ -18,12 +19,7 @@ use Rattle.core_rules.proofs.Taken.{counted}
 
 -- one expansion was counted, and the scope is that before
 pub counted_shows : (old new : Standing) (s : Scope) → names_of new.tyenv ≡ names_of old.tyenv → CountsOne old.work new.work → Shows old s → Shows new s
-counted_shows old new s same one sh = record {
-  names = same ∙ sh.names;
-  vars = one.vars ∙ sh.vars;
-  visible = λ k. one.names k ∙ sh.visible k;
-  met = λ k v h. subst (λ (ns : List (List ℕ)). k < length ns) (sym same) (sh.met k v (sym (one.names k) ∙ h));
-}
+counted_shows old new s same one sh = grind (arith, common_steps)
 
 -- how what an expansion makes is read, where so many may nest
 abbrev pub Nested : Type 0 → Type 0
@@ -36,18 +32,12 @@ expansion inner (suc d) e n s = cond (nat_le most_expansions n) (stopped of_expa
 
 module _ {Q : Type 0} (inner : Nested Q) (e : Setting) (s : Scope) where
   one_deeper : (d left n m : ℕ) → suc left ≡ d → m ≡ n + 1 → m ≤ most_expansions → expansion inner d e n s ≡ counted_step (inner left e m s)
-  one_deeper d left n m nests more few =
-      let below : nat_le most_expansions n ≡ false = lt-leb most_expansions n (omega (arith, more, few)) in
-      ap (λ (k : ℕ). expansion inner k e n s) (sym nests)
-      ∙ ap (λ b. cond b (stopped of_expansions s []) (counted_step (inner left e (suc n) s))) below
-      ∙ ap (λ (k : ℕ). counted_step (inner left e k s)) (omega (arith, more))
+  one_deeper d left n m nests more few = grind (arith, common_steps, lt-leb)
 
   -- one more was made
   pub went_deeper : (old mid new : Standing) (d left n : ℕ) → suc left ≡ d → n ≡ old.work.expansions → mid.work.expansions ≡ n + 1 → mid.work.errors.items ≡ old.work.errors.items → (r : MadeOrLimit Q)
       → Took mid new (inner left e mid.work.expansions s) r → Took old new (expansion inner d e n s) r
-  went_deeper old mid new d left n nests here more same r h =
-      subst (λ t. Took old new t r) (sym (one_deeper d left n mid.work.expansions nests more mid.work.few))
-      (counted old mid new same (more ∙ ap (λ (k : ℕ). k + 1) here) (inner left e mid.work.expansions s) r h)
+  went_deeper old mid new d left n nests here more same r h = grind (arith, common_steps, one_deeper, counted)
 
   -- none may be
   too_deep : (old : Standing) (d n : ℕ) → d ≡ 0 → names_of old.tyenv ≡ s.names → Took old old (expansion inner d e n s) (Err of_nesting)

@@ -1,8 +1,9 @@
 -- How the arguments of a call are read on, part by part.
-use Rattle.std.proofs.Common.{◌≡◌, ℕ, ◌+◌, ◌<◌, ◌≤◌, min, nat_le, List, [], ◌∷◌, ◌++◌, length, map, drop, get_or, Option, Some, None, option_map, Ok, Err, append-nil, inl, inr, ◌⊎◌, refl, sym, ap, subst, ◌∙◌, arith}
+use Rattle.std.proofs.Common.{◌≡◌, ℕ, ◌+◌, ◌<◌, ◌≤◌, min, nat_le, List, [], ◌∷◌, ◌++◌, length, map, drop, get_or, Option, Some, None, option_map, Ok, append-nil, inl, inr, ◌⊎◌, refl, sym, ap, subst, ◌∙◌, arith}
 use Rattle.std.proofs.lemmas.Bool.{cases_Bool, leb-true, leb-false}
 use Rattle.std.proofs.lemmas.List.{drop_more, drop_all}
 use Rattle.std.specs.Option.{option_to_list}
+use Rattle.std.proofs.lemmas.Grind.{common_steps}
 use Rattle.core_syntax.specs.declared.syntax.Expr as T
 use Rattle.core_syntax.specs.SyntaxViews as S
 use Rattle.model.specs.lists.Setting.{Setting, Scope}
@@ -28,9 +29,7 @@ abbrev pub after_made : List Expr → MadeOrLimit TypedExprs → MadeOrLimit Typ
 after_made xs = made_end (appended (expr_parts (expr_views xs)))
 
 after_none : (r : MadeOrLimit TypedExprs) → r ≡ after_made [] r
-after_none (Ok None) = refl
-after_none (Ok (Some ys)) = refl
-after_none (Err l) = refl
+after_none r = grind (arith, common_steps)
 
 appended_none : (ys : TypedExprs) → appended ys no_typed_expr ≡ ys
 appended_none no_typed_expr = refl
@@ -48,9 +47,7 @@ abbrev something : TypedExprs → MadeOrLimit TypedExprs
 something ys = Ok (Some ys)
 
 one_after : (xs : List Expr) (o : Option Expr) (r : MadeOrLimit TypedExprs) → after_made xs (joined_end with_arg (option_map expr_view o) r) ≡ after_made (xs ++ option_to_list o) r
-one_after xs o (Ok None) = refl
-one_after xs o (Ok (Some ys)) = ap something (arg_between xs o ys)
-one_after xs o (Err l) = refl
+one_after xs o r = grind (arith, arg_between)
 
 -- nothing is read yet
 pub none_read : (env : TermEnv) (old : Standing) (whole : Stepping TypedExprs) (xs : List Expr) → xs ≡ [] → LeadsOn env old old whole whole (after_made xs)
@@ -74,9 +71,7 @@ args_from flags args tys d i = args_steps (S.expr_views (drop i args)) flags (ma
 module _ (flags : Flags) (args : List T.Expr) (tys : List TypeId) (d i : ℕ) (x : T.Expr) (w : i < length args) (arg_is : x ≡ get_or args i x) (ty : TypeId) (v : i < length tys) (ty_is : ty ≡ get_or tys i ty) where
   args_law : (e : Setting) (n : ℕ) (u : Scope)
       → args_from flags args tys d i e n u ≡ then_step with_arg (expr_steps (S.expr_view x) flags (Some ty.0) d e n u) (λ m t k. args_from flags args tys d (i + 1) e (n + k) t)
-  args_law e n u =
-      ap (λ xs. args_steps (S.expr_views xs) flags (map (λ t. t.0) (drop i tys)) d e n u) (drop_more args i x w ∙ ap (λ y. y ∷ drop (i + 1) args) (sym arg_is))
-      ∙ ap (λ (ts : List TypeId). args_steps (S.expr_views (x ∷ drop (i + 1) args)) flags (map (λ t. t.0) ts) d e n u) (drop_more tys i ty v ∙ ap (λ t. t ∷ drop (i + 1) tys) (sym ty_is))
+  args_law e n u = grind (arith, common_steps, drop_more)
 
   module _ (env : TermEnv) (old mid new : Standing) (keeps : Keeps old.tyenv mid.tyenv) (whole : Stepping TypedExprs) (xs : List Expr) (on : LeadsOn env old mid whole (args_from flags args tys d i) (after_made xs)) where
     pub arg_goes_on : (o : Option Expr) → EndsAs env mid new (expr_steps (S.expr_view x) flags (Some ty.0) d) (Ok (option_map expr_view o)) → LeadsOn env old new whole (args_from flags args tys d (i + 1)) (after_made (xs ++ option_to_list o))
@@ -90,15 +85,12 @@ module _ (flags : Flags) (args : List T.Expr) (tys : List TypeId) (d i : ℕ) (x
 
 -- as far as there are arguments and types
 no_more : (flags : Flags) (xs : List T.Expr) (ts : List TypeId) (d : ℕ) (e : Setting) (n : ℕ) (u : Scope) → (length xs ≡ 0) ⊎ (length ts ≡ 0) → args_steps (S.expr_views xs) flags (map (λ t. t.0) ts) d e n u ≡ here no_typed_expr u
-no_more flags [] ts d e n u h = refl
-no_more flags (x ∷ xs) [] d e n u h = refl
 no_more flags (x ∷ xs) (t ∷ ts) d e n u (inl h) = absurd (cc)
 no_more flags (x ∷ xs) (t ∷ ts) d e n u (inr h) = absurd (cc)
+no_more flags _ _ d e n u h = refl
 
 pub args_read : (flags : Flags) (args : List T.Expr) (tys : List TypeId) (d i : ℕ) → min (length args) (length tys) ≤ i → (e : Setting) (n : ℕ) (u : Scope) → args_from flags args tys d i e n u ≡ here no_typed_expr u
 args_read flags args tys d i few e n u = elim (cases_Bool (nat_le (length args) i)) [
   | inl t ↦ no_more flags (drop i args) (drop i tys) d e n u (inl (ap length (drop_all i args (leb-true (length args) i t))))
-  | inr f ↦
-      let past = leb-false (length args) i f in
-      no_more flags (drop i args) (drop i tys) d e n u (inr (ap length (drop_all i tys (omega (arith, past, few)))))
+  | inr f ↦ grind (arith, common_steps, leb-false (length args) i f, no_more flags (drop i args) (drop i tys) d e n u, drop_all i tys)
 ]

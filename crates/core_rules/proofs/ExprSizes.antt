@@ -1,5 +1,6 @@
 -- How large expressions are: conversions end, since so many may nest, and each makes an expression that is little larger.
-use Rattle.std.proofs.Common.{◌≡◌, ℕ, suc, zero, ◌+◌, ◌<◌, ◌≤◌, List, [], ◌∷◌, length, get_or, ap, arith}
+use Rattle.std.proofs.Common.{◌≡◌, ℕ, suc, ◌+◌, ◌<◌, ◌≤◌, List, [], ◌∷◌, length, get_or, arith}
+use Rattle.std.proofs.lemmas.Grind.{common_steps}
 use Rattle.core_syntax.specs.declared.syntax.Expr as T
 use Rattle.core_syntax.specs.declared.syntax.LetDef.{LetDef}
 use Rattle.core_syntax.specs.SyntaxViews as S
@@ -36,19 +37,12 @@ less d m n h = smaller [] d m n h
 
 -- a use of a converter around an expression, within one expansion fewer
 pub inside_less : (d left : ℕ) (whole made : ExprTree) (name : Name) (at : Position) → suc left ≡ d → made ≡ term_expr name (expr_and whole no_expr) at → grown 4 left (expr_size made) < grown 4 d (expr_size whole)
-inside_less d left whole made name at nests form =
-    let e : expr_size made ≡ suc (suc (expr_size whole + 0)) = ap expr_size form in
-    let f = one_at_least whole in
-    let g = deeper_smaller [] left (expr_size made) (expr_size whole) (omega (arith, e, f)) in
-    let h = ap (λ (n : ℕ). grown 4 n (expr_size whole)) nests in
-    omega (arith, g, h)
+inside_less d left whole made name at nests form = grind (arith, common_steps, one_at_least whole, deeper_smaller [] left, grown 4)
 
 pub smaller_arg : (xs : List T.Expr) (i : ℕ) (d : T.Expr) → i < length xs → expr_size (S.expr_view (get_or xs i d)) < exprs_size (S.expr_views xs)
-smaller_arg [] i d lt = absurd (omega arith)
-smaller_arg (x ∷ xs) zero d lt = omega arith
 smaller_arg (x ∷ xs) (suc i) d lt = let r = smaller_arg xs i d (omega arith) in omega (arith, r)
+smaller_arg xs i d lt = grind arith
 
 pub smaller_def : (ds : List LetDef) (i : ℕ) (d : LetDef) → i < length ds → suc (expr_size (S.expr_view (get_or ds i d).val.value)) < lets_size (S.let_views ds)
-smaller_def [] i d lt = absurd (omega arith)
-smaller_def (x ∷ xs) zero d lt = omega arith
 smaller_def (x ∷ xs) (suc i) d lt = let r = smaller_def xs i d (omega arith) in omega (arith, r)
+smaller_def ds i d lt = grind arith

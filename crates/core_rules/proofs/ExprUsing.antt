@@ -1,5 +1,6 @@
 -- The use of a name in an expression, step by step as it is looked at.
-use Rattle.std.proofs.Common.{◌≡◌, ℕ, true, false, cond, Option, Some, None, option_and_then, refl, sym, ap, ◌∙◌, arith}
+use Rattle.std.proofs.Common.{◌≡◌, ℕ, false, Option, None, option_and_then, refl, sym, ap, ◌∙◌, arith}
+use Rattle.std.proofs.lemmas.Grind.{common_steps}
 use Rattle.model.specs.lists.Syntax.{Position, Name}
 use Rattle.model.specs.lists.Names.{number, has_name}
 use Rattle.model.specs.lists.Tables.{Flags}
@@ -19,13 +20,9 @@ module _ (env : TermEnv) (old : Standing) (inv : IsInterned old.tyenv) (name : N
       ap (λ ns. var_named (number ns name.text) s.visible) (sym sh.names) ∙ sym (sh.visible (number (names_of old.tyenv) name.text)) ∙ by_number ∙ sym h
     where
       past : (o : Option TypedVar) → newest old.work (number (names_of old.tyenv) name.text) ≡ o → has_name (names_of old.tyenv) name.text ≡ false → o ≡ None
-      past None k none = refl
-      past (Some v) k none = absurd (let l = sh.met (number (names_of old.tyenv) name.text) v k in let m = last (names_of old.tyenv) name.text none in omega (arith, l, m))
+      past o k none = grind (arith, common_steps, last)
 
       by_number : newest old.work (number (names_of old.tyenv) name.text) ≡ option_and_then (newest old.work) (symbol_of old.tyenv name.text)
       by_number =
           sym (ap (option_and_then (newest old.work)) (looked_up (names_of old.tyenv) (symbol_of old.tyenv) inv.numbered inv.named name.text)
-          ∙ (elim (has_name (names_of old.tyenv) name.text) as (λ b. has_name (names_of old.tyenv) name.text ≡ b → option_and_then (newest old.work) (cond b (Some (number (names_of old.tyenv) name.text)) None) ≡ newest old.work (number (names_of old.tyenv) name.text)) [
-            | true ↦ λ _. refl
-            | false ↦ λ none. sym (past (newest old.work (number (names_of old.tyenv) name.text)) refl none)
-          ] refl))
+          ∙ (grind (arith, common_steps, past (newest old.work (number (names_of old.tyenv) name.text)) refl)))

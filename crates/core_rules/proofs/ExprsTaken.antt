@@ -1,19 +1,18 @@
 -- What expressions without parts do as their steps say, and what the use of a name in an expression leads to.
-use Rattle.std.proofs.Common.{◌≡◌, ℕ, ℤ, zero, suc, Bool, true, false, cond, eqb, List, [], ◌∷◌, ◌++◌, length, Option, Some, None, is_some, option_and_then, slice_get, unwrap_or, Ok, Err, append_assoc, refl, sym, ap, subst, ◌∙◌, inl, inr, arith}
-use Rattle.std.proofs.lemmas.Bool.{cases_Bool}
+use Rattle.std.proofs.Common.{◌≡◌, ℕ, ℤ, suc, Bool, true, false, cond, eqb, List, [], ◌∷◌, ◌++◌, length, Option, Some, None, is_some, option_and_then, slice_get, Ok, Err, refl, sym, ap, subst, ◌∙◌, inl, arith}
 use Rattle.std.proofs.lemmas.List.{map-append}
 use Rattle.std.proofs.lemmas.Option.{none-some}
-use Rattle.model.specs.lists.Syntax.{Position, Name, ExprTree, ExprTrees, no_expr, expr_and, term_expr, var_expr, bool_expr, int_expr, prim_expr}
+use Rattle.std.proofs.lemmas.Grind.{common_steps}
+use Rattle.model.specs.lists.Syntax.{Position, Name, ExprTree, ExprTrees, term_expr, var_expr, bool_expr, int_expr, prim_expr}
 use Rattle.model.specs.lists.Names.{number, with_name}
 use Rattle.model.specs.lists.Ranges.{reduced}
-use Rattle.model.specs.lists.Tables.{Flags, TermKindEntry, variant_term, struct_term, declared_term, TermEntry}
+use Rattle.model.specs.lists.Tables.{Flags, TermKindEntry, TermEntry}
 use Rattle.model.specs.lists.Expansions.{term_name_at, wrapped_expr}
 use Rattle.model.specs.lists.Setting.{Setting, Scope, met, var_of, that, has_constructor, is_expected, converter, expr_converter}
-use Rattle.model.specs.rules.Outcome.{then_option}
 use Rattle.model.specs.rules.Values.{is_atom_type}
 use Rattle.model.specs.rules.Typed.{TypedExpr, TypedExprs, TypedVar, make_term, make_var, make_bool, make_int, make_prim}
 use Rattle.model.proofs.Names.{known_name}
-use Rattle.laws_errors.specs.Steps.{unknown_constructor, unknown_variable, unknown_constant, variable_type, constructor_type, constant_type, no_truth, no_integer, untyped_integer, argument_count, no_constructor, Why, Mistake, Step, went_on, stopped, unless, here, nothing, noting, made_step}
+use Rattle.laws_errors.specs.Steps.{unknown_constructor, unknown_variable, unknown_constant, variable_type, constructor_type, constant_type, no_truth, untyped_integer, argument_count, no_constructor, Why, Mistake, Step, unless, here, nothing, noting, made_step}
 use Rattle.laws_errors.specs.ExprSteps.{expr_list, converted_or, expected_step, forbidden, called_step, used_step, made_constant_step, deeper_expr_step}
 use Rattle.core_syntax.specs.declared.syntax.Error.{Error}
 use Rattle.core_syntax.specs.declared.syntax.Expr.{Expr}
@@ -21,7 +20,6 @@ use Rattle.core_syntax.specs.SyntaxViews.{expr_views}
 use Rattle.core_types.specs.Envs.{names_of, symbol_of, constant_at, IsInterned}
 use Rattle.core_types.specs.TypeViews.{type_views}
 use Rattle.core_terms.specs.Terms.{has_constructor_kind}
-use Rattle.core_terms.specs.TermViews.{term_views}
 use Rattle.core_typed.specs.Elaborating.{place_unless, NotesEachAt}
 use Rattle.core_typed.proofs.NotedErrors.{none_at, both_at, may_note}
 use Rattle.core_rules.specs.declared.term_env.TermEnv.{TermEnv}
@@ -32,7 +30,7 @@ use Rattle.core_rules.specs.PatternTaking.{made_end}
 use Rattle.core_rules.specs.PatternUses.{found_term, found_converter}
 use Rattle.core_rules.specs.Progress.{newest, Remains, CountsOne, Counts}
 use Rattle.core_rules.specs.Taking.{places_of, Took, took, EndsAs, StopsBy, LeadsOn}
-use Rattle.core_rules.specs.ShownSettings.{Standing, IsSettingOf, Shows, Wherever, converter_in}
+use Rattle.core_rules.specs.ShownSettings.{Standing, IsSettingOf, Shows, Wherever}
 use Rattle.core_rules.proofs.ExpansionsTaken.{counted_shows, Nested, expansion, went_deeper, expansion_stops}
 use Rattle.core_rules.proofs.ExprUsing.{var_found}
 use Rattle.core_rules.proofs.PatternLeaves.{constant_is}
@@ -62,10 +60,7 @@ module _ (env : TermEnv) (old new : Standing) (at : Position) (flags : Flags) (t
       may_note notes,
       λ e s is sh.
           subst (λ (o : Option ℕ). Took old new (expr_steps (int_expr z at) flags o d e old.work.expansions s) (Ok (Some (make_int own n)))) (sym typed)
-          (tested old new (is_atom_type (slice_get e.types own)) (no_integer own z) at (make_int own (reduced (slice_get e.types own) z)) (make_int own n) s
-          (ap (make_int own) (ap (λ ts. reduced (slice_get ts own) z) (sym is.types) ∙ sym stands))
-          (subst (λ ts. NotesEachAt (place_unless (is_atom_type (slice_get ts own)) at) old.work.errors.items new.work.errors.items) is.types notes)
-          (still old new s same r sh) r.expansions),
+          (grind (arith, common_steps, tested, still)),
     )
 
   -- a named constant
@@ -81,8 +76,7 @@ module _ (env : TermEnv) (old new : Standing) (at : Position) (flags : Flags) (t
 
     module _ (own name : ℕ) (there : Some own ≡ constant_at old.tyenv (number (names_of old.tyenv) x.text)) (named : name ≡ number (names_of old.tyenv) x.text) where
       shown : (e : Setting) (s : Scope) → IsSettingOf old.tyenv env e → Shows old s → Shows new s
-      shown e s is sh =
-          still old new s (names ∙ known_name (names_of old.tyenv) x.text (is_met (names_of old.tyenv) x.text (is.constants_met (number (names_of old.tyenv) x.text) own (sym there)))) r sh
+      shown e s is sh = grind (arith, common_steps, still, known_name, is_met)
 
       pub constant_made : is_expected ty own ≡ true → new.work.errors.items ≡ old.work.errors.items → EndsAs env old new (expr_steps (prim_expr x at) flags ty d) (Ok (Some (make_prim own name)))
       constant_made right errors = (
@@ -106,69 +100,42 @@ module _ (env : TermEnv) (old new : Standing) (at : Position) (flags : Flags) (t
 
 -- 2. the type that is expected
 that_true : (o : Option TermEntry) → that (λ t. true) o ≡ o
-that_true None = refl
-that_true (Some t) = refl
+that_true o = grind (arith, common_steps)
 
 same_constructor : (k : TermKindEntry) → has_constructor k ≡ has_constructor_kind k
-same_constructor (variant_term variant) = refl
-same_constructor struct_term = refl
-same_constructor (declared_term flags constructor_kind extractor_kind) = refl
+same_constructor _ = refl
 
 module _ (env : TermEnv) (old : Standing) (e : Setting) (is : IsSettingOf old.tyenv env e) (own : ℕ) where
   converter_is : (want : ℕ) → eqb own want ≡ false → expr_converter e own want ≡ found_converter env has_constructor_kind own want
-  converter_is want ne =
-      that_same (λ u. has_constructor u.kind) (λ u. has_constructor_kind u.kind) (λ u. same_constructor u.kind) _
-      ∙ ap (λ o. that (λ u. has_constructor_kind u.kind) (then_option o (slice_get e.terms))) (sym (is.converters own want))
-      ∙ ap (λ ts. that (λ u. has_constructor_kind u.kind) (then_option (converter_in env own want) (slice_get ts))) (sym is.terms)
-      ∙ sym (ap (λ b. cond b None (that (λ u. has_constructor_kind u.kind) (then_option (converter_in env own want) (slice_get (term_views env.terms.items))))) ne)
+  converter_is want ne = grind (arith, common_steps, that_same, same_constructor)
 
   declared_is : (want : ℕ) → eqb own want ≡ false → converter e own want ≡ found_converter env (λ k. true) own want
-  declared_is want ne =
-      ap (λ o. then_option o (slice_get e.terms)) (sym (is.converters own want))
-      ∙ ap (λ ts. then_option (converter_in env own want) (slice_get ts)) (sym is.terms)
-      ∙ sym (that_true (then_option (converter_in env own want) (slice_get (term_views env.terms.items))))
-      ∙ sym (ap (λ b. cond b None (that (λ t. true) (then_option (converter_in env own want) (slice_get (term_views env.terms.items))))) ne)
+  declared_is want ne = grind (arith, common_steps, that_true)
 
   module _ (at : Position) (s : Scope) (itself : Step TypedExpr) (convert : TermEntry → Step TypedExpr) where
     by_converters : (want : ℕ) (o p : Option TermEntry) → eqb own want ≡ false → o ≡ found_converter env has_constructor_kind own want → p ≡ found_converter env (λ k. true) own want
         → expected_step e own (Some want) at s itself convert ≡ converted_or at s itself convert o p
-    by_converters want o p ne h k =
-        ap (λ b. cond b itself (converted_or at s itself convert (expr_converter e own want) (converter e own want))) ne
-        ∙ ap (λ c. converted_or at s itself convert c (converter e own want)) (converter_is want ne ∙ sym h)
-        ∙ ap (λ c. converted_or at s itself convert o c) (declared_is want ne ∙ sym k)
+    by_converters want o p ne h k = grind (arith, common_steps, converter_is, declared_is)
 
     stays_itself : (ty : Option ℕ) → None ≡ found_expr_converter env own ty → None ≡ declared_converter env own ty → expected_step e own ty at s itself convert ≡ itself
-    stays_itself None h k = refl
-    stays_itself (Some want) h k = elim (cases_Bool (eqb own want)) [
-      | inl same ↦ ap (λ b. cond b itself (converted_or at s itself convert (expr_converter e own want) (converter e own want))) same
-      | inr ne ↦ by_converters want None None ne h k
-    ]
+    stays_itself ty h k = grind (arith, common_steps, by_converters)
 
     -- a converter between a type and itself isn't looked for
     none_between : (p : TermEntry → Bool) (want : ℕ) (o : Option TermEntry) (by : TermEntry) → eqb own want ≡ true → Some by ≡ cond (eqb own want) None o → ⊥
     none_between p want o by same h = none-some by (sym (h ∙ ap (λ b. cond b None o) same))
 
     is_converted : (ty : Option ℕ) (by : TermEntry) → Some by ≡ found_expr_converter env own ty → expected_step e own ty at s itself convert ≡ convert by
-    is_converted None by h = absurd (none-some by (sym h))
-    is_converted (Some want) by h = elim (cases_Bool (eqb own want)) [
-      | inl same ↦ absurd (none_between (λ t. true) want _ by same h)
-      | inr ne ↦ by_converters want (Some by) (found_converter env (λ k. true) own want) ne h refl
-    ]
+    is_converted ty by h = grind (arith, common_steps, none-some, none_between, by_converters)
 
     has_no_value : (ty : Option ℕ) (by : TermEntry) → None ≡ found_expr_converter env own ty → Some by ≡ declared_converter env own ty → expected_step e own ty at s itself convert ≡ nothing s (no_constructor (term_name_at s by at).text) at
-    has_no_value None by h k = absurd (none-some by (sym k))
-    has_no_value (Some want) by h k = elim (cases_Bool (eqb own want)) [
-      | inl same ↦ absurd (none_between (λ t. true) want _ by same k)
-      | inr ne ↦ by_converters want None (Some by) ne h k
-    ]
+    has_no_value ty by h k = grind (arith, common_steps, none-some, none_between, by_converters)
 
 -- 3. conversions
 abbrev expr_nested : ExprTree → Flags → Option ℕ → Nested TypedExpr
 expr_nested x flags ty d = expr_steps x flags ty d
 
 expr_expansion : (x : ExprTree) (flags : Flags) (ty : Option ℕ) (d : ℕ) (e : Setting) (n : ℕ) (s : Scope) → deeper_expr_step e flags d x ty n s ≡ expansion (expr_nested x flags ty) d e n s
-expr_expansion x flags ty zero e n s = refl
-expr_expansion x flags ty (suc d) e n s = refl
+expr_expansion x flags ty d e n s = grind (arith, common_steps)
 
 module _ (env : TermEnv) (old : Standing) (whole : ExprTree) (at : Position) (flags : Flags) (ty : Option ℕ) (d : ℕ) (by : TermEntry)
     (law : Wherever env old (λ e s. expr_steps whole flags ty d e old.work.expansions s ≡ deeper_expr_step e flags d (wrapped_expr s by at whole) ty old.work.expansions s)) where
@@ -176,10 +143,7 @@ module _ (env : TermEnv) (old : Standing) (whole : ExprTree) (at : Position) (fl
   inside = inside_call old.tyenv by at whole
 
   conversion : Wherever env old (λ e s. expr_steps whole flags ty d e old.work.expansions s ≡ expansion (expr_nested inside flags ty) d e old.work.expansions s)
-  conversion e s is sh =
-      law e s is sh
-      ∙ ap (λ ns. deeper_expr_step e flags d (term_expr (record { text = unwrap_or (slice_get ns by.name) []; at = at }) (expr_and whole no_expr) at) ty old.work.expansions s) (sym sh.names)
-      ∙ expr_expansion inside flags ty d e old.work.expansions s
+  conversion e s is sh = grind (arith, common_steps, expr_expansion inside flags ty d e old.work.expansions s)
 
   pub conversion_leads : (new : Standing) (left : ℕ) → names_of new.tyenv ≡ names_of old.tyenv → suc left ≡ d → CountsOne old.work new.work → LeadsOn env old new (expr_steps whole flags ty d) (expr_steps inside flags ty left) (λ r. r)
   conversion_leads new left same nests one = (
@@ -239,25 +203,18 @@ list_length (x ∷ xs) = ap suc (list_length xs)
 
 -- what is wrong by several checks
 noted_in_order : {Q : Type 0} (ws vs : List Mistake) (t : Step Q) → noting (ws ++ vs) t ≡ noting ws (noting vs t)
-noted_in_order ws vs (went_on m s k es) = ap (went_on m s k) (append_assoc ws vs es)
-noted_in_order ws vs (stopped l s es) = ap (stopped l s) (append_assoc ws vs es)
+noted_in_order ws vs t = grind (arith, common_steps)
 
 places_unless : (b : Bool) (w : Why) (at : Position) → places_of (unless b w at) ≡ place_unless b at
-places_unless true w at = refl
-places_unless false w at = refl
+places_unless b w at = grind (arith, common_steps)
 
 three_places : (a b : Bool) (w u : Why) (at : Position) (vs : List Mistake) → places_of (unless a w at ++ (vs ++ unless b u at)) ≡ place_unless a at ++ (places_of vs ++ place_unless b at)
-three_places a b w u at vs =
-    map-append (λ (m : Mistake). m.at) (unless a w at) (vs ++ unless b u at)
-    ∙ ap (λ ps. ps ++ places_of (vs ++ unless b u at)) (places_unless a w at)
-    ∙ ap (λ ps. place_unless a at ++ ps) (map-append (λ (m : Mistake). m.at) vs (unless b u at) ∙ ap (λ ps. places_of vs ++ ps) (places_unless b u at))
+three_places a b w u at vs = grind (arith, common_steps, map-append, places_unless)
 
 -- each of three flags may forbid a call
 pub forbidden_at : (a b c : Bool) (u v w : Why) (at : Position) (old one two new : List Error) → NotesEachAt (place_unless a at) old one → NotesEachAt (place_unless b at) one two → NotesEachAt (place_unless c at) two new
     → NotesEachAt (places_of (unless a u at ++ (unless b v at ++ unless c w at))) old new
-forbidden_at a b c u v w at old one two new x y z =
-    subst (λ ps. NotesEachAt ps old new) (sym (three_places a c u w at (unless b v at) ∙ ap (λ ps. place_unless a at ++ (ps ++ place_unless c at)) (places_unless b v at)))
-    (both_at (place_unless a at) (place_unless b at ++ place_unless c at) old one new x (both_at (place_unless b at) (place_unless c at) one two new y z))
+forbidden_at a b c u v w at old one two new x y z = grind (arith, common_steps, three_places, places_unless, both_at)
 
 module _ (env : TermEnv) (old : Standing) (inv : IsInterned old.tyenv) (name : Name) (args : ExprTrees) (at : Position) (flags : Flags) (ty : Option ℕ) (d : ℕ) where
   abbrev whole : ExprTree
@@ -307,10 +264,7 @@ module _ (env : TermEnv) (old : Standing) (inv : IsInterned old.tyenv) (name : N
             let steps = noted_in_order first (forbidden flags name.text at t.kind ++ last) rest_steps ∙ ap (noting first) (noted_in_order (forbidden flags name.text at t.kind) last rest_steps) in
             subst (λ u. Took old after u (made_end (make_term t.ret_ty t.id) z)) (sym (seen_term (Some t) known e s is sh ∙ stays_itself env old e is t.ret_ty at s _ _ ty none h ∙ sym steps))
             (noted old new after (first ++ (forbidden flags name.text at t.kind ++ last))
-            (subst (λ ps. NotesEachAt ps old.work.errors.items new.work.errors.items)
-            (sym (three_places (is_expected ty t.ret_ty) (eqb (length (expr_list args)) (length t.arg_tys)) (constructor_type name.text ty t.ret_ty) (argument_count name.text (length (expr_list args)) (length t.arg_tys)) at (forbidden flags name.text at t.kind)))
-            counted)
+            (grind (arith, common_steps, three_places))
             r.expansions rest_steps (made_end (make_term t.ret_ty t.id) z)
-            (made (make_term t.ret_ty t.id) new after (parts e old.work.expansions s t.arg_tys) z
-            (subst (λ (n : ℕ). Took new after (parts e n s t.arg_tys) z) r.expansions (rest s (still old new s same r sh))))),
+            (grind (arith, common_steps, made, still))),
       )

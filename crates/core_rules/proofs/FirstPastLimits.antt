@@ -3,10 +3,11 @@ use Rattle.std.proofs.Common.{◌≡◌, ℕ, suc, ◌+◌, Bool, List, [], ◌�
 use Rattle.std.specs.List.{flat_map}
 use Rattle.std.proofs.lemmas.List.{append-nil, append_assoc}
 use Rattle.std.proofs.lemmas.Option.{none-some}
+use Rattle.std.proofs.lemmas.Grind.{common_steps}
 use Rattle.model.specs.lists.Syntax.{RuleTree, Definition}
 use Rattle.model.specs.lists.Names.{IsDistinct}
 use Rattle.model.specs.lists.TermTable.{rule_trees, decl_names, function_of, term_names_met}
-use Rattle.model.specs.lists.Setting.{Setting, Scope}
+use Rattle.model.specs.lists.Setting.{Setting}
 use Rattle.model.specs.lists.Typings.{Typing}
 use Rattle.model.specs.lists.Elaborated.{elaborated_rule, most_nested, typed_rule, typed_rules, TypedRules, with_typed}
 use Rattle.model.specs.rules.Outcome.{then_option}
@@ -29,9 +30,7 @@ alike_some None (Some b) a h k = absurd h
 alike_some (Some b) p a h k = (b, refl)
 
 alike_none : {X : Type 0} (o p : Option (Typing X)) → AreThereAlike o p → p ≡ None → o ≡ None
-alike_none None p h k = refl
-alike_none (Some a) None h k = absurd h
-alike_none (Some a) (Some b) h k = absurd (none-some b (sym k))
+alike_none o p h k = grind (arith, none-some)
 
 -- 2. rules in order
 -- names go on from others, and are as distinct
@@ -42,8 +41,7 @@ stay_on : (names mid after : List (List ℕ)) → Stay names mid → Stay mid af
 stay_on names mid after a b = ((a.0.0 ++ b.0.0, b.0.1 ∙ ap (λ ns. ns ++ b.0.0) a.0.1 ∙ append_assoc names a.0.0 b.0.0), λ d. b.1 (a.1 d))
 
 rest_none : (q : TypedRule) (o : Option TypedRules) → with_typed q o ≡ None → o ≡ None
-rest_none q None h = refl
-rest_none q (Some l) h = absurd (none-some (record { rules = q ∷ l.rules; names = l.names }) (sym h))
+rest_none q o h = grind (arith, common_steps, none-some)
 
 -- the first of these rules, from an id on, that has no typed rule within the limits
 record FirstFrom (s : Setting) (d start : ℕ) (rs : List RuleTree) (names : List (List ℕ)) : Type 0 where
@@ -106,11 +104,7 @@ module _ (s : Setting) (d : ℕ) where
       let m = with_some a.0.made (rules_reached s d (suc id) rs a.0.scope.names) l a.2 in
       elim (typed_rule s id r names) as (λ o. typed_rule s id r names ≡ o → FirstFrom s d id (r ∷ rs) names) [
         | None ↦ λ h. at_head id r rs names a.0 a.1 h
-        | Some b ↦ λ h.
-            later id r rs names b h
-            (first_from (suc id) rs b.scope.names m.0
-            (subst (λ (t : Scope). rules_reached s d (suc id) rs t.names ≡ Some m.0) (same_scope id r names a.0 b a.1 h) m.1)
-            (rest_none b.made (typed_rules s (suc id) rs b.scope.names) (sym (ap (λ (o : Option (Typing TypedRule)). then_option o (λ c. with_typed c.made (typed_rules s (suc id) rs c.scope.names))) h) ∙ none)))
+        | Some b ↦ grind (arith, common_steps, first_from (suc id) rs b.scope.names m.0, later, same_scope, rest_none)
       ] refl
 
 -- 3. the rules of a list

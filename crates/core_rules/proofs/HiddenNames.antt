@@ -1,11 +1,12 @@
 -- What names stood for before the definitions of a let, and that what is hidden gives what closing their scope gives.
-use Rattle.std.proofs.Common.{◌≡◌, ℕ, cond, eqb, nat_eq, true, false, ◌||◌, List, [], ◌∷◌, ◌++◌, length, Option, Some, None, slice_get, inl, inr, refl, sym, ap, ◌∙◌}
+use Rattle.std.proofs.Common.{◌≡◌, ℕ, cond, eqb, nat_eq, true, List, [], ◌∷◌, ◌++◌, length, Option, Some, None, inl, inr, refl, sym, ap, ◌∙◌, arith}
 use Rattle.std.proofs.lemmas.Bool.{cases_Bool, eqb-true}
 use Rattle.std.proofs.lemmas.Option.{none-some}
+use Rattle.std.proofs.lemmas.Grind.{common_steps}
 use Rattle.model.specs.rules.Typed.{TypedVar, TypedExpr, TypedLets, no_typed_let, typed_let_and}
 use Rattle.model.specs.lists.Setting.{Scope, var_named, bound}
 use Rattle.laws_errors.specs.Steps.{Mistake, went_on}
-use Rattle.laws_errors.specs.ExprSteps.{is_name, closed}
+use Rattle.laws_errors.specs.ExprSteps.{closed}
 use Rattle.laws_errors.proofs.GrownScopes.{GrowsOn, grows_same, fresh, Opened, opened_after, opened_before, opened_grows, closed_grows, stays_there, put_back_names, DefGrows}
 use Rattle.core_types.specs.declared.ids.Sym.{Sym}
 use Rattle.core_typed.specs.declared.rules.BoundVar.{BoundVar}
@@ -28,16 +29,7 @@ closed_stood (typed_let_and x ty value rest) s t o k =
 -- names that no definition has stand for what they stand for
 stood_is : (ds : TypedLets) (s t : Scope) (o : Opened ds s t) (k : ℕ) (other now : Option TypedVar) → stood ds s t o k now ≡ cond (is_defined ds t.vars k) (stood ds s t o k other) now
 stood_is no_typed_let s t o k other now = refl
-stood_is (typed_let_and x ty value rest) s t o k other now =
-    let v : TypedVar = fresh o.0 o.1 ty in
-    let mid : Scope = bound o.0 o.1 ty in
-    let was : Option TypedVar = var_named k o.0.visible in
-    let at : slice_get t.vars x ≡ Some v = stays_there o.0 o.1 ty x o.3 t (opened_grows rest mid t o.4) in
-    (elim (eqb v.name k) as (λ b. cond b was (stood rest mid t o.4 k now) ≡ cond (b || is_defined rest t.vars k) (cond b was (stood rest mid t o.4 k other)) now) [
-      | true ↦ refl
-      | false ↦ stood_is rest mid t o.4 k other now
-    ])
-    ∙ ap (λ w. cond (is_name w k || is_defined rest t.vars k) (cond (eqb v.name k) was (stood rest mid t o.4 k other)) now) (sym at)
+stood_is (typed_let_and x ty value rest) s t o k other now = grind (arith, common_steps, stood_is rest, fresh, stays_there, opened_grows)
 
 pub stood_before : (ds : TypedLets) (s t : Scope) (o : Opened ds s t) (k : ℕ) (now : Option TypedVar) → stood ds s t o k now ≡ before_defs ds t k now
 stood_before ds s t o k now = stood_is ds s t o k (var_named k t.visible) now ∙ ap (λ v. cond (is_defined ds t.vars k) v now) (sym (closed_stood ds s t o k))
@@ -72,8 +64,7 @@ hides_joined ds es s t u earlier mid hidden o p h i k now =
 
 -- one definition, if it was made
 pub opened_one : (s t : Scope) (m : Option (TypedLets → TypedLets)) (n : ℕ) (ws : List Mistake) → DefGrows s (went_on m t n ws) → Opened (def_made m) s t
-opened_one s t None n ws h = h
-opened_one s t (Some f) n ws h = h no_typed_let t (grows_same t)
+opened_one s t m n ws h = grind (arith, common_steps, grows_same)
 
 -- 3. a definition is bound
 pub bound_hides : (t : Scope) (x : List ℕ) (ty id : ℕ) (value : TypedExpr) (earlier hidden : List (Sym × Option BoundVar)) → id ≡ (fresh t x ty).name
@@ -81,10 +72,7 @@ pub bound_hides : (t : Scope) (x : List ℕ) (ty id : ℕ) (value : TypedExpr) (
 bound_hides t x ty id value earlier hidden named hides k now =
     let one : TypedLets = typed_let_and (length t.vars) ty value no_typed_let in
     let o : Opened one t (bound t x ty) = (t, x, grows_same t, refl, grows_same (bound t x ty)) in
-    let here : cond (nat_eq id k) (var_named id t.visible) now ≡ cond (nat_eq id k) (var_named k t.visible) now = (elim (cases_Bool (nat_eq id k)) [
-      | inl same ↦ ap (λ (i : ℕ). cond (nat_eq id k) (var_named i t.visible) now) (eqb-true id k same)
-      | inr other ↦ ap (λ b. cond b (var_named id t.visible) now) other ∙ sym (ap (λ b. cond b (var_named k t.visible) now) other)
-    ]) in
+    let here : cond (nat_eq id k) (var_named id t.visible) now ≡ cond (nat_eq id k) (var_named k t.visible) now = grind (arith, common_steps, eqb-true) in
     hides k now ∙ ap (before_all earlier k) (here ∙ ap (λ (i : ℕ). cond (eqb i k) (var_named k t.visible) now) named ∙ stood_before one t (bound t x ty) o k now)
 
 -- 4. the scope is closed, behind what goes on from the definitions
@@ -104,10 +92,7 @@ closed_vars (typed_let_and x ty value rest) u = closed_vars rest u
 -- and no name stands for one that stood for none
 within : (k : ℕ) (w : TypedVar) (top rest : List TypedVar) → eqb w.name k ≡ true → var_named k (top ++ w ∷ rest) ≡ None → ⊥
 within k w [] rest here none = none-some w (sym none ∙ ap (λ b. cond b (Some w) (var_named k rest)) here)
-within k w (v ∷ top) rest here none = elim (cases_Bool (eqb v.name k)) [
-  | inl first ↦ none-some v (sym none ∙ ap (λ b. cond b (Some v) (var_named k (top ++ w ∷ rest))) first)
-  | inr later ↦ within k w top rest here (sym (ap (λ b. cond b (Some v) (var_named k (top ++ w ∷ rest))) later) ∙ none)
-]
+within k w (v ∷ top) rest here none = grind (arith, common_steps, within k w top rest here, none-some)
 
 none_stood : (ds : TypedLets) (s u : Scope) (o : Opened ds s u) (k : ℕ) → var_named k u.visible ≡ None → stood ds s u o k None ≡ None
 none_stood no_typed_let s u o k none = refl
@@ -120,8 +105,4 @@ none_stood (typed_let_and x ty value rest) s u o k none =
     ]
 
 pub closed_some : (ds : TypedLets) (s u : Scope) → Opened ds s u → (k : ℕ) (v : TypedVar) → var_named k (closed ds u).visible ≡ Some v → (w : TypedVar) × (var_named k u.visible ≡ Some w)
-closed_some ds s u o k v h = by_now (var_named k u.visible) refl
-  where
-    by_now : (p : Option TypedVar) → var_named k u.visible ≡ p → (w : TypedVar) × (var_named k u.visible ≡ Some w)
-    by_now (Some w) is = (w, is)
-    by_now None none = absurd (none-some v (sym (ap (stood ds s u o k) none ∙ none_stood ds s u o k none) ∙ sym (closed_stood ds s u o k) ∙ h))
+closed_some ds s u o k v h = grind (arith, common_steps, none-some v, none_stood ds s u o k, closed_stood ds s u o k)

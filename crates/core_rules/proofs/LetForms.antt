@@ -1,6 +1,7 @@
 -- Lets, from what their definitions and their body became.
-use Rattle.std.proofs.Common.{◌≡◌, ℕ, true, false, cond, nat_eq, Option, Some, None, option_and_then, refl, sym, ap, ◌∙◌, arith}
+use Rattle.std.proofs.Common.{◌≡◌, ℕ, false, nat_eq, Option, None, option_and_then, refl, sym, ap, ◌∙◌, arith}
 use Rattle.std.specs.List.{position_from}
+use Rattle.std.proofs.lemmas.Grind.{common_steps}
 use Rattle.core_syntax.specs.SyntaxViews as S
 use Rattle.model.specs.lists.Syntax.{Position, Name, ExprTree}
 use Rattle.model.specs.lists.Names.{number, has_name}
@@ -22,16 +23,12 @@ module _ (env : TermEnv) (old mid : Standing) (name ty : Name) (value : ExprTree
       ∙ sym (is.type_names (number (names_of old.tyenv) ty.text)) ∙ by_number ∙ sym h
     where
       past : (o : Option ℕ) → type_at old.tyenv (number (names_of old.tyenv) ty.text) ≡ o → has_name (names_of old.tyenv) ty.text ≡ false → o ≡ None
-      past None k none = refl
-      past (Some i) k none = absurd (let l = is.types_met (number (names_of old.tyenv) ty.text) i k in let m = last (names_of old.tyenv) ty.text none in omega (arith, l, m))
+      past o k none = grind (arith, common_steps, last)
 
       by_number : type_at old.tyenv (number (names_of old.tyenv) ty.text) ≡ option_and_then (type_at old.tyenv) (symbol_of old.tyenv ty.text)
       by_number =
           sym (ap (option_and_then (type_at old.tyenv)) (looked_up (names_of old.tyenv) (symbol_of old.tyenv) inv.numbered inv.named ty.text)
-          ∙ (elim (has_name (names_of old.tyenv) ty.text) as (λ b. has_name (names_of old.tyenv) ty.text ≡ b → option_and_then (type_at old.tyenv) (cond b (Some (number (names_of old.tyenv) ty.text)) None) ≡ type_at old.tyenv (number (names_of old.tyenv) ty.text)) [
-            | true ↦ λ _. refl
-            | false ↦ λ none. sym (past (type_at old.tyenv (number (names_of old.tyenv) ty.text)) refl none)
-          ] refl))
+          ∙ (grind (arith, common_steps, past (type_at old.tyenv (number (names_of old.tyenv) ty.text)) refl)))
 
 -- definitions after definitions
 abbrev pub lets_joined : TypedLets → TypedLets → TypedLets

@@ -1,9 +1,10 @@
 -- What reading a let does as its steps say: a definition, the definitions in order, and the whole.
-use Rattle.std.proofs.Common.{◌≡◌, ℕ, ◌+◌, ◌<◌, ◌≤◌, cond, nat_eq, true, List, [], ◌∷◌, ◌++◌, length, drop, get_or, Option, Some, None, option_map, Ok, Err, Box, append-nil, append_assoc, inl, refl, sym, ap, subst, ◌∙◌, arith}
+use Rattle.std.proofs.Common.{◌≡◌, ℕ, ◌+◌, ◌<◌, ◌≤◌, true, List, [], ◌∷◌, ◌++◌, length, drop, get_or, Option, Some, None, option_map, Ok, Err, Box, append-nil, inl, refl, sym, ap, subst, ◌∙◌, arith}
 use Rattle.std.specs.Option.{option_to_list}
 use Rattle.std.specs.declared.alloc.Global.{Global}
 use Rattle.std.proofs.lemmas.List.{drop_more, drop_all}
 use Rattle.std.proofs.lemmas.Option.{none-some, same_Some}
+use Rattle.std.proofs.lemmas.Grind.{common_steps}
 use Rattle.core_syntax.specs.declared.syntax.LetDef.{LetDef}
 use Rattle.core_syntax.specs.NotedErrors.{MayNoteMore}
 use Rattle.core_syntax.specs.SyntaxViews as S
@@ -13,7 +14,7 @@ use Rattle.model.specs.lists.Names.{number, has_name, with_name}
 use Rattle.model.specs.lists.Tables.{Flags}
 use Rattle.model.specs.lists.Elaborated.{typed_let}
 use Rattle.model.specs.lists.Setting as M
-use Rattle.model.specs.lists.Setting.{Setting, Scope, met, bound}
+use Rattle.model.specs.lists.Setting.{Setting, Scope, met}
 use Rattle.model.specs.rules.Typed.{TypedExpr, TypedLets, no_typed_let, typed_let_and}
 use Rattle.model.specs.claims.Refusals.{NamedLimit, of_nesting, of_expansions}
 use Rattle.model.proofs.Names.{known_name, number_new, has_new, has_left}
@@ -36,7 +37,7 @@ use Rattle.core_rules.specs.declared.typing.progress.Stop.TheVariants.{Memory, N
 use Rattle.core_rules.specs.ExprTaking.{expr_steps}
 use Rattle.core_rules.specs.LetTaking.{lets_steps, def_steps, one_def_steps, def_view, defs_made, def_made, Hides, HidesIn, HidesBy}
 use Rattle.core_rules.specs.Lets.{before_all, BindsDef, Closes}
-use Rattle.core_rules.specs.Progress.{newest, BindsNext, Remains}
+use Rattle.core_rules.specs.Progress.{newest, Remains}
 use Rattle.core_rules.specs.Taking.{Stepping, MadeOrLimit, places_of, Took, took, ended, EndsAs, StopsBy}
 use Rattle.core_rules.specs.ShownSettings.{Standing, Keeps, IsSettingOf, Shows, Wherever}
 use Rattle.core_rules.proofs.HiddenNames.{opened_joined, hides_joined, opened_one, bound_hides, closed_hides, closed_names, closed_vars, closed_some}
@@ -54,9 +55,8 @@ module _ (x : List ℕ) (own : ℕ) (old mid next : Standing) (errors : mid.work
   noted_so ws new same n = subst (λ es. NotesEachAt (places_of ws) old.work.errors.items es) (sym same) (subst (λ es. NotesEachAt (places_of ws) es next.work.errors.items) errors n)
 
   value_ended : (l : NamedLimit) (t : Step TypedExpr) → Goes mid next t (Err l) → Took old next (def_step x own t) (Err l)
-  value_ended l (went_on None u k ws) y = absurd y
-  value_ended l (went_on (Some v) u k ws) y = absurd y
   value_ended l (stopped j u ws) y = subst (λ (i : NamedLimit). Took {Q = TypedLets → TypedLets} old next (stopped j u ws) (Err i)) y.0 (ended j u ws (noted_so ws next refl y.1) y.2)
+  value_ended l _ y = absurd y
 
   -- none is made, and nothing is hidden
   no_value : (t : Step TypedExpr) → Goes mid next t (Ok None) → Took old next (def_step x own t) (Ok None)
@@ -65,33 +65,22 @@ module _ (x : List ℕ) (own : ℕ) (old mid next : Standing) (errors : mid.work
   no_value (stopped l u ws) y = absurd y
 
   none_hidden : (hidden : List (Sym × Option BoundVar)) (t : Step TypedExpr) → Goes mid next t (Ok None) → HidesIn def_made hidden hidden (def_step x own t)
-  none_hidden hidden (went_on None u k ws) y = λ i now. refl
-  none_hidden hidden (went_on (Some v) u k ws) y = absurd (none-some v (sym y.0))
-  none_hidden hidden (stopped l u ws) y = absurd y
+  none_hidden hidden t y = grind (arith, none-some)
 
   -- it is bound
   module _ (new : Standing) (earlier hidden : List (Sym × Option BoundVar)) (id : ℕ) (q : TypedExpr) (made : VarId × TypeId × Box Expr Global) (b : BindsDef next.work new.work earlier hidden id own q made)
       (numbered : id ≡ number (names_of next.tyenv) x) (known : names_of new.tyenv ≡ with_name (names_of next.tyenv) x) where
     view_is : (u : Scope) (v : TypedExpr) → Shows next u → v ≡ q → typed_let_and (length u.vars) own v ≡ def_view made
-    view_is u v sh same =
-        ap (binding (length u.vars) own) same ∙ ap (λ (n : ℕ). binding n own q) (sym (as_many next u sh) ∙ sym b.id)
-        ∙ sym (ap (λ d. binding made.0.0 d.1 d.2) b.view)
+    view_is u v sh same = grind (arith, common_steps, as_many)
 
     value_bound : (t : Step TypedExpr) → Goes mid next t (Ok (Some q)) → Took old new (def_step x own t) (Ok (Some (def_view made)))
     value_bound (went_on None u k ws) y = absurd (none-some q y.0)
-    value_bound (went_on (Some v) u k ws) y =
-        taken_as old new (Some (typed_let_and (length u.vars) own v)) (Some (def_view made)) (bound u x own) k ws
-        (ap Some (view_is u v y.2 (same_Some v q y.0)))
-        (noted_so ws new b.binds.errors y.1)
-        (bound_shows next new u x own y.2 known (subst (λ (n : ℕ). BindsNext n own next.work new.work) numbered b.binds))
-        (b.binds.expansions ∙ y.3 ∙ ap (λ (n : ℕ). n + k) expansions)
+    value_bound (went_on (Some v) u k ws) y = grind (arith, common_steps, taken_as, view_is, same_Some, noted_so, bound_shows)
     value_bound (stopped l u ws) y = absurd y
 
     value_hidden : (t : Step TypedExpr) → Goes mid next t (Ok (Some q)) → HidesIn def_made earlier hidden (def_step x own t)
     value_hidden (went_on None u k ws) y = absurd (none-some q y.0)
-    value_hidden (went_on (Some v) u k ws) y =
-        bound_hides u x own id v earlier hidden (numbered ∙ ap (λ ns. number ns x) y.2.names ∙ sym (number_new u.names x))
-        (λ i now. b.hides i now ∙ ap (λ w. before_all earlier i (cond (nat_eq id i) w now)) (y.2.visible id))
+    value_hidden (went_on (Some v) u k ws) y = grind (arith, common_steps, bound_hides u x own id v earlier hidden, numbered, number_new u.names x)
     value_hidden (stopped l u ws) y = absurd y
 
 module _ (env : TermEnv) (old mid : Standing) (name ty : Name) (value : ExprTree) (flags : Flags) (at : Position) (d : ℕ) (inv : IsInterned old.tyenv) (names : names_of mid.tyenv ≡ with_name (names_of old.tyenv) name.text) (r : Remains old.work mid.work) where
@@ -161,9 +150,7 @@ module _ (env : TermEnv) (old mid : Standing) (name ty : Name) (value : ExprTree
       known = ap names_of same ∙ sym (known_name (names_of next.tyenv) name.text (ap (λ ns. has_name ns name.text) further.names.1 ∙ has_left (names_of mid.tyenv) further.names.0 name.text has))
 
       numbered : id ≡ number (names_of next.tyenv) name.text
-      numbered =
-          named ∙ sym (number_new (names_of old.tyenv) name.text) ∙ ap (λ ns. number ns name.text) (sym names)
-          ∙ sym (number_front (names_of mid.tyenv) further.names.0 name.text has) ∙ ap (λ ns. number ns name.text) (sym further.names.1)
+      numbered = grind (arith, common_steps, number_new (names_of old.tyenv) name.text, number_front (names_of mid.tyenv) further.names.0 name.text has)
 
       pub def_taken : EndsAs env old new one (Ok (Some (def_view made)))
       def_taken = (
@@ -207,11 +194,7 @@ same_went m u k j ws vs h i = ap (λ (n : ℕ). went_on m u n ws) h ∙ ap (went
 -- one more, then the rest
 regrouped : (made : TypedLets) (o : Option (VarId × TypeId × Box Expr Global)) (k j : ℕ) (ws es : List Mistake) (t : Step TypedLets)
     → noting ws (after_defs made k (noting es (joined_step with_def (option_map def_view o) j t))) ≡ noting (ws ++ es) (after_defs (lets_joined made (def_made (option_map def_view o))) (k + j) t)
-regrouped made o k j ws es (went_on None u i fs) = same_went None u (k + (j + i)) (k + j + i) (ws ++ (es ++ fs)) ((ws ++ es) ++ fs) (omega arith) (sym (append_assoc ws es fs))
-regrouped made o k j ws es (went_on (Some ds) u i fs) =
-    ap (λ ms. went_on (Some ms) u (k + (j + i)) (ws ++ (es ++ fs))) (joined_def made o ds)
-    ∙ same_went (Some (lets_joined (lets_joined made (def_made (option_map def_view o))) ds)) u (k + (j + i)) (k + j + i) (ws ++ (es ++ fs)) ((ws ++ es) ++ fs) (omega arith) (sym (append_assoc ws es fs))
-regrouped made o k j ws es (stopped l u fs) = ap (stopped l u) (sym (append_assoc ws es fs))
+regrouped made o k j ws es t = grind (arith, common_steps, same_went, joined_def, lets_joined)
 
 -- so far, in a setting and a scope: the whole goes on by the rest from the scope that is shown now
 pub record GoneOn (old mid : Standing) (e : Setting) (s : Scope) (whole rest : Stepping TypedLets) (made : TypedLets) (earlier hidden : List (Sym × Option BoundVar)) : Type 0 where
@@ -230,9 +213,7 @@ DefinesSoFar env old mid whole rest made earlier hidden =
     MayNoteMore old.work.errors.items mid.work.errors.items × Wherever env old (λ e s. GoneOn old mid e s whole rest (let_parts (let_views made)) earlier hidden)
 
 behind_none : (t : Step TypedLets) → t ≡ noting [] (after_defs no_typed_let 0 t)
-behind_none (went_on None u j ws) = same_went None u j (0 + j) ws ws (omega arith) refl
-behind_none (went_on (Some ds) u j ws) = same_went (Some ds) u j (0 + j) ws ws (omega arith) refl
-behind_none (stopped l u ws) = refl
+behind_none t = grind (arith, same_went)
 
 pub none_defined : (env : TermEnv) (old : Standing) (whole : Stepping TypedLets) (made : List (VarId × TypeId × Box Expr Global)) (hidden : List (Sym × Option BoundVar)) → made ≡ [] → DefinesSoFar env old old whole whole made hidden hidden
 none_defined env old whole made hidden none = subst (λ bs. DefinesSoFar env old old whole whole bs hidden hidden) (sym none) (
@@ -257,10 +238,7 @@ module _ (env : TermEnv) (old mid : Standing) (whole rest : Stepping TypedLets) 
   -- all were read
   module _ (law : (e : Setting) (n : ℕ) (u : Scope) → rest e n u ≡ here no_typed_let u) where
     whole_is : (e : Setting) (s : Scope) (g : GoneOn old mid e s whole rest ds earlier hidden) → whole e old.work.expansions s ≡ went_on (Some ds) g.scope g.count g.wrong
-    whole_is e s g =
-        g.leads ∙ ap (λ t. noting g.wrong (after_defs ds g.count t)) (law e (old.work.expansions + g.count) g.scope)
-        ∙ ap (λ ms. went_on (Some ms) g.scope (g.count + 0) (g.wrong ++ [])) (joined_none ds)
-        ∙ same_went (Some ds) g.scope (g.count + 0) g.count (g.wrong ++ []) g.wrong (omega arith) (append-nil g.wrong)
+    whole_is e s g = grind (arith, common_steps, joined_none, same_went)
 
     pub all_defined : EndsAs env old mid whole (Ok (Some ds))
     all_defined = (
@@ -302,8 +280,7 @@ module _ (env : TermEnv) (old mid : Standing) (whole rest : Stepping TypedLets) 
           scope = u;
           count = g.count + k;
           wrong = g.wrong ++ ws;
-          leads = h.0 ∙ regrouped ds o g.count k g.wrong ws (later e (n + k) u)
-              ∙ ap (λ (i : ℕ). noting (g.wrong ++ ws) (after_defs (lets_joined ds (def_made (option_map def_view o))) (g.count + k) (later e i u))) (omega arith);
+          leads = grind (arith, common_steps, regrouped, lets_joined);
           noted = behind g.wrong ws old.work.errors.items mid.work.errors.items new.work.errors.items g.noted y.1;
           shows = y.2;
           expansions = omega (arith, was, more);
@@ -312,13 +289,10 @@ module _ (env : TermEnv) (old mid : Standing) (whole rest : Stepping TypedLets) 
         }
 
         goes_on_at : (t : Step (TypedLets → TypedLets)) → Goes mid new t (Ok (option_map def_view o)) → Next t → GoneOn old new e s whole later (lets_joined ds (def_made (option_map def_view o))) earlier now
-        goes_on_at (went_on m u k ws) y h = made_on u k ws (refl, y.1, y.2, y.3) (subst (λ (p : Option (TypedLets → TypedLets)). Next (went_on p u k ws)) y.0 h)
-        goes_on_at (stopped l u ws) y h = absurd y
+        goes_on_at t y h = grind (arith, common_steps, made_on)
 
       seen_next : (end : MadeOrLimit (TypedLets → TypedLets)) → EndsAs env mid new next end → IsSettingOf old.tyenv env e → Goes mid new (next e n g.scope) end
-      seen_next end h is =
-          subst (λ (i : ℕ). Goes mid new (next e i g.scope) end) g.expansions
-          (seen mid new (next e mid.work.expansions g.scope) end (h.1 e g.scope (keep_setting env old.tyenv mid.tyenv e keeps is) g.shows))
+      seen_next end h is = grind (arith, common_steps, seen mid new (next e mid.work.expansions g.scope) end, keep_setting env old.tyenv mid.tyenv e keeps is)
 
     def_ends : (l : NamedLimit) → EndsAs env mid new next (Err l) → EndsAs env old new whole (Err l)
     def_ends l h = (
@@ -361,9 +335,8 @@ defs_read defs flags at d i w e n u = ap (λ ds. lets_steps (S.let_views ds) fla
 -- 3. a whole let
 module _ (ds : TypedLets) (mid new : Standing) where
   body_ended : (l : NamedLimit) (t : Step TypedExpr) → Goes mid new t (Err l) → Took mid new (ended_step ds t) (Err l)
-  body_ended l (went_on None u k ws) y = absurd y
-  body_ended l (went_on (Some v) u k ws) y = absurd y
   body_ended l (stopped j u ws) y = subst (λ (i : NamedLimit). Took {Q = TypedExpr} mid new (stopped j u ws) (Err i)) y.0 (ended j u ws y.1 y.2)
+  body_ended l _ y = absurd y
 
   -- its scope stays open
   no_body : (t : Step TypedExpr) → Goes mid new t (Ok None) → Took mid new (ended_step ds t) (Ok None)
@@ -381,16 +354,12 @@ module _ (ds : TypedLets) (mid new : Standing) where
       names = ap names_of same ∙ sh.names ∙ sym (closed_names ds u);
       vars = c.vars ∙ sh.vars ∙ sym (closed_vars ds u);
       visible = back u a sh;
-      met = λ k v h.
-          let w = closed_some ds s u (opened_before ds s t u o a) k v (sym (back u a sh k) ∙ h) in
-          subst (λ tyenv. k < length (names_of tyenv)) (sym same) (sh.met k w.0 (sh.visible k ∙ w.1));
+      met = grind (arith, common_steps, closed_some ds s u (opened_before ds s t u o a), opened_before ds s t u o a, back u a sh);
     }
 
     body_closed : (q : TypedExpr) (r : Step TypedExpr) → Goes mid new r (Ok (Some q)) → StepGrows t r → Took mid shut (ended_step ds r) (Ok (Some (typed_let ds q)))
     body_closed q (went_on None u k ws) y a = absurd (none-some q y.0)
-    body_closed q (went_on (Some v) u k ws) y a =
-        taken_as mid shut (Some (typed_let ds v)) (Some (typed_let ds q)) (closed ds u) k ws (ap (λ b. Some (typed_let ds b)) (same_Some v q y.0))
-        (subst (λ es. NotesEachAt (places_of ws) mid.work.errors.items es) (sym c.errors) y.1) (shut_shows u a y.2) (c.expansions ∙ y.3)
+    body_closed q (went_on (Some v) u k ws) y a = grind (arith, common_steps, taken_as, same_Some, shut_shows)
     body_closed q (stopped l u ws) y a = absurd y
 
 module _ (env : TermEnv) (old mid : Standing) (defs : LetTrees) (body : ExprTree) (at : Position) (flags : Flags) (ty : Option ℕ) (d : ℕ) where
@@ -425,16 +394,11 @@ module _ (env : TermEnv) (old mid : Standing) (defs : LetTrees) (body : ExprTree
 
       behind_made : (s u : Scope) (k : ℕ) (ws : List Mistake) → Goes old mid (went_on (Some ds) u k ws) (Ok (Some ds)) → Opened ds s u → Hides [] hidden ds u → Rest s
           → Took old last (then_made (went_on (Some ds) u k ws) (after old.work.expansions)) (joined_end last_made (Some ds) r)
-      behind_made s u k ws y o h rest =
-          joined last_made old mid last (Some ds) k ws y.1 y.3 (after old.work.expansions ds u k) r
-          (subst (λ (n : ℕ). Took mid last (ended_step ds (bodies e n u)) r) y.3 (rest u y.2 o h))
+      behind_made s u k ws y o h rest = grind (arith, common_steps, joined last_made old mid last (Some ds) k ws y.1 y.3 (after old.work.expansions ds u k) r)
 
       behind_defs : (s : Scope) (t : Step TypedLets) → Goes old mid t (Ok (Some ds)) → LetsGrow s t → HidesIn defs_made [] hidden t → Rest s → Took old last (then_made t (after old.work.expansions)) (joined_end last_made (Some ds) r)
       behind_defs s (went_on None u k ws) y o h rest = absurd (none-some ds y.0)
-      behind_defs s (went_on (Some cs) u k ws) y o h rest =
-          let same : cs ≡ ds = same_Some cs ds y.0 in
-          subst (λ bs. Took old last (then_made (went_on (Some bs) u k ws) (after old.work.expansions)) (joined_end last_made (Some ds) r)) (sym same)
-          (behind_made s u k ws (refl, y.1, y.2, y.3) (subst (λ bs. Opened bs s u) same o) (subst (λ bs. Hides [] hidden bs u) same h) rest)
+      behind_defs s (went_on (Some cs) u k ws) y o h rest = grind (arith, common_steps, same_Some, joined_end, behind_made)
       behind_defs s (stopped l u ws) y o h rest = absurd y
 
       behind_lets : (s : Scope) → IsSettingOf old.tyenv env e → Shows old s → Rest s → Took old last (whole_let e old.work.expansions s) (joined_end last_made (Some ds) r)

@@ -1,9 +1,10 @@
 -- Where each term that typed rules call has a constructor, each term that the expressions of their trees use has one: what is used is
 -- called, by its id.
-use Rattle.std.proofs.Common.{◌≡◌, ℕ, suc, ◌+◌, true, false, IsTrue, All, List, [], ◌∷◌, ◌++◌, Option, Some, None, option_map, slice_get, unwrap_or, refl, sym, ap, subst, ◌∙◌}
+use Rattle.std.proofs.Common.{◌≡◌, ℕ, suc, ◌+◌, true, IsTrue, All, List, [], ◌∷◌, ◌++◌, Option, Some, None, refl, sym, ap, subst, ◌∙◌, arith}
 use Rattle.std.specs.List.{flat_map}
 use Rattle.std.proofs.lemmas.List.Elements.{All-nil, All-cons, All-head, All-tail, All-append}
 use Rattle.std.proofs.lemmas.Option.{same_Some}
+use Rattle.std.proofs.lemmas.Grind.{common_steps}
 use Rattle.core_syntax.specs.Expressions.{terms_of_expr, terms_of_exprs, terms_of_lets}
 use Rattle.model.specs.lists.Syntax.{Position, Name, ExprTree, term_expr, ExprTrees, LetTrees, IfLetTree, RuleTree}
 use Rattle.model.specs.lists.Names.{number}
@@ -15,7 +16,7 @@ use Rattle.model.specs.lists.Setting.{Setting, Scope, new_scope, entry_named, te
 use Rattle.model.specs.lists.Typings.{Typing}
 use Rattle.model.specs.lists.Expansions.{term_name_at}
 use Rattle.model.specs.lists.Elaborated.{elaborated_pattern, elaborated_parts, typed_iflet, root_parts, sides_of, last_sides, Sides, finished_rule, may_have_priority, most_nested, few_enough, TypedRules, with_typed}
-use Rattle.model.specs.lists.Elaborates.{ElaboratesExpr, ElaboratesArgs, ElaboratesLets, a_call, converted_call, a_variable, converted_variable, truth_expr, integer_expr, constant_expr, let_in, no_arg, an_arg, no_def, a_def}
+use Rattle.model.specs.lists.Elaborates.{ElaboratesExpr, ElaboratesArgs, ElaboratesLets, a_call, converted_call, let_in, no_arg, an_arg, no_def, a_def}
 use Rattle.laws_typing.proofs.FormedRules.{named_at}
 use Rattle.laws_typing.specs.TypingLaws.{typing}
 use Rattle.laws_typing.proofs.Typings.{then_gives, followed_gives, if_gives}
@@ -33,8 +34,7 @@ use Rattle.core_rules.proofs.NamesKept.{Kept, kept_here, kept_on, kept_with, pat
 
 -- what is within the limits is what it was
 within_gives : {X : Type 0} (o : Option (Typing X)) (a : Typing X) → few_enough o ≡ Some a → o ≡ Some a
-within_gives None a h = absurd (cc)
-within_gives (Some b) a h = (if_gives _ (Some b) h).1
+within_gives o a h = grind (arith, common_steps, if_gives)
 
 module _ (e : Setting) (names : List (List ℕ)) (k : AreTermsNamed e names) where
   abbrev P : Position × Name → Type 0
@@ -45,9 +45,7 @@ module _ (e : Setting) (names : List (List ℕ)) (k : AreTermsNamed e names) whe
 
   -- a term that is found by its name stands at its id
   made_by_id : (name : ℕ) (t : TermEntry) → entry_named name e.terms ≡ Some t → IsMadeTerm e.terms t.id → has_constructor t.kind ≡ true
-  made_by_id name t h m =
-      let a = named_at name e.terms t h in
-      ap (λ o. unwrap_or (option_map (λ (u : TermEntry). has_constructor u.kind) o) false) (sym a.1 ∙ ap (slice_get e.terms) (sym (k.placed a.0 t a.1))) ∙ m
+  made_by_id name t h m = grind (arith, common_steps, named_at)
 
   module _ (flags : Flags) where
     mutual
@@ -58,12 +56,8 @@ module _ (e : Setting) (names : List (List ℕ)) (k : AreTermsNamed e names) whe
           All-cons P (at, name) (terms_of_exprs args) (ap has_constructor_if_there (sym (same_entry e names k s.names w name.text) ∙ f.1) ∙ made_by_id (number s.names name.text) f.0 f.1 own) (args_uses g w m.1)
       expr_uses (converted_call {name = name} {args = args} {at = at} {s = s} {by = by} h i j g) w m =
           all_left P (terms_of_expr (term_expr name args at)) [] (All-tail P (at, term_name_at s by at) (terms_of_expr (term_expr name args at) ++ []) (expr_uses g w m))
-      expr_uses (a_variable h i) w m = All-nil P
-      expr_uses (converted_variable h i j g) w m = All-nil P
-      expr_uses (truth_expr h) w m = All-nil P
-      expr_uses (integer_expr h) w m = All-nil P
-      expr_uses (constant_expr h i) w m = All-nil P
       expr_uses (let_in {defs = defs} {body = body} g h) w m = All-append P (terms_of_lets defs) (terms_of_expr body) (lets_uses g w m.0) (expr_uses h (kept_on w (lets_keep (all_made e) flags g)) m.1)
+      expr_uses _ w m = All-nil P
 
       args_uses : {d n : ℕ} {xs : ExprTrees} {tys : List ℕ} {s t : Scope} {qs : TypedExprs} → ElaboratesArgs (all_made e) flags d xs tys s qs t n → Kept names s.names → CallAlone (IsMadeTerm e.terms) qs → AreMadeUses e names (terms_of_exprs xs)
       args_uses no_arg w m = All-nil P

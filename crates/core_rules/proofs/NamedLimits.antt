@@ -1,9 +1,9 @@
 -- That each rule of a list which is typed past the limits alone is named.
-use Rattle.std.proofs.Common.{◌≡◌, ℕ, ◌+◌, ◌<◌, Bool, List, [], ◌∷◌, ◌++◌, length, get_or, take, All, sym, ap, ◌∙◌}
-use Rattle.std.specs.List.{flat_map}
+use Rattle.std.proofs.Common.{◌≡◌, ℕ, ◌+◌, ◌<◌, Bool, List, ◌++◌, length, get_or, take, All, arith}
 use Rattle.std.proofs.lemmas.Grind.{flat_map-append}
 use Rattle.std.proofs.lemmas.List.{append-nil, map-append, take_more}
 use Rattle.std.proofs.lemmas.List.Elements.{All-contains}
+use Rattle.std.proofs.lemmas.Grind.{common_steps}
 use Rattle.core_syntax.specs.declared.syntax.Def.{Def}
 use Rattle.core_syntax.specs.SyntaxViews as S
 use Rattle.model.specs.lists.Syntax.{RuleTree, Definition}
@@ -23,11 +23,7 @@ abbrev pub rules_before : List Def → ℕ → List RuleTree
 rules_before defs i = rule_trees (S.definition_views (take i defs))
 
 pub one_more : (defs : List Def) (i : ℕ) (d : Def) → i < length defs → d ≡ get_or defs i d → rules_before defs (i + 1) ≡ rules_before defs i ++ rule_of (S.definition_view d)
-one_more defs i d within at =
-    ap (λ ds. rule_trees (S.definition_views ds)) (take_more defs i d within ∙ ap (λ x. take i defs ++ x ∷ []) (sym at))
-    ∙ ap (flat_map rule_of) (map-append S.definition_view (take i defs) (d ∷ []))
-    ∙ flat_map-append rule_of (S.definition_views (take i defs)) (S.definition_view d ∷ [])
-    ∙ ap (λ rs. rules_before defs i ++ rs) (append-nil (rule_of (S.definition_view d)))
+one_more defs i d within at = grind (arith, common_steps, take_more, map-append, flat_map-append, append-nil)
 
 -- 2. the rules of a list
 module _ (e : TypesRead) (defs : List Definition) (expand : Bool) (readable : AreReadable e) (k : AreTermsNamed (setting_of e defs expand) (term_names_met e.known defs))

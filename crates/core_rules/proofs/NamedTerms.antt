@@ -1,7 +1,8 @@
 -- Terms of distinct names are found by these, so that the tables have them by name.
-use Rattle.std.proofs.Common.{◌≡◌, ℕ, zero, suc, true, false, cond, eqb, List, [], ◌∷◌, map, Some, None, option_map, slice_get, refl, sym, ap, ◌∙◌}
+use Rattle.std.proofs.Common.{◌≡◌, ℕ, zero, suc, List, [], ◌∷◌, map, Some, None, option_map, slice_get, refl, sym, ap, ◌∙◌, arith}
 use Rattle.std.proofs.lemmas.Bool.{eq-eqb}
 use Rattle.std.proofs.lemmas.Option.{none-some, same_Some, slice_get-map}
+use Rattle.std.proofs.lemmas.Grind.{common_steps}
 use Rattle.model.specs.lists.Names.{IsDistinct}
 use Rattle.model.specs.lists.Tables.{TermEntry}
 use Rattle.model.specs.lists.Setting.{Setting, entry_named}
@@ -18,14 +19,8 @@ use Rattle.core_rules.proofs.ConstructorLaws.{named_is}
 -- a term that stands in a list is found by its name, or one before it of that name is
 some_named : (ts : List TermEntry) (i : ℕ) (t : TermEntry) → slice_get ts i ≡ Some t → entry_named t.name ts ≡ None → ⊥
 some_named [] i t h n = none-some t h
-some_named (u ∷ us) zero t h n =
-    let same : u.name ≡ t.name = ap (λ (v : TermEntry). v.name) (same_Some u t h) in
-    none-some u (sym n ∙ ap (λ b. cond b (Some u) (entry_named t.name us)) (eq-eqb u.name t.name same))
-some_named (u ∷ us) (suc i) t h n =
-    elim (eqb u.name t.name) as (λ b. cond b (Some u) (entry_named t.name us) ≡ None → ⊥) [
-      | true ↦ λ m. none-some u (sym m)
-      | false ↦ λ m. some_named us i t h m
-    ] n
+some_named (u ∷ us) zero t h n = grind (arith, common_steps, same_Some, none-some, eq-eqb)
+some_named (u ∷ us) (suc i) t h n = grind (arith, common_steps, some_named us i t h, none-some)
 
 pub found_at : (ts : List TermEntry) (i : ℕ) (t : TermEntry) → IsDistinct (map (λ e. e.name) ts) → slice_get ts i ≡ Some t → entry_named t.name ts ≡ Some t
 found_at ts i t once h =

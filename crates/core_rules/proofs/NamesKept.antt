@@ -1,11 +1,11 @@
 -- The names of a scope stay at their numbers, whatever is typed from it.
-use Rattle.std.proofs.Common.{◌≡◌, ℕ, Bool, List, [], ◌∷◌, Option, Some, slice_get}
+use Rattle.std.proofs.Common.{◌≡◌, ℕ, Bool, List, [], ◌∷◌, Option, Some, slice_get, arith}
 use Rattle.model.specs.lists.Syntax.{PatternTree, PatternTrees, ExprTree, ExprTrees, LetTrees}
 use Rattle.model.specs.lists.Names.{with_name, IsDistinct}
 use Rattle.model.specs.lists.Tables.{Flags}
 use Rattle.model.specs.rules.Typed.{TypedPattern, TypedPatterns, TypedExpr, TypedExprs, TypedLets}
 use Rattle.model.specs.lists.Setting.{Setting, Scope}
-use Rattle.model.specs.lists.Elaborates.{ElaboratesPattern, ElaboratesParts, ElaboratesEach, new_name, bound_name, binding, a_truth, an_integer, a_constant, a_term, a_template, a_conversion, anything, all_of, no_part, part, no_more, one_more, ElaboratesExpr, ElaboratesArgs, ElaboratesLets, a_call, converted_call, a_variable, converted_variable, truth_expr, integer_expr, constant_expr, let_in, no_arg, an_arg, no_def, a_def}
+use Rattle.model.specs.lists.Elaborates.{ElaboratesPattern, ElaboratesParts, ElaboratesEach, binding, a_term, a_template, a_conversion, all_of, no_part, part, no_more, one_more, ElaboratesExpr, ElaboratesArgs, ElaboratesLets, a_call, converted_call, converted_variable, let_in, no_arg, an_arg, no_def, a_def}
 use Rattle.model.proofs.Names.{get_kept, distinct_names}
 
 -- names stay at their numbers, and where they stood once each does still
@@ -25,17 +25,12 @@ kept_with ns x = record { at = λ k y h. get_kept ns (x ∷ []) k y h; once = λ
 module _ (e : Setting) (multi : Bool) where
   mutual
     pub pattern_keeps : {d ty n : ℕ} {p : PatternTree} {s t : Scope} {q : TypedPattern} → ElaboratesPattern e multi d p ty s q t n → Kept s.names t.names
-    pattern_keeps (new_name {name = name} {s = s} h) = kept_with s.names name.text
-    pattern_keeps (bound_name h k) = kept_here
     pattern_keeps (binding {name = name} {t = t} g h) = kept_on (pattern_keeps g) (kept_with t.names name.text)
-    pattern_keeps (a_truth h) = kept_here
-    pattern_keeps (an_integer h) = kept_here
-    pattern_keeps (a_constant h) = kept_here
     pattern_keeps (a_term h i j k g) = parts_keep g
     pattern_keeps (a_template h i j k g) = pattern_keeps g
     pattern_keeps (a_conversion h i j g) = pattern_keeps g
-    pattern_keeps anything = kept_here
     pattern_keeps (all_of g) = each_keep g
+    pattern_keeps i = grind (arith, kept_with)
 
     pub parts_keep : {d n : ℕ} {ps : PatternTrees} {tys : List ℕ} {s t : Scope} {qs : TypedPatterns} → ElaboratesParts e multi d ps tys s qs t n → Kept s.names t.names
     parts_keep no_part = kept_here
@@ -50,12 +45,9 @@ module _ (e : Setting) (flags : Flags) where
     pub expr_keeps : {d n : ℕ} {ty : Option ℕ} {x : ExprTree} {s t : Scope} {q : TypedExpr} → ElaboratesExpr e flags d x ty s q t n → Kept s.names t.names
     expr_keeps (a_call h i j g) = args_keep g
     expr_keeps (converted_call h i j g) = expr_keeps g
-    expr_keeps (a_variable h i) = kept_here
     expr_keeps (converted_variable h i j g) = expr_keeps g
-    expr_keeps (truth_expr h) = kept_here
-    expr_keeps (integer_expr h) = kept_here
-    expr_keeps (constant_expr h i) = kept_here
     expr_keeps (let_in g h) = kept_on (lets_keep g) (expr_keeps h)
+    expr_keeps _ = kept_here
 
     pub args_keep : {d n : ℕ} {xs : ExprTrees} {tys : List ℕ} {s t : Scope} {qs : TypedExprs} → ElaboratesArgs e flags d xs tys s qs t n → Kept s.names t.names
     args_keep no_arg = kept_here

@@ -1,6 +1,7 @@
 -- The positions of the parts of what is read are among those of the whole.
 use Rattle.std.proofs.Common.{◌≡◌, ℕ, zero, suc, ◌<◌, List, [], ◌∷◌, ◌++◌, length, get_or, map, Contains, refl, sym, ap, subst, ◌∙◌, arith}
 use Rattle.std.specs.List.{flat_map}
+use Rattle.std.proofs.lemmas.Grind.{common_steps}
 use Rattle.core_syntax.specs.declared.syntax.Pattern as P
 use Rattle.core_syntax.specs.declared.syntax.Expr as E
 use Rattle.core_syntax.specs.declared.syntax.LetDef.{LetDef}
@@ -34,11 +35,8 @@ and_inside parts at = among_rest at (patterns_positions parts)
 
 pub part_inside : (ps : List P.Pattern) (i : ℕ) (p : P.Pattern) → i < length ps → p ≡ get_or ps i p → OccurAmong (pattern_positions (S.pattern_view p)) (patterns_positions (S.pattern_views ps))
 part_inside [] i p lt is = absurd (omega arith)
-part_inside (q ∷ ps) zero p lt is =
-    subst (λ x. OccurAmong (pattern_positions (S.pattern_view x)) (pattern_positions (S.pattern_view q) ++ patterns_positions (S.pattern_views ps))) (sym is) (among_left (pattern_positions (S.pattern_view q)) (patterns_positions (S.pattern_views ps)))
-part_inside (q ∷ ps) (suc i) p lt is =
-    among_both (pattern_positions (S.pattern_view p)) (patterns_positions (S.pattern_views ps)) (pattern_positions (S.pattern_view q) ++ patterns_positions (S.pattern_views ps)) (part_inside ps i p (omega arith) is)
-    (among_right (pattern_positions (S.pattern_view q)) (patterns_positions (S.pattern_views ps)))
+part_inside (q ∷ ps) zero p lt is = grind (arith, common_steps, among_left)
+part_inside (q ∷ ps) (suc i) p lt is = grind (arith, common_steps, part_inside ps i p, among_both, among_right)
 
 -- the arguments of a rule's root
 pub root_inside : (p : PatternTree) → OccurAmong (patterns_positions (root_parts p)) (pattern_positions p)
@@ -64,11 +62,8 @@ body_inside defs body at = among_right (at ∷ lets_positions defs) (expr_positi
 
 pub arg_inside : (xs : List E.Expr) (i : ℕ) (x : E.Expr) → i < length xs → x ≡ get_or xs i x → OccurAmong (expr_positions (S.expr_view x)) (exprs_positions (S.expr_views xs))
 arg_inside [] i x lt is = absurd (omega arith)
-arg_inside (y ∷ xs) zero x lt is =
-    subst (λ z. OccurAmong (expr_positions (S.expr_view z)) (expr_positions (S.expr_view y) ++ exprs_positions (S.expr_views xs))) (sym is) (among_left (expr_positions (S.expr_view y)) (exprs_positions (S.expr_views xs)))
-arg_inside (y ∷ xs) (suc i) x lt is =
-    among_both (expr_positions (S.expr_view x)) (exprs_positions (S.expr_views xs)) (expr_positions (S.expr_view y) ++ exprs_positions (S.expr_views xs)) (arg_inside xs i x (omega arith) is)
-    (among_right (expr_positions (S.expr_view y)) (exprs_positions (S.expr_views xs)))
+arg_inside (y ∷ xs) zero x lt is = grind (arith, common_steps, among_left)
+arg_inside (y ∷ xs) (suc i) x lt is = grind (arith, common_steps, arg_inside xs i x, among_both, among_right)
 
 -- those of a definition of a let
 abbrev own_positions : LetDef → List Position
@@ -95,12 +90,10 @@ value_inside at d =
 
 -- if-lets and rules
 pub taken_inside : (l : IfLetTree) → OccurAmong (pattern_positions l.pattern) (iflet_positions l)
-taken_inside l =
-    among_both (pattern_positions l.pattern) (pattern_positions l.pattern ++ expr_positions l.expr) (iflet_positions l) (among_left (pattern_positions l.pattern) (expr_positions l.expr)) (among_rest l.at (pattern_positions l.pattern ++ expr_positions l.expr))
+taken_inside l = grind (arith, common_steps, among_both, among_left, among_rest)
 
 pub given_inside : (l : IfLetTree) → OccurAmong (expr_positions l.expr) (iflet_positions l)
-given_inside l =
-    among_both (expr_positions l.expr) (pattern_positions l.pattern ++ expr_positions l.expr) (iflet_positions l) (among_right (pattern_positions l.pattern) (expr_positions l.expr)) (among_rest l.at (pattern_positions l.pattern ++ expr_positions l.expr))
+given_inside l = grind (arith, common_steps, among_both, among_right, among_rest)
 
 -- an element of a list
 pub each_inside : {X Y : Type 0} (f : Y → List Position) (view : X → Y) (xs : List X) (i : ℕ) (x : X) → i < length xs → x ≡ get_or xs i x → OccurAmong (f (view x)) (flat_map f (map view xs))
@@ -144,9 +137,7 @@ two_placed (x ∷ xs) ys all a b =
 
 mutual
   uses_placed : (x : ExprTree) → OccurAmong (map (λ u. u.0) (terms_of_expr x)) (expr_positions x)
-  uses_placed (term_expr name args at) =
-      among_next at (map (λ u. u.0) (terms_of_exprs args)) (expr_positions (term_expr name args at)) (in_head at (name.at ∷ exprs_positions args))
-      (among_both (map (λ u. u.0) (terms_of_exprs args)) (exprs_positions args) (expr_positions (term_expr name args at)) (all_placed args) (call_inside name args at))
+  uses_placed (term_expr name args at) = grind (arith, common_steps, all_placed args, among_next, in_head, among_both, call_inside)
   uses_placed (let_expr defs body at) =
       two_placed (terms_of_lets defs) (terms_of_expr body) (expr_positions (let_expr defs body at))
       (among_both (map (λ u. u.0) (terms_of_lets defs)) (at ∷ lets_positions defs) (expr_positions (let_expr defs body at))

@@ -1,8 +1,9 @@
 -- How lists of patterns are read on, part by part.
-use Rattle.std.proofs.Common.{◌≡◌, ℕ, ◌+◌, ◌<◌, ◌≤◌, min, nat_le, Bool, List, [], ◌∷◌, ◌++◌, length, map, drop, get_or, Option, Some, None, option_map, Ok, Err, append-nil, inl, inr, ◌⊎◌, refl, sym, ap, subst, ◌∙◌, arith}
+use Rattle.std.proofs.Common.{◌≡◌, ℕ, ◌+◌, ◌<◌, ◌≤◌, min, nat_le, Bool, List, [], ◌∷◌, ◌++◌, length, map, drop, get_or, Option, Some, None, option_map, Ok, append-nil, inl, inr, ◌⊎◌, refl, sym, ap, subst, ◌∙◌, arith}
 use Rattle.std.proofs.lemmas.Bool.{cases_Bool, leb-true, leb-false}
 use Rattle.std.proofs.lemmas.List.{drop_more, drop_all}
 use Rattle.std.specs.Option.{option_to_list}
+use Rattle.std.proofs.lemmas.Grind.{common_steps}
 use Rattle.core_syntax.specs.declared.syntax.Pattern as T
 use Rattle.core_syntax.specs.SyntaxViews as S
 use Rattle.model.specs.lists.Setting.{Setting, Scope}
@@ -26,9 +27,7 @@ abbrev pub after_made : List Pattern → MadeOrLimit TypedPatterns → MadeOrLim
 after_made ps = made_end (appended (pattern_parts (pattern_views ps)))
 
 pub after_none : (r : MadeOrLimit TypedPatterns) → r ≡ after_made [] r
-after_none (Ok None) = refl
-after_none (Ok (Some qs)) = refl
-after_none (Err l) = refl
+after_none r = grind (arith, common_steps)
 
 appended_none : (qs : TypedPatterns) → appended qs no_typed_pattern ≡ qs
 appended_none no_typed_pattern = refl
@@ -47,9 +46,7 @@ abbrev something : TypedPatterns → MadeOrLimit TypedPatterns
 something qs = Ok (Some qs)
 
 one_after : (ps : List Pattern) (o : Option Pattern) (r : MadeOrLimit TypedPatterns) → after_made ps (joined_end with_part (option_map pattern_view o) r) ≡ after_made (ps ++ option_to_list o) r
-one_after ps o (Ok None) = refl
-one_after ps o (Ok (Some qs)) = ap something (part_between ps o qs)
-one_after ps o (Err l) = refl
+one_after ps o r = grind (arith, part_between)
 
 -- nothing is read yet
 pub none_read : (env : TermEnv) (old : Standing) (whole : Stepping TypedPatterns) (ps : List Pattern) → ps ≡ [] → LeadsOn env old old whole whole (after_made ps)
@@ -80,9 +77,7 @@ module _ (multi : Bool) (args : List T.Pattern) (d i : ℕ) (p : T.Pattern) (w :
 
   args_law : (tys : List TypeId) (ty : TypeId) → i < length tys → ty ≡ get_or tys i ty → (e : Setting) (n : ℕ) (u : Scope)
       → args_from multi args tys d i e n u ≡ then_step with_part (pattern_steps multi (S.pattern_view p) ty.0 d e n u) (λ m t k. args_from multi args tys d (i + 1) e (n + k) t)
-  args_law tys ty v ty_is e n u =
-      ap (λ ps. parts_steps multi (S.pattern_views ps) (map (λ t. t.0) (drop i tys)) d e n u) rest_is
-      ∙ ap (λ (ts : List TypeId). parts_steps multi (S.pattern_views (p ∷ drop (i + 1) args)) (map (λ t. t.0) ts) d e n u) (drop_more tys i ty v ∙ ap (λ t. t ∷ drop (i + 1) tys) (sym ty_is))
+  args_law tys ty v ty_is e n u = grind (arith, common_steps, drop_more)
 
   each_law : (ty : ℕ) (e : Setting) (n : ℕ) (u : Scope)
       → each_from multi args ty d i e n u ≡ then_step with_part (pattern_steps multi (S.pattern_view p) ty d e n u) (λ m t k. each_from multi args ty d (i + 1) e (n + k) t)
@@ -115,17 +110,14 @@ module _ (multi : Bool) (args : List T.Pattern) (d i : ℕ) (p : T.Pattern) (w :
 
 -- as far as there are arguments and types
 no_more : (multi : Bool) (ps : List T.Pattern) (ts : List TypeId) (d : ℕ) (e : Setting) (n : ℕ) (u : Scope) → (length ps ≡ 0) ⊎ (length ts ≡ 0) → parts_steps multi (S.pattern_views ps) (map (λ t. t.0) ts) d e n u ≡ here no_typed_pattern u
-no_more multi [] ts d e n u h = refl
-no_more multi (p ∷ ps) [] d e n u h = refl
 no_more multi (p ∷ ps) (t ∷ ts) d e n u (inl h) = absurd (cc)
 no_more multi (p ∷ ps) (t ∷ ts) d e n u (inr h) = absurd (cc)
+no_more multi _ _ d e n u h = refl
 
 pub args_read : (multi : Bool) (args : List T.Pattern) (tys : List TypeId) (d i : ℕ) → min (length args) (length tys) ≤ i → (e : Setting) (n : ℕ) (u : Scope) → args_from multi args tys d i e n u ≡ here no_typed_pattern u
 args_read multi args tys d i few e n u = elim (cases_Bool (nat_le (length args) i)) [
   | inl t ↦ no_more multi (drop i args) (drop i tys) d e n u (inl (ap length (drop_all i args (leb-true (length args) i t))))
-  | inr f ↦
-      let past = leb-false (length args) i f in
-      no_more multi (drop i args) (drop i tys) d e n u (inr (ap length (drop_all i tys (omega (arith, past, few)))))
+  | inr f ↦ grind (arith, common_steps, leb-false (length args) i f, no_more multi (drop i args) (drop i tys) d e n u, drop_all i tys)
 ]
 
 pub each_read : (multi : Bool) (args : List T.Pattern) (ty d i : ℕ) → length args ≤ i → (e : Setting) (n : ℕ) (u : Scope) → each_from multi args ty d i e n u ≡ here no_typed_pattern u

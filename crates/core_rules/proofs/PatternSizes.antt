@@ -1,7 +1,8 @@
 -- How large patterns are: expansions end, since so many may nest, and each makes a pattern at most so many times as large.
-use Rattle.std.proofs.Common.{◌≡◌, ℕ, zero, suc, ◌+◌, ◌*◌, ◌<◌, ◌≤◌, List, [], ◌∷◌, length, get_or, Option, Some, None, option_map, slice_get, refl, ap, ◌∙◌, arith, inl, inr}
+use Rattle.std.proofs.Common.{◌≡◌, ℕ, zero, suc, ◌+◌, ◌*◌, ◌<◌, ◌≤◌, List, [], ◌∷◌, length, get_or, Option, Some, None, option_map, slice_get, ap, arith, inl, inr}
 use Rattle.std.proofs.Math.Nat.{mul-le-mul_left}
 use Rattle.std.proofs.lemmas.Option.{same_Some}
+use Rattle.std.proofs.lemmas.Grind.{common_steps}
 use Rattle.core_syntax.specs.declared.syntax.Pattern as T
 use Rattle.core_syntax.specs.SyntaxViews as S
 use Rattle.model.specs.lists.Syntax.{PatternTree, var_pattern, bind_pattern, bool_pattern, int_pattern, prim_pattern, term_pattern, wildcard_pattern, and_pattern, macro_arg, PatternTrees, no_pattern, pattern_and, pattern_list}
@@ -71,24 +72,19 @@ one_at_least (and_pattern parts at) = omega arith
 one_at_least (macro_arg i at) = omega arith
 
 part_size : (ps : PatternTrees) (i : ℕ) (p : PatternTree) → slice_get (pattern_list ps) i ≡ Some p → tree_size p ≤ trees_size ps
-part_size no_pattern i p h = absurd (cc)
-part_size (pattern_and q ps) zero p h = let e : tree_size q ≡ tree_size p = ap tree_size (same_Some q p h) in omega (arith, e)
 part_size (pattern_and q ps) (suc i) p h = let r = part_size ps i p h in omega (arith, r)
+part_size ps i p h = grind (arith, same_Some)
 
 pub mapped_gives : {A B : Type 0} (f : A → B) (o : Option A) (b : B) → option_map f o ≡ Some b → (a : A) × (o ≡ Some a) × (f a ≡ b)
-mapped_gives f None b h = absurd (cc)
-mapped_gives f (Some a) b h = (a, refl, same_Some (f a) b h)
+mapped_gives f o b h = grind (arith, common_steps, same_Some)
 
 pub with_gives : (o : Option PatternTree) (r : Option PatternTrees) (qs : PatternTrees) → with_pattern o r ≡ Some qs → (p : PatternTree) × (ps : PatternTrees) × (o ≡ Some p) × (r ≡ Some ps) × (pattern_and p ps ≡ qs)
-with_gives None r qs h = absurd (cc)
-with_gives (Some p) None qs h = absurd (cc)
-with_gives (Some p) (Some ps) qs h = (p, ps, refl, refl, same_Some (pattern_and p ps) qs h)
+with_gives o r qs h = grind (arith, same_Some)
 
 -- what is put into a template is at most so large each
 module _ (given : List PatternTree) (m : ℕ) (some : 1 ≤ m) (each : (i : ℕ) (p : PatternTree) → slice_get given i ≡ Some p → tree_size p ≤ m) where
   mutual
     substituted_size : (t q : PatternTree) → substituted given t ≡ Some q → tree_size q ≤ tree_size t * m
-    substituted_size (macro_arg i at) q h = let e = each i q h in omega (arith, e)
     substituted_size (bind_pattern name of at) q h =
         let g = mapped_gives (λ p. bind_pattern name p at) (substituted given of) q h in
         let r = substituted_size of g.0 g.1 in
@@ -104,28 +100,15 @@ module _ (given : List PatternTree) (m : ℕ) (some : 1 ≤ m) (each : (i : ℕ)
         let r = all_size parts g.0 g.1 in
         let e : suc (trees_size g.0) ≡ tree_size q = ap tree_size g.2 in
         omega (arith, r, e, some)
-    substituted_size (var_pattern name at) q h = let e : 1 ≡ tree_size q = ap tree_size (same_Some (var_pattern name at) q h) in omega (arith, e, some)
-    substituted_size (bool_pattern b at) q h = let e : 1 ≡ tree_size q = ap tree_size (same_Some (bool_pattern b at) q h) in omega (arith, e, some)
-    substituted_size (int_pattern z at) q h = let e : 1 ≡ tree_size q = ap tree_size (same_Some (int_pattern z at) q h) in omega (arith, e, some)
-    substituted_size (prim_pattern name at) q h = let e : 1 ≡ tree_size q = ap tree_size (same_Some (prim_pattern name at) q h) in omega (arith, e, some)
-    substituted_size (wildcard_pattern at) q h = let e : 1 ≡ tree_size q = ap tree_size (same_Some (wildcard_pattern at) q h) in omega (arith, e, some)
+    substituted_size t q h = grind (arith, same_Some)
 
     all_size : (ts qs : PatternTrees) → all_substituted given ts ≡ Some qs → trees_size qs ≤ trees_size ts * m
     all_size no_pattern qs h = let e : 0 ≡ trees_size qs = ap trees_size (same_Some no_pattern qs h) in omega (arith, e)
-    all_size (pattern_and t ts) qs h =
-        let g = with_gives (substituted given t) (all_substituted given ts) qs h in
-        let r = substituted_size t g.0 g.2 in
-        let u = all_size ts g.1 g.3 in
-        let e : suc (tree_size g.0 + trees_size g.1) ≡ trees_size qs = ap trees_size g.4 in
-        omega (arith, r, u, e, some)
+    all_size (pattern_and t ts) qs h = grind (arith, common_steps, substituted_size t, all_size ts, with_gives)
 
 template_below : (ts : List TermEntry) (k : ℕ) (t : TermEntry) (p : PatternTree) → slice_get ts k ≡ Some t → kind_template t.kind ≡ Some p → tree_size p + 4 ≤ growth ts
-template_below [] k t p h i = absurd (cc)
-template_below (u ∷ ts) zero t p h i =
-    let e : template_size (kind_template u.kind) ≡ tree_size p = ap (λ (v : TermEntry). template_size (kind_template v.kind)) (same_Some u t h) ∙ ap template_size i in
-    let f = four ts in
-    omega (arith, e, f)
 template_below (u ∷ ts) (suc k) t p h i = let r = template_below ts k t p h i in omega (arith, r)
+template_below ts k t p h i = grind (arith, same_Some, four)
 
 -- an expansion makes a pattern that is at most so many times as large
 pub expansion_smaller : (env : TermEnv) (whole : PatternTree) (args : PatternTrees) (made : PatternTree) → tree_size whole ≡ suc (trees_size args) → IsExpansionOf env whole args made → tree_size made < growth (term_views env.terms.items) * tree_size whole
@@ -140,6 +123,5 @@ expansion_smaller env whole args made size (inr x) =
     omega (arith, r, f, size)
 
 pub smaller_part : (ps : List T.Pattern) (i : ℕ) (d : T.Pattern) → i < length ps → tree_size (S.pattern_view (get_or ps i d)) < trees_size (S.pattern_views ps)
-smaller_part [] i d lt = absurd (omega arith)
-smaller_part (p ∷ ps) zero d lt = omega arith
 smaller_part (p ∷ ps) (suc i) d lt = let r = smaller_part ps i d (omega arith) in omega (arith, r)
+smaller_part ps i d lt = grind arith

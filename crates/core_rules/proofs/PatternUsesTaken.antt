@@ -1,10 +1,11 @@
 -- What the use of a term in a pattern leads to, step by step as it is looked at.
-use Rattle.std.proofs.Common.{◌≡◌, ℕ, zero, suc, ◌+◌, Bool, true, false, cond, eqb, List, [], ◌∷◌, ◌++◌, length, Option, Some, None, Ok, Err, slice_get, unwrap_or, refl, sym, ap, subst, ◌∙◌, inl, inr, arith}
+use Rattle.std.proofs.Common.{◌≡◌, ℕ, suc, ◌+◌, Bool, true, false, cond, eqb, List, [], ◌∷◌, ◌++◌, length, Option, Some, None, Ok, Err, slice_get, unwrap_or, refl, sym, ap, subst, ◌∙◌, inl, inr, arith}
 use Rattle.std.proofs.lemmas.Bool.{cases_Bool}
+use Rattle.std.proofs.lemmas.Grind.{common_steps}
 use Rattle.model.specs.lists.Syntax.{Position, Name, PatternTree, PatternTrees, no_pattern, pattern_and, term_pattern, pattern_list}
 use Rattle.model.specs.lists.Tables.{TermEntry}
 use Rattle.model.specs.lists.Expansions.{substituted}
-use Rattle.model.specs.lists.Setting.{Setting, Scope, is_matchable, kind_template, template_in, pattern_converter}
+use Rattle.model.specs.lists.Setting.{Setting, Scope, is_matchable, template_in, pattern_converter}
 use Rattle.model.specs.rules.Typed.{TypedPattern, TypedPatterns, match_term}
 use Rattle.laws_errors.specs.Steps.{unknown_extractor, extractor_type, argument_count, Step, unless, noting, made_step}
 use Rattle.laws_errors.specs.PatternSteps.{template_step, why_not_matched, term_step, use_step, converted_step, found_step, deeper_step}
@@ -30,8 +31,7 @@ abbrev pattern_nested : Bool → PatternTree → ℕ → Nested TypedPattern
 pattern_nested multi p ty d = pattern_steps multi p ty d
 
 pattern_expansion : (multi : Bool) (p : PatternTree) (ty d : ℕ) (e : Setting) (n : ℕ) (s : Scope) → deeper_step e multi d p ty n s ≡ expansion (pattern_nested multi p ty) d e n s
-pattern_expansion multi p ty zero e n s = refl
-pattern_expansion multi p ty (suc d) e n s = refl
+pattern_expansion multi p ty d e n s = grind (arith, common_steps)
 
 -- 2. the use of a term
 module _ (multi : Bool) (env : TermEnv) (old : Standing) (inv : IsInterned old.tyenv) (name : Name) (args : PatternTrees) (at : Position) (ty d : ℕ) where
@@ -97,24 +97,15 @@ module _ (multi : Bool) (env : TermEnv) (old : Standing) (inv : IsInterned old.t
 
       right_type : (e : Setting) (n : ℕ) (s : Scope) → IsSettingOf old.tyenv env e → Shows old s → eqb t.ret_ty ty ≡ true
           → pattern_steps multi whole ty d e n s ≡ noting (unless (eqb (length (pattern_list args)) (length t.arg_tys)) (argument_count name.text (length (pattern_list args)) (length t.arg_tys)) at) (itself e n s)
-      right_type e n s is sh alike =
-          known_steps e n s is sh
-          ∙ ap (λ b. cond b (use_step multi (deeper e) name args at ty n s t (parts e n s) (template_in e t.kind)) (converted_step e multi (deeper e) name args at ty n s t (parts e n s) (pattern_converter e t.ret_ty ty))) alike
-          ∙ ap (λ p. use_step multi (deeper e) name args at ty n s t (parts e n s) p) (ap (λ b. cond b (kind_template t.kind) None) is.expand ∙ sym template)
+      right_type e n s is sh alike = grind (arith, common_steps, known_steps e n s is sh)
 
       wrong_type : (e : Setting) (n : ℕ) (s : Scope) → IsSettingOf old.tyenv env e → Shows old s → eqb t.ret_ty ty ≡ false
           → pattern_steps multi whole ty d e n s
           ≡ noting (unless false (extractor_type name.text ty t.ret_ty) at) (noting (unless (eqb (length (pattern_list args)) (length t.arg_tys)) (argument_count name.text (length (pattern_list args)) (length t.arg_tys)) at) (itself e n s))
-      wrong_type e n s is sh ne =
-          known_steps e n s is sh
-          ∙ ap (λ b. cond b (use_step multi (deeper e) name args at ty n s t (parts e n s) (template_in e t.kind)) (converted_step e multi (deeper e) name args at ty n s t (parts e n s) (pattern_converter e t.ret_ty ty))) ne
-          ∙ ap (λ c. converted_step e multi (deeper e) name args at ty n s t (parts e n s) c) (converter_is multi env old inv name args at ty t known e is ne ∙ sym none)
-          ∙ ap (λ p. noting (unless false (extractor_type name.text ty t.ret_ty) at) (use_step multi (deeper e) name args at ty n s t (parts e n s) p)) (ap (λ b. cond b (kind_template t.kind) None) is.expand ∙ sym template)
+      wrong_type e n s is sh ne = grind (arith, common_steps, known_steps e n s is sh, converter_is multi env old inv name args at ty t known e is ne)
 
       counted_checks : (b : Bool) → eqb t.ret_ty ty ≡ b → NotesEachAt (place_unless b at ++ place_unless (eqb (length (pattern_list args)) (length t.arg_tys)) at) old.work.errors.items mid.work.errors.items
-      counted_checks b is_b =
-          subst (λ c. NotesEachAt (place_unless c at ++ place_unless (eqb (length (pattern_list args)) (length t.arg_tys)) at) old.work.errors.items mid.work.errors.items) is_b
-          (subst (λ (k : ℕ). NotesEachAt (place_unless (eqb t.ret_ty ty) at ++ place_unless (eqb k (length t.arg_tys)) at) old.work.errors.items mid.work.errors.items) as_many checks)
+      counted_checks b is_b = grind (arith, common_steps)
 
       -- behind what was checked
       checked : (new : Standing) (e : Setting) (s : Scope) → IsSettingOf old.tyenv env e → Shows old s → (z : MadeOrLimit TypedPattern) → Took mid new (itself e old.work.expansions s) z
@@ -133,8 +124,7 @@ module _ (multi : Bool) (env : TermEnv) (old : Standing) (inv : IsInterned old.t
         where
           both_wrong : (b : Bool) → NotesEachAt (at ∷ place_unless b at) old.work.errors.items mid.work.errors.items
               → NotesEachAt (at ∷ places_of (unless b (argument_count name.text (length (pattern_list args)) (length t.arg_tys)) at)) old.work.errors.items mid.work.errors.items
-          both_wrong true n = n
-          both_wrong false n = n
+          both_wrong b n = grind (arith, common_steps)
 
     module _ (none : None ≡ found_converter env has_extractor_kind t.ret_ty ty)
         (mid : Standing) (count : ℕ) (as_many : count ≡ length (pattern_list args)) (same : names_of mid.tyenv ≡ names_of old.tyenv) (r : Remains old.work mid.work)

@@ -1,19 +1,18 @@
 -- The use of a term in a pattern, step by step as it is looked at.
-use Rattle.std.proofs.Common.{◌≡◌, ℕ, suc, Bool, true, false, cond, eqb, List, [], ◌∷◌, length, map, Option, Some, None, option_and_then, slice_get, refl, sym, ap, subst, ◌∙◌, inl, inr}
+use Rattle.std.proofs.Common.{◌≡◌, ℕ, suc, Bool, false, eqb, List, [], ◌∷◌, length, map, Option, Some, option_and_then, slice_get, refl, sym, ap, ◌∙◌, inl, inr, arith}
 use Rattle.std.proofs.lemmas.Bool.{cases_Bool}
 use Rattle.std.proofs.lemmas.Option.{none-some}
+use Rattle.std.proofs.lemmas.Grind.{common_steps}
 use Rattle.core_syntax.specs.declared.syntax.Error.{Error}
 use Rattle.core_syntax.specs.declared.syntax.Pattern.{Pattern}
 use Rattle.core_syntax.specs.SyntaxViews as S
 use Rattle.model.specs.lists.Syntax.{Position, Name, PatternTree, PatternTrees, term_pattern, pattern_list}
 use Rattle.model.specs.lists.Names.{number}
-use Rattle.model.specs.lists.Tables.{TermKindEntry, variant_term, struct_term, declared_term, TermEntry}
+use Rattle.model.specs.lists.Tables.{TermKindEntry, TermEntry}
 use Rattle.model.specs.lists.Expansions.{substituted}
-use Rattle.model.specs.lists.Setting.{Setting, Scope, entry_named, term_of, that, has_extractor, kind_template, pattern_converter}
-use Rattle.model.specs.rules.Outcome.{then_option}
+use Rattle.model.specs.lists.Setting.{Setting, Scope, entry_named, term_of, that, has_extractor, pattern_converter}
 use Rattle.model.proofs.Options.{then_some}
 use Rattle.core_types.specs.Envs.{symbol_of, IsInterned}
-use Rattle.core_syntax.specs.NotedErrors.{NotesMore}
 use Rattle.core_syntax.proofs.NotedErrors.{both}
 use Rattle.core_terms.specs.Terms.{has_extractor_kind}
 use Rattle.core_terms.specs.TermViews.{term_views}
@@ -21,15 +20,12 @@ use Rattle.core_rules.specs.declared.term_env.TermEnv.{TermEnv}
 use Rattle.core_typed.specs.Elaborating.{Checks}
 use Rattle.core_rules.specs.TermEnvs.{term_in_env}
 use Rattle.core_rules.specs.PatternUses.{found_term, found_converter, found_template, IsExpansionOf}
-use Rattle.core_rules.specs.ShownSettings.{Standing, IsSettingOf, Shows, converter_in}
+use Rattle.core_rules.specs.ShownSettings.{Standing, IsSettingOf, Shows}
 use Rattle.core_rules.proofs.TermsFound.{found_named}
 
 -- one fact after another is checked
 pub checks_both : (a b c : List Error) (P Q : Type 0) → Checks a b P → Checks b c Q → Checks a c (P × Q)
-checks_both a b c P Q (inl x) (inl y) = inl (y.0 ∙ x.0, (x.1, y.1))
-checks_both a b c P Q (inl x) (inr y) = inr (subst (λ es. NotesMore es c) x.0 y.0, λ h. y.1 h.1)
-checks_both a b c P Q (inr x) (inl y) = inr (subst (NotesMore a) (sym y.0) x.0, λ h. x.1 h.0)
-checks_both a b c P Q (inr x) (inr y) = inr (both a b c x.0 y.0, λ h. x.1 h.0)
+checks_both a b c P Q h k = grind (arith, both)
 
 -- lists of patterns
 pub list_is : (ps : List Pattern) → pattern_list (S.pattern_views ps) ≡ map S.pattern_view ps
@@ -42,13 +38,10 @@ list_length (p ∷ ps) = ap suc (list_length ps)
 
 -- extractors
 same_extractor : (k : TermKindEntry) → has_extractor k ≡ has_extractor_kind k
-same_extractor (variant_term variant) = refl
-same_extractor struct_term = refl
-same_extractor (declared_term flags constructor_kind extractor_kind) = refl
+same_extractor _ = refl
 
 pub that_same : (p q : TermEntry → Bool) → ((t : TermEntry) → p t ≡ q t) → (o : Option TermEntry) → that p o ≡ that q o
-that_same p q h None = refl
-that_same p q h (Some t) = ap (λ b. cond b (Some t) None) (h t)
+that_same p q h o = grind (arith, common_steps)
 
 -- a name is found by its number
 module _ (env : TermEnv) (at : Standing) (inv : IsInterned at.tyenv) (x : List ℕ) where
@@ -67,11 +60,7 @@ module _ (multi : Bool) (env : TermEnv) (old : Standing) (inv : IsInterned old.t
     at_place = let p = then_some (option_and_then (term_in_env env) (symbol_of old.tyenv name.text)) (slice_get (term_views env.terms.items)) t (sym known) in (p.0, p.2)
 
     pub converter_is : (e : Setting) → IsSettingOf old.tyenv env e → eqb t.ret_ty ty ≡ false → pattern_converter e t.ret_ty ty ≡ found_converter env has_extractor_kind t.ret_ty ty
-    converter_is e is ne =
-        that_same (λ u. has_extractor u.kind) (λ u. has_extractor_kind u.kind) (λ u. same_extractor u.kind) _
-        ∙ ap (λ o. that (λ u. has_extractor_kind u.kind) (then_option o (slice_get e.terms))) (sym (is.converters t.ret_ty ty))
-        ∙ ap (λ ts. that (λ u. has_extractor_kind u.kind) (then_option (converter_in env t.ret_ty ty) (slice_get ts))) (sym is.terms)
-        ∙ sym (rw ne refl)
+    converter_is e is ne = grind (arith, common_steps, that_same, same_extractor)
 
     -- a use of another type, which a converter brings to this one
     module _ (by : TermEntry) (converts : Some by ≡ found_converter env has_extractor_kind t.ret_ty ty) where
@@ -80,7 +69,4 @@ module _ (multi : Bool) (env : TermEnv) (old : Standing) (inv : IsInterned old.t
 
     -- what its template makes
     pub template_expands : (template made : PatternTree) → Some template ≡ found_template env t → Some made ≡ substituted (pattern_list args) template → IsExpansionOf env whole args made
-    template_expands template made there is_made = let p = at_place in inr (p.0, t, template, p.1, kind_is, sym is_made)
-      where
-        kind_is : kind_template t.kind ≡ Some template
-        kind_is = elim (env.expand_internal_extractors) as (λ b. Some template ≡ cond b (kind_template t.kind) None → kind_template t.kind ≡ Some template) [ true ↦ λ k. sym k | false ↦ λ k. absurd (none-some template (sym k)) ] there
+    template_expands template made there is_made = grind (arith, common_steps, at_place, none-some)

@@ -1,15 +1,16 @@
 -- Uses of terms without a constructor, one definition after another: where the first error on one stands.
-use Rattle.std.proofs.Common.{◌≡◌, ◌≢◌, ℕ, ◌+◌, ◌<◌, IsTrue, List, [], ◌∷◌, ◌++◌, length, take, drop, get_or, sym, ap, subst, ◌∙◌, inl, inr, ◌⊎◌}
+use Rattle.std.proofs.Common.{◌≡◌, ◌≢◌, ℕ, ◌+◌, ◌<◌, IsTrue, List, [], ◌∷◌, ◌++◌, length, take, drop, get_or, sym, ap, subst, ◌∙◌, inl, inr, ◌⊎◌, arith}
 use Rattle.std.specs.List.{flat_map}
 use Rattle.std.proofs.lemmas.Grind.{flat_map-append}
 use Rattle.std.proofs.lemmas.List.{append-nil}
-use Rattle.std.proofs.lemmas.List.Elements.{All-nil, All-append}
+use Rattle.std.proofs.lemmas.List.Elements.{All-nil}
+use Rattle.std.proofs.lemmas.Grind.{common_steps}
 use Rattle.core_syntax.specs.declared.syntax.Def.{Def}
 use Rattle.core_syntax.specs.declared.syntax.Error.{Error}
 use Rattle.core_syntax.specs.Positions.{NotesAt, definition_positions, rule_positions}
 use Rattle.core_syntax.specs.SyntaxViews as S
 use Rattle.core_syntax.proofs.NotedErrors.{some_noted}
-use Rattle.model.specs.lists.Syntax.{Position, Name, RuleTree, Definition, type_definition, declaration, extractor_definition, converter_definition, rule_definition, extern_definition, other_definition}
+use Rattle.model.specs.lists.Syntax.{Position, Name, RuleTree, Definition, rule_definition}
 use Rattle.model.specs.lists.TermTable.{rule_of, rule_trees}
 use Rattle.core_types.specs.declared.type_env.TypeEnv.{TypeEnv}
 use Rattle.core_typed.specs.Elaborating.{Checks}
@@ -38,8 +39,7 @@ module _ (env : TermEnv) (tyenv : TypeEnv) (old mid after : List Error) (all don
   AreUsed rs = AreFoundMade env tyenv (flat_map uses_of_rule rs)
 
   used_push : (r : RuleTree) → AreUsed done → AreFoundMade env tyenv (uses_of_rule r) → AreUsed (done ++ r ∷ [])
-  used_push r a b =
-      subst (AreFoundMade env tyenv) (sym (flat_map-append uses_of_rule done (r ∷ []))) (All-append IsFound (flat_map uses_of_rule done) (uses_of_rule r ++ []) a (All-append IsFound (uses_of_rule r) [] b (All-nil IsFound)))
+  used_push r a b = grind (arith, common_steps, flat_map-append)
 
   rule_used : (r : RuleTree) → all ≡ done ++ r ∷ rest → NotesAt (rule_positions r) mid after → mid ≡ [] → AreUsed done → Checks mid after (AreFoundMade env tyenv (uses_of_rule r))
       → ((after ≡ []) × AreUsed (done ++ r ∷ [])) ⊎ ((after ≢ []) × IsNoted Wrong mid after)
@@ -53,12 +53,7 @@ module _ (env : TermEnv) (tyenv : TypeEnv) (old mid after : List Error) (all don
   definition_used : (d : Definition) → all ≡ done ++ (rule_of d ++ rest) → NotesAt (definition_positions d) mid after → Checks mid after (AreFoundMade env tyenv (uses_of_definition d)) → mid ≡ [] → AreUsed done
       → ((after ≡ []) × AreUsed (done ++ rule_of d)) ⊎ ((after ≢ []) × IsNoted Wrong mid after)
   definition_used (rule_definition r) split noted c none right = rule_used r split noted none right c
-  definition_used (type_definition t) split noted c none right = nothing_used none right c
-  definition_used (declaration t) split noted c none right = nothing_used none right c
-  definition_used (extractor_definition t) split noted c none right = nothing_used none right c
-  definition_used (converter_definition t) split noted c none right = nothing_used none right c
-  definition_used (extern_definition t) split noted c none right = nothing_used none right c
-  definition_used other_definition split noted c none right = nothing_used none right c
+  definition_used _ split noted c none right = nothing_used none right c
 
 -- the rules before a definition use terms with constructors, or the first error stands at one of them
 abbrev pub UsedUpTo : TermEnv → TypeEnv → List RuleTree → List RuleTree → List Error → List Error → Type 0

@@ -1,6 +1,7 @@
 -- Where the first error stands of all that are noted while rules are read, stage by stage.
-use Rattle.std.proofs.Common.{◌≡◌, ◌≢◌, Bool, List, [], ◌∷◌, ◌++◌, Some, refl, sym, subst, ◌∙◌, inl, inr, ◌⊎◌}
+use Rattle.std.proofs.Common.{◌≡◌, ◌≢◌, Bool, List, [], ◌∷◌, ◌++◌, Some, refl, sym, subst, ◌∙◌, inl, inr, ◌⊎◌, arith}
 use Rattle.std.specs.List.{flat_map}
+use Rattle.std.proofs.lemmas.Grind.{common_steps}
 use Rattle.core_syntax.specs.declared.syntax.Error.{Error}
 use Rattle.core_syntax.proofs.NotedErrors.{some_noted}
 use Rattle.model.specs.lists.Syntax.{Position, RuleTree, Definition}
@@ -45,8 +46,7 @@ module _ (env : TermEnv) (old new : TypeEnv) (keeps : Keeps old new) (trees : Li
   Begins es = (es ≡ []) ⊎ BeginsAt Wrong es
 
   still : (old new : List Error) → Begins old → GoesOn old new → (old ≡ [] → Begins new) → Begins new
-  still old new (inl none) on next = next none
-  still old new (inr b) on next = inr (begins_still Wrong old new b on)
+  still old new h on next = grind (arith, common_steps, begins_still)
 
   as_made : (ps : List Position) → UsesUnmade (AreFoundMade env new) trees ps → UsesUnmade (AreMadeUses e (names_of old)) trees ps
   as_made ps (uses_unmade before rule after split right wrong) =
@@ -66,10 +66,7 @@ module _ (env : TermEnv) (old new : TypeEnv) (keeps : Keeps old new) (trees : Li
     ]
 
     second_stage : e1 ≡ [] → MayBegin (TakesName all_named) e1 e2 → Begins e2
-    second_stage none m = elim (m none) [
-      | inl g ↦ inl g
-      | inr b ↦ inr (begins_as (TakesName all_named) Wrong (λ ps w. takes_a_name l all ps w) e2 b)
-    ]
+    second_stage none m = grind (arith, common_steps, begins_as (TakesName all_named) Wrong (λ ps w. takes_a_name l all ps w) e2)
 
   module _ (e1 e2 e3 e4 : List Error) (rules : rules_within e 0 trees (names_of old) ≡ Some l ⊎ (e1 ≢ [])) where
     pub stages : MayBegin (IsUntyped e trees (names_of old)) [] e1 → GoesOn e1 e2 → MayBegin (TakesName all_named) e1 e2 → (e2 ≡ [] → IsDistinct (rule_names all_named))

@@ -1,9 +1,9 @@
 -- A rule, from what its sides became.
-use Rattle.std.proofs.Common.{◌≡◌, ℕ, ℤ, List, [], ◌∷◌, map, Option, Some, None, unwrap_or, pos, refl, sym, ap, ◌∙◌}
+use Rattle.std.proofs.Common.{◌≡◌, ℕ, ℤ, List, [], ◌∷◌, map, Option, unwrap_or, pos, ap, ◌∙◌, arith}
+use Rattle.std.proofs.lemmas.Grind.{common_steps}
 use Rattle.model.specs.lists.Syntax.{Name, RuleTree}
 use Rattle.model.specs.lists.Tables.{TermEntry}
 use Rattle.model.specs.rules.Typed.{TypedPattern, TypedPatterns, no_typed_pattern, typed_pattern_and, TypedRule, TypedVar}
-use Rattle.model.specs.lists.Names.{number, with_name}
 use Rattle.model.specs.lists.Elaborated.{typed_list, Sides, own_number, rule_of_sides}
 use Rattle.core_typed.specs.declared.rules.BoundVar.{BoundVar}
 use Rattle.core_rules.specs.RuleReadings.{scope_of}
@@ -15,8 +15,7 @@ listed (q ∷ qs) parts none some = ap typed_list (some q qs) ∙ ap (λ r. q �
 
 own_numbered : (name : Option Name) (ns ms : List (List ℕ)) (vs ws us : List TypedVar) → ns ≡ ms
     → own_number (record { names = ns; visible = []; vars = vs }) name ≡ own_number (record { names = ms; visible = us; vars = ws }) name
-own_numbered None ns ms vs ws us h = refl
-own_numbered (Some n) ns ms vs ws us h = ap (λ xs. Some (number (with_name xs n.text) n.text)) h
+own_numbered name ns ms vs ws us h = grind (arith, common_steps)
 
 module _ (r : RuleTree) (id : ℕ) (t : TermEntry) (q : Sides) where
   abbrev with_parts : List TypedVar → Option ℕ → TypedRule
@@ -26,8 +25,4 @@ module _ (r : RuleTree) (id : ℕ) (t : TermEntry) (q : Sides) where
 pub rule_is : (r : RuleTree) (id : ℕ) (t : TermEntry) (q : Sides) (names : List (List ℕ)) (vars : List BoundVar) (args : List TypedPattern) (vs : List TypedVar) (prio : ℤ) (name : Option ℕ)
     → typed_list q.0 ≡ args → vs ≡ map var_view vars → prio ≡ unwrap_or r.prio (pos 0) → name ≡ own_number (scope_of names []) r.name
     → ◌≡◌ {A = TypedRule} (record { id = id; root_term = t.id; args = args; iflets = q.1.0; rhs = q.1.1; vars = vs; prio = prio; at = r.at; name = name }) (rule_of_sides id r t q (scope_of names vars))
-rule_is r id t q names vars args vs prio name a v p n =
-    ap (λ (x : List TypedPattern). record { id = id; root_term = t.id; args = x; iflets = q.1.0; rhs = q.1.1; vars = vs; prio = prio; at = r.at; name = name }) (sym a)
-    ∙ ap (λ (x : ℤ). record { id = id; root_term = t.id; args = typed_list q.0; iflets = q.1.0; rhs = q.1.1; vars = vs; prio = x; at = r.at; name = name }) p
-    ∙ ap (with_parts r id t q vs) (n ∙ own_numbered r.name names names [] (map var_view vars) [] refl)
-    ∙ ap (λ x. with_parts r id t q x (own_number (scope_of names vars) r.name)) v
+rule_is r id t q names vars args vs prio name a v p n = grind (arith, common_steps, own_numbered)

@@ -1,9 +1,10 @@
 -- The errors of rules, exactly as their steps say: of one rule, then of rules one after another, then of a whole list.
-use Rattle.std.proofs.Common.{◌≡◌, ℕ, suc, ◌+◌, ◌<◌, ◌≤◌, List, [], ◌∷◌, ◌++◌, length, map, get_or, All, Contains, Option, Some, None, option_map, Ok, Err, append-nil, append_assoc, inl, inr, ⊎_elim, refl, sym, ap, subst, ◌∙◌, arith}
+use Rattle.std.proofs.Common.{◌≡◌, ℕ, suc, ◌+◌, ◌<◌, ◌≤◌, List, [], ◌∷◌, ◌++◌, length, map, get_or, All, Option, Some, None, option_map, Ok, Err, append-nil, append_assoc, inl, inr, ⊎_elim, refl, sym, ap, subst, ◌∙◌, arith}
 use Rattle.std.proofs.lemmas.List.{map-append, length-map, take_all}
-use Rattle.std.proofs.lemmas.List.Elements.{All-nil, All-append, Contains-append_right, Contains-append_cases}
+use Rattle.std.proofs.lemmas.List.Elements.{All-nil, Contains-append_cases}
 use Rattle.std.proofs.lemmas.Option.{none-some}
 use Rattle.std.specs.Option.{option_to_list}
+use Rattle.std.proofs.lemmas.Grind.{common_steps}
 use Rattle.core_syntax.specs.declared.syntax.Def.{Def}
 use Rattle.core_syntax.specs.declared.syntax.Error.{Error}
 use Rattle.core_syntax.specs.declared.syntax.Limit.{Limit}
@@ -19,11 +20,11 @@ use Rattle.model.specs.lists.TermTable.{rule_of, rule_trees}
 use Rattle.model.specs.lists.Setting.{Setting, Scope, new_scope}
 use Rattle.model.specs.lists.Elaborated.{most_nested}
 use Rattle.model.specs.rules.Typed.{TypedRule}
-use Rattle.model.specs.claims.Refusals.{NamedLimit, of_nesting, of_expansions, ill_typed, past_limit, IsIllTyped}
+use Rattle.model.specs.claims.Refusals.{NamedLimit, of_nesting, of_expansions, ill_typed}
 use Rattle.model.proofs.Members.{all_members}
 use Rattle.laws_errors.specs.Steps.{Mistake, Step, went_on, stopped}
 use Rattle.laws_errors.specs.NameLaws.{names_in}
-use Rattle.laws_errors.specs.RuleSteps.{RuleError, is_wrong, passes, errors_of, refusal_of_error, rule_step, step_of_rule, RulesStep, behind, with_rule, then_rules, rules_step}
+use Rattle.laws_errors.specs.RuleSteps.{RuleError, is_wrong, passes, errors_of, refusal_of_error, step_of_rule, RulesStep, behind, with_rule, then_rules, rules_step}
 use Rattle.core_types.specs.declared.type_env.TypeEnv.{TypeEnv}
 use Rattle.core_types.specs.Envs.{names_of}
 use Rattle.core_typed.specs.declared.rules.Rule.{Rule}
@@ -48,12 +49,7 @@ pub no_error : (es : List Error) → NotesErrors [] es es
 no_error es = record { more = []; added = sym (append-nil es); views = refl; single = All-nil HasSingleSpans }
 
 both_errors : (xs ys : List RuleError) (a b c : List Error) → NotesErrors xs a b → NotesErrors ys b c → NotesErrors (xs ++ ys) a c
-both_errors xs ys a b c n m = record {
-  more = n.more ++ m.more;
-  added = m.added ∙ ap (λ es. es ++ m.more) n.added ∙ append_assoc a n.more m.more;
-  views = map-append error_view n.more m.more ∙ ap (λ vs. vs ++ error_views m.more) n.views ∙ ap (λ vs. map refusal_of_error xs ++ vs) m.views ∙ sym (map-append refusal_of_error xs ys);
-  single = All-append HasSingleSpans n.more m.more n.single m.single;
-}
+both_errors xs ys a b c n m = grind (arith, common_steps, map-append)
 
 -- behind errors of earlier rules
 errors_behind : (xs : List RuleError) (errors mid : List Error) → NotesErrors xs [] mid → NotesErrors xs errors (errors ++ mid)
@@ -67,11 +63,7 @@ wrong_views (w ∷ ws) = ap (λ vs. ill_typed w.at ∷ vs) (wrong_views ws)
 -- errors behind none each have single spans where they stand at positions
 single_among : (ps : List Position) (old new more : List Error) → old ≡ [] → NotesAt ps old new → new ≡ old ++ more → All HasSingleSpans more
 single_among ps old new more none placed added =
-    all_members HasSingleSpans more (λ x h.
-    ⊎_elim
-    (λ was. absurd (let l = (subst (λ es. Contains es x) none was).1 in omega (arith, l)))
-    (λ there. there.single)
-    (placed.each x (subst (λ es. Contains es x) (sym added) (Contains-append_right old more x h))))
+    all_members HasSingleSpans more (λ x h. grind (arith, common_steps))
 
 -- 2. one rule, on which nothing was done
 module _ (env : TermEnv) (tyenv : TypeEnv) (fresh : Progress) (found : List Error) (f : IsFresh fresh found) (id : ℕ) (r : T.Rule) (new : Standing) where
@@ -92,17 +84,14 @@ module _ (env : TermEnv) (tyenv : TypeEnv) (fresh : Progress) (found : List Erro
 
   -- it went on from there
   from_here : (e : Setting) → IsSettingOf tyenv env e → (m : MadeOrLimit TypedRule) → EndsAs env begun new (rule_steps tree id most_nested) m → Goes begun new (does e) m
-  from_here e is m h =
-      subst (λ (n : ℕ). Goes begun new (rule_step e most_nested id tree n start) m) f.expansions
-      (seen begun new (rule_step e most_nested id tree fresh.expansions start) m (h.1 e start is (starts)))
+  from_here e is m h = grind (arith, common_steps, seen, starts)
 
   -- what was noted before the end
   wrong_noted : (ws : List Mistake) → NotesEachAt (places_of ws) fresh.errors.items new.work.errors.items → NotesErrors (map is_wrong ws) found new.work.errors.items
   wrong_noted ws n = record { more = n.more; added = n.added ∙ ap (λ es. es ++ n.more) f.errors; views = n.views ∙ wrong_views ws; single = n.single }
 
   at_end : (t : Step TypedRule) (m : Option TypedRule) → Goes begun new t (Ok m) → IsDoneAs t tree.at (names_of new.tyenv) m found new.work.errors.items
-  at_end (went_on o s k ws) m x = record { errors = wrong_noted ws x.1; made = sym x.0; names = x.2.names }
-  at_end (stopped l s ws) m x = absurd x
+  at_end t m x = grind (arith, common_steps, wrong_noted)
 
   pub done_at_end : (o : Option Rule) → EndsAs env begun new (rule_steps tree id most_nested) (Ok (option_map rule_view o)) → DoesRule env tyenv new.tyenv tree id (option_map rule_view o) found new.work.errors.items
   done_at_end o h e is = at_end (does e) (option_map rule_view o) (from_here e is (Ok (option_map rule_view o)) h)
@@ -116,10 +105,7 @@ module _ (env : TermEnv) (tyenv : TypeEnv) (fresh : Progress) (found : List Erro
         record {
           more = n.more ++ last.error ∷ [];
           added = added;
-          views = map-append error_view n.more (last.error ∷ [])
-              ∙ ap (λ vs. vs ++ error_view last.error ∷ []) (n.views ∙ wrong_views ws)
-              ∙ ap (λ v. map refusal_of_error (map is_wrong ws) ++ v ∷ []) (last.says ∙ ap (λ k. past_limit k tree.at) is)
-              ∙ sym (map-append refusal_of_error (map is_wrong ws) (passes l tree.at ∷ []));
+          views = grind (arith, common_steps, map-append, wrong_views);
           single = single_among ps found after (n.more ++ last.error ∷ []) empty placed added;
         }
 
@@ -134,9 +120,7 @@ module _ (env : TermEnv) (tyenv : TypeEnv) (fresh : Progress) (found : List Erro
 
 -- behind the errors of earlier rules
 pub rule_behind : (env : TermEnv) (old new : TypeEnv) (r : RuleTree) (id : ℕ) (made : Option TypedRule) (errors mid : List Error) → DoesRule env old new r id made [] mid → DoesRule env old new r id made errors (errors ++ mid)
-rule_behind env before new r id made errors mid h e is =
-    let d = h e is in
-    record { errors = errors_behind (errors_of r.at (step_of_rule e id r (names_of before))) errors mid d.errors; made = d.made; names = d.names }
+rule_behind env before new r id made errors mid h e is = grind (arith, common_steps, errors_behind)
 
 pub placed_behind : (ps : List Position) (errors mid : List Error) → NotesAt ps [] mid → NotesAt ps errors (errors ++ mid)
 placed_behind ps errors mid placed = record {
@@ -153,19 +137,11 @@ nothing_done env tyenv before errors e is = record { errors = no_error errors; m
 
 -- what the steps of one rule come to
 alone : (e : Setting) (at : Position) (id : ℕ) (t : Step TypedRule) → then_rules at id t (rules_step e []) ≡ record { rules = option_to_list (made_in t); names = names_in t; errors = errors_of at t }
-alone e at id (went_on None s k es) = ap (λ (xs : List RuleError). record { rules = []; names = s.names; errors = xs }) (append-nil (map is_wrong es))
-alone e at id (went_on (Some q) s k es) = ap (λ (xs : List RuleError). record { rules = q ∷ []; names = s.names; errors = xs }) (append-nil (map is_wrong es))
-alone e at id (stopped l s es) = ap (λ (xs : List RuleError). record { rules = []; names = s.names; errors = xs }) (append-nil (map is_wrong es ++ passes l at ∷ []))
+alone e at id t = grind (arith, common_steps)
 
 pub rule_done : (env : TermEnv) (old new : TypeEnv) (r : RuleTree) (id : ℕ) (made : Option TypedRule) (before rules : List TypedRule) (errors after : List Error)
     → id ≡ length before → rules ≡ before ++ option_to_list made → DoesRule env old new r id made errors after → DoesRules env old new (r ∷ []) before rules errors after
-rule_done env old new r id made before rules errors after at added h e is =
-    let d = h e is in
-    let t = step_of_rule e id r (names_of old) in
-    let here : AreDoneAs (record { rules = option_to_list (made_in t); names = names_in t; errors = errors_of r.at t }) (names_of new) before rules errors after =
-    record { errors = d.errors; made = added ∙ ap (λ m. before ++ option_to_list m) d.made; names = d.names } in
-    subst (λ k. AreDoneAs (rules_step e (r ∷ []) k (names_of old)) (names_of new) before rules errors after) at
-    (subst (λ l. AreDoneAs l (names_of new) before rules errors after) (sym (alone e r.at id t)) here)
+rule_done env old new r id made before rules errors after at added h e is = grind (arith, common_steps, alone)
 
 -- by the rules themselves
 same_length : (rules : List Rule) → length rules ≡ length (rule_views rules)
@@ -173,15 +149,11 @@ same_length rules = sym (length-map rules rule_view)
 
 pub rule_added : (env : TermEnv) (old new : TypeEnv) (r : RuleTree) (id : ℕ) (made : Option Rule) (q : Rule) (before rules : List Rule) (errors after : List Error)
     → id ≡ length before → made ≡ Some q → rules ≡ before ++ q ∷ [] → DoesRule env old new r id (option_map rule_view made) errors after → DoesRules env old new (r ∷ []) (rule_views before) (rule_views rules) errors after
-rule_added env old new r id made q before rules errors after at is items h =
-    rule_done env old new r id (option_map rule_view made) (rule_views before) (rule_views rules) errors after (at ∙ same_length before)
-    (ap rule_views items ∙ map-append rule_view before (q ∷ []) ∙ ap (λ m. rule_views before ++ option_to_list (option_map rule_view m)) (sym is)) h
+rule_added env old new r id made q before rules errors after at is items h = grind (arith, common_steps, rule_done, same_length, map-append)
 
 pub rule_left_out : (env : TermEnv) (old new : TypeEnv) (r : RuleTree) (id : ℕ) (made : Option Rule) (before : List Rule) (errors after : List Error)
     → id ≡ length before → made ≡ None → DoesRule env old new r id (option_map rule_view made) errors after → DoesRules env old new (r ∷ []) (rule_views before) (rule_views before) errors after
-rule_left_out env old new r id made before errors after at is h =
-    rule_done env old new r id (option_map rule_view made) (rule_views before) (rule_views before) errors after (at ∙ same_length before)
-    (sym (append-nil (rule_views before)) ∙ ap (λ m. rule_views before ++ option_to_list (option_map rule_view m)) (sym is)) h
+rule_left_out env old new r id made before errors after at is h = grind (arith, common_steps, rule_done, same_length)
 
 -- 4. rules one after another
 -- what the steps of rules come to, then those of the rules that follow
@@ -201,26 +173,14 @@ module _ (e : Setting) (qs : List RuleTree) where
 
   module _ (rs : List RuleTree) (follow : (id : ℕ) (names : List (List ℕ)) → rules_step e (rs ++ qs) id names ≡ joined_rules (rules_step e rs id names) (from id (rules_step e rs id names))) (at : Position) (id : ℕ) where
     after_step : (t : Step TypedRule) → then_rules at id t (rules_step e (rs ++ qs)) ≡ joined_rules (then_rules at id t (rules_step e rs)) (from id (then_rules at id t (rules_step e rs)))
-    after_step (went_on None s k es) =
-        let l = rules_step e rs id s.names in
-        ap (behind (map is_wrong es)) (follow id s.names) ∙ behind_joined (map is_wrong es) l (from id l)
-    after_step (went_on (Some q) s k es) =
-        let l = rules_step e rs (suc id) s.names in
-        ap (λ x. behind (map is_wrong es) (with_rule q x)) (follow (suc id) s.names ∙ ap (joined_rules l) (next_id id q l)) ∙ behind_joined (map is_wrong es) (with_rule q l) (from id (with_rule q l))
-    after_step (stopped j s es) =
-        let l = rules_step e rs id s.names in
-        ap (behind (map is_wrong es ++ passes j at ∷ [])) (follow id s.names) ∙ behind_joined (map is_wrong es ++ passes j at ∷ []) l (from id l)
+    after_step t = grind (arith, behind_joined, next_id)
 
   steps_after : (rs : List RuleTree) (id : ℕ) (names : List (List ℕ)) → rules_step e (rs ++ qs) id names ≡ joined_rules (rules_step e rs id names) (from id (rules_step e rs id names))
   steps_after [] id names = ap (λ k. rules_step e qs k names) (omega arith)
   steps_after (r ∷ rs) id names = after_step rs (steps_after rs) r.at id (step_of_rule e id r names)
 
 then_done : (l m : RulesStep) (now names : List (List ℕ)) (before mid rules : List TypedRule) (a b c : List Error) → AreDoneAs l now before mid a b → AreDoneAs m names mid rules b c → AreDoneAs (joined_rules l m) names before rules a c
-then_done l m now names before mid rules a b c x y = record {
-  errors = both_errors l.errors m.errors a b c x.errors y.errors;
-  made = y.made ∙ ap (λ qs. qs ++ m.rules) x.made ∙ append_assoc before l.rules m.rules;
-  names = y.names;
-}
+then_done l m now names before mid rules a b c x y = grind (arith, common_steps, both_errors)
 
 -- nothing is read yet
 pub none_done : (env : TermEnv) (tyenv : TypeEnv) (errors : List Error) (rules : List Rule) → rules ≡ [] → DoesRules env tyenv tyenv [] [] (rule_views rules) errors errors
@@ -248,9 +208,7 @@ all_done env old new errors after defs i past rules done = subst (λ ds. DoesRul
 
 -- 5. and what later stages note
 pub done_to_the_end : (env : TermEnv) (old new : TypeEnv) (trees : List RuleTree) (rules : List TypedRule) (found after : List Error) → DoesRules env old new trees [] rules [] found → MayNoteMore found after → SaysSteps env old trees after
-done_to_the_end env old new trees rules found after done (inl same) e is =
-    let n = (done e is).errors in
-    record { later = []; stages = ap error_views (same ∙ n.added) ∙ n.views ∙ sym (append-nil _); forms = All-nil IsIllTyped }
+done_to_the_end env old new trees rules found after done (inl same) e is = grind (arith, common_steps)
 done_to_the_end env old new trees rules found after done (inr m) e is =
     let n = (done e is).errors in
     record {

@@ -1,10 +1,10 @@
 -- Why reading the rules of a list is refused, and which limits its errors name: those that a rule passed.
-use Rattle.std.proofs.Common.{◌≡◌, ◌≢◌, ℕ, All, Bool, List, [], None, refl, sym, subst, inl, inr}
-use Rattle.std.proofs.lemmas.List.Elements.{All-contains, All-weaker}
+use Rattle.std.proofs.Common.{◌≡◌, ◌≢◌, ℕ, All, Bool, List, [], None, refl, sym, subst, inl, inr, arith}
+use Rattle.std.proofs.lemmas.List.Elements.{All-weaker}
 use Rattle.std.specs.Prelude.{Result, Ok, Err, IsErr, IsErrAnd}
+use Rattle.std.proofs.lemmas.Grind.{common_steps}
 use Rattle.core_syntax.specs.Answers.{NoLimit, OnErrors, limit_of}
 use Rattle.core_syntax.specs.declared.syntax.Fault.{Fault}
-use Rattle.core_syntax.specs.declared.syntax.Fault.TheVariants.{Errors, Memory}
 use Rattle.core_syntax.specs.declared.syntax.Error.{Error}
 use Rattle.core_syntax.specs.Positions.{ErrorStandsAt, HasSingleSpans, NotesAt}
 use Rattle.core_syntax.proofs.NotedErrors.{some_views}
@@ -14,7 +14,7 @@ use Rattle.core_syntax.specs.Stable.{Entries}
 use Rattle.model.specs.lists.Syntax.{Position, Definition}
 use Rattle.model.specs.lists.TermTable.{rule_trees, term_names_met, term_table}
 use Rattle.model.specs.claims.Environments.{TypesRead, AreReadable, HasTypedRules, setting_of, AreTermsOf}
-use Rattle.model.specs.claims.Refusals.{NamedLimit, Refusal, past_limit, NamesOnlyPassed, PassedInReading, IsIllTyped, IsOfReading, RefusesTerms, RefusesRules}
+use Rattle.model.specs.claims.Refusals.{NamedLimit, Refusal, NamesOnlyPassed, PassedInReading, RefusesTerms, RefusesRules}
 use Rattle.model.specs.rules.Typed.{TypedRule}
 use Rattle.core_types.specs.declared.ids.RuleId.{RuleId}
 use Rattle.core_types.specs.declared.ids.Sym.{Sym}
@@ -29,7 +29,6 @@ use Rattle.core_rules.specs.declared.term_env.TermEnv.{TermEnv}
 use Rattle.core_rules.specs.Constructors.{AreTermsNamed}
 use Rattle.core_syntax.specs.ErrorViews.{error_views}
 use Rattle.core_syntax.specs.NotedErrors.{MayNoteMore}
-use Rattle.laws_typing.proofs.RefusedTerms.{of_reading}
 use Rattle.core_rules.specs.LimitsNamed.{NamesTypedPastLimits, NamesFirstPastLimits}
 use Rattle.core_rules.specs.RuleErrors.{IsOfRules}
 use Rattle.core_typed.specs.RuleNaming.{MapsNames, AreDefined, IsLeftUndefined}
@@ -48,8 +47,7 @@ use Rattle.core_rules.proofs.StepErrors.{names_once, stages_noted, stages_named,
 use Rattle.core_rules.proofs.ShownSettings.{setting_shown, terms_once}
 
 pub mapped_noted : (old new : List Error) (rules : List TypedRule) (m : Entries Sym RuleId) → MapsNames old new rules m → MayNoteMore old new
-mapped_noted old new rules m (inl n) = inl n.0
-mapped_noted old new rules m (inr n) = inr n.0
+mapped_noted old new rules m h = grind (arith, common_steps)
 
 -- the errors of the rules, by the tables of the terms
 module _ (e : TypesRead) (r : AreReadable e) (defs : List Definition) (table : TermTable) (old : TypeEnv) (a : AreTermsOf e defs (shown_by table) (environment_view old))
@@ -109,11 +107,7 @@ module _ (e : TypesRead) (r : AreReadable e) (defs : List Definition) (table : T
 -- what the errors of the terms say is passed on
 pub passed_on : {X : Type 0} (P Q : List Error → Type 0) → ((es : List Error) → P es → Q es) → (r : Result X Fault) (f : Fault) → IsErr r × IsErrAnd r (λ y. y ≡ f) → OnErrors {A = TermTable} (Err f) P → OnErrors r Q
 passed_on P Q same (Ok x) f h n = tt
-passed_on {X} P Q same (Err y) f h n = of_fault y (subst (λ z. OnErrors {A = TermTable} (Err z) P) (sym h.1) n)
-  where
-    of_fault : (z : Fault) → OnErrors {A = TermTable} (Err z) P → OnErrors {A = X} (Err z) Q
-    of_fault (Errors es) n = same es.items n
-    of_fault (Memory e) n = tt
+passed_on {X} P Q same (Err y) f h n = grind (arith, common_steps)
 
 -- they name no limit
 pub named_by_none : {X : Type 0} (Passed : NamedLimit → Position → Type 0) (r : Result X Fault) (f : Fault) → IsErr r × IsErrAnd r (λ y. y ≡ f) → NoLimit {A = TermTable} (Err f) → OnErrors r (λ es. NamesOnlyPassed Passed (error_views es))
@@ -128,24 +122,15 @@ module _ {X : Type 0} (e : TypesRead) (defs : List Definition) (expand : Bool) (
   no_first_to_name = passed_on (λ es. RefusesTerms e defs (error_views es)) (λ es. NamesFirstPastLimits e defs expand (error_views es)) (λ es t p. absurd (t.not_valid p.terms)) r f h n
 
 both_said : (P Q : List Error → Type 0) (f : Fault) → OnErrors {A = TermTable} (Err f) P → OnErrors {A = TermTable} (Err f) Q → OnErrors {A = TermTable} (Err f) (λ es. P es × Q es)
-both_said P Q (Errors es) p q = (p, q)
-both_said P Q (Memory e) p q = tt
+both_said P Q f p q = grind (arith, common_steps)
 
 pub terms_said : {X : Type 0} (e : TypesRead) (defs : List Definition) (expand : Bool) (r : Result X Fault) (f : Fault) → IsErr r × IsErrAnd r (λ y. y ≡ f)
     → OnErrors {A = TermTable} (Err f) (λ es. RefusesTerms e defs (error_views es)) → OnErrors {A = TermTable} (Err f) (AreErrorsOfTerms e defs) → OnErrors r (TellsReading e defs expand)
-terms_said e defs expand r f h refused told =
-    passed_on (λ es. RefusesTerms e defs (error_views es) × AreErrorsOfTerms e defs es) (TellsReading e defs expand)
-    (λ es t. record { terms = λ no. t.1; rules = λ valid. absurd (t.0.not_valid valid); steps = λ valid. absurd (t.0.not_valid valid) }) r f h
-    (both_said (λ es. RefusesTerms e defs (error_views es)) (AreErrorsOfTerms e defs) f refused told)
+terms_said e defs expand r f h refused told = grind (arith, common_steps, passed_on, terms, steps, both_said)
 
 -- without terms there are no rules
 refused_without_terms : (e : TypesRead) (defs : List Definition) (expand : Bool) (errors : List Refusal) → RefusesTerms e defs errors → RefusesRules e defs expand errors
-refused_without_terms e defs expand errors t = record {
-  some_error = t.some_error;
-  forms = All-weaker IsIllTyped IsOfReading of_reading errors t.forms;
-  limits = λ l at here. absurd (All-contains IsIllTyped errors (past_limit l at) t.forms here);
-  no_rules = λ rules. t.not_valid rules.1.terms;
-}
+refused_without_terms e defs expand errors t = grind (arith, common_steps)
 
 pub refused_by_terms : {X : Type 0} (e : TypesRead) (defs : List Definition) (expand : Bool) (r : Result X Fault) (f : Fault) → IsErr r × IsErrAnd r (λ y. y ≡ f) → OnErrors {A = TermTable} (Err f) (λ es. RefusesTerms e defs (error_views es)) → OnErrors r (λ es. RefusesRules e defs expand (error_views es))
 refused_by_terms e defs expand r f h n = passed_on (λ es. RefusesTerms e defs (error_views es)) (λ es. RefusesRules e defs expand (error_views es)) (λ es t. refused_without_terms e defs expand (error_views es) t) r f h n

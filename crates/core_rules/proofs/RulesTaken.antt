@@ -1,10 +1,10 @@
 -- What reading a rule does as its steps say: its root, its sides, and what is made of them.
-use Rattle.std.proofs.Common.{◌≡◌, ℕ, List, [], ◌∷◌, ◌++◌, length, Option, Some, None, Ok, Err, unwrap_or, pos, refl, sym, ap, subst, ◌∙◌, arith}
+use Rattle.std.proofs.Common.{◌≡◌, ℕ, List, [], ◌∷◌, ◌++◌, Option, Some, None, Ok, Err, unwrap_or, pos, sym, ap, subst, ◌∙◌, arith}
 use Rattle.std.proofs.lemmas.List.{length-append}
 use Rattle.std.proofs.lemmas.Option.{none-some, same_Some}
+use Rattle.std.proofs.lemmas.Grind.{common_steps}
 use Rattle.core_syntax.proofs.NotedErrors.{may_both}
 use Rattle.model.specs.lists.Syntax.{Name, RuleTree}
-use Rattle.model.specs.lists.Names.{number, with_name}
 use Rattle.model.specs.lists.Tables.{Flags, TermEntry}
 use Rattle.model.specs.lists.TermTable.{root_name}
 use Rattle.model.specs.lists.Setting.{Setting, Scope, var_named, declared_flags}
@@ -21,7 +21,7 @@ use Rattle.core_rules.specs.declared.term_env.TermEnv.{TermEnv}
 use Rattle.core_rules.specs.declared.typing.progress.Stop.{Stop}
 use Rattle.core_rules.specs.declared.typing.progress.Stop.TheVariants.{Memory, Nesting, Expansions}
 use Rattle.core_rules.specs.PatternUses.{found_term}
-use Rattle.core_rules.specs.Progress.{newest, vars_of, Remains}
+use Rattle.core_rules.specs.Progress.{vars_of, Remains}
 use Rattle.core_rules.specs.RuleReadings.{scope_of}
 use Rattle.core_rules.specs.RuleTaking.{sides_steps, rule_steps}
 use Rattle.core_rules.specs.Taking.{Stepping, Took, took, ended, EndsAs, StopsBy}
@@ -32,20 +32,16 @@ use Rattle.core_rules.proofs.Taken.{behind, unless_at, Goes, seen, taken_as}
 
 -- 1. a rule's own name is met, and nothing else changes
 own_names : (name : Option Name) (s : Scope) (ns : List (List ℕ)) (vs : List TypedVar) → ns ≡ s.names → (with_own_name name (record { names = ns; visible = []; vars = vs })).names ≡ (with_own_name name s).names
-own_names None s ns vs h = h
-own_names (Some n) s ns vs h = ap (λ xs. with_name xs n.text) h
+own_names name s ns vs h = grind (arith, common_steps)
 
 own_vars : (name : Option Name) (s : Scope) → s.vars ≡ (with_own_name name s).vars
-own_vars None s = refl
-own_vars (Some n) s = refl
+own_vars name s = grind (arith, common_steps)
 
 own_visible : (name : Option Name) (s : Scope) (k : ℕ) → var_named k s.visible ≡ var_named k (with_own_name name s).visible
-own_visible None s k = refl
-own_visible (Some n) s k = refl
+own_visible name s k = grind (arith, common_steps)
 
 own_numbered : (name : Option Name) (s : Scope) (ns : List (List ℕ)) (vs : List TypedVar) → ns ≡ s.names → own_number (record { names = ns; visible = []; vars = vs }) name ≡ own_number s name
-own_numbered None s ns vs h = refl
-own_numbered (Some n) s ns vs h = ap (λ xs. Some (number (with_name xs n.text) n.text)) h
+own_numbered name s ns vs h = grind (arith, common_steps)
 
 -- the rule is that of the sides and of the names and variables of the scope
 module _ (r : RuleTree) (id : ℕ) (t : TermEntry) (q : Sides) where
@@ -66,45 +62,30 @@ module _ (id : ℕ) (r : RuleTree) (t : TermEntry) (flags : Flags) (old mid : St
   nothing_finished (stopped l s ws) y = absurd y
 
   finished_ended : (l : NamedLimit) (u : Step Sides) → Goes old mid u (Err l) → Took old mid (finished u) (Err l)
-  finished_ended l (went_on None s k ws) y = absurd y
-  finished_ended l (went_on (Some q) s k ws) y = absurd y
   finished_ended l (stopped j s ws) y = subst (λ (i : NamedLimit). Took {Q = TypedRule} old mid (stopped j s ws) (Err i)) y.0 (ended j s ws y.1 y.2)
+  finished_ended l _ y = absurd y
 
   module _ (checked new : Standing) (q : Sides) (made : TypedRule) (vars : List BoundVar) (same : checked.tyenv ≡ mid.tyenv) (rem : Remains mid.work checked.work)
       (checks : NotesEachAt (place_unless (may_have_priority flags r) r.at) mid.work.errors.items checked.work.errors.items) (work : new.work ≡ checked.work) (keeps : Keeps checked.tyenv new.tyenv)
       (names : names_of new.tyenv ≡ (with_own_name r.name (scope_of (names_of mid.tyenv) vars)).names) (vs : vars_of mid.work ≡ (scope_of (names_of mid.tyenv) vars).vars)
       (is : made ≡ rule_of_sides id r t q (scope_of (names_of mid.tyenv) vars)) where
     own_shows : (s : Scope) → Shows mid s → Shows new (with_own_name r.name s)
-    own_shows s sh = record {
-      names = names ∙ own_names r.name s (names_of mid.tyenv) (scope_of (names_of mid.tyenv) vars).vars sh.names;
-      vars = ap vars_of work ∙ rem.vars ∙ sh.vars ∙ own_vars r.name s;
-      visible = λ j. ap (λ w. newest w j) work ∙ rem.names j ∙ sh.visible j ∙ own_visible r.name s j;
-      met = λ j v h.
-          let l = sh.met j v (sym (rem.names j) ∙ sym (ap (λ w. newest w j) work) ∙ h) in
-          let x = ap length keeps.names.1 ∙ length-append (names_of checked.tyenv) keeps.names.0 in
-          let z = ap (λ y. length (names_of y)) same in
-          omega (arith, l, x, z);
-    }
+    own_shows s sh = grind (arith, common_steps, own_names, own_vars, own_visible, length-append)
 
     own_noted : NotesEachAt (place_unless (may_have_priority flags r) r.at) mid.work.errors.items new.work.errors.items
     own_noted = subst (λ w. NotesEachAt (place_unless (may_have_priority flags r) r.at) mid.work.errors.items w.errors.items) (sym work) checks
 
     rule_is_that : (s : Scope) (p : Sides) → Shows mid s → p ≡ q → rule_of_sides id r t p s ≡ made
-    rule_is_that s p sh h =
-        ap (λ z. rule_of_sides id r t z s) h ∙ sym (rule_there r id t q s (names_of mid.tyenv) (scope_of (names_of mid.tyenv) vars).vars sh.names (sym vs ∙ sh.vars)) ∙ sym is
+    rule_is_that s p sh h = grind (arith, common_steps, rule_there)
 
     all_finished : (u : Step Sides) → Goes old mid u (Ok (Some q)) → Took old new (finished u) (Ok (Some made))
     all_finished (went_on None s k ws) y = absurd (none-some q y.0)
     all_finished (went_on (Some p) s k ws) y =
         taken_as old new (Some (rule_of_sides id r t p s)) (Some made) (with_own_name r.name s) k (ws ++ unless (may_have_priority flags r) priority r.at)
         (ap Some (rule_is_that s p y.2 (same_Some p q y.0)))
-        (behind ws (unless (may_have_priority flags r) priority r.at) old.work.errors.items mid.work.errors.items new.work.errors.items y.1
-        (unless_at (may_have_priority flags r) priority r.at mid.work.errors.items new.work.errors.items own_noted))
+        (grind (arith, common_steps, behind, unless_at))
         (own_shows s y.2)
-        (let m = y.3 in
-        let n = rem.expansions in
-        let j = ap (λ w. w.expansions) work in
-        omega (arith, m, n, j))
+        (grind (arith, common_steps))
     all_finished (stopped l s ws) y = absurd y
 
 -- 3. the rule

@@ -1,8 +1,9 @@
 -- What is read of the rules of a list is what the model's function gives, where the terms that they use have constructors.
-use Rattle.std.proofs.Common.{◌≡◌, ◌≢◌, All, IsTrue, List, [], ◌∷◌, Option, Some, None, slice_get, refl, sym, ap, ◌∙◌, inl, inr, ◌⊎◌}
+use Rattle.std.proofs.Common.{◌≡◌, ◌≢◌, All, IsTrue, List, [], ◌∷◌, Option, Some, None, slice_get, sym, ap, ◌∙◌, inl, inr, ◌⊎◌, arith}
 use Rattle.std.specs.List.{flat_map}
 use Rattle.std.proofs.lemmas.List.Elements.{All-nil, All-cons, All-head, All-tail, All-append, All-weaker}
 use Rattle.std.proofs.lemmas.Option.{none-some, same_Some}
+use Rattle.std.proofs.lemmas.Grind.{common_steps}
 use Rattle.core_syntax.specs.declared.syntax.Error.{Error}
 use Rattle.model.specs.lists.Syntax.{Position, Name, RuleTree}
 use Rattle.model.specs.lists.Names.{number}
@@ -33,8 +34,7 @@ still_some old new some (inl a) none = some (sym a ∙ none)
 still_some old new some (inr a) none = some_noted a none
 
 none_unless : (o : Option TypedRules) → ((l : TypedRules) → o ≡ Some l → ⊥) → o ≡ None
-none_unless None h = refl
-none_unless (Some l) h = absurd (h l refl)
+none_unless o h = grind (arith, common_steps)
 
 module _ (env : TermEnv) (old mid : TypeEnv) (inv : IsInterned mid) (keeps : Keeps old mid) (e : Setting) (is : IsSettingOf old env e) (k : AreTermsNamed e (names_of old)) where
   kept : Kept (names_of old) (names_of mid)

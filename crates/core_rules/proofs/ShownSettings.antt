@@ -1,9 +1,10 @@
 -- The tables that the terms of a list were read into are those that its rules are typed by.
-use Rattle.std.proofs.Common.{◌≡◌, ◌==◌, ℕ, ◌+◌, ◌<◌, true, false, cond, List, [], ◌∷◌, ◌++◌, length, map, All, IsTrue, Contains, Option, Some, None, slice_get, refl, sym, ap, subst, ◌∙◌, inl, inr, eqb-true}
+use Rattle.std.proofs.Common.{◌≡◌, ◌==◌, ℕ, ◌+◌, ◌<◌, true, cond, List, [], ◌∷◌, ◌++◌, length, map, All, Contains, Option, Some, slice_get, refl, sym, ap, subst, ◌∙◌, inl, inr, eqb-true, arith}
 use Rattle.std.specs.List.{cons_option, enumerate_from, filter_map, flat_map, position_from}
 use Rattle.std.proofs.lemmas.Bool.{cases_Bool, cond-false}
 use Rattle.std.proofs.lemmas.List.Elements.{All-nil, All-cons, All-head, All-tail, All-append, All-contains, All-weaker}
 use Rattle.std.proofs.lemmas.Option.{none-some, slice_get_within}
+use Rattle.std.proofs.lemmas.Grind.{common_steps}
 use Rattle.model.specs.lists.Syntax.{Definition}
 use Rattle.model.specs.lists.Names.{number, has_name, IsDistinct}
 use Rattle.model.specs.lists.Tables.{TermEntry}
@@ -45,16 +46,11 @@ look_place f i (t ∷ ts) k = ap (cond (f t == k) (Some i)) (look_place f (i + 1
 -- the term that is looked up by name, where each stands at its id
 look_entry : (all ts : List TermEntry) (k : ℕ) → ((t : TermEntry) → Contains ts t → slice_get all t.id ≡ Some t) → then_option (look (λ n. n == k) (terms_by_name ts)) (slice_get all) ≡ entry_named k ts
 look_entry all [] k at = refl
-look_entry all (t ∷ ts) k at =
-    elim (t.name == k) as (λ b. then_option (cond b (Some t.id) (look (λ n. n == k) (terms_by_name ts))) (slice_get all) ≡ cond b (Some t) (entry_named k ts)) [
-      | true ↦ at t (in_head t ts)
-      | false ↦ look_entry all ts k (λ u c. at u (in_tail t u ts c))
-    ]
+look_entry all (t ∷ ts) k at = grind (arith, common_steps, look_entry all ts k (λ u c. at u (in_tail t u ts c)), in_head, in_tail)
 
 -- 2. the names of terms were met
 names_of_step : (ns : List (List ℕ)) (m : ℕ) (o : Option (List ℕ)) → slice_get ns m ≡ o → (rest : List (List ℕ)) → All (λ x. has_name ns x ≡ true) rest → All (λ x. has_name ns x ≡ true) (cons_option o rest)
-names_of_step ns m None e rest a = a
-names_of_step ns m (Some y) e rest a = All-cons (λ x. has_name ns x ≡ true) y rest (has_at ns m y e) a
+names_of_step ns m o e rest a = grind (arith, common_steps, has_at)
 
 names_at : (ns : List (List ℕ)) (ms : List ℕ) → All (λ x. has_name ns x ≡ true) (filter_map (slice_get ns) ms)
 names_at ns [] = All-nil (λ x. has_name ns x ≡ true)
@@ -125,8 +121,7 @@ module _ (e : TypesRead) (r : AreReadable e) (defs : List Definition) (env : Ter
   more = with_names_more e.known.names (decl_names defs ++ flat_map function_of defs)
 
   types_met : All (λ x. has_name met x ≡ true) e.known.type_names
-  types_met =
-      All-weaker (λ x. IsTrue (has_name e.known.names x)) (λ x. has_name met x ≡ true) (λ x h. has_kept e.known.names (decl_names defs ++ flat_map function_of defs) x h) e.known.type_names r.well_formed.names_of_types_met
+  types_met = grind (arith, common_steps, has_kept)
 
   type_names : (k : ℕ) → type_at tyenv k ≡ position_from (λ n. n == k) 0 (map (number e.known.names) e.known.type_names)
   type_names k =

@@ -1,8 +1,9 @@
 -- What reading if-lets and the sides of a rule does as its steps say: one part, then the next where something was made.
-use Rattle.std.proofs.Common.{◌≡◌, ℕ, ◌+◌, ◌<◌, ◌≤◌, Bool, eqb, List, [], ◌∷◌, ◌++◌, length, map, drop, get_or, Option, Some, None, option_map, Ok, Err, append-nil, inl, refl, sym, ap, subst, ◌∙◌, arith}
+use Rattle.std.proofs.Common.{◌≡◌, ℕ, ◌+◌, ◌<◌, ◌≤◌, Bool, eqb, List, [], ◌∷◌, ◌++◌, length, map, drop, get_or, Option, Some, None, option_map, Ok, Err, append-nil, refl, sym, ap, subst, ◌∙◌, arith}
 use Rattle.std.proofs.lemmas.List.{drop_more, drop_all, length-map}
 use Rattle.std.proofs.lemmas.Option.{none-some, same_Some}
 use Rattle.std.specs.Option.{option_to_list}
+use Rattle.std.proofs.lemmas.Grind.{common_steps}
 use Rattle.core_syntax.specs.declared.syntax.IfLet.{IfLet}
 use Rattle.core_syntax.specs.declared.syntax.Pattern as T
 use Rattle.core_syntax.specs.SyntaxViews as S
@@ -13,7 +14,7 @@ use Rattle.model.specs.lists.Setting.{Setting, Scope, on_lhs, expr_type}
 use Rattle.model.specs.lists.Elaborated.{typed_iflet, root_parts, Sides}
 use Rattle.model.specs.rules.Typed.{TypedPattern, TypedPatterns, TypedExpr, TypedIfLet}
 use Rattle.model.specs.claims.Refusals.{NamedLimit, of_nesting, of_expansions}
-use Rattle.laws_errors.specs.Steps.{argument_count, Step, went_on, stopped, unless, here, made_step, then_step, last_made, after_made, then_made}
+use Rattle.laws_errors.specs.Steps.{argument_count, Step, went_on, stopped, unless, here, made_step, then_step, last_made, then_made}
 use Rattle.laws_errors.specs.RuleSteps.{with_iflet}
 use Rattle.core_types.specs.declared.ids.TypeId.{TypeId}
 use Rattle.core_types.specs.Envs.{names_of}
@@ -37,9 +38,7 @@ use Rattle.core_rules.proofs.Taken.{Goes, seen, unless_at, noted, joined, joined
 
 -- 1. what follows where something was made
 last_end : {X Y : Type 0} (m : Option X) (r : MadeOrLimit Y) → joined_end last_made m r ≡ r
-last_end m (Ok None) = refl
-last_end m (Ok (Some y)) = refl
-last_end m (Err l) = refl
+last_end m r = grind (arith, common_steps)
 
 module _ {X Y : Type 0} (old mid : Standing) (next : X → ℕ → Scope → Step Y) where
   abbrev from : X → Scope → ℕ → Step Y
@@ -65,10 +64,7 @@ module _ {X Y : Type 0} (env : TermEnv) (old mid : Standing) (first : Stepping X
   both e n s = then_made (first e n s) (λ x u k. next x e (n + k) u)
 
   first_ends : (l : NamedLimit) → EndsAs env old mid first (Err l) → EndsAs env old mid both (Err l)
-  first_ends l h = (
-    h.0,
-    λ e s is sh. first_stops last_made old mid (after_made (λ x u k. next x e (old.work.expansions + k) u)) l (first e old.work.expansions s) (h.1 e s is sh),
-  )
+  first_ends l h = grind (arith, common_steps, first_stops)
 
   pub part_stops : (stop : Stop) → StopsBy env old mid first stop → StopsBy env old mid both stop
   part_stops (Memory a) h = tt
@@ -124,25 +120,16 @@ abbrev pub after_iflets : List R.IfLet → MadeOrLimit (List TypedIfLet) → Mad
 after_iflets is = made_end (λ js. map iflet_view is ++ js)
 
 after_none : (r : MadeOrLimit (List TypedIfLet)) → r ≡ after_iflets [] r
-after_none (Ok None) = refl
-after_none (Ok (Some js)) = refl
-after_none (Err l) = refl
-
-one_between : (is : List R.IfLet) (i : R.IfLet) (js : List TypedIfLet) → map iflet_view is ++ iflet_view i ∷ js ≡ map iflet_view (is ++ i ∷ []) ++ js
-one_between [] i js = refl
-one_between (k ∷ is) i js = ap (λ ks. iflet_view k ∷ ks) (one_between is i js)
+after_none r = grind (arith, common_steps)
 
 iflet_between : (is : List R.IfLet) (o : Option R.IfLet) (js : List TypedIfLet) → map iflet_view is ++ with_iflet (option_map iflet_view o) js ≡ map iflet_view (is ++ option_to_list o) ++ js
-iflet_between is None js = ap (λ ks. map iflet_view ks ++ js) (sym (append-nil is))
-iflet_between is (Some i) js = one_between is i js
+iflet_between is o js = grind (arith, common_steps)
 
 abbrev something : List TypedIfLet → MadeOrLimit (List TypedIfLet)
 something js = Ok (Some js)
 
 one_after : (is : List R.IfLet) (o : Option R.IfLet) (r : MadeOrLimit (List TypedIfLet)) → after_iflets is (joined_end with_iflet (option_map iflet_view o) r) ≡ after_iflets (is ++ option_to_list o) r
-one_after is o (Ok None) = refl
-one_after is o (Ok (Some js)) = ap something (iflet_between is o js)
-one_after is o (Err l) = refl
+one_after is o r = grind (arith, iflet_between)
 
 -- those that are read on
 abbrev pub iflets_from : Flags → List IfLet → ℕ → ℕ → Stepping (List TypedIfLet)
@@ -150,8 +137,7 @@ iflets_from flags all d i = iflets_steps (map S.iflet_view (drop i all)) flags d
 
 -- nothing is read yet
 pub no_iflet_read : (env : TermEnv) (old : Standing) (whole : Stepping (List TypedIfLet)) (is : List R.IfLet) → is ≡ [] → LeadsOn env old old whole whole (after_iflets is)
-no_iflet_read env old whole is none =
-    (inl refl, λ e s is_setting sh new r rest. subst (Took old new (whole e old.work.expansions s)) (after_none r ∙ ap (λ (ks : List R.IfLet). after_iflets ks r) (sym none)) (rest s sh))
+no_iflet_read env old whole is none = grind (arith, common_steps, after_none)
 
 -- all are read
 iflets_read : (flags : Flags) (all : List IfLet) (d i : ℕ) → length all ≤ i → (e : Setting) (n : ℕ) (u : Scope) → iflets_from flags all d i e n u ≡ here [] u

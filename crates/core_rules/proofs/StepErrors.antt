@@ -4,6 +4,7 @@ use Rattle.std.proofs.Common.{cond, ◌≡◌, ◌≢◌, ℕ, suc, ◌+◌, ◌
 use Rattle.std.proofs.lemmas.List.{map-append}
 use Rattle.std.proofs.lemmas.List.Elements.{All-nil, All-cons, All-head, All-tail, All-append, All-weaker, All-contains, Contains-append_left, Contains-append_right}
 use Rattle.std.proofs.lemmas.Option.{none-some, same_Some}
+use Rattle.std.proofs.lemmas.Grind.{common_steps}
 use Rattle.core_syntax.specs.declared.syntax.Error.{Error}
 use Rattle.core_syntax.specs.ErrorViews.{error_view, error_views}
 use Rattle.core_syntax.specs.NotedErrors.{AreIllTyped}
@@ -14,7 +15,7 @@ use Rattle.model.specs.lists.Setting.{Setting, new_scope}
 use Rattle.model.specs.lists.Typings.{Typing}
 use Rattle.model.specs.lists.Elaborated.{few_enough, most_nested, most_expansions, TypedRules, with_typed}
 use Rattle.model.specs.rules.Typed.{TypedRule}
-use Rattle.model.specs.claims.Refusals.{NamedLimit, of_rule, of_nesting, of_expansions, Refusal, ill_typed, unreachable, overlapping, shadowing, past_limit, IsIllTyped}
+use Rattle.model.specs.claims.Refusals.{NamedLimit, of_rule, of_nesting, of_expansions, Refusal, ill_typed, past_limit, IsIllTyped}
 use Rattle.model.specs.rules.Outcome.{then_option}
 use Rattle.model.proofs.Members.{all_members, in_head, in_tail, in_map}
 use Rattle.laws_errors.specs.AllMade as A
@@ -67,9 +68,6 @@ all_right P xs a b split all = all_members P b (λ x h. All-contains P (a ++ b) 
 
 -- of what is wrong
 stand_all : (ps : List Position) (ws : List Mistake) (es : List Error) → error_views es ≡ map refusal_of_error (map R.is_wrong ws) → AreAt (Contains ps) ws → All HasSingleSpans es → All (ErrorStandsAt ps) es
-stand_all ps [] [] v at single = All-nil (ErrorStandsAt ps)
-stand_all ps [] (x ∷ es) v at single = absurd (cc)
-stand_all ps (w ∷ ws) [] v at single = absurd (cc)
 stand_all ps (w ∷ ws) (x ∷ es) v at single =
     let head : error_view x ≡ refusal_of_error (R.is_wrong w) = cc in
     let tail : error_views es ≡ map refusal_of_error (map R.is_wrong ws) = cc in
@@ -78,24 +76,21 @@ stand_all ps (w ∷ ws) (x ∷ es) v at single =
       single = All-head HasSingleSpans x es single;
     } in
     All-cons (ErrorStandsAt ps) x es here (stand_all ps ws es tail at.1 (All-tail HasSingleSpans x es single))
+stand_all ps ws es v at single = grind (arith, common_steps)
 
 ill_all : (ws : List Mistake) (es : List Error) → error_views es ≡ map refusal_of_error (map R.is_wrong ws) → AreIllTyped es
 ill_all [] [] v = All-nil (λ x. IsIllTyped (error_view x))
 ill_all [] (x ∷ es) v = absurd (cc)
 ill_all (w ∷ ws) [] v = absurd (cc)
-ill_all (w ∷ ws) (x ∷ es) v =
-    let head : error_view x ≡ refusal_of_error (R.is_wrong w) = cc in
-    let tail : error_views es ≡ map refusal_of_error (map R.is_wrong ws) = cc in
-    All-cons (λ x. IsIllTyped (error_view x)) x es (subst IsIllTyped (sym head) tt) (ill_all ws es tail)
+ill_all (w ∷ ws) (x ∷ es) v = grind (arith, common_steps, ill_all ws es)
 
 some_wrong : (w : Mistake) (ws : List Mistake) (es : List Error) → error_views es ≡ map refusal_of_error (map R.is_wrong (w ∷ ws)) → es ≢ []
 some_wrong w ws es v none = absurd (let h : error_views [] ≡ map refusal_of_error (map R.is_wrong (w ∷ ws)) = subst (λ (l : List Error). error_views l ≡ map refusal_of_error (map R.is_wrong (w ∷ ws))) none v in cc)
 
 -- one limit
 one_limit : (l : NamedLimit) (at : Position) (es : List Error) → error_views es ≡ past_limit l at ∷ [] → (x : Error) × (es ≡ x ∷ []) × (error_view x ≡ past_limit l at)
-one_limit l at [] v = absurd (cc)
 one_limit l at (x ∷ []) v = (x, refl, let h : error_view x ≡ past_limit l at = cc in h)
-one_limit l at (x ∷ y ∷ es) v = absurd (cc)
+one_limit l at _ v = absurd (cc)
 
 -- none
 no_views : (es : List Error) → error_views es ≡ [] → es ≡ []
@@ -157,9 +152,7 @@ module _ (tyenv : TypeEnv) (env : TermEnv) (e : Setting) (is : IsSettingOf tyenv
         (stand_all (around tyenv env e is r) (w ∷ ws) p.0 p.3 at (all_left HasSingleSpans es p.0 p.1 p.2 single)) (inr (l, x.0, x.1, x.2)))
 
     told_one : (es : List Error) → error_views es ≡ map refusal_of_error (errors_of r.at (step_of_rule e id r names)) → All HasSingleSpans es → TellsRule e r names (names_in (step_of_rule e id r names)) es
-    told_one es v single =
-        told_by (step_of_rule e id r names) (A.rule_reading e most_nested id r (new_scope names)) refl (rule_limits_are_first_lem e whole most_nested id r 0 (new_scope names)) (rule_steps_agree_lem e whole most_nested id r 0 (new_scope names) (omega arith))
-        (wrong_stands tyenv env e is id r names) es v single
+    told_one es v single = grind (arith, common_steps, told_by, rule_limits_are_first_lem, rule_steps_agree_lem, wrong_stands)
 
   told_rules : (rs : List RuleTree) (names after : List (List ℕ)) (errors : List RuleError) → AreInOrder e rs names after errors → IsDistinct names
       → (es : List Error) → error_views es ≡ map refusal_of_error errors → All HasSingleSpans es → TellsRules e rs names after es
@@ -226,9 +219,7 @@ module _ (tyenv : TypeEnv) (env : TermEnv) (e : Setting) (is : IsSettingOf tyenv
     noted_by _ (S.never_read m s k w ws none) stops = only_wrong (w ∷ ws)
     noted_by _ (S.too_deep s none) stops = All-cons Of (past_limit of_nesting r.at) [] (nested none) (All-nil Of)
     noted_by _ (S.too_long s long) stops = All-cons Of (past_limit of_expansions r.at) [] (expanded (λ d. none_within (A.rule_reading e d id r (new_scope names)) (long d))) (All-nil Of)
-    noted_by _ (S.never_read_later l s w ws none) stops =
-        subst (All Of) (sym (map-append refusal_of_error (map R.is_wrong (w ∷ ws)) (passes l r.at ∷ [])))
-        (All-append Of (map refusal_of_error (map R.is_wrong (w ∷ ws))) (past_limit l r.at ∷ []) (only_wrong (w ∷ ws)) (All-cons Of (past_limit l r.at) [] (limit_last l stops none) (All-nil Of)))
+    noted_by _ (S.never_read_later l s w ws none) stops = grind (arith, common_steps, map-append, only_wrong, limit_last)
 
   -- what is so of the rules behind one is so of all
   module _ (r : RuleTree) (rs : List RuleTree) (names mid : List (List ℕ)) (on : GoOn names mid) where
@@ -248,12 +239,9 @@ module _ (tyenv : TypeEnv) (env : TermEnv) (e : Setting) (is : IsSettingOf tyenv
 
     of_rest : (x : Refusal) → IsOfRules e rs mid x → IsOfRules e (r ∷ rs) names x
     of_rest (ill_typed at) h = h
-    of_rest (unreachable at) h = absurd h
-    of_rest (overlapping rules) h = absurd h
-    of_rest (shadowing shadowed mask) h = absurd h
-    of_rest (past_limit (of_rule l) at) h = absurd h
     of_rest (past_limit of_nesting at) h = from_rest IsNestedDeeper at h
     of_rest (past_limit of_expansions at) h = from_rest IsExpandedMore at h
+    of_rest _ h = absurd h
 
     named_rest : (es : List Refusal) (q : RuleTree) → IsNamedPastLimits e mid es q → IsNamedPastLimits e names es q
     named_rest es q h = record {
@@ -283,10 +271,7 @@ module _ (tyenv : TypeEnv) (env : TermEnv) (e : Setting) (is : IsSettingOf tyenv
   module _ (id : ℕ) (r : RuleTree) (names : List (List ℕ)) where
     named_by : (t : Step TypedRule) → AgreesAtDepths 0 most_nested (λ c. A.rule_reading e c id r (new_scope names)) t → (es : List Refusal) → ((x : Refusal) → Contains (map refusal_of_error (errors_of r.at t)) x → Contains es x)
         → (d : ℕ) (a : Typing TypedRule) → A.rule_reading e d id r (new_scope names) ≡ Some a → few_enough (A.rule_reading e most_nested id r (new_scope names)) ≡ None → NamesALimit r.at es
-    named_by _ (S.only_read x s k fits only) es put d a reached none =
-        let b : Typing TypedRule = record { made = x; scope = s; expansions = k } in
-        let few : k ≤ most_expansions = elim fits [ inl zero ↦ omega (arith, zero) | inr h ↦ omega (arith, h) ] in
-        absurd (none-some b (sym none ∙ few_some (A.rule_reading e most_nested id r (new_scope names)) b only.here few))
+    named_by _ (S.only_read x s k fits only) es put d a reached none = grind (arith, common_steps, none-some, few_some)
     named_by _ (S.never_read m s k w ws never) es put d a reached none = absurd (none-some a (sym (never d) ∙ reached))
     named_by _ (S.too_deep s never) es put d a reached none = inl (put (past_limit of_nesting r.at) (in_head (past_limit of_nesting r.at) []))
     named_by _ (S.too_long s long) es put d a reached none = inr (put (past_limit of_expansions r.at) (in_head (past_limit of_expansions r.at) []))
@@ -327,14 +312,7 @@ module _ (tyenv : TypeEnv) (env : TermEnv) (e : Setting) (is : IsSettingOf tyenv
 
   module _ (now : List (List ℕ)) (rules : List TypedRule) (after : List Error) where
     reads_by : (l : RulesStep) (o : Option TypedRules) → ListAgrees l o → AreDoneAs l now [] rules [] after → ((after ≡ []) × (o ≡ Some (record { rules = rules; names = now }))) ⊎ ((after ≢ []) × (o ≡ None))
-    reads_by _ _ (S.all_read x) d = inl (
-      d.errors.added ∙ no_views d.errors.more d.errors.views,
-      ap (λ (qs : List TypedRule). Some (record { rules = qs; names = x.names })) (sym d.made) ∙ ap (λ (ns : List (List ℕ)). Some (record { rules = rules; names = ns })) (sym d.names),
-    )
-    reads_by l _ (S.some_wrong _ some) d = inr (
-      λ none. some (no_refusals l.errors (sym d.errors.views ∙ ap error_views (sym d.errors.added ∙ none))),
-      refl,
-    )
+    reads_by l o h d = grind (arith, common_steps, no_views, no_refusals)
 
     module _ (trees : List RuleTree) (names : List (List ℕ)) where
       begins_by : (xs : List RuleError) → (rules_step e trees 0 names).errors ≡ xs → (es : List Error) → after ≡ es → error_views es ≡ map refusal_of_error xs → All HasSingleSpans es → (after ≡ []) ⊎ BeginsAt (IsUntyped e trees names) after

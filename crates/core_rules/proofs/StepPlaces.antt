@@ -1,6 +1,7 @@
 -- What a rule's steps find wrong stands at positions of the rule, or at those of the templates that are expanded.
-use Rattle.std.proofs.Common.{cond, List, [], ◌∷◌, ◌++◌, Contains, ℕ, None, subst, ◌∙◌, slice_get}
+use Rattle.std.proofs.Common.{cond, List, [], ◌∷◌, ◌++◌, Contains, ℕ, None, subst, ◌∙◌, slice_get, arith}
 use Rattle.std.specs.List.{flat_map}
+use Rattle.std.proofs.lemmas.Grind.{common_steps}
 use Rattle.model.specs.lists.Syntax.{Position, PatternTree, var_pattern, bind_pattern, bool_pattern, int_pattern, prim_pattern, term_pattern, wildcard_pattern, and_pattern, macro_arg, PatternTrees, no_pattern, pattern_and, ExprTree, term_expr, var_expr, bool_expr, int_expr, prim_expr, let_expr, ExprTrees, no_expr, expr_and, LetTrees, no_let, let_and, IfLetTree, RuleTree}
 use Rattle.model.specs.lists.Setting.{Setting, kind_template, new_scope}
 use Rattle.model.specs.lists.Elaborated.{most_nested}
@@ -101,8 +102,7 @@ module _ (all : List Position) where
       let behind = inside rest (r.at ∷ rest) (among_rest r.at rest) a in
       record {
         rule = first r.at rest a;
-        pattern = pattern_stands r.pattern (inside pattern (names ++ pattern) (among_right names pattern) (inside (names ++ pattern) (names ++ pattern ++ iflets) (among_left (names ++ pattern) iflets)
-            (inside (names ++ pattern ++ iflets) rest (among_left (names ++ pattern ++ iflets) value) behind)));
+        pattern = pattern_stands r.pattern (inside pattern (names ++ pattern) (among_right names pattern) (grind (arith, common_steps, inside, among_left)));
         iflets = iflets_stand r.iflets (inside iflets (rule_positions r) (rule_iflets r) a);
         expr = expr_stands r.expr (inside value (rule_positions r) (rule_value r) a);
       }

@@ -1,10 +1,11 @@
 -- Where what takes the place of a use stands: at positions of the use, or of templates.
-use Rattle.std.proofs.Common.{◌≡◌, ℕ, zero, suc, Bool, true, false, cond, List, [], ◌∷◌, ◌++◌, Option, Some, None, Contains, slice_get, option_and_then, refl, sym, subst}
+use Rattle.std.proofs.Common.{◌≡◌, ℕ, zero, suc, Bool, cond, List, [], ◌∷◌, ◌++◌, Some, None, Contains, slice_get, option_and_then, sym, subst, arith}
 use Rattle.std.proofs.lemmas.Option.{none-some, same_Some}
+use Rattle.std.proofs.lemmas.Grind.{common_steps}
 use Rattle.model.specs.lists.Syntax.{Position, Name, PatternTree, var_pattern, bind_pattern, bool_pattern, int_pattern, prim_pattern, term_pattern, wildcard_pattern, and_pattern, macro_arg, PatternTrees, no_pattern, pattern_and, pattern_list, ExprTree}
-use Rattle.model.specs.lists.Tables.{ExtractorEntry, internal_extractor, external_extractor, TermKindEntry, variant_term, struct_term, declared_term, TermEntry}
+use Rattle.model.specs.lists.Tables.{TermKindEntry, TermEntry}
 use Rattle.model.specs.lists.Expansions.{substituted, all_substituted}
-use Rattle.model.specs.lists.Setting.{entry_template, kind_template}
+use Rattle.model.specs.lists.Setting.{kind_template}
 use Rattle.model.proofs.Members.{in_head, in_tail, member_from_get}
 use Rattle.model.proofs.Options.{then_some}
 use Rattle.core_syntax.specs.Positions.{OccurAmong, pattern_positions, patterns_positions, expr_positions}
@@ -17,7 +18,7 @@ use Rattle.core_rules.specs.TermEnvs.{term_in_env}
 use Rattle.core_rules.specs.PatternUses.{found_term, found_template, inside_term}
 use Rattle.core_rules.specs.ExprUses.{inside_call}
 use Rattle.core_rules.specs.RulePositions.{template_positions, templates_positions, with_templates}
-use Rattle.core_terms.specs.TermPositions.{taken_positions, kind_positions, entry_positions, terms_positions}
+use Rattle.core_terms.specs.TermPositions.{kind_positions, entry_positions, terms_positions}
 use Rattle.core_rules.proofs.PatternSizes.{mapped_gives, with_gives}
 use Rattle.core_rules.proofs.ErrorPositions.{among_here}
 
@@ -34,15 +35,13 @@ module _ (given : List PatternTree) (all : List Position) (each : (i : ℕ) (p :
         let rest : OccurAmong (pattern_positions of) all = λ p c. a p (in_tail at p (name.at ∷ pattern_positions of) (in_tail name.at p (pattern_positions of) c)) in
         let r = substituted_places of g.0 g.1 rest in
         subst (λ p. OccurAmong (pattern_positions p) all) g.2
-        (among_next at (name.at ∷ pattern_positions g.0) all (a at (in_head at (name.at ∷ pattern_positions of)))
-        (among_next name.at (pattern_positions g.0) all (a name.at (in_tail at name.at (name.at ∷ pattern_positions of) (in_head name.at (pattern_positions of)))) r))
+        (grind (arith, common_steps, among_next, in_head, in_tail))
     substituted_places (term_pattern name args at) q h a =
         let g = mapped_gives (λ ps. term_pattern name ps at) (all_substituted given args) q h in
         let rest : OccurAmong (patterns_positions args) all = λ p c. a p (in_tail at p (name.at ∷ patterns_positions args) (in_tail name.at p (patterns_positions args) c)) in
         let r = all_places args g.0 g.1 rest in
         subst (λ p. OccurAmong (pattern_positions p) all) g.2
-        (among_next at (name.at ∷ patterns_positions g.0) all (a at (in_head at (name.at ∷ patterns_positions args)))
-        (among_next name.at (patterns_positions g.0) all (a name.at (in_tail at name.at (name.at ∷ patterns_positions args) (in_head name.at (patterns_positions args)))) r))
+        (grind (arith, common_steps, among_next, in_head, in_tail))
     substituted_places (and_pattern parts at) q h a =
         let g = mapped_gives (λ ps. and_pattern ps at) (all_substituted given parts) q h in
         let rest : OccurAmong (patterns_positions parts) all = λ p c. a p (in_tail at p (patterns_positions parts) c) in
@@ -65,28 +64,14 @@ module _ (given : List PatternTree) (all : List Position) (each : (i : ℕ) (p :
 part_places : (ps : PatternTrees) (i : ℕ) (p : PatternTree) → slice_get (pattern_list ps) i ≡ Some p → OccurAmong (pattern_positions p) (patterns_positions ps)
 part_places no_pattern i p h = absurd (cc)
 part_places (pattern_and q ps) zero p h = subst (λ x. OccurAmong (pattern_positions x) (pattern_positions q ++ patterns_positions ps)) (same_Some q p h) (among_left (pattern_positions q) (patterns_positions ps))
-part_places (pattern_and q ps) (suc i) p h =
-    among_both (pattern_positions p) (patterns_positions ps) (pattern_positions q ++ patterns_positions ps) (part_places ps i p h) (among_right (pattern_positions q) (patterns_positions ps))
-
--- a term's template has positions among those of the term
-of_extractor : (x : Option ExtractorEntry) (p : PatternTree) → entry_template x ≡ Some p → OccurAmong (pattern_positions p) (taken_positions x)
-of_extractor None p h = absurd (none-some p h)
-of_extractor (Some (internal_extractor template)) p h = subst (λ x. OccurAmong (pattern_positions x) (pattern_positions template)) (same_Some template p h) (among_same (pattern_positions template))
-of_extractor (Some (external_extractor name infallible at)) p h = absurd (none-some p h)
+part_places (pattern_and q ps) (suc i) p h = grind (arith, common_steps, part_places ps i p h, among_both, among_right)
 
 of_kind : (k : TermKindEntry) (p : PatternTree) → kind_template k ≡ Some p → OccurAmong (pattern_positions p) (kind_positions k)
-of_kind (variant_term variant) p h = absurd (none-some p h)
-of_kind struct_term p h = absurd (none-some p h)
-of_kind (declared_term flags constructor_kind extractor_kind) p h = of_extractor extractor_kind p h
+of_kind k p h = grind (arith, none-some)
 
 -- and so those of all templates are among those of the terms
 of_template : (expand : Bool) (k : TermKindEntry) → OccurAmong (template_positions (cond expand (kind_template k) None)) (kind_positions k)
-of_template false k = among_none (kind_positions k)
-of_template true k =
-    elim (kind_template k) as (λ o. kind_template k ≡ o → OccurAmong (template_positions o) (kind_positions k)) [
-      | None ↦ λ _. among_none (kind_positions k)
-      | Some p ↦ λ h. of_kind k p h
-    ] refl
+of_template expand k = grind (arith, common_steps, among_none, of_kind)
 
 pub templates_inside : (expand : Bool) (ts : List TermEntry) → OccurAmong (templates_positions expand ts) (terms_positions ts)
 templates_inside expand [] = among_none []

@@ -1,6 +1,7 @@
 -- What the work does as steps say, by each way in which a step goes on.
-use Rattle.std.proofs.Common.{◌≡◌, ℕ, suc, ◌+◌, Bool, true, false, List, [], ◌∷◌, ◌++◌, Option, Some, None, option_map, Result, Ok, Err, append-nil, refl, sym, ap, subst, ◌∙◌, arith}
+use Rattle.std.proofs.Common.{◌≡◌, ℕ, suc, ◌+◌, Bool, List, [], ◌∷◌, ◌++◌, Option, Some, None, option_map, Result, Ok, Err, refl, sym, ap, subst, ◌∙◌, arith}
 use Rattle.std.proofs.lemmas.List.{map-append}
+use Rattle.std.proofs.lemmas.Grind.{common_steps}
 use Rattle.model.specs.lists.Syntax.{Position}
 use Rattle.model.specs.lists.Setting.{Setting, Scope}
 use Rattle.model.specs.claims.Refusals.{NamedLimit, of_nesting, of_expansions}
@@ -15,13 +16,12 @@ use Rattle.core_rules.specs.declared.typing.progress.Stop.{Stop}
 use Rattle.core_rules.specs.declared.typing.progress.Stop.TheVariants.{Memory, Nesting, Expansions}
 use Rattle.core_rules.specs.PatternTaking.{made_end}
 use Rattle.core_rules.specs.Taking.{Stepping, MadeOrLimit, places_of, Took, took, ended, EndsAs, StopsBy, Takes, LeadsOn}
-use Rattle.core_rules.specs.ShownSettings.{Standing, Keeps, IsSettingOf, Shows}
+use Rattle.core_rules.specs.ShownSettings.{Standing, Keeps, Shows}
 use Rattle.core_rules.proofs.Readings.{keep_setting}
 
 -- 1. errors
 places_unless : (b : Bool) (why : Why) (at : Position) → places_of (unless b why at) ≡ place_unless b at
-places_unless true why at = refl
-places_unless false why at = refl
+places_unless b why at = grind (arith, common_steps)
 
 pub unless_at : (b : Bool) (why : Why) (at : Position) (a c : List Error) → NotesEachAt (place_unless b at) a c → NotesEachAt (places_of (unless b why at)) a c
 unless_at b why at a c n = subst (λ ps. NotesEachAt ps a c) (sym (places_unless b why at)) n
@@ -38,8 +38,7 @@ module _ {Q : Type 0} where
   Goes old new (stopped l s ws) (Err j) = (l ≡ j) × NotesEachAt (places_of ws) old.work.errors.items new.work.errors.items × (names_of new.tyenv ≡ s.names)
 
   pub seen : (old new : Standing) (t : Step Q) (r : MadeOrLimit Q) → Took old new t r → Goes old new t r
-  seen old new _ _ (took m s k ws n sh c) = (refl, n, sh, c)
-  seen old new _ _ (ended l s ws n names) = (refl, n, names)
+  seen old new t r h = grind (arith, common_steps)
 
   pub taken_as : (old new : Standing) (m r : Option Q) (s : Scope) (k : ℕ) (ws : List Mistake) → m ≡ r → NotesEachAt (places_of ws) old.work.errors.items new.work.errors.items → Shows new s
       → new.work.expansions ≡ old.work.expansions + k → Took old new (went_on m s k ws) (Ok r)
@@ -62,10 +61,7 @@ module _ {Q : Type 0} where
   -- what hangs on a test is made either way
   pub tested : (old new : Standing) (b : Bool) (why : Why) (at : Position) (q r : Q) (s : Scope) → q ≡ r → NotesEachAt (place_unless b at) old.work.errors.items new.work.errors.items → Shows new s
       → new.work.expansions ≡ old.work.expansions → Took old new (noting (unless b why at) (here q s)) (Ok (Some r))
-  tested old new b why at q r s same n sh c =
-      taken_as old new (Some q) (Some r) s 0 (unless b why at ++ []) (ap Some same)
-      (subst (λ ws. NotesEachAt (places_of ws) old.work.errors.items new.work.errors.items) (sym (append-nil (unless b why at))) (unless_at b why at old.work.errors.items new.work.errors.items n))
-      sh (omega (arith, c))
+  tested old new b why at q r s same n sh c = grind (arith, common_steps, taken_as, unless_at)
 
   -- one expansion more
   pub counted : (old mid new : Standing) → mid.work.errors.items ≡ old.work.errors.items → mid.work.expansions ≡ old.work.expansions + 1 → (t : Step Q) (r : MadeOrLimit Q) → Took mid new t r → Took old new (counted_step t) r
@@ -102,11 +98,7 @@ module _ {X Y Z : Type 0} (g : Option X → Y → Z) where
 
   module _ (old mid new : Standing) (next : Option X → ℕ → Scope → Step Y) (m : Option X) (r : MadeOrLimit Y) (rest : (u : Scope) → Shows mid u → Took mid new (next m mid.work.expansions u) r) where
     went : (t : Step X) → Goes old mid t (Ok m) → Took old new (then_step g t (λ o u k. next o (old.work.expansions + k) u)) (joined_end g m r)
-    went (went_on o u k ws) x =
-        let at_m : Took mid new (next o mid.work.expansions u) r = subst (λ (p : Option X). Took mid new (next p mid.work.expansions u) r) (sym x.0) (rest u x.2) in
-        let from_old : Took mid new (next o (old.work.expansions + k) u) r = subst (λ (j : ℕ). Took mid new (next o j u) r) x.3 at_m in
-        subst (λ (p : Option X). Took old new (noting ws (joined_step g o k (next o (old.work.expansions + k) u))) (joined_end g p r)) x.0 (joined old mid new o k ws x.1 x.3 (next o (old.work.expansions + k) u) r from_old)
-    went (stopped l u ws) x = absurd x
+    went t x = grind (arith, common_steps, joined old mid new)
 
     pub in_order : (t : Step X) → Took old mid t (Ok m) → Took old new (then_step g t (λ o u k. next o (old.work.expansions + k) u)) (joined_end g m r)
     in_order t h = went t (seen old mid t (Ok m) h)
@@ -133,10 +125,7 @@ module _ {P Q : Type 0} (f : P → Q) (env : TermEnv) (old new : Standing) (step
 -- the rest was done
 module _ {P Q : Type 0} (env : TermEnv) (old mid new : Standing) (same : mid.tyenv ≡ old.tyenv) (whole : Stepping Q) (rest : Stepping P) (become : MadeOrLimit P → MadeOrLimit Q) (on : LeadsOn env old mid whole rest become) where
   pub rest_ends : (r : MadeOrLimit P) → EndsAs env mid new rest r → EndsAs env old new whole (become r)
-  rest_ends r h = (
-    may_both old.work.errors.items mid.work.errors.items new.work.errors.items on.0 h.0,
-    λ e s is sh. on.1 e s is sh new r (λ u shown. h.1 e u (subst (λ k. IsSettingOf k env e) (sym same) is) shown),
-  )
+  rest_ends r h = grind (arith, common_steps, may_both)
 
   pub rest_stops : ((l : NamedLimit) → become (Err l) ≡ Err l) → (stop : Stop) → StopsBy env mid new rest stop → StopsBy env old new whole stop
   rest_stops ends (Memory a) h = tt
@@ -162,14 +151,7 @@ module _ {X Y Z : Type 0} (g : Option X → Y → Y) (env : TermEnv) (old mid ne
   )
 
   one_ends : (l : NamedLimit) → become (Err l) ≡ Err l → EndsAs env mid new first (Err l) → EndsAs env old new whole (Err l)
-  one_ends l ends h = (
-    may_both old.work.errors.items mid.work.errors.items new.work.errors.items so_far.0 h.0,
-    λ e s is sh.
-        subst (Took old new (whole e old.work.expansions s)) ends
-        (so_far.1 e s is sh new (Err l)
-        (λ u shown. subst (λ t. Took mid new t (Err l)) (sym (law e mid.work.expansions u))
-        (first_stops g mid new (λ m t k. later e (mid.work.expansions + k) t) l (first e mid.work.expansions u) (h.1 e u (keep_setting env old.tyenv mid.tyenv e keeps is) shown)))),
-  )
+  one_ends l ends h = grind (arith, common_steps, may_both, first_stops, later, keep_setting)
 
   pub one_stops : ((l : NamedLimit) → become (Err l) ≡ Err l) → (stop : Stop) → StopsBy env mid new first stop → StopsBy env old new whole stop
   one_stops ends (Memory a) h = tt

@@ -1,16 +1,16 @@
 -- A template that uses no argument past those given can be filled in, and in a valid list each template is such a one.
-use Rattle.std.proofs.Common.{◌≡◌, ℕ, zero, suc, ◌+◌, ◌<◌, Bool, true, false, cond, List, [], ◌∷◌, length, map, All, Option, Some, None, option_map, is_some, unwrap_or, slice_get, refl, sym, ap, subst, ◌∙◌, arith}
+use Rattle.std.proofs.Common.{◌≡◌, ℕ, zero, suc, ◌+◌, ◌<◌, Bool, true, false, cond, List, [], ◌∷◌, length, map, All, Option, Some, option_map, is_some, unwrap_or, slice_get, refl, sym, ap, subst, ◌∙◌, arith}
 use Rattle.std.specs.List.{enumerate_from, filter_map, find, flat_map}
 use Rattle.std.specs.Str.{bytes_eq}
-use Rattle.std.proofs.lemmas.Bool.{false≢true}
 use Rattle.std.proofs.lemmas.List.{length-map}
 use Rattle.std.proofs.lemmas.List.Elements.{All-nil, All-cons, All-head, All-tail, All-append}
 use Rattle.std.proofs.lemmas.Option.{none-some, same_Some}
-use Rattle.model.specs.lists.Syntax.{Position, PatternTree, var_pattern, bind_pattern, bool_pattern, int_pattern, prim_pattern, term_pattern, wildcard_pattern, and_pattern, macro_arg, PatternTrees, no_pattern, pattern_and, DeclTree, ExtractorTree, Definition}
-use Rattle.model.specs.lists.Names.{number, has_name, IsDistinct}
-use Rattle.model.specs.lists.Tables.{FieldEntries, VariantEntry, TypeEntry, builtin_type, primitive_type, enum_type, struct_type, internal_extractor, external_extractor, TermEntry}
+use Rattle.std.proofs.lemmas.Grind.{common_steps}
+use Rattle.model.specs.lists.Syntax.{Position, PatternTree, bind_pattern, term_pattern, and_pattern, macro_arg, PatternTrees, no_pattern, pattern_and, DeclTree, ExtractorTree, Definition}
+use Rattle.model.specs.lists.Names.{number, IsDistinct}
+use Rattle.model.specs.lists.Tables.{FieldEntries, VariantEntry, TypeEntry, enum_type, struct_type, internal_extractor, external_extractor, TermEntry}
 use Rattle.model.specs.lists.KnownTypes.{KnownTypes, known_type}
-use Rattle.model.specs.lists.TermTable.{ExternalTree, arguments_in, arguments_in_all, argument_count, decl_trees, decl_names, extractor_trees, external_trees, extractor_template, internal_extractors, made_by, variant_as_term, struct_as_term, terms_made, decl_as_term, terms_in_order, term_names_met, term_table, UsesDeclaredArguments, IsValidTerms}
+use Rattle.model.specs.lists.TermTable.{ExternalTree, arguments_in, arguments_in_all, argument_count, decl_trees, decl_names, extractor_trees, extractor_template, made_by, variant_as_term, struct_as_term, terms_made, decl_as_term, terms_in_order, term_names_met, term_table, UsesDeclaredArguments, IsValidTerms}
 use Rattle.model.specs.lists.Setting.{entry_template}
 use Rattle.model.specs.lists.Expansions.{substituted, all_substituted, with_pattern}
 use Rattle.model.proofs.Bytes.{same_bytes, same_self}
@@ -21,18 +21,14 @@ use Rattle.core_rules.specs.ShownSettings.{IsWholeTemplate}
 use Rattle.core_types.proofs.RightTypes.{all_left, all_right}
 
 some_mapped : {X Y : Type 0} (f : X → Y) (o : Option X) → is_some o ≡ true → is_some (option_map f o) ≡ true
-some_mapped f None h = h
-some_mapped f (Some x) h = refl
+some_mapped f o h = grind (arith, common_steps)
 
 some_with : (p : Option PatternTree) (ps : Option PatternTrees) → is_some p ≡ true → is_some ps ≡ true → is_some (with_pattern p ps) ≡ true
-some_with None ps h i = absurd (false≢true h)
-some_with (Some p) None h i = i
-some_with (Some p) (Some ps) h i = refl
+some_with p ps h i = grind arith
 
 some_within : (given : List PatternTree) (i : ℕ) → i < length given → is_some (slice_get given i) ≡ true
-some_within [] i h = absurd (omega (arith, h))
-some_within (p ∷ ps) zero h = refl
 some_within (p ∷ ps) (suc i) h = some_within ps i (omega (arith, h))
+some_within given i h = grind arith
 
 module _ (given : List PatternTree) where
   abbrev IsGiven : ℕ → Type 0
@@ -44,11 +40,7 @@ module _ (given : List PatternTree) where
     filled (bind_pattern name of at) h = some_mapped (λ p. bind_pattern name p at) (substituted given of) (filled of h)
     filled (term_pattern term args at) h = some_mapped (λ ps. term_pattern term ps at) (all_substituted given args) (all_filled args h)
     filled (and_pattern parts at) h = some_mapped (λ ps. and_pattern ps at) (all_substituted given parts) (all_filled parts h)
-    filled (var_pattern name at) h = refl
-    filled (bool_pattern b at) h = refl
-    filled (int_pattern z at) h = refl
-    filled (prim_pattern name at) h = refl
-    filled (wildcard_pattern at) h = refl
+    filled _ h = refl
 
     all_filled : (ts : PatternTrees) → All IsGiven (arguments_in_all ts) → is_some (all_substituted given ts) ≡ true
     all_filled no_pattern h = refl
@@ -58,10 +50,7 @@ module _ (given : List PatternTree) where
 -- what is made of a list whose names are distinct is found by its name
 first_of_name : (ds : List DeclTree) (i : ℕ) (d : DeclTree) → IsDistinct (map (λ e. e.term.text) ds) → slice_get ds i ≡ Some d → find (λ e. bytes_eq e.term.text d.term.text) ds ≡ Some d
 first_of_name [] i d once h = absurd (none-some d h)
-first_of_name (e ∷ ds) zero d once h =
-    let same : e ≡ d = same_Some e d h in
-    subst (λ c. cond (bytes_eq c.term.text d.term.text) (Some c) (find (λ e. bytes_eq e.term.text d.term.text) ds) ≡ Some d) (sym same)
-    (ap (λ b. cond b (Some d) (find (λ e. bytes_eq e.term.text d.term.text) ds)) (same_self d.term.text))
+first_of_name (e ∷ ds) zero d once h = grind (arith, common_steps, same_Some, same_self)
 first_of_name (e ∷ ds) (suc i) d once h =
     elim (bytes_eq e.term.text d.term.text) as (λ b. bytes_eq e.term.text d.term.text ≡ b → cond b (Some e) (find (λ e. bytes_eq e.term.text d.term.text) ds) ≡ Some d) [
       | true ↦ λ t.
@@ -96,10 +85,9 @@ module _ (P : TermEntry → Type 0) (variant : (ty : ℕ) (v : VariantEntry) (id
   of_variants ty (v ∷ vs) = All-cons Always (variant_as_term ty v) (map (variant_as_term ty) vs) (variant ty v) (of_variants ty vs)
 
   of_type : (t : TypeEntry) → All Always (terms_made t)
-  of_type (builtin_type place) = All-nil Always
-  of_type (primitive_type id name at) = All-nil Always
   of_type (enum_type name id is_extern is_nodebug variants at) = of_variants id variants
   of_type (struct_type name id is_extern is_nodebug fields at) = All-cons Always (struct_as_term name id fields at) [] (structure name id fields at) (All-nil Always)
+  of_type _ = All-nil Always
 
   pub of_types : (ts : List TypeEntry) → All Always (flat_map terms_made ts)
   of_types [] = All-nil Always
@@ -126,14 +114,10 @@ module _ (k : KnownTypes) (defs : List Definition) (valid : IsValidTerms k defs)
     internal : (b : Bool) (t : PatternTree) (o : Option ExtractorTree) (p : Option ExternalTree)
         → entry_template (cond b (option_map (λ e. internal_extractor (extractor_template e)) o) (option_map (λ e. external_extractor (number (term_names_met k defs) e.function.text) e.infallible e.at) p)) ≡ Some t
         → (e : ExtractorTree) × (o ≡ Some e) × (extractor_template e ≡ t)
-    internal true t None p g = absurd (none-some t g)
-    internal true t (Some e) p g = (e, refl, same_Some (extractor_template e) t g)
-    internal false t o None g = absurd (none-some t g)
-    internal false t o (Some e) g = absurd (none-some t g)
+    internal b t o p g = grind (arith, none-some, same_Some)
 
     whole : IsWholeTemplate entry
-    whole t given is size =
-        fits t given (internal (has_name (internal_extractors defs) d.term.text) t (find (λ e. bytes_eq e.term.text d.term.text) (extractor_trees defs)) (find (λ e. bytes_eq e.term.text d.term.text) (external_trees defs)) is) size
+    whole t given is size = grind (arith, common_steps, fits, internal)
 
   abbrev Whole : (ℕ → TermEntry) → Type 0
   Whole f = (id : ℕ) → IsWholeTemplate (f id)

@@ -1,17 +1,17 @@
 -- The positions of the terms of a list of definitions are those of the definitions, and of the types that they are read with.
-use Rattle.std.proofs.Common.{◌≡◌, ℕ, ◌+◌, Bool, true, false, cond, List, [], ◌∷◌, ◌++◌, Option, Some, None, Contains, map, option_map, refl, sym, subst, ◌∙◌, inl, inr}
+use Rattle.std.proofs.Common.{◌≡◌, ℕ, ◌+◌, Bool, true, false, cond, List, [], ◌∷◌, ◌++◌, Option, Some, None, Contains, map, option_map, refl, subst, inl, inr, arith}
 use Rattle.std.specs.List.{flat_map, find, enumerate_from}
 use Rattle.std.specs.Str.{bytes_eq}
-use Rattle.std.proofs.lemmas.Bool.{cases_Bool, cond-true, cond-false}
 use Rattle.std.proofs.lemmas.List.Elements.{Contains-append_cases}
 use Rattle.std.proofs.lemmas.Option.{none-some, same_Some}
-use Rattle.model.specs.lists.Syntax.{Position, DeclTree, ExtractorTree, Definition, type_definition, declaration, extractor_definition, converter_definition, rule_definition, extern_definition, other_definition, extern_constructor, extern_extractor, extern_const}
+use Rattle.std.proofs.lemmas.Grind.{common_steps}
+use Rattle.model.specs.lists.Syntax.{Position, DeclTree, ExtractorTree, Definition, extractor_definition}
 use Rattle.model.specs.lists.Names.{number, has_name}
-use Rattle.model.specs.lists.Tables.{TypeEntry, builtin_type, primitive_type, enum_type, struct_type, internal_extractor, external_extractor, TermEntry}
+use Rattle.model.specs.lists.Tables.{TypeEntry, enum_type, struct_type, internal_extractor, external_extractor, TermEntry}
 use Rattle.model.specs.lists.KnownTypes.{KnownTypes}
 use Rattle.model.specs.lists.TermTable.{ExternalTree, decl_of, decl_trees, extractor_of, extractor_trees, external_extractor_of, external_trees, internal_extractors, extractor_template, extractor_kind, decl_as_term, variant_as_term, struct_as_term, terms_made, terms_in_order, term_table, term_names_met}
 use Rattle.model.proofs.Members.{nothing_in, in_head, in_tail, in_alone, in_map, from_map, from_flat_map}
-use Rattle.core_syntax.specs.Positions.{OccurAmong, pattern_positions, name_positions, extractor_positions, definition_positions, positions_of}
+use Rattle.core_syntax.specs.Positions.{OccurAmong, pattern_positions, extractor_positions, definition_positions, positions_of}
 use Rattle.core_syntax.proofs.Positioned.{among_same, among_both, among_left, among_right, among_rest, among_first, among_one, among_each, among_none, among_join}
 use Rattle.core_terms.proofs.NotedPositions.{template_among, pattern_in_extractor}
 use Rattle.core_terms.specs.TermPositions.{taken_positions, entry_positions, terms_positions}
@@ -20,11 +20,7 @@ use Rattle.core_types.specs.TypePositions.{entry_positions as type_entry_positio
 -- what is found is there
 found_there : {X : Type 0} (p : X → Bool) (xs : List X) (x : X) → find p xs ≡ Some x → Contains xs x
 found_there p [] x h = absurd (none-some x h)
-found_there p (y ∷ xs) x h =
-    elim (cases_Bool (p y)) [
-      | inl t ↦ subst (Contains (y ∷ xs)) (same_Some y x (sym (cond-true (p y) (Some y) (find p xs) t) ∙ h)) (in_head y xs)
-      | inr f ↦ in_tail y x xs (found_there p xs x (sym (cond-false (p y) (Some y) (find p xs) f) ∙ h))
-    ]
+found_there p (y ∷ xs) x h = grind (arith, common_steps, found_there p xs x, same_Some, in_head, in_tail)
 
 -- what definitions hold has positions of these, where that of each has its positions
 of_definitions : {X : Type 0} (g : Definition → List X) (place : X → List Position) → ((d : Definition) (x : X) → Contains (g d) x → OccurAmong (place x) (definition_positions d)) → (defs : List Definition) (x : X) → Contains (flat_map g defs) x → OccurAmong (place x) (positions_of defs)
@@ -33,34 +29,14 @@ of_definitions g place each defs x c =
     among_both (place x) (definition_positions f.0) (positions_of defs) (each f.0 x f.2) (among_each definition_positions defs f.0 f.1)
 
 of_declaration : (d : Definition) (x : DeclTree) → Contains (decl_of d) x → OccurAmong (x.at ∷ []) (definition_positions d)
-of_declaration (declaration d) x c = subst (λ (y : DeclTree). OccurAmong (y.at ∷ []) (definition_positions (declaration d))) (in_alone d x c) (among_first d.at (d.term.at ∷ d.ret_ty.at ∷ name_positions d.arg_tys))
-of_declaration (type_definition t) x c = absurd (nothing_in x c)
-of_declaration (extractor_definition e) x c = absurd (nothing_in x c)
-of_declaration (converter_definition k) x c = absurd (nothing_in x c)
-of_declaration (rule_definition r) x c = absurd (nothing_in x c)
-of_declaration (extern_definition e) x c = absurd (nothing_in x c)
-of_declaration other_definition x c = absurd (nothing_in x c)
+of_declaration d x c = grind (arith, in_alone, among_first, nothing_in)
 
 of_internal : (d : Definition) (x : ExtractorTree) → Contains (extractor_of d) x → OccurAmong (pattern_positions x.template) (definition_positions d)
 of_internal (extractor_definition e) x c = subst (λ (y : ExtractorTree). OccurAmong (pattern_positions y.template) (extractor_positions e)) (in_alone e x c) (pattern_in_extractor e)
-of_internal (declaration d) x c = absurd (nothing_in x c)
-of_internal (type_definition t) x c = absurd (nothing_in x c)
-of_internal (converter_definition k) x c = absurd (nothing_in x c)
-of_internal (rule_definition r) x c = absurd (nothing_in x c)
-of_internal (extern_definition e) x c = absurd (nothing_in x c)
-of_internal other_definition x c = absurd (nothing_in x c)
+of_internal _ x c = absurd (nothing_in x c)
 
 of_external : (d : Definition) (x : ExternalTree) → Contains (external_extractor_of d) x → OccurAmong (x.at ∷ []) (definition_positions d)
-of_external (extern_definition (extern_extractor term function at infallible)) x c =
-    subst (λ (y : ExternalTree). OccurAmong (y.at ∷ []) (at ∷ term.at ∷ function.at ∷ [])) (in_alone (record { term = term; function = function; infallible = infallible; at = at }) x c) (among_first at (term.at ∷ function.at ∷ []))
-of_external (extern_definition (extern_constructor term function at)) x c = absurd (nothing_in x c)
-of_external (extern_definition (extern_const name ty at)) x c = absurd (nothing_in x c)
-of_external (extractor_definition e) x c = absurd (nothing_in x c)
-of_external (declaration d) x c = absurd (nothing_in x c)
-of_external (type_definition t) x c = absurd (nothing_in x c)
-of_external (converter_definition k) x c = absurd (nothing_in x c)
-of_external (rule_definition r) x c = absurd (nothing_in x c)
-of_external other_definition x c = absurd (nothing_in x c)
+of_external d x c = grind (arith, in_alone, among_first, nothing_in)
 
 module _ (defs : List Definition) where
   of_template : (o : Option ExtractorTree) → ((e : ExtractorTree) → o ≡ Some e → Contains (extractor_trees defs) e) → OccurAmong (taken_positions (option_map (λ e. internal_extractor (extractor_template e)) o)) (positions_of defs)
@@ -89,14 +65,13 @@ module _ (defs : List Definition) where
 
 -- a term that a type makes stands where the type or one of its variants does
 of_made : (t : TypeEntry) (f : ℕ → TermEntry) → Contains (terms_made t) f → (id : ℕ) → OccurAmong (entry_positions (f id)) (type_entry_positions t)
-of_made (builtin_type place) f c id = absurd (nothing_in f c)
-of_made (primitive_type ty name at) f c id = absurd (nothing_in f c)
 of_made (enum_type name ty is_extern is_nodebug variants at) f c id =
     let v = from_map (variant_as_term ty) variants f c in
     let places = map (λ x. x.at) variants in
     subst (λ (g : ℕ → TermEntry). OccurAmong (entry_positions (g id)) (at ∷ places)) v.2
     (among_both (v.0.at ∷ []) places (at ∷ places) (among_one v.0.at places (in_map (λ x. x.at) variants v.0 v.1)) (among_rest at places))
 of_made (struct_type name ty is_extern is_nodebug fields at) f c id = subst (λ (g : ℕ → TermEntry). OccurAmong (entry_positions (g id)) (at ∷ [])) (in_alone (struct_as_term name ty fields at) f c) (among_same (at ∷ []))
+of_made _ f c id = absurd (nothing_in f c)
 
 each_made : (all : List Position) (fs : List (ℕ → TermEntry)) (i : ℕ) → ((f : ℕ → TermEntry) → Contains fs f → (id : ℕ) → OccurAmong (entry_positions (f id)) all) → OccurAmong (terms_positions (map (λ p. p.1 p.0) (enumerate_from i fs))) all
 each_made all [] i each = among_none all

@@ -1,5 +1,6 @@
 -- The term of a name, as the tables find it, is that of a setting.
-use Rattle.std.proofs.Common.{◌≡◌, ℕ, true, false, cond, List, Option, Some, None, option_and_then, slice_get, refl, sym, ap, ◌∙◌, arith}
+use Rattle.std.proofs.Common.{◌≡◌, ℕ, false, List, Option, None, option_and_then, slice_get, sym, ap, ◌∙◌, arith}
+use Rattle.std.proofs.lemmas.Grind.{common_steps}
 use Rattle.model.specs.lists.Names.{number, has_name}
 use Rattle.model.specs.lists.Setting.{Setting, entry_named}
 use Rattle.model.specs.rules.Outcome.{then_option}
@@ -14,16 +15,12 @@ use Rattle.core_rules.specs.ShownSettings.{IsSettingOf}
 
 module _ (env : TermEnv) (tyenv : TypeEnv) (inv : IsInterned tyenv) (x : List ℕ) (e : Setting) (is : IsSettingOf tyenv env e) where
   past : (o : Option ℕ) → term_in_env env (number (names_of tyenv) x) ≡ o → has_name (names_of tyenv) x ≡ false → o ≡ None
-  past None k none = refl
-  past (Some id) k none = absurd (let l = is.terms_met (number (names_of tyenv) x) id k in let m = last (names_of tyenv) x none in omega (arith, l, m))
+  past o k none = grind (arith, common_steps, last)
 
   by_number : term_in_env env (number (names_of tyenv) x) ≡ option_and_then (term_in_env env) (symbol_of tyenv x)
   by_number =
       sym (ap (option_and_then (term_in_env env)) (looked_up (names_of tyenv) (symbol_of tyenv) inv.numbered inv.named x)
-      ∙ (elim (has_name (names_of tyenv) x) as (λ b. has_name (names_of tyenv) x ≡ b → option_and_then (term_in_env env) (cond b (Some (number (names_of tyenv) x)) None) ≡ term_in_env env (number (names_of tyenv) x)) [
-        | true ↦ λ _. refl
-        | false ↦ λ none. sym (past (term_in_env env (number (names_of tyenv) x)) refl none)
-      ] refl))
+      ∙ (grind (arith, common_steps, past)))
 
   pub found_named : entry_named (number (names_of tyenv) x) e.terms ≡ found_term env tyenv x
   found_named =
