@@ -1,5 +1,5 @@
 -- Entries of variables that ascend: what is found at a place, and what binding a variable there makes.
-use Rattle.std.proofs.Common.{◌≡◌, ℕ, zero, suc, ◌+◌, ◌<◌, ◌≤◌, ◌-◌, cond, List, [], ◌∷◌, length, drop, get_or, Some, None, Result, Ok, Err, MatchResult, refl, sym, ap, ◌∙◌, arith, set, false, slice_get}
+use Rattle.std.proofs.Common.{◌≡◌, ℕ, zero, suc, ◌+◌, ◌<◌, ◌-◌, cond, List, [], ◌∷◌, length, drop, get_or, Some, None, Result, Ok, Err, MatchResult, refl, sym, ap, ◌∙◌, arith, set, false, slice_get}
 use Rattle.std.specs.List.{AllByRecursion, insert}
 use Rattle.std.specs.List.Sorted.{IsBinarySearchResult, IsNonDecreasingBy, IsSearchInRange, IsStrictlySortedBy}
 use Rattle.std.specs.Ordering.{nat_cmp, is_eq, is_le, match_ordering, ordering_index, ordering_reverse}
@@ -11,6 +11,7 @@ use Rattle.std.proofs.lemmas.Option.{get_or_from_slice_get}
 use Rattle.std.proofs.lemmas.Bool.Decides.{nat_tests}
 use Rattle.std.proofs.lemmas.Cmp.{by_ranked, nat_cmp_total, ranked}
 use Rattle.std.proofs.lemmas.Map.Keys.{below_from_sorted, sorted_tail}
+use Rattle.std.proofs.lemmas.Grind.{common_steps}
 use Rattle.core_types.specs.declared.ids.VarId.{VarId}
 use Rattle.model.specs.visits.Runs.{BoundIds, bound_at, bound_vars, with_bound}
 use Rattle.core_typed.specs.BoundEntries.{FitsAt, StandsAt, by_number}
@@ -44,9 +45,8 @@ is_past x y f = by_ranked (x < y) (x ≡ y) (y < x) (nat_cmp x y) (ranks x y) (�
 module _ {P : Type 0} where
   -- 1. by places
   number_at : (vs : Entries P) (k : ℕ) (d : VarId × P) → get_or (numbers vs) k d.0.0 ≡ (get_or vs k d).0.0
-  number_at [] k d = refl
-  number_at (b ∷ vs) zero d = refl
   number_at (b ∷ vs) (suc k) d = number_at vs k d
+  number_at _ _ d = refl
 
   as_many : (vs : Entries P) → length (numbers vs) ≡ length vs
   as_many [] = refl
@@ -85,9 +85,7 @@ module _ {P : Type 0} where
   -- 3. what binding makes
   pub bound_there : (vs : Entries P) (x : VarId) (id : P) (i : ℕ) → IsStrictlySortedBy nat_cmp (numbers vs) → StandsAt vs x.0 i → by_number (set vs i (x, id)) ≡ with_bound (by_number vs) x.0 id
   bound_there [] x id i s h = absurd (omega (arith, h.0))
-  bound_there (b ∷ vs) x id zero s h =
-      ap (λ n. (n, id) ∷ by_number vs) (sym (h.1 b))
-      ∙ sym (ap (λ o. match_ordering o ((x.0, id) ∷ by_number (b ∷ vs)) ((b.0.0, id) ∷ by_number vs) ((b.0.0, b.1) ∷ with_bound (by_number vs) x.0 id)) (is_equal x.0 b.0.0 (sym (h.1 b))))
+  bound_there (b ∷ vs) x id zero s h = grind (arith, common_steps, is_equal x.0 b.0.0 (sym (h.1 b)))
   bound_there (b ∷ vs) x id (suc i) s h =
       ap (λ l. (b.0.0, b.1) ∷ l) (bound_there vs x id i (sorted_tail nat_cmp b.0.0 (numbers vs) s) (rest_stands b vs x.0 i h))
       ∙ sym (ap (λ o. match_ordering o ((x.0, id) ∷ by_number (b ∷ vs)) ((b.0.0, id) ∷ by_number vs) ((b.0.0, b.1) ∷ with_bound (by_number vs) x.0 id)) (is_greater x.0 b.0.0 (first_less b vs x.0 i s h)))
@@ -103,13 +101,7 @@ module _ {P : Type 0} where
 
   above_with : (n x : ℕ) (id : P) (vs : BoundIds P) → nat_cmp n x ≡ Less → AllByRecursion (λ y. nat_cmp n y ≡ Less) (bound_vars vs) → AllByRecursion (λ y. nat_cmp n y ≡ Less) (bound_vars (with_bound vs x id))
   above_with n x id [] l a = (l, a)
-  above_with n x id (b ∷ vs) l a =
-      elim (nat_cmp x b.0)
-      as (λ o. AllByRecursion (λ y. nat_cmp n y ≡ Less) (bound_vars (match_ordering o ((x, id) ∷ b ∷ vs) ((b.0, id) ∷ vs) (b ∷ with_bound vs x id)))) [
-        | Less ↦ (l, a)
-        | Equal ↦ a
-        | Greater ↦ (a.0, above_with n x id vs l a.1)
-      ]
+  above_with n x id (b ∷ vs) l a = grind (arith, common_steps, above_with n x id vs l a.1)
 
   -- they still ascend
   pub ascends_with : (vs : BoundIds P) (x : ℕ) (id : P) → IsStrictlySortedBy nat_cmp (bound_vars vs) → IsStrictlySortedBy nat_cmp (bound_vars (with_bound vs x id))
@@ -124,9 +116,7 @@ module _ {P : Type 0} where
 
   -- 4. what a search by halves gives
   rises : (vs : Entries P) (x : ℕ) → IsStrictlySortedBy nat_cmp (numbers vs) → IsNonDecreasingBy (λ e. ordering_index (nat_cmp e.0.0 x)) vs
-  rises vs x s i j d le l =
-      let rise : (get_or vs i d).0.0 ≤ (get_or vs j d).0.0 = grind (arith, ascends vs s i j d, λ (same : i ≡ j). ap (λ k. (get_or vs k d).0.0) same) in
-      grind (arith, nat_tests)
+  rises vs x s i j d le l = grind (arith, common_steps, ascends vs s i j d, nat_tests)
 
   pub searched : (vs : Entries P) (x : ℕ) (r : Result ℕ ℕ) → IsStrictlySortedBy nat_cmp (numbers vs) → IsSearchInRange r (length vs)
       → IsBinarySearchResult (λ e. nat_cmp e.0.0 x) vs r → MatchResult r (StandsAt vs x) (FitsAt vs x)
@@ -140,11 +130,7 @@ module _ {P : Type 0} where
   past_last vs x last s at f = (omega arith, below, (λ k d l m. absurd (omega arith)))
     where
       below : (k : ℕ) (d : VarId × P) → k < length vs → (get_or vs k d).0.0 < x
-      below k d l =
-          let end : get_or vs (length vs - 1) d ≡ last = get_or_from_slice_get vs (length vs - 1) last d at in
-          let less : (get_or vs (length vs - 1) d).0.0 < x = rw end (is_past x last.0.0 f) in
-          let rise : (get_or vs k d).0.0 ≤ (get_or vs (length vs - 1) d).0.0 = grind (arith, ascends vs s k (length vs - 1) d, λ (same : k ≡ length vs - 1). ap (λ i. (get_or vs i d).0.0) same) in
-          omega arith
+      below k d l = grind (arith, common_steps, get_or_from_slice_get vs (length vs - 1) last d at, is_past x last.0.0 f, ascends vs s k (length vs - 1) d)
 
   -- 5. one after another
   pub next_entry : (vs : Entries P) (i : ℕ) (e : VarId × P) → i < length vs → e ≡ get_or vs i e → by_number (drop i vs) ≡ (e.0.0, e.1) ∷ by_number (drop (i + 1) vs)

@@ -6,6 +6,7 @@ use Rattle.std.proofs.lemmas.Bool.Decides.{eqb_tells}
 use Rattle.std.proofs.lemmas.List.{length-set, get_or-set_same, get_or-set_other, length-map, length-take-le, take-map}
 use Rattle.std.proofs.lemmas.List.Sums.{count_by-le-length, count_by_more_yes, count_by_more_no}
 use Rattle.std.proofs.lemmas.Option.{none-some, same_Some, slice_get-get_or, get_or_from_slice_get, slice_get_within}
+use Rattle.std.proofs.lemmas.Grind.{common_steps}
 use Rattle.model.specs.rules.Typed.{TypedRule}
 use Rattle.core_typed.specs.declared.rules.Rule.{Rule}
 use Rattle.core_typed.specs.RuleNaming.{AreCounts}
@@ -38,13 +39,7 @@ module _ (n : ℕ) (rules : List TypedRule) (i : ℕ) (q : TypedRule) (h : i < l
 
   -- a term that isn't there has no rules to count
   no_more : slice_get counts q.root_term ≡ None → AreCounts n (take (i + 1) rules) counts
-  no_more none =
-      let other : (t : ℕ) → ((eqb q.root_term t ≡ true) × (q.root_term ≡ t)) ⊎ ((eqb q.root_term t ≡ false) × (q.root_term ≢ t)) → t < n → count_by (λ r. r.root_term == t) (take i rules) ≡ count_by (λ r. r.root_term == t) (take (i + 1) rules) =
-      λ t d l. elim d [
-        | inl e ↦ absurd (none-some (count_by (λ r. r.root_term == t) (take i rules)) (sym none ∙ ap (slice_get counts) e.1 ∙ k.each t l))
-        | inr e ↦ sym (of_other t e.0)
-      ] in
-      record { len = k.len; each = λ t l. k.each t l ∙ ap (λ m. Some m) (other t (eqb_tells q.root_term t) l) }
+  no_more none = grind (arith, common_steps, none-some, of_other, eqb_tells)
 
   -- no term has more rules than were counted
   at_most : (t c : ℕ) → slice_get counts t ≡ Some c → c ≤ i
@@ -77,9 +72,7 @@ module _ (n : ℕ) (rules : List Rule) (i : ℕ) (d : Rule) (h : i < length rule
       (one_more n (rule_views rules) i (rule_view d) within view_is counts seen c (ap (slice_get counts) (sym e) ∙ is)))
 
   pub none_more : (t : ℕ) → t ≡ d.root_term.0 → slice_get counts t ≡ None → AreCounts n (rule_views (take (i + 1) rules)) counts
-  none_more t e none =
-      subst (λ rs. AreCounts n rs counts) (take-map rule_view (i + 1) rules)
-      (no_more n (rule_views rules) i (rule_view d) within view_is counts seen (ap (slice_get counts) (sym e) ∙ none))
+  none_more t e none = grind (arith, common_steps, take-map, no_more)
 
   pub few_counted : (t c : ℕ) → slice_get counts t ≡ Some c → c ≤ i
   few_counted t c is = at_most n (rule_views rules) i (rule_view d) within view_is counts seen t c is

@@ -1,7 +1,8 @@
 -- Whether each term is defined, looked at one after another.
-use Rattle.std.proofs.Common.{◌≡◌, ◌≢◌, ℕ, ◌+◌, ◌<◌, IsTrue, List, [], ◌∷◌, ◌++◌, take, drop, get_or, length, All, refl, sym, ap, subst, ◌∙◌, inl, inr, ◌⊎◌}
+use Rattle.std.proofs.Common.{◌≡◌, ◌≢◌, ℕ, ◌+◌, ◌<◌, IsTrue, List, [], ◌∷◌, ◌++◌, take, drop, get_or, length, All, refl, sym, ap, subst, ◌∙◌, inl, inr, ◌⊎◌, arith}
 use Rattle.std.proofs.lemmas.List.{at_drop_more}
 use Rattle.std.proofs.lemmas.List.Elements.{All-nil, All-cons, All-head, All-tail, All-append}
+use Rattle.std.proofs.lemmas.Grind.{common_steps}
 use Rattle.core_syntax.specs.declared.syntax.Error.{Error}
 use Rattle.model.specs.lists.Tables.{TermEntry}
 use Rattle.core_terms.specs.declared.term.Term.{Term}
@@ -37,8 +38,7 @@ pub first_defined : (all : List TermEntry) (es : List Error) → DefinedAt all a
 first_defined all es = inl (refl, λ h. h, λ h. h)
 
 pub last_defined : (all : List TermEntry) (old new : List Error) → DefinedAt all [] old new → Checks old new (AreDefined all)
-last_defined all old new (inl a) = inl (a.0, a.1 (All-nil IsDefinedTerm))
-last_defined all old new (inr a) = inr a
+last_defined all old new h = grind (arith, common_steps)
 
 -- the first term that isn't defined
 module _ (before rest : List TermEntry) (t : TermEntry) (all : List TermEntry) (split : all ≡ before ++ t ∷ rest) (mid new : List Error) (none : mid ≡ []) (right : AreDefined before) (noted : NotesAt (t.at ∷ []) mid new) where

@@ -1,17 +1,16 @@
 -- The visits of the forms of expressions that have parts, from the forms as the code has them: what is asked of the parts,
 -- and how the whole run is made.
-use Rattle.std.proofs.Common.{◌==◌, ◌≡◌, true≢false, ℕ, suc, ◌&&◌, IsTrue, length, inl, inr, ⊎_elim, List, [], ◌∷◌, Some, Result, Ok, Err, is_ok, Vec, Box, slice_get, refl, sym, ap, ◌∙◌, subst, eqb-true}
+use Rattle.std.proofs.Common.{◌≡◌, true≢false, ℕ, suc, IsTrue, length, inl, inr, ⊎_elim, List, [], ◌∷◌, Some, Result, Ok, Err, is_ok, Vec, Box, slice_get, refl, sym, ap, ◌∙◌, subst, arith}
 use Rattle.std.specs.declared.alloc.Global.{Global}
 use Rattle.std.proofs.lemmas.Bool.{and_parts}
 use Rattle.std.proofs.lemmas.List.{length-map}
+use Rattle.std.proofs.lemmas.Grind.{common_steps}
 use Rattle.core_typed.proofs.RuleRunSteps.{same_ok}
 use Rattle.core_types.specs.declared.ids.TypeId.{TypeId}
 use Rattle.core_types.specs.declared.ids.TermId.{TermId}
 use Rattle.core_types.specs.declared.ids.VarId.{VarId}
 use Rattle.core_terms.specs.declared.term.Term.{Term as CodeTerm}
 use Rattle.core_terms.specs.TermViews.{term_view}
-use Rattle.model.specs.lists.Formed.{of_entry}
-use Rattle.model.specs.lists.Setting.{has_constructor}
 use Rattle.model.specs.lists.Tables.{TermEntry}
 use Rattle.model.specs.rules.Typed.{make_term, make_let, TypedLets, no_typed_let, typed_let_and}
 use Rattle.model.specs.trees.Places.{is_in}
@@ -33,9 +32,7 @@ seen_call e ty term args es h f = ap expr_view h ∙ view-Term ty term args ∙ 
 
 pub seen_let : (e : Expr) (ty : TypeId) (bindings : Vec (VarId × TypeId × Box Expr Global) Global) (body : Box Expr Global) (ds : List (VarId × TypeId × Box Expr Global)) (b : Expr) →
     e ≡ Let ty bindings body → ds ≡ bindings.items → b ≡ body.value → expr_view e ≡ make_let ty.0 (let_parts (let_views ds)) (expr_view b)
-seen_let e ty bindings body ds b h f g =
-    ap expr_view h ∙ view-Let ty bindings body ∙ ap (λ zs. make_let ty.0 (let_parts (let_views zs)) (expr_view body.value)) (sym f)
-    ∙ ap (λ z. make_let ty.0 (let_parts (let_views ds)) (expr_view z)) (sym g)
+seen_let e ty bindings body ds b h f g = grind (arith, common_steps, view-Let ty bindings body)
 
 arg_count : (es : List Expr) → expr_count (expr_parts (expr_views es)) ≡ length es
 arg_count [] = refl
@@ -47,11 +44,7 @@ pub lets_bind : {S E : Type 0} (v : ExprSteps VisitFault S E) (terms : List Term
 lets_bind v terms no_typed_let vs s ws t h = λ y. ap (λ zs. is_in y (bound_vars zs)) (same_ok ws vs h.0)
 lets_bind v terms (typed_let_and x ty value rest) vs s ws t h =
     ⊎_elim
-    (λ p.
-    ⊎_elim
-    (λ r. absurd (true≢false (ap is_ok r.0)))
-    (λ r. λ y. lets_bind v terms rest (with_bound vs x p.0) p.1 ws t r y ∙ lets_after_same rest (bound_vars (with_bound vs x p.0)) (x ∷ bound_vars vs) (bound_with vs x p.0) y)
-    p.3)
+    (λ p. grind (arith, common_steps, lets_bind v terms rest (with_bound vs x p.0) p.1 ws t, lets_after_same, bound_with))
     (λ e. absurd (true≢false (ap is_ok e.2)))
     h
 
@@ -70,9 +63,7 @@ module _ (terms : List TermEntry) where
 
   -- a term has as many arguments as the expression gives it
   pub counts_args : (term : TermId) (n : ℕ) (used : CodeTerm) (tys : List TypeId) → slice_get terms term.0 ≡ Some (term_view used) → tys ≡ used.arg_tys.items → IsTrue (is_made_of terms term.0 n) → length tys ≡ n
-  counts_args term n used tys at is h =
-      let both = and_parts _ _ (subst (λ o. IsTrue (of_entry o (λ e. has_constructor e.kind && (length e.arg_tys == n)))) at h) in
-      ap length is ∙ sym (length-map used.arg_tys.items (λ (ty : TypeId). ty.0)) ∙ eqb-true (length (term_view used).arg_tys) n both.1
+  counts_args term n used tys at is h = grind (arith, common_steps, and_parts, length-map)
 
   pub asks_defs : (e : Expr) (ty : TypeId) (bindings : Vec (VarId × TypeId × Box Expr Global) Global) (body : Box Expr Global) (ds : List (VarId × TypeId × Box Expr Global)) (ks : List ℕ) →
       e ≡ Let ty bindings body → ds ≡ bindings.items → IsTrue (is_visitable_expr terms (expr_view e) ks) → IsTrue (are_visitable_lets terms (let_parts (let_views ds)) ks)
@@ -81,9 +72,7 @@ module _ (terms : List TermEntry) where
   pub asks_body : {S E : Type 0} (v : ExprSteps VisitFault S E) (e : Expr) (ty : TypeId) (bindings : Vec (VarId × TypeId × Box Expr Global) Global) (body : Box Expr Global) (ds : List (VarId × TypeId × Box Expr Global)) (b : Expr) (vs ws : BoundIds E) (s t : S) →
       e ≡ Let ty bindings body → ds ≡ bindings.items → b ≡ body.value → IsTrue (is_visitable_expr terms (expr_view e) (bound_vars vs)) → LetsRun no_memory v terms (let_parts (let_views ds)) vs s (Ok ws) t →
       IsTrue (is_visitable_expr terms (expr_view b) (bound_vars ws))
-  asks_body v e ty bindings body ds b vs ws s t h f g c ran =
-      let both = and_parts _ _ (subst (λ z. IsTrue (is_visitable_expr terms z (bound_vars vs))) (seen_let e ty bindings body ds b h f g) c) in
-      expr_same terms (expr_view b) (bound_vars ws) (bound_after_lets (let_parts (let_views ds)) (bound_vars vs)) (lets_bind v terms (let_parts (let_views ds)) vs s ws t ran) ∙ both.1
+  asks_body v e ty bindings body ds b vs ws s t h f g c ran = grind (arith, common_steps, and_parts, seen_let, expr_same, lets_bind)
 
 module _ {S E : Type 0} (v : ExprSteps VisitFault S E) (terms : List TermEntry) where
   types_used : (term : TermId) (used : CodeTerm) (tys : List TypeId) → slice_get terms term.0 ≡ Some (term_view used) → tys ≡ used.arg_tys.items → entry_arg_types (slice_get terms term.0) ≡ type_numbers tys
@@ -92,16 +81,12 @@ module _ {S E : Type 0} (v : ExprSteps VisitFault S E) (terms : List TermEntry) 
   pub runs_call : (e : Expr) (ty : TypeId) (term : TermId) (args : Vec Expr Global) (es : List Expr) (used : CodeTerm) (tys : List TypeId) (inputs : List (E × ℕ)) (vs : BoundIds E) (s u : S) (r : Result E VisitFault) (t : S) →
       e ≡ Term ty term args → es ≡ args.items → slice_get terms term.0 ≡ Some (term_view used) → tys ≡ used.arg_tys.items →
       InputsRun no_memory v terms (expr_parts (expr_views es)) (type_numbers tys) vs s (Ok inputs) u → Makes v ty.0 term.0 inputs (slice_get terms term.0) u r t → ExprRun no_memory v terms (expr_view e) vs s r t
-  runs_call e ty term args es used tys inputs vs s u r t h f at is first rest =
-      rw (seen_call e ty term args es h f)
-      (inl (inputs, u, subst (λ zs. InputsRun no_memory v terms (expr_parts (expr_views es)) zs vs s (Ok inputs) u) (sym (types_used term used tys at is)) first, rest))
+  runs_call e ty term args es used tys inputs vs s u r t h f at is first rest = grind (arith, common_steps, seen_call, types_used)
 
   pub stops_call : (e : Expr) (ty : TypeId) (term : TermId) (args : Vec Expr Global) (es : List Expr) (used : CodeTerm) (tys : List TypeId) (vs : BoundIds E) (s : S) (fault : VisitFault) (t : S) →
       e ≡ Term ty term args → es ≡ args.items → slice_get terms term.0 ≡ Some (term_view used) → tys ≡ used.arg_tys.items →
       InputsRun no_memory v terms (expr_parts (expr_views es)) (type_numbers tys) vs s (Err fault) t → ExprRun no_memory v terms (expr_view e) vs s (Err fault) t
-  stops_call e ty term args es used tys vs s fault t h f at is first =
-      rw (seen_call e ty term args es h f)
-      (inr (fault, subst (λ zs. InputsRun no_memory v terms (expr_parts (expr_views es)) zs vs s (Err fault) t) (sym (types_used term used tys at is)) first, refl))
+  stops_call e ty term args es used tys vs s fault t h f at is first = grind (arith, common_steps, seen_call, types_used)
 
   pub runs_let : (e : Expr) (ty : TypeId) (bindings : Vec (VarId × TypeId × Box Expr Global) Global) (body : Box Expr Global) (ds : List (VarId × TypeId × Box Expr Global)) (b : Expr) (vs ws : BoundIds E) (s u : S) (r : Result E VisitFault) (t : S) →
       e ≡ Let ty bindings body → ds ≡ bindings.items → b ≡ body.value → LetsRun no_memory v terms (let_parts (let_views ds)) vs s (Ok ws) u → ExprRun no_memory v terms (expr_view b) ws u r t → ExprRun no_memory v terms (expr_view e) vs s r t

@@ -1,8 +1,9 @@
 -- An expression's run, made of the runs of its parts.
-use Rattle.std.proofs.Common.{◌≡◌, true≢false, ℕ, ◌+◌, ◌<◌, ◌≤◌, IsTrue, length, get_or, drop, inl, inr, ⊎_elim, List, [], ◌∷◌, ◌++◌, Result, Ok, Err, is_ok, Box, alloc_error, refl, sym, ap, ◌∙◌, subst, append_assoc}
+use Rattle.std.proofs.Common.{◌≡◌, ℕ, ◌+◌, ◌<◌, ◌≤◌, IsTrue, length, get_or, drop, inl, inr, List, [], ◌∷◌, ◌++◌, Result, Ok, Err, Box, alloc_error, refl, ap, ◌∙◌, subst, arith}
 use Rattle.std.specs.declared.alloc.Global.{Global}
 use Rattle.std.proofs.lemmas.Bool.{and_parts}
 use Rattle.std.proofs.lemmas.List.{drop_more, drop_all, map-append, length-append}
+use Rattle.std.proofs.lemmas.Grind.{common_steps}
 use Rattle.core_types.specs.declared.ids.TypeId.{TypeId}
 use Rattle.core_types.specs.declared.ids.VarId.{VarId}
 use Rattle.model.specs.lists.Tables.{TermEntry}
@@ -15,7 +16,7 @@ use Rattle.core_typed.specs.ExprViews.{expr_view, expr_views, expr_parts, let_vi
 use Rattle.model.specs.visits.ExprRuns.{ExprRun, InputsRun, LetsRun}
 use Rattle.model.specs.lists.Visitable.{is_visitable_expr, are_visitable_args, are_visitable_lets}
 use Rattle.core_typed.specs.VisitAnswers.{type_numbers, typed_inputs}
-use Rattle.model.specs.visits.Runs.{BoundIds, binds, bound_vars, with_bound}
+use Rattle.model.specs.visits.Runs.{BoundIds, binds, bound_vars}
 use Rattle.core_typed.specs.VisitorSteps.{no_memory}
 use Rattle.core_typed.proofs.BoundVars.{bound_with, lets_same}
 
@@ -25,15 +26,13 @@ after_these xs (Ok ys) = Ok (xs ++ ys)
 after_these xs (Err e) = Err e
 
 after_one : {A : Type 0} (xs : List A) (x : A) (r : Result (List A) VisitFault) → after_these xs (after_these (x ∷ []) r) ≡ after_these (xs ++ x ∷ []) r
-after_one xs x (Ok ys) = ap Ok (sym (append_assoc xs (x ∷ []) ys))
-after_one xs x (Err e) = refl
+after_one xs x r = grind (arith, common_steps)
 
 module _ {S E : Type 0} (v : ExprSteps VisitFault S E) (terms : List TermEntry) where
   -- one argument, and the rest
   one_input : (e : TypedExpr) (rest : TypedExprs) (ty : ℕ) (tys : List ℕ) (vs : BoundIds E) (x : E) (s u : S) (r : Result (List (E × ℕ)) VisitFault) (t : S) →
       ExprRun no_memory v terms e vs s (Ok x) u → InputsRun no_memory v terms rest tys vs u r t → InputsRun no_memory v terms (typed_expr_and e rest) (ty ∷ tys) vs s (after_these ((x, ty) ∷ []) r) t
-  one_input e rest ty tys vs x s u (Ok ys) t first h = inl (x, u, first, inr (inl (ys, t, h, (refl, refl))))
-  one_input e rest ty tys vs x s u (Err f) t first h = inl (x, u, first, inr (inr (f, h, refl)))
+  one_input e rest ty tys vs x s u r t first h = grind (arith, common_steps)
 
   pub input_step : (es : List Expr) (tys : List TypeId) (i : ℕ) (d : Expr) (y : TypeId) (vs : BoundIds E) (x : E) (s u : S) (r : Result (List (E × ℕ)) VisitFault) (t : S) →
       i < length es → i < length tys → ExprRun no_memory v terms (expr_view (get_or es i d)) vs s (Ok x) u →
@@ -59,9 +58,7 @@ module _ {S E : Type 0} (v : ExprSteps VisitFault S E) (terms : List TermEntry) 
   pub let_step : (ds : List (VarId × TypeId × Box Expr Global)) (i : ℕ) (d : VarId × TypeId × Box Expr Global) (vs ws : BoundIds E) (x : E) (a : Unit {0}) (s u : S) (r : Result (BoundIds E) VisitFault) (t : S) →
       i < length ds → ExprRun no_memory v terms (expr_view (get_or ds i d).2.value) vs s (Ok x) u → binds no_memory (get_or ds i d).0.0 x vs (Ok a) ws →
       LetsRun no_memory v terms (let_parts (let_views (drop (i + 1) ds))) ws u r t → LetsRun no_memory v terms (let_parts (let_views (drop i ds))) vs s r t
-  let_step ds i d vs ws x a s u r t lt first b rest =
-      let at : ws ≡ with_bound vs (get_or ds i d).0.0 x = ⊎_elim (λ p. p.1) (λ p. absurd (true≢false (ap is_ok p.0))) b in
-      rw (drop_more ds i d lt) (inl (x, u, first, inr (subst (λ zs. LetsRun no_memory v terms (let_parts (let_views (drop (i + 1) ds))) zs u r t) at rest)))
+  let_step ds i d vs ws x a s u r t lt first b rest = grind (arith, common_steps, drop_more)
 
   pub let_stop : (ds : List (VarId × TypeId × Box Expr Global)) (i : ℕ) (d : VarId × TypeId × Box Expr Global) (vs : BoundIds E) (s : S) (f : VisitFault) (t : S) →
       i < length ds → ExprRun no_memory v terms (expr_view (get_or ds i d).2.value) vs s (Err f) t → LetsRun no_memory v terms (let_parts (let_views (drop i ds))) vs s (Err f) t
@@ -70,15 +67,7 @@ module _ {S E : Type 0} (v : ExprSteps VisitFault S E) (terms : List TermEntry) 
   pub let_refused : (ds : List (VarId × TypeId × Box Expr Global)) (i : ℕ) (d : VarId × TypeId × Box Expr Global) (vs ws : BoundIds E) (x : E) (s : S) (f : VisitFault) (t : S) →
       i < length ds → ExprRun no_memory v terms (expr_view (get_or ds i d).2.value) vs s (Ok x) t → binds no_memory (get_or ds i d).0.0 x vs (Err f) ws →
       LetsRun no_memory v terms (let_parts (let_views (drop i ds))) vs s (Err f) t
-  let_refused ds i d vs ws x s f t lt first b =
-      rw (drop_more ds i d lt) (inl (x, t, first, inl (⊎_elim (λ p. absurd (true≢false (sym (ap is_ok p.0)))) (λ p. (ap Err (same_fault f p.0), refl)) b)))
-    where
-      fault_or : VisitFault → Result (Unit {0}) VisitFault → VisitFault
-      fault_or e (Ok _) = e
-      fault_or e (Err z) = z
-
-      same_fault : (f : VisitFault) → ◌≡◌ {A = Result (Unit {0}) VisitFault} (Err f) (Err (Memory alloc_error)) → f ≡ Memory alloc_error
-      same_fault f h = ap (fault_or f) h
+  let_refused ds i d vs ws x s f t lt first b = grind (arith, common_steps, drop_more)
 
 -- the next of several arguments, or definitions, can be visited, and after it those that follow
 pub arg_visitable : (terms : List TermEntry) (es : List Expr) (i : ℕ) (d : Expr) (ks : List ℕ) → i < length es → IsTrue (are_visitable_args terms (expr_parts (expr_views (drop i es))) ks) →
@@ -88,24 +77,17 @@ arg_visitable terms es i d ks lt h =
 
 pub let_visitable : (terms : List TermEntry) (ds : List (VarId × TypeId × Box Expr Global)) (i : ℕ) (d : VarId × TypeId × Box Expr Global) (ks : List ℕ) → i < length ds →
     IsTrue (are_visitable_lets terms (let_parts (let_views (drop i ds))) ks) → IsTrue (is_visitable_expr terms (expr_view (get_or ds i d).2.value) ks)
-let_visitable terms ds i d ks lt h =
-    (and_parts _ _ (subst (λ zs. IsTrue (are_visitable_lets terms (let_parts (let_views zs)) ks)) (drop_more ds i d lt) h)).0
+let_visitable terms ds i d ks lt h = grind (arith, common_steps, and_parts, drop_more)
 
 pub lets_visitable : {E : Type 0} (terms : List TermEntry) (ds : List (VarId × TypeId × Box Expr Global)) (i : ℕ) (d : VarId × TypeId × Box Expr Global) (vs ws : BoundIds E) (x : E) (a : Unit {0}) → i < length ds →
     IsTrue (are_visitable_lets terms (let_parts (let_views (drop i ds))) (bound_vars vs)) → binds no_memory (get_or ds i d).0.0 x vs (Ok a) ws →
     IsTrue (are_visitable_lets terms (let_parts (let_views (drop (i + 1) ds))) (bound_vars ws))
-lets_visitable terms ds i d vs ws x a lt h b =
-    let at : ws ≡ with_bound vs (get_or ds i d).0.0 x = ⊎_elim (λ p. p.1) (λ p. absurd (true≢false (ap is_ok p.0))) b in
-    let both = and_parts _ _ (subst (λ zs. IsTrue (are_visitable_lets terms (let_parts (let_views zs)) (bound_vars vs))) (drop_more ds i d lt) h) in
-    ap (λ zs. are_visitable_lets terms (let_parts (let_views (drop (i + 1) ds))) (bound_vars zs)) at
-    ∙ lets_same terms (let_parts (let_views (drop (i + 1) ds))) (bound_vars (with_bound vs (get_or ds i d).0.0 x)) ((get_or ds i d).0.0 ∷ bound_vars vs) (bound_with vs (get_or ds i d).0.0 x) ∙ both.1
+lets_visitable terms ds i d vs ws x a lt h b = grind (arith, common_steps, and_parts, drop_more, lets_same, bound_with)
 
 -- inputs met one after another
 pub inputs_step : {E : Type 0} (out new : List (E × TypeId)) (x : E) (ty y : TypeId) (r : Result (List (E × ℕ)) VisitFault) → new ≡ out ++ (x, ty) ∷ [] → ty ≡ y →
     after_these (typed_inputs out) (after_these ((x, y.0) ∷ []) r) ≡ after_these (typed_inputs new) r
-inputs_step {E} out new x ty y r is at =
-    after_one (typed_inputs out) (x, y.0) r
-    ∙ ap (λ l. after_these l r) (sym (ap typed_inputs is ∙ map-append (λ (z : E × TypeId). (z.0, z.1.0)) out ((x, ty) ∷ []) ∙ ap (λ (z : TypeId). typed_inputs out ++ (x, z.0) ∷ []) at))
+inputs_step {E} out new x ty y r is at = grind (arith, common_steps, after_one, map-append)
 
 pub one_more : {A : Type 0} (out new : List A) (x : A) (i : ℕ) → new ≡ out ++ x ∷ [] → length out ≡ i → length new ≡ i + 1
 one_more out new x i is h = ap length is ∙ length-append out (x ∷ []) ∙ ap (λ n. n + 1) h

@@ -5,6 +5,7 @@ use Rattle.std.specs.List.{cons_option}
 use Rattle.std.proofs.lemmas.Bool.{false≢true, eqb-true, eq-eqb}
 use Rattle.std.proofs.lemmas.List.{append_assoc, append-nil, at_drop_more}
 use Rattle.std.proofs.lemmas.List.Elements.{filter_map-append}
+use Rattle.std.proofs.lemmas.Grind.{common_steps}
 use Rattle.core_syntax.specs.declared.syntax.Error.{Error}
 use Rattle.core_syntax.specs.Stable.{Entries, look_up}
 use Rattle.model.specs.lists.Names.{IsDistinct}
@@ -14,7 +15,7 @@ use Rattle.model.specs.rules.Typed.{TypedRule}
 use Rattle.model.specs.lists.Elaborated.{rule_names, rule_named}
 use Rattle.core_types.specs.declared.ids.Sym.{Sym}
 use Rattle.core_types.specs.declared.ids.RuleId.{RuleId}
-use Rattle.core_types.specs.Envs.{same_symbol, symbol}
+use Rattle.core_types.specs.Envs.{same_symbol}
 use Rattle.core_typed.specs.declared.rules.Rule.{Rule}
 use Rattle.core_typed.specs.RuleViews.{rule_view, rule_views}
 use Rattle.core_syntax.specs.NotedErrors.{NotesMore, MayNoteMore}
@@ -33,15 +34,10 @@ or_first (Some i) o = Some i
 
 named_append : (xs ys : List TypedRule) (k : ℕ) → rule_named (xs ++ ys) k ≡ or_first (rule_named xs k) (rule_named ys k)
 named_append [] ys k = refl
-named_append (x ∷ xs) ys k =
-    elim (has_it x.name k) as (λ b. cond b (Some x.id) (rule_named (xs ++ ys) k) ≡ or_first (cond b (Some x.id) (rule_named xs k)) (rule_named ys k)) [
-      | true ↦ refl
-      | false ↦ named_append xs ys k
-    ]
+named_append (x ∷ xs) ys k = grind (arith, common_steps, named_append xs ys k)
 
 or_none : (o : Option ℕ) → or_first o None ≡ o
-or_none None = refl
-or_none (Some i) = refl
+or_none o = grind (arith, common_steps)
 
 -- a name that a rule has stands among the names
 named_place : (xs : List TypedRule) (k i : ℕ) → rule_named xs k ≡ Some i → (j : ℕ) × (j < length (rule_names xs)) × (slice_get (rule_names xs) j ≡ Some k)
@@ -56,33 +52,20 @@ named_place (x ∷ xs) k i e =
     ] e
 
 absent_rest : (ns : List ℕ) (k n : ℕ) → n == k ≡ false → ((j : ℕ) → slice_get ns j ≡ Some k → ⊥) → (j : ℕ) → slice_get (n ∷ ns) j ≡ Some k → ⊥
-absent_rest ns k n other none zero g = let same : n ≡ k = cc in false≢true (sym other ∙ eq-eqb n k same)
-absent_rest ns k n other none (suc j) g = none j g
+absent_rest ns k n other none j g = grind (arith, common_steps, eq-eqb)
 
 -- a name that no rule has doesn't
 named_absent : (xs : List TypedRule) (k : ℕ) → rule_named xs k ≡ None → (j : ℕ) → slice_get (rule_names xs) j ≡ Some k → ⊥
 named_absent [] k e j h = absurd (cc)
-named_absent (x ∷ xs) k e j h =
-    elim (x.name) as (λ o. cond (has_it o k) (Some x.id) (rule_named xs k) ≡ None → slice_get (cons_option o (rule_names xs)) j ≡ Some k → ⊥) [
-      | None ↦ λ f g. named_absent xs k f j g
-      | Some n ↦ λ f g. elim (n == k) as (λ b. n == k ≡ b → cond b (Some x.id) (rule_named xs k) ≡ None → ⊥) [
-        | true ↦ λ _ none. absurd (cc)
-        | false ↦ λ other none. absent_rest (rule_names xs) k n other (named_absent xs k none) j g
-      ] refl f
-    ] e h
+named_absent (x ∷ xs) k e j h = grind (arith, common_steps, named_absent xs k, absent_rest)
 
 -- a name that the map hasn't
 pub free_at : (m : Entries Sym RuleId) (s : Sym) → is_some (look_up same_symbol m s) ≡ false → rule_in m s.0 ≡ None
-free_at m s e =
-    elim (look_up same_symbol m s) as (λ o. is_some o ≡ false → option_map (λ r. r.0) o ≡ None) [
-      | None ↦ λ _. refl
-      | Some r ↦ λ f. absurd (false≢true (sym f))
-    ] e
+free_at m s e = grind (arith, common_steps)
 
 -- what is read off a map with one more entry
 pub read_rules : (old new : Entries Sym RuleId) (s : Sym) (id : RuleId) → ((x : Sym) → look_up same_symbol new x ≡ cond (same_symbol s x) (Some id) (look_up same_symbol old x)) → (k : ℕ) → rule_in new k ≡ cond (nat_eq s.0 k) (Some id.0) (rule_in old k)
-read_rules old new s id has k =
-    ap (option_map (λ r. r.0)) (has (symbol k)) ∙ (elim (nat_eq s.0 k) as (λ b. option_map (λ r. r.0) (cond b (Some id) (look_up same_symbol old (symbol k))) ≡ cond b (Some id.0) (option_map (λ r. r.0) (look_up same_symbol old (symbol k)))) [ true ↦ refl | false ↦ refl ])
+read_rules old new s id has k = grind (arith, common_steps)
 
 -- where the naming of rules is
 pub record Mapping (all rest : List TypedRule) (m : Entries Sym RuleId) : Type 0 where
@@ -100,8 +83,7 @@ module _ (all rest : List TypedRule) (r : TypedRule) (before after : Entries Sym
     done = m.done ++ r ∷ [];
     whole = append_assoc m.done (r ∷ []) rest ∙ m.whole;
     distinct = subst IsDistinct (sym (filter_map-append (λ q. q.name) m.done (r ∷ []) ∙ ap (λ o. rule_names m.done ++ cons_option o []) none ∙ append-nil (rule_names m.done))) m.distinct;
-    ids = λ k. ap (λ t. rule_in t k) same ∙ m.ids k
-        ∙ sym (named_append m.done (r ∷ []) k ∙ ap (λ o. or_first (rule_named m.done k) (cond (has_it o k) (Some r.id) None)) none ∙ or_none (rule_named m.done k));
+    ids = grind (arith, common_steps, named_append, or_none);
   }
 
   module _ (name : ℕ) (has : r.name ≡ Some name) where
@@ -113,27 +95,14 @@ module _ (all rest : List TypedRule) (r : TypedRule) (before after : Entries Sym
       done = m.done ++ r ∷ [];
       whole = append_assoc m.done (r ∷ []) rest ∙ m.whole;
       distinct = subst IsDistinct (sym names_then) (distinct_push (rule_names m.done) name m.distinct (named_absent m.done name (sym (m.ids name) ∙ free)));
-      ids = λ k.
-          is k ∙ ap (cond (nat_eq name k) (Some r.id)) (m.ids k)
-          ∙ (elim (nat_eq name k) as (λ b. nat_eq name k ≡ b → cond b (Some r.id) (rule_named m.done k) ≡ or_first (rule_named m.done k) (cond b (Some r.id) None)) [
-            | true ↦ λ e.
-                let none : rule_named m.done k ≡ None = subst (λ j. rule_named m.done j ≡ None) (eqb-true name k e) (sym (m.ids name) ∙ free) in
-                sym (ap (λ o. or_first o (Some r.id)) none)
-            | false ↦ λ _. sym (or_none (rule_named m.done k))
-          ] refl)
-          ∙ sym (named_append m.done (r ∷ []) k ∙ ap (λ o. or_first (rule_named m.done k) (cond (has_it o k) (Some r.id) None)) has);
+      ids = grind (arith, common_steps, eqb-true, or_none, named_append);
     }
 
     names_all : rule_names all ≡ rule_names m.done ++ name ∷ rule_names rest
-    names_all =
-        sym (ap rule_names m.whole) ∙ filter_map-append (λ q. q.name) m.done (r ∷ rest) ∙ ap (λ o. rule_names m.done ++ cons_option o (rule_names rest)) has
+    names_all = grind (arith, common_steps, filter_map-append)
 
     there : IsTrue (is_some (rule_in before name)) → Contains (rule_names m.done) name
-    there some =
-        elim (rule_named m.done name) as (λ o. rule_named m.done name ≡ o → is_some o ≡ true → Contains (rule_names m.done) name) [
-          | None ↦ λ _ h. absurd (false≢true h)
-          | Some i ↦ λ e _. let p = named_place m.done name i e in member_from_get (rule_names m.done) p.0 name p.2
-        ] refl (sym (ap is_some (m.ids name)) ∙ some)
+    there some = grind (arith, common_steps, named_place, member_from_get)
 
     taken : IsTrue (is_some (rule_in before name)) → IsDistinct (rule_names all) → ⊥
     taken some once =
@@ -163,16 +132,11 @@ pub first_named : (all : List TypedRule) (es : List Error) (m : Entries Sym Rule
 first_named all es m none = inl (refl, record { done = []; whole = refl; distinct = distinct_nil; ids = none })
 
 pub last_named : (all : List TypedRule) (old new : List Error) (m : Entries Sym RuleId) → MappingAt all [] old new m → MapsNames old new all m
-last_named all old new m (inl a) =
-    let e : a.1.done ≡ all = sym (append-nil a.1.done) ∙ a.1.whole in
-    inl (a.0, subst (λ xs. IsDistinct (rule_names xs)) e a.1.distinct, λ k. a.1.ids k ∙ ap (λ xs. rule_named xs k) e)
-last_named all old new m (inr a) = inr a
+last_named all old new m h = grind (arith, common_steps, append-nil)
 
 -- the first name that is taken
 name_noted : (old new : List Error) (id : ℕ) (o : Option ℕ) (before after : Entries Sym RuleId) → NamesAs old new id o before after → MayNoteMore old new
-name_noted old new id None before after s = inl s.0
-name_noted old new id (Some n) before after (inl s) = inl s.0
-name_noted old new id (Some n) before after (inr s) = inr s.0
+name_noted old new id o before after s = grind arith
 
 module _ (all rest : List TypedRule) (r : TypedRule) (mid new : List Error) (before after : Entries Sym RuleId) (m : Mapping all (r ∷ rest) before) (none : mid ≡ []) (noted : NotesAt (r.at ∷ []) mid new) where
   name_taken : (o : Option ℕ) → r.name ≡ o → NamesAs mid new r.id o before after → ((new ≡ []) × Unit {0}) ⊎ ((new ≢ []) × IsNoted (TakesName all) mid new)

@@ -1,9 +1,10 @@
 -- Errors that are noted in order, each at a place.
-use Rattle.std.proofs.Common.{◌≡◌, Bool, true, false, List, [], ◌∷◌, ◌++◌, length, map, All, Contains, Result, Ok, Err, OnOk, true≢false, append_assoc, append-nil, inl, inr, refl, sym, ap, subst, ◌∙◌, arith}
+use Rattle.std.proofs.Common.{◌≡◌, Bool, false, List, [], ◌∷◌, ◌++◌, length, map, All, Contains, Result, Ok, Err, OnOk, append-nil, inl, inr, refl, sym, ap, ◌∙◌, arith}
 use Rattle.std.proofs.lemmas.List.{map-append}
-use Rattle.std.proofs.lemmas.List.Elements.{All-nil, All-cons, All-head, All-append}
+use Rattle.std.proofs.lemmas.List.Elements.{All-nil, All-cons, All-head}
+use Rattle.std.proofs.lemmas.Grind.{common_steps}
 use Rattle.model.specs.lists.Syntax.{Position}
-use Rattle.model.specs.claims.Refusals.{Refusal, IsIllTyped, ill_typed, unreachable, overlapping, shadowing, past_limit}
+use Rattle.model.specs.claims.Refusals.{Refusal, IsIllTyped, ill_typed}
 use Rattle.model.proofs.Members.{in_alone}
 use Rattle.core_syntax.specs.declared.syntax.Error.{Error}
 use Rattle.core_syntax.specs.ErrorViews.{error_view, error_views}
@@ -18,20 +19,11 @@ none_at old new same = record { more = []; added = same ∙ sym (append-nil old)
 
 -- some, then others
 pub both_at : (ps qs : List Position) (a b c : List Error) → NotesEachAt ps a b → NotesEachAt qs b c → NotesEachAt (ps ++ qs) a c
-both_at ps qs a b c r s = record {
-  more = r.more ++ s.more;
-  added = s.added ∙ ap (λ es. es ++ s.more) r.added ∙ append_assoc a r.more s.more;
-  views = map-append error_view r.more s.more ∙ ap (λ vs. vs ++ error_views s.more) r.views ∙ ap (λ vs. map ill_typed ps ++ vs) s.views ∙ sym (map-append ill_typed ps qs);
-  single = All-append HasSingleSpans r.more s.more r.single s.single;
-}
+both_at ps qs a b c r s = grind (arith, common_steps, map-append)
 
 -- what stands at one place alone
 view_is : (at : Position) (r : Refusal) → IsIllTyped r → All (Contains (at ∷ [])) (positions_named r) → r ≡ ill_typed at
-view_is at (ill_typed p) form named = ap ill_typed (sym (in_alone at p (All-head (Contains (at ∷ [])) p [] named)))
-view_is at (unreachable p) form named = absurd form
-view_is at (overlapping ps) form named = absurd form
-view_is at (shadowing ps p) form named = absurd form
-view_is at (past_limit l p) form named = absurd form
+view_is at r form named = grind (arith, in_alone)
 
 one_view : (at : Position) (es : List Error) → length es ≡ 1 → All (IsToldAt (at ∷ [])) es → (error_views es ≡ ill_typed at ∷ []) × All HasSingleSpans es
 one_view at [] many each = absurd (cc)
@@ -41,18 +33,13 @@ one_view at (e ∷ []) many each =
 one_view at (e ∷ f ∷ es) many each = absurd (omega (arith, many))
 
 pub told_at : (at : Position) (old new : List Error) → Notes 1 (at ∷ []) old new → NotesEachAt (at ∷ []) old new
-told_at at old new n =
-    let v = one_view at n.more n.tells.many n.tells.each in
-    record { more = n.more; added = n.added; views = v.0; single = v.1 }
+told_at at old new n = grind (arith, common_steps, one_view at n.more n.tells.many n.tells.each)
 
 -- they are errors that say that something isn't right
 forms_at : (ps : List Position) (es : List Error) → error_views es ≡ map ill_typed ps → AreIllTyped es
 forms_at ps [] h = All-nil (λ e. IsIllTyped (error_view e))
 forms_at [] (e ∷ es) h = absurd (cc)
-forms_at (p ∷ ps) (e ∷ es) h =
-    let view : error_view e ≡ ill_typed p = cc in
-    let rest : error_views es ≡ map ill_typed ps = cc in
-    All-cons (λ x. IsIllTyped (error_view x)) e es (subst IsIllTyped (sym view) tt) (forms_at ps es rest)
+forms_at (p ∷ ps) (e ∷ es) h = grind (arith, common_steps, forms_at ps es)
 
 no_views : (es : List Error) → error_views es ≡ [] → es ≡ []
 no_views [] h = refl
@@ -71,14 +58,11 @@ may_note {ps} n = more_at ps n.more n.added n.views
 
 -- what nothing was noted for
 pub none_noted : (old new : List Error) → NotesEachAt [] old new → NotesMore old new → ⊥
-none_noted old new n m =
-    let same : new ≡ old = n.added ∙ ap (λ es. old ++ es) (no_views n.more n.views) ∙ append-nil old in
-    m.some_more (only_nothing old m.more (sym m.added ∙ same))
+none_noted old new n m = grind (arith, common_steps, no_views, only_nothing)
 
 -- by a test
 pub wrong_at : (b : Bool) (at : Position) (old new : List Error) → b ≡ false → NotesEachAt (at ∷ []) old new → NotesEachAt (place_unless b at) old new
-wrong_at true at old new h noted = absurd (true≢false h)
-wrong_at false at old new h noted = noted
+wrong_at b at old new h noted = grind (arith, common_steps)
 
 -- where memory wasn't refused
 module _ {X E : Type 0} (r : Result X E) (at : Position) (old new : List Error) where

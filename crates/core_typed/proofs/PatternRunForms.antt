@@ -1,8 +1,9 @@
 -- The visits of the forms of patterns that have parts, from the forms as the code has them: what is asked of the parts, and
 -- how the whole run is made.
-use Rattle.std.proofs.Common.{◌≡◌, true≢false, ℕ, suc, IsTrue, length, inl, inr, ⊎_elim, List, [], ◌∷◌, Some, Result, Ok, Err, is_ok, Vec, Box, slice_get, refl, sym, ap, ◌∙◌, subst}
+use Rattle.std.proofs.Common.{◌≡◌, ℕ, suc, IsTrue, length, inl, inr, List, [], ◌∷◌, Some, Result, Ok, Err, Vec, Box, slice_get, refl, sym, ap, ◌∙◌, subst, arith}
 use Rattle.std.specs.declared.alloc.Global.{Global}
 use Rattle.std.proofs.lemmas.Bool.{and_parts}
+use Rattle.std.proofs.lemmas.Grind.{common_steps}
 use Rattle.core_types.specs.declared.ids.TypeId.{TypeId}
 use Rattle.core_types.specs.declared.ids.TermId.{TermId}
 use Rattle.core_types.specs.declared.ids.VarId.{VarId}
@@ -15,7 +16,7 @@ use Rattle.model.specs.visits.Visitors.{PatternSteps}
 use Rattle.core_typed.specs.PatternViews.{pattern_view, pattern_views, pattern_parts}
 use Rattle.model.specs.visits.PatternRuns.{part_types, Opens, PatternRun, PartsRun, EachRun}
 use Rattle.model.specs.lists.Visitable.{is_visitable_pattern, are_visitable_parts, opens_into}
-use Rattle.model.specs.visits.Runs.{BoundIds, binds, bound_at, bound_vars, with_bound}
+use Rattle.model.specs.visits.Runs.{BoundIds, binds, bound_at, bound_vars}
 use Rattle.core_typed.specs.VisitorSteps.{no_memory}
 use Rattle.core_typed.proofs.BoundVars.{bound_with, pattern_same}
 use Rattle.core_typed.proofs.PatternBridges.{view-Term, view-And}
@@ -53,11 +54,7 @@ module _ (terms : List TermEntry) where
 
   pub asks_bind : {P : Type 0} (q : Pattern) (ty : TypeId) (x : VarId) (of : Box Pattern Global) (sub : Pattern) (vs ws : BoundIds P) (input : P) (a : Unit {0}) → q ≡ BindPattern ty x of → sub ≡ of.value →
       binds no_memory x.0 input vs (Ok a) ws → IsTrue (is_visitable_pattern terms (pattern_view q) (bound_vars vs)) → IsTrue (is_visitable_pattern terms (pattern_view sub) (bound_vars ws))
-  asks_bind q ty x of sub vs ws input a e f b h =
-      let both = and_parts _ _ (subst (λ z. IsTrue (is_visitable_pattern terms z (bound_vars vs))) (seen_bind q ty x of sub e f) h) in
-      let at : ws ≡ with_bound vs x.0 input = ⊎_elim (λ p. p.1) (λ p. absurd (true≢false (ap is_ok p.0))) b in
-      ap (λ zs. is_visitable_pattern terms (pattern_view sub) (bound_vars zs)) at
-      ∙ pattern_same terms (pattern_view sub) (bound_vars (with_bound vs x.0 input)) (x.0 ∷ bound_vars vs) (bound_with vs x.0 input) ∙ both.1
+  asks_bind q ty x of sub vs ws input a e f b h = grind (arith, common_steps, and_parts, seen_bind, pattern_same, bound_with)
 
 module _ {S P : Type 0} (v : PatternSteps VisitFault S P) (terms : List TermEntry) where
   pub runs_term : (q : Pattern) (ty : TypeId) (term : TermId) (parts : Vec Pattern Global) (ps : List Pattern) (input : P) (ids : List P) (s u : S) (vs : BoundIds P) (r : Result (Unit {0}) VisitFault) (t : S × BoundIds P) →

@@ -1,8 +1,9 @@
 -- A pattern's run: what is bound after it, and how it is made of the runs of its parts.
-use Rattle.std.proofs.Common.{◌≡◌, true≢false, ℕ, suc, ◌+◌, ◌<◌, IsTrue, length, get_or, drop, inl, inr, ⊎_elim, List, [], ◌∷◌, Result, Ok, Err, is_ok, refl, sym, ap, ◌∙◌, subst}
+use Rattle.std.proofs.Common.{◌≡◌, true≢false, ℕ, suc, ◌+◌, ◌<◌, IsTrue, length, get_or, drop, inl, inr, ⊎_elim, List, [], ◌∷◌, Result, Ok, Err, is_ok, refl, sym, ap, ◌∙◌, arith}
 use Rattle.std.specs.Result.{IsErr, IsErrAnd}
 use Rattle.std.proofs.lemmas.Bool.{and_parts}
 use Rattle.std.proofs.lemmas.List.{drop_more, length-map}
+use Rattle.std.proofs.lemmas.Grind.{common_steps}
 use Rattle.core_types.specs.declared.ids.TypeId.{TypeId}
 use Rattle.model.specs.lists.Tables.{TermEntry}
 use Rattle.model.specs.rules.Typed.{TypedPattern, match_bind, match_var, match_bool, match_int, match_prim, match_term, match_any, match_and, TypedPatterns, no_typed_pattern, typed_pattern_and}
@@ -14,14 +15,13 @@ use Rattle.core_typed.specs.PatternViews.{pattern_view, pattern_views, pattern_p
 use Rattle.model.specs.visits.PatternRuns.{part_types, PatternRun, PartsRun, EachRun}
 use Rattle.core_typed.specs.VisitAnswers.{type_numbers}
 use Rattle.model.specs.lists.Visitable.{bound_after, bound_after_parts, is_visitable_pattern, are_visitable_parts}
-use Rattle.model.specs.visits.Runs.{BoundIds, bound_vars, with_bound}
+use Rattle.model.specs.visits.Runs.{BoundIds, bound_vars}
 use Rattle.core_typed.specs.VisitorSteps.{no_memory}
 use Rattle.core_typed.proofs.BoundVars.{SameVars, bound_with, after_same, parts_after_same, parts_same}
 
 -- what `?` hands on
 pub err_is : {A : Type 0} (r : Result A VisitFault) (e : VisitFault) → IsErr r × IsErrAnd r (λ y. y ≡ e) → r ≡ Err e
-err_is (Ok a) e h = absurd (true≢false (sym h.0))
-err_is (Err y) e h = ap Err h.1
+err_is r e h = grind (arith, common_steps)
 
 module _ {S P : Type 0} (v : PatternSteps VisitFault S P) (terms : List TermEntry) where
   kept : (t s : S × BoundIds P) → t.1 ≡ s.1 → SameVars (bound_vars t.1) (bound_vars s.1)
@@ -32,28 +32,22 @@ module _ {S P : Type 0} (v : PatternSteps VisitFault S P) (terms : List TermEntr
     pub run_binds : (q : TypedPattern) (input : P) (s : S × BoundIds P) (a : Unit {0}) (t : S × BoundIds P) → PatternRun no_memory v terms q input s (Ok a) t → SameVars (bound_vars t.1) (bound_after q (bound_vars s.1))
     run_binds (match_bind ty x of) input s a t h =
         ⊎_elim
-        (λ p.
-        let here : p.1.1 ≡ with_bound s.1 x input = ⊎_elim (λ b. b.1) (λ b. absurd (true≢false (ap is_ok b.0))) p.2.0 in
-        let more : SameVars (bound_vars t.1) (bound_after of (bound_vars p.1.1)) = run_binds of input p.1 a t p.3 in
-        let last : SameVars (bound_after of (bound_vars (with_bound s.1 x input))) (bound_after of (x ∷ bound_vars s.1)) = after_same of (bound_vars (with_bound s.1 x input)) (x ∷ bound_vars s.1) (bound_with s.1 x input) in
-        λ y. subst (λ vs. is_in y (bound_vars t.1) ≡ is_in y (bound_after of (bound_vars vs))) here (more y) ∙ last y)
+        (λ p. grind (arith, common_steps, run_binds of input p.1 a t p.3, after_same, bound_with))
         (λ e. absurd (true≢false (ap is_ok e.2)))
         h
     run_binds (match_var ty x) input s a t h = ⊎_elim (λ p. kept t s (p.3.1 ∙ p.2.0.2.1)) (λ e. absurd (true≢false (ap is_ok e.2))) h
     run_binds (match_bool ty b) input s a t h = kept t s h.1
     run_binds (match_int ty z) input s a t h = kept t s h.1
     run_binds (match_prim ty name) input s a t h = kept t s h.1
-    run_binds (match_term ty term args) input s a t h =
-        ⊎_elim (λ p. λ y. parts_bind args p.0 p.1 a t p.3 y ∙ ap (λ vs. is_in y (bound_after_parts args (bound_vars vs))) p.2.1) (λ e. absurd (true≢false (ap is_ok e.2))) h
+    run_binds (match_term ty term args) input s a t h = grind (arith, common_steps, parts_bind args)
     run_binds (match_any ty) input s a t h = kept t s (ap (λ (z : S × BoundIds P). z.1) h.1)
     run_binds (match_and ty parts) input s a t h = each_bind parts input s a t h
 
     pub parts_bind : (qs : TypedPatterns) (ids : List P) (s : S × BoundIds P) (a : Unit {0}) (t : S × BoundIds P) → PartsRun no_memory v terms qs ids s (Ok a) t → SameVars (bound_vars t.1) (bound_after_parts qs (bound_vars s.1))
     parts_bind no_typed_pattern [] s a t h = kept t s (ap (λ (z : S × BoundIds P). z.1) h.1)
-    parts_bind no_typed_pattern (id ∷ ids) s a t h = absurd h
-    parts_bind (typed_pattern_and q rest) [] s a t h = absurd h
     parts_bind (typed_pattern_and q rest) (id ∷ ids) s a t h =
         ⊎_elim (λ p. λ y. parts_bind rest ids p.1 a t p.3 y ∙ parts_after_same rest (bound_vars p.1.1) (bound_after q (bound_vars s.1)) (run_binds q id s p.0 p.1 p.2) y) (λ e. absurd (true≢false (ap is_ok e.2))) h
+    parts_bind _ _ s a t h = absurd h
 
     pub each_bind : (qs : TypedPatterns) (input : P) (s : S × BoundIds P) (a : Unit {0}) (t : S × BoundIds P) → EachRun no_memory v terms qs input s (Ok a) t → SameVars (bound_vars t.1) (bound_after_parts qs (bound_vars s.1))
     each_bind no_typed_pattern input s a t h = kept t s (ap (λ (z : S × BoundIds P). z.1) h.1)
@@ -85,16 +79,13 @@ module _ {S P : Type 0} (v : PatternSteps VisitFault S P) (terms : List TermEntr
 -- the next of several patterns can be visited
 pub next_visitable : (terms : List TermEntry) (ps : List Pattern) (i : ℕ) (d : Pattern) (ks : List ℕ) → i < length ps →
     IsTrue (are_visitable_parts terms (pattern_parts (pattern_views (drop i ps))) ks) → IsTrue (is_visitable_pattern terms (pattern_view (get_or ps i d)) ks)
-next_visitable terms ps i d ks lt h =
-    (and_parts _ _ (subst (λ zs. IsTrue (are_visitable_parts terms (pattern_parts (pattern_views zs)) ks)) (drop_more ps i d lt) h)).0
+next_visitable terms ps i d ks lt h = grind (arith, common_steps, and_parts, drop_more)
 
 -- and after it those that follow
 pub rest_visitable : (terms : List TermEntry) (ps : List Pattern) (i : ℕ) (d : Pattern) (ks ls : List ℕ) → i < length ps →
     IsTrue (are_visitable_parts terms (pattern_parts (pattern_views (drop i ps))) ks) → SameVars ls (bound_after (pattern_view (get_or ps i d)) ks) →
     IsTrue (are_visitable_parts terms (pattern_parts (pattern_views (drop (i + 1) ps))) ls)
-rest_visitable terms ps i d ks ls lt h same =
-    let both = and_parts _ _ (subst (λ zs. IsTrue (are_visitable_parts terms (pattern_parts (pattern_views zs)) ks)) (drop_more ps i d lt) h) in
-    parts_same terms (pattern_parts (pattern_views (drop (i + 1) ps))) ls (bound_after (pattern_view (get_or ps i d)) ks) same ∙ both.1
+rest_visitable terms ps i d ks ls lt h same = grind (arith, common_steps, and_parts, drop_more, parts_same)
 
 pub types_count : (tys : List TypeId) (ps : List Pattern) → type_numbers tys ≡ part_types (pattern_parts (pattern_views ps)) → length tys ≡ length ps
 types_count tys ps h = sym (length-map tys (λ (ty : TypeId). ty.0)) ∙ ap length h ∙ count ps

@@ -1,9 +1,10 @@
 -- A rule's run: what is bound after its parts, and how it is made of their runs.
-use Rattle.std.proofs.Common.{◌≡◌, true≢false, ℕ, suc, ◌+◌, ◌<◌, Bool, IsTrue, length, get_or, drop, add-one, inl, inr, ⊎_elim, List, [], ◌∷◌, ◌++◌, Result, Ok, Err, MatchResult, is_ok, map, alloc_error, slice_get, is_some, Option, Some, None, refl, sym, ap, ◌∙◌, subst, append_assoc, eqb-true, ◌==◌}
+use Rattle.std.proofs.Common.{◌≡◌, true≢false, ℕ, suc, ◌+◌, ◌<◌, IsTrue, length, get_or, drop, inl, inr, ⊎_elim, List, [], ◌∷◌, ◌++◌, Result, Ok, Err, MatchResult, is_ok, map, alloc_error, slice_get, is_some, Some, refl, sym, ap, ◌∙◌, subst, eqb-true, ◌==◌, arith}
 use Rattle.std.proofs.lemmas.Bool.{and_parts}
 use Rattle.std.proofs.lemmas.List.{drop_more, map-append}
 use Rattle.std.specs.List.Sorted.{IsStrictlySortedBy}
 use Rattle.std.specs.Ordering.{nat_cmp}
+use Rattle.std.proofs.lemmas.Grind.{common_steps}
 use Rattle.core_types.specs.declared.ids.TypeId.{TypeId}
 use Rattle.model.specs.lists.Formed.{of_entry}
 use Rattle.model.specs.lists.Setting.{expr_type}
@@ -24,7 +25,7 @@ use Rattle.model.specs.visits.RuleRuns.{lent_binding, lent_valuing, PatternCall,
 use Rattle.model.specs.visits.ExprRuns.{entry_arg_types, ExprRun}
 use Rattle.model.specs.lists.Visitable.{is_visitable_rule, bound_after, bound_after_list, bound_after_iflets, is_visitable_pattern, is_visitable_expr, are_visitable_list, are_visitable_iflets}
 use Rattle.core_typed.specs.VisitAnswers.{type_numbers}
-use Rattle.model.specs.visits.Runs.{BoundIds, answering, binds, bound_vars, lent_run, taking, with_bound}
+use Rattle.model.specs.visits.Runs.{BoundIds, answering, binds, bound_vars, lent_run, taking}
 use Rattle.core_typed.specs.VisitorSteps.{no_memory, visited_of}
 use Rattle.core_typed.proofs.BoundVars.{SameVars, after_same, pattern_same, expr_same}
 use Rattle.core_typed.proofs.ExprRunSteps.{after_these}
@@ -74,14 +75,12 @@ module _ (terms : List TermEntry) where
   pub next_iflet : (fs : List IfLet) (i : ℕ) (d : IfLet) (ks : List ℕ) → i < length fs → IsTrue (are_visitable_iflets terms (map iflet_view (drop i fs)) ks) →
       IsTrue (is_visitable_expr terms (expr_view (get_or fs i d).rhs) ks)
       × (IsTrue (is_visitable_pattern terms (pattern_view (get_or fs i d).lhs) ks) × IsTrue (are_visitable_iflets terms (map iflet_view (drop (i + 1) fs)) (bound_after (pattern_view (get_or fs i d).lhs) ks)))
-  next_iflet fs i d ks lt h =
-      let first = and_parts _ _ (subst (λ zs. IsTrue (are_visitable_iflets terms (map iflet_view zs) ks)) (drop_more fs i d lt) h) in (first.0, and_parts _ _ first.1)
+  next_iflet fs i d ks lt h = grind (arith, common_steps, and_parts, drop_more)
 
 module _ {S L M X P E : Type 0} (v : RuleSteps VisitFault S L M X P E) where
   pub exchange_step : (is rest : BoundIds P) (k : ℕ) (id : P) (x : E) (s u : S) (r : Result (BoundIds E) VisitFault) (t : S) →
       is ≡ (k, id) ∷ rest → v.pattern_as_expr_steps s id (Ok x) u → ExchangeRun no_memory v rest u r t → ExchangeRun no_memory v is s (after_these ((k, x) ∷ []) r) t
-  exchange_step is rest k id x s u (Ok ws) t e first h = rw e (inl (x, u, first, inr (inl (ws, t, h, (refl, refl)))))
-  exchange_step is rest k id x s u (Err f) t e first h = rw e (inl (x, u, first, inr (inr (f, h, refl))))
+  exchange_step is rest k id x s u r t e first h = grind (arith, common_steps)
 
   pub exchange_stop : (is rest : BoundIds P) (k : ℕ) (id : P) (s : S) (f : VisitFault) (t : S) → is ≡ (k, id) ∷ rest → v.pattern_as_expr_steps s id (Err f) t → ExchangeRun no_memory v is s (Err f) t
   exchange_stop is rest k id s f t e first = rw e (inr (f, first, refl))
@@ -95,43 +94,20 @@ module _ {S L M X P E : Type 0} (v : RuleSteps VisitFault S L M X P E) where
   -- the same variables are exchanged
   pub exchange_binds : (vs : BoundIds P) (s : S) (ws : BoundIds E) (t : S) → ExchangeRun no_memory v vs s (Ok ws) t → bound_vars ws ≡ bound_vars vs
   exchange_binds [] s ws t h = ap bound_vars (same_ok ws [] h.0)
-  exchange_binds (b ∷ rest) s ws t h =
-      ⊎_elim
-      (λ p.
-      ⊎_elim
-      (λ r. absurd (true≢false (ap is_ok r.0)))
-      (λ n. ⊎_elim (λ q. ap bound_vars (same_ok ws ((b.0, p.0) ∷ q.0) q.3.0) ∙ ap (λ l. b.0 ∷ l) (exchange_binds rest p.1 q.0 q.1 q.2)) (λ q. absurd (true≢false (ap is_ok q.2))) n)
-      p.3)
-      (λ q. absurd (true≢false (ap is_ok q.2)))
-      h
+  exchange_binds (b ∷ rest) s ws t h = grind (arith, common_steps, exchange_binds rest, same_ok)
 
   -- one more of all variables
   pub exchanged_more : (values next : BoundIds E) (it rest all : BoundIds P) (k : ℕ) (id : P) (x : E) (a : Unit {0}) (r : Result (BoundIds E) VisitFault) →
       bound_vars values ++ bound_vars it ≡ bound_vars all → it ≡ (k, id) ∷ rest → IsStrictlySortedBy nat_cmp (bound_vars all) → binds no_memory k x values (Ok a) next →
       (after_these values (after_these ((k, x) ∷ []) r) ≡ after_these next r) × (bound_vars next ++ bound_vars rest ≡ bound_vars all)
-  exchanged_more values next it rest all k id x a r done is sorted bound =
-      let whole : bound_vars values ++ k ∷ bound_vars rest ≡ bound_vars all = ap (λ l. bound_vars values ++ bound_vars l) (sym is) ∙ done in
-      let at : next ≡ with_bound values k x = ⊎_elim (λ p. p.1) (λ p. absurd (true≢false (ap is_ok p.0))) bound in
-      let last : next ≡ values ++ (k, x) ∷ [] = at ∙ insert_last values k x (bound_vars rest) (subst (IsStrictlySortedBy nat_cmp) (sym whole) sorted) in (
-        after_one r ∙ ap (λ l. after_these l r) (sym last),
-        ap (λ l. bound_vars l ++ bound_vars rest) last ∙ ap (λ l. l ++ bound_vars rest) (map-append (λ (e : ℕ × E). e.0) values ((k, x) ∷ [])) ∙ append_assoc (bound_vars values) (k ∷ []) (bound_vars rest) ∙ whole,
-      )
-    where
-      after_one : (q : Result (BoundIds E) VisitFault) → after_these values (after_these ((k, x) ∷ []) q) ≡ after_these (values ++ (k, x) ∷ []) q
-      after_one (Ok ys) = ap Ok (sym (append_assoc values ((k, x) ∷ []) ys))
-      after_one (Err e) = refl
+  exchanged_more values next it rest all k id x a r done is sorted bound = grind (arith, common_steps, insert_last, after_these, map-append)
 
 module _ {S L M X P E : Type 0} (v : RuleSteps VisitFault S L M X P E) (p : PatternSteps VisitFault L P) (q : ExprSteps VisitFault M E) (terms : List TermEntry) where
   -- a visitor that is lent for an expression runs its visit
   pub lends_value : (expr : TypedExpr) (ws : BoundIds E) (body : M → Result (VisitedExpr E) VisitFault → M → Type 0) (s : S) (r : Result X VisitFault) (t : S) →
       ((l : M) (a : Result (VisitedExpr E) VisitFault) (k : M) → body l a k → lent_valuing (ExprRun no_memory q terms expr ws) (expr_type expr) l (visited_of a) k) →
       lent_run (λ s r t. v.lend_expr_steps s r t) (λ l x s r t. v.take_expr_steps s l x.ty.0 x.value r t) (λ l s t. v.leave_expr_steps l s t) body s r t → ExprCall no_memory v p q terms expr ws s r t
-  lends_value expr ws body s r t f h = ⊎_elim (λ e. inl e) (λ c. inr (c.0, c.1, visited_of c.2, c.3, c.4, f c.0 c.2 c.3 c.5, same c.2 c.3 c.1 c.6)) h
-    where
-      same : (a : Result (VisitedExpr E) VisitFault) (k : M) (g : S) → MatchResult a (λ x. v.take_expr_steps g k x.ty.0 x.value r t) (λ e. v.leave_expr_steps k g t × (r ≡ Err e)) →
-          MatchResult (visited_of a) (λ x. v.take_expr_steps g k x.0 x.1 r t) (λ e. v.leave_expr_steps k g t × (r ≡ Err e))
-      same (Ok x) k g m = m
-      same (Err e) k g m = m
+  lends_value expr ws body s r t f h = grind (arith, common_steps)
 
   -- and one that is lent for a pattern
   pub lends_pattern : (pattern : TypedPattern) (input : P) (vs : BoundIds P) (body : L → Result (BoundIds P) VisitFault → L → Type 0) (s : S) (r : Result (BoundIds P) VisitFault) (t : S) →
@@ -145,8 +121,7 @@ module _ {S L M X P E : Type 0} (v : RuleSteps VisitFault S L M X P E) (p : Patt
   call_binds pattern input vs s ws t h = ⊎_elim (λ e. absurd (true≢false (ap is_ok e.2))) (λ c. of_body c.2 c.0 c.3 c.1 c.5 c.6) h
     where
       of_answer : (u : Result (Unit {0}) VisitFault) (xs : BoundIds P) → ◌≡◌ {A = Result (BoundIds P) VisitFault} (Ok ws) (answering xs u) → ws ≡ xs
-      of_answer (Ok a) xs e = same_ok ws xs e
-      of_answer (Err f) xs e = absurd (true≢false (ap is_ok e))
+      of_answer u xs e = grind (arith, common_steps, same_ok)
 
       of_body : (a : Result (BoundIds P) VisitFault) (l k : L) (g : S) → lent_binding (PatternRun no_memory p terms pattern input) vs l a k →
           MatchResult a (λ x. taking (λ s l r t. v.take_pattern_steps s l r t) k x g (Ok ws) t) (λ e. v.leave_pattern_steps k g t × (◌≡◌ {A = Result (BoundIds P) VisitFault} (Ok ws) (Err e))) →
@@ -157,9 +132,7 @@ module _ {S L M X P E : Type 0} (v : RuleSteps VisitFault S L M X P E) (p : Patt
   pub args_step : (ps : List Pattern) (tys : List TypeId) (i : ℕ) (d : Pattern) (y : TypeId) (vs ws : BoundIds P) (x : P) (s u w : S) (r : Result (BoundIds P) VisitFault) (t : S) →
       i < length ps → i < length tys → v.arg_steps s i (get_or tys i y).0 (Ok x) u → PatternCall no_memory v p q terms (pattern_view (get_or ps i d)) x vs u (Ok ws) w →
       ArgsRun no_memory v p q terms (pattern_views (drop (i + 1) ps)) (type_numbers (drop (i + 1) tys)) (i + 1) ws w r t → ArgsRun no_memory v p q terms (pattern_views (drop i ps)) (type_numbers (drop i tys)) i vs s r t
-  args_step ps tys i d y vs ws x s u w r t lt lt' first second rest =
-      rw (drop_more ps i d lt, drop_more tys i y lt')
-      (inl (x, u, first, inl (ws, w, second, subst (λ k. ArgsRun no_memory v p q terms (pattern_views (drop (i + 1) ps)) (type_numbers (drop (i + 1) tys)) k ws w r t) (add-one i) rest)))
+  args_step ps tys i d y vs ws x s u w r t lt lt' first second rest = grind (arith, common_steps, drop_more)
 
   pub args_stop_arg : (ps : List Pattern) (tys : List TypeId) (i : ℕ) (d : Pattern) (y : TypeId) (vs : BoundIds P) (s : S) (f : VisitFault) (t : S) →
       i < length ps → i < length tys → v.arg_steps s i (get_or tys i y).0 (Err f) t → ArgsRun no_memory v p q terms (pattern_views (drop i ps)) (type_numbers (drop i tys)) i vs s (Err f) t
@@ -217,13 +190,11 @@ module _ {S L M X P E : Type 0} (v : RuleSteps VisitFault S L M X P E) (p : Patt
 
   pub runs_rule : (rule : TypedRule) (e : TermEntry) (tys : List TypeId) (vs ws : BoundIds P) (s u w : S) (r : Result X VisitFault) (t : S) → slice_get terms rule.root_term ≡ Some e → e.arg_tys ≡ type_numbers tys →
       ArgsRun no_memory v p q terms rule.args (type_numbers tys) 0 [] s (Ok vs) u → IfLetsRun no_memory v p q terms rule.iflets vs u (Ok ws) w → ValueRun no_memory v p q terms rule.rhs ws w r t → RuleRun no_memory v p q terms rule s r t
-  runs_rule rule e tys vs ws s u w r t at is first second third =
-      inl (vs, u, subst (λ zs. ArgsRun no_memory v p q terms rule.args zs 0 [] s (Ok vs) u) (sym (types_of_root rule e tys at is)) first, inl (ws, w, second, third))
+  runs_rule rule e tys vs ws s u w r t at is first second third = grind (arith, common_steps, types_of_root)
 
   pub stops_iflets : (rule : TypedRule) (e : TermEntry) (tys : List TypeId) (vs : BoundIds P) (s u : S) (f : VisitFault) (t : S) → slice_get terms rule.root_term ≡ Some e → e.arg_tys ≡ type_numbers tys →
       ArgsRun no_memory v p q terms rule.args (type_numbers tys) 0 [] s (Ok vs) u → IfLetsRun no_memory v p q terms rule.iflets vs u (Err f) t → RuleRun no_memory v p q terms rule s (Err f) t
-  stops_iflets rule e tys vs s u f t at is first second =
-      inl (vs, u, subst (λ zs. ArgsRun no_memory v p q terms rule.args zs 0 [] s (Ok vs) u) (sym (types_of_root rule e tys at is)) first, inr (f, second, refl))
+  stops_iflets rule e tys vs s u f t at is first second = grind (arith, common_steps, types_of_root)
 
 -- what is asked of a rule's parts
 pub record RuleParts (terms : List TermEntry) (r : TypedRule) : Type 0 where
@@ -233,18 +204,10 @@ pub record RuleParts (terms : List TermEntry) (r : TypedRule) : Type 0 where
   pub rhs : IsTrue (is_visitable_expr terms r.rhs (bound_after_iflets r.iflets (bound_after_list r.args [])))
 
 pub parts_of_rule : (terms : List TermEntry) (r : TypedRule) → IsTrue (is_visitable_rule terms r) → RuleParts terms r
-parts_of_rule terms r h =
-    let a = and_parts _ _ h in
-    let b = and_parts _ _ a.1 in
-    let c = and_parts _ _ b.1 in
-    record { root = a.0; args = b.0; iflets = c.0; rhs = c.1 }
+parts_of_rule terms r h = grind (arith, common_steps, and_parts)
 
 pub known_root : (terms : List TermEntry) (r : TypedRule) → IsTrue (is_visitable_rule terms r) → IsTrue (is_some (slice_get terms r.root_term))
-known_root terms r h = has_some (slice_get terms r.root_term) (λ e. length e.arg_tys == length r.args) (parts_of_rule terms r h).root
-  where
-    has_some : (o : Option TermEntry) (f : TermEntry → Bool) → IsTrue (of_entry o f) → IsTrue (is_some o)
-    has_some (Some e) f h = refl
-    has_some None f h = h
+known_root terms r h = grind (arith, common_steps, parts_of_rule)
 
 pub counts_root : (terms : List TermEntry) (r : TypedRule) (e : TermEntry) → IsTrue (is_visitable_rule terms r) → slice_get terms r.root_term ≡ Some e → length e.arg_tys ≡ length r.args
 counts_root terms r e h at = eqb-true (length e.arg_tys) (length r.args) (subst (λ o. IsTrue (of_entry o (λ e. length e.arg_tys == length r.args))) at (parts_of_rule terms r h).root)

@@ -1,5 +1,5 @@
 -- How large patterns and expressions are: visits of parts end since a part is smaller than the whole.
-use Rattle.std.proofs.Common.{ℕ, zero, suc, ◌+◌, ◌<◌, List, [], ◌∷◌, length, get_or, Box, arith}
+use Rattle.std.proofs.Common.{ℕ, suc, ◌+◌, ◌<◌, List, ◌∷◌, length, get_or, Box, arith}
 use Rattle.std.specs.declared.alloc.Global.{Global}
 use Rattle.core_types.specs.declared.ids.TypeId.{TypeId}
 use Rattle.core_types.specs.declared.ids.VarId.{VarId}
@@ -42,16 +42,13 @@ abbrev mutual
   lets_size (typed_let_and x ty value rest) = suc (expr_size value + lets_size rest)
 
 pub smaller_pattern : (ps : List Pattern) (i : ℕ) (d : Pattern) → i < length ps → pattern_size (pattern_view (get_or ps i d)) < patterns_size (pattern_parts (pattern_views ps))
-smaller_pattern [] i d lt = absurd (omega arith)
-smaller_pattern (p ∷ ps) zero d lt = omega arith
 smaller_pattern (p ∷ ps) (suc i) d lt = let r = smaller_pattern ps i d (omega arith) in omega (arith, r)
+smaller_pattern ps i d lt = grind arith
 
 pub smaller_expr : (es : List Expr) (i : ℕ) (d : Expr) → i < length es → expr_size (expr_view (get_or es i d)) < exprs_size (expr_parts (expr_views es))
-smaller_expr [] i d lt = absurd (omega arith)
-smaller_expr (e ∷ es) zero d lt = omega arith
 smaller_expr (e ∷ es) (suc i) d lt = let r = smaller_expr es i d (omega arith) in omega (arith, r)
+smaller_expr es i d lt = grind arith
 
 pub smaller_value : (ds : List (VarId × TypeId × Box Expr Global)) (i : ℕ) (d : VarId × TypeId × Box Expr Global) → i < length ds → expr_size (expr_view (get_or ds i d).2.value) < lets_size (let_parts (let_views ds))
-smaller_value [] i d lt = absurd (omega arith)
-smaller_value (e ∷ ds) zero d lt = omega arith
 smaller_value (e ∷ ds) (suc i) d lt = let r = smaller_value ds i d (omega arith) in omega (arith, r)
+smaller_value ds i d lt = grind arith
