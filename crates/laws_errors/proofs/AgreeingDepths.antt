@@ -1,11 +1,11 @@
 -- Each way of going on keeps a step and the function of typing agreed at all depths: the calculus that a reading is proved by.
-use Rattle.std.proofs.Common.{◌≡◌, ◌⊎◌, inl, inr, ℕ, zero, suc, ◌+◌, ◌≤◌, Bool, true, false, cond, eqb, List, [], ◌∷◌, ◌++◌, Option, Some, None, subst, refl, ap, ◌∙◌, arith}
+use Rattle.std.proofs.Common.{◌≡◌, ◌⊎◌, inl, inr, ℕ, zero, suc, ◌+◌, ◌≤◌, Bool, true, false, cond, eqb, List, [], ◌∷◌, ◌++◌, Option, Some, None, refl, ap, arith}
 use Rattle.std.proofs.lemmas.Grind.{common_steps}
 use Rattle.std.proofs.lemmas.Bool.Decides.{Decides-eqb}
 use Rattle.std.proofs.lemmas.Option.{same_Some}
 use Rattle.model.specs.lists.Syntax.{Position}
 use Rattle.model.specs.lists.Setting.{Scope}
-use Rattle.model.specs.lists.Typings.{Typing, plain, made_into, scoped, joined_typing, followed, counted}
+use Rattle.model.specs.lists.Typings.{Typing, plain, made_into, scoped, followed, counted}
 use Rattle.model.specs.lists.Elaborated.{most_expansions}
 use Rattle.model.specs.claims.Refusals.{of_nesting, of_expansions}
 use Rattle.laws_errors.specs.Steps.{Why, Mistake, Step, went_on, stopped, unless, here, noting, made_step, counted_step, joined_step, then_step, after_made, last_made, then_made}
@@ -20,17 +20,10 @@ neither b o h = grind (arith, common_steps)
 
 -- the same at each depth is the same typing
 only_same : {X : Type 0} (d : ℕ) (o u : ℕ → Option (Typing X)) (a : Typing X) → ((c : ℕ) → o c ≡ u c) → IsOnlyTyping o d a → IsOnlyTyping u d a
-only_same d o u a same only = record {
-  here = subst (λ v. v ≡ Some a) (same d) only.here;
-  elsewhere = λ c. subst (λ v. (v ≡ None) ⊎ (v ≡ Some a)) (same c) (only.elsewhere c);
-}
+only_same d o u a same only = grind (arith, common_steps)
 
 pub same_at_depths : {X : Type 0} (n d : ℕ) (o u : ℕ → Option (Typing X)) (t : Step X) → ((c : ℕ) → o c ≡ u c) → AgreesAtDepths n d o t → AgreesAtDepths n d u t
-same_at_depths n d o u _ same (only_read x s k fits only) = only_read x s k fits (only_same d o u _ same only)
-same_at_depths n d o u _ same (never_read m s k w ws none) = never_read m s k w ws (λ c. subst (λ v. v ≡ None) (same c) (none c))
-same_at_depths n d o u _ same (too_deep s none) = too_deep s (subst (λ v. v ≡ None) (same d) none)
-same_at_depths n d o u _ same (too_long s past) = too_long s (λ c. subst (λ v. TakesTooMany n v) (same c) (past c))
-same_at_depths n d o u _ same (never_read_later l s w ws none) = never_read_later l s w ws (λ c. subst (λ v. v ≡ None) (same c) (none c))
+same_at_depths n d o u t same h = grind (arith, only_same)
 
 -- something is made without an expansion, at each depth
 pub at_once : {X : Type 0} (n d : ℕ) (x : X) (s : Scope) → AgreesAtDepths n d (λ c. Some (plain x s)) (here x s)
@@ -43,8 +36,7 @@ noted n d w ws (stopped l s es) o none = never_read_later l s w (ws ++ es) none
 
 -- nothing is
 pub none_noted : {X : Type 0} (n d : ℕ) (t : Step X) (o : ℕ → Option (Typing X)) → AgreesAtDepths n d o t → AgreesAtDepths n d o (noting [] t)
-none_noted n d (went_on m s k es) o h = h
-none_noted n d (stopped l s es) o h = h
+none_noted n d t o h = grind (arith, common_steps)
 
 -- a test, and what comes where it holds
 pub checked : {X : Type 0} (n d : ℕ) (b : Bool) (why : Why) (at : Position) (t : Step X) (o : ℕ → Option (Typing X))
@@ -55,11 +47,7 @@ checked n d false why at t o h = noted n d _ [] t (λ c. None) (λ c. refl)
 -- the same of each typing
 pub only_through : {X Y : Type 0} (g : Option (Typing X) → Option (Typing Y)) (d : ℕ) (o : ℕ → Option (Typing X)) (a : Typing X) (b : Typing Y)
     → g None ≡ None → g (Some a) ≡ Some b → IsOnlyTyping o d a → IsOnlyTyping (λ c. g (o c)) d b
-only_through g d o a b none some only = record { here = ap g only.here ∙ some; elsewhere = λ c. either (o c) (only.elsewhere c) }
-  where
-    either : (v : Option (Typing _)) → (v ≡ None) ⊎ (v ≡ Some a) → (g v ≡ None) ⊎ (g v ≡ Some b)
-    either v (inl h) = inl (ap g h ∙ none)
-    either v (inr h) = inr (ap g h ∙ some)
+only_through g d o a b none some only = grind (arith, common_steps)
 
 past_made : {X Y : Type 0} (n : ℕ) (f : X → Y) (o : Option (Typing X)) → TakesTooMany n o → TakesTooMany n (made_into f o)
 past_made n f o past = grind (arith, common_steps, same_Some)
@@ -77,31 +65,17 @@ one_deeper o zero = None
 one_deeper o (suc c) = counted (o c)
 
 none_deeper : {X : Type 0} (o : ℕ → Option (Typing X)) → ((c : ℕ) → o c ≡ None) → (c : ℕ) → one_deeper o c ≡ None
-none_deeper o none zero = refl
-none_deeper o none (suc c) = ap counted (none c)
-
-past_counted : {X : Type 0} (n : ℕ) (o : Option (Typing X)) → TakesTooMany (suc n) o → TakesTooMany n (counted o)
-past_counted n o past = grind (arith, common_steps, same_Some)
+none_deeper o none c = grind (arith, common_steps)
 
 past_deeper : {X : Type 0} (n : ℕ) (o : ℕ → Option (Typing X)) → ((c : ℕ) → TakesTooMany (suc n) (o c)) → (c : ℕ) → TakesTooMany n (one_deeper o c)
-past_deeper n o past zero = λ a h. absurd (cc)
-past_deeper n o past (suc c) = past_counted n (o c) (past c)
+past_deeper n o past c = grind (arith, common_steps)
 
 only_deeper : {X : Type 0} (d : ℕ) (o : ℕ → Option (Typing X)) (x : X) (s : Scope) (k : ℕ)
     → IsOnlyTyping o d (record { made = x; scope = s; expansions = k }) → IsOnlyTyping (one_deeper o) (suc d) (record { made = x; scope = s; expansions = suc k })
-only_deeper d o x s k only = record { here = ap counted only.here; elsewhere = either }
-  where
-    of_one : (v : Option (Typing _)) → (v ≡ None) ⊎ (v ≡ Some (record { made = x; scope = s; expansions = k })) → (counted v ≡ None) ⊎ (counted v ≡ Some (record { made = x; scope = s; expansions = suc k }))
-    of_one v (inl h) = inl (ap counted h)
-    of_one v (inr h) = inr (ap counted h)
-
-    either : (c : ℕ) → (one_deeper o c ≡ None) ⊎ (one_deeper o c ≡ Some (record { made = x; scope = s; expansions = suc k }))
-    either zero = inl refl
-    either (suc c) = of_one (o c) (only.elsewhere c)
+only_deeper d o x s k only = grind (arith, common_steps, made)
 
 fits_deeper : (n k : ℕ) → suc n ≤ most_expansions → FitsBehind (suc n) k → FitsBehind n (suc k)
-fits_deeper n k few (inl h) = inr (omega (arith, few, h))
-fits_deeper n k few (inr h) = inr (omega (arith, h))
+fits_deeper n k few i = grind (arith, common_steps)
 
 -- one expansion more, where one may be made
 pub one_more : {X : Type 0} (n d : ℕ) (t : Step X) (o : ℕ → Option (Typing X)) → suc n ≤ most_expansions → AgreesAtDepths (suc n) d o t → AgreesAtDepths n (suc d) (one_deeper o) (counted_step t)
@@ -111,22 +85,15 @@ one_more n d _ o few (too_deep s none) = too_deep s (ap counted none)
 one_more n d _ o few (too_long s past) = too_long s (past_deeper n o past)
 one_more n d _ o few (never_read_later l s w ws none) = never_read_later l s w ws (none_deeper o none)
 
-most_counted : {X : Type 0} (n : ℕ) (o : Option (Typing X)) → most_expansions ≤ n → TakesTooMany n (counted o)
-most_counted n o most = grind (arith, common_steps, same_Some)
-
 most_deeper : {X : Type 0} (n : ℕ) (o : ℕ → Option (Typing X)) → most_expansions ≤ n → (c : ℕ) → TakesTooMany n (one_deeper o c)
-most_deeper n o most zero = λ a h. absurd (cc)
-most_deeper n o most (suc c) = most_counted n (o c) most
+most_deeper n o most c = grind (arith, common_steps)
 
 -- as many were made as may be, before one more
 pub too_many : {X : Type 0} (n d : ℕ) (z : Scope) (o : ℕ → Option (Typing X)) → most_expansions ≤ n → AgreesAtDepths n d (one_deeper o) (stopped of_expansions z [])
 too_many n d z o most = too_long z (most_deeper n o most)
 
 fits_both : (n k j : ℕ) → FitsBehind n k → FitsBehind (n + k) j → FitsBehind n (k + j)
-fits_both n k j (inl h) (inl i) = inl (omega (arith, h, i))
-fits_both n k j (inl h) (inr i) = inr (omega (arith, h, i))
-fits_both n k j (inr h) (inl i) = inr (omega (arith, h, i))
-fits_both n k j (inr h) (inr i) = inr (omega (arith, h, i))
+fits_both n k j m e = grind arith
 
 module _ {X Y Z : Type 0} (n d : ℕ) (f : X → Y → Z) (g : Option X → Y → Z) (same : (x : X) (y : Y) → g (Some x) y ≡ f x y) where
   -- what takes too many takes too many with what comes behind it
@@ -146,16 +113,7 @@ module _ {X Y Z : Type 0} (n d : ℕ) (f : X → Y → Z) (g : Option X → Y �
 
     only_joined : (y : Y) (u : Scope) (j : ℕ) → IsOnlyTyping (λ c. rest c first) d (record { made = y; scope = u; expansions = j })
         → IsOnlyTyping (λ c. followed f (o c) (rest c)) d (record { made = f x y; scope = u; expansions = k + j })
-    only_joined y u j only = record {
-      here = ap (λ v. followed f v (rest d)) own.here ∙ ap (joined_typing f first) only.here;
-      elsewhere = λ c. either c (own.elsewhere c) (only.elsewhere c);
-    }
-      where
-        either : (c : ℕ) → (o c ≡ None) ⊎ (o c ≡ Some first) → (rest c first ≡ None) ⊎ (rest c first ≡ Some (record { made = y; scope = u; expansions = j }))
-            → (followed f (o c) (rest c) ≡ None) ⊎ (followed f (o c) (rest c) ≡ Some (record { made = f x y; scope = u; expansions = k + j }))
-        either c (inl h) i = inl (ap (λ v. followed f v (rest c)) h)
-        either c (inr h) (inl i) = inl (ap (λ v. followed f v (rest c)) h ∙ ap (joined_typing f first) i)
-        either c (inr h) (inr i) = inr (ap (λ v. followed f v (rest c)) h ∙ ap (joined_typing f first) i)
+    only_joined y u j only = grind (arith, common_steps, made)
 
     -- what comes behind what was made
     joined : (t : Step Y) → FitsBehind n k → AgreesAtDepths (n + k) d (λ c. rest c first) t → AgreesAtDepths n d (λ c. followed f (o c) (rest c)) (noting [] (joined_step g (Some x) k t))
@@ -190,8 +148,7 @@ module _ {X Y Z : Type 0} (f : X → Y → Z) where
 
   -- the same of what was made
   pub both_made : {W : Type 0} (h : Z → W) (o : Option (Typing X)) (rest : Typing X → Option (Typing Y)) → made_into h (followed second o (λ a. made_into (f a.made) (rest a))) ≡ followed second o (λ a. made_into (λ y. h (f a.made y)) (rest a))
-  both_made h None rest = refl
-  both_made h (Some a) rest = grind (arith, common_steps)
+  both_made h o rest = grind (arith, common_steps)
 
   -- in another scope
   pub scoped_within : (g : Scope → Scope) (o : Option (Typing X)) (rest : Typing X → Option (Typing Y)) → scoped g (followed f o rest) ≡ followed second o (λ a. made_into (f a.made) (scoped g (rest a)))
@@ -205,8 +162,7 @@ later_made n d t o next rest h r = in_order n d second last_made (λ x y. refl) 
 
 -- what agrees at all depths agrees at its own, behind no more expansions than may be made
 fits_few : (n k : ℕ) → n ≤ most_expansions → FitsBehind n k → n + k ≤ most_expansions
-fits_few n k few (inl h) = omega (arith, few, h)
-fits_few n k few (inr h) = h
+fits_few n k few i = grind (arith, common_steps)
 
 at_own_depth : {X : Type 0} (n : ℕ) (t : Step X) (v w : Option (Typing X)) → v ≡ w → Agrees n t w → Agrees n t v
 at_own_depth n t v w same h = rw same h

@@ -7,7 +7,7 @@ use Rattle.std.proofs.lemmas.Bool.Decides.{Decides-eqb}
 use Rattle.model.specs.lists.Syntax.{Position, Name, ExprTree, term_expr, var_expr, bool_expr, int_expr, prim_expr, let_expr, ExprTrees, no_expr, expr_and, LetTrees, no_let, let_and}
 use Rattle.model.specs.rules.Outcome.{then_option}
 use Rattle.model.specs.rules.Typed.{TypedExpr, make_term, make_var, make_int, make_prim, typed_expr_and, TypedLets, TypedVar}
-use Rattle.model.specs.lists.Tables.{Flags, TermKindEntry, variant_term, struct_term, declared_term, TermEntry}
+use Rattle.model.specs.lists.Tables.{Flags, TermKindEntry, declared_term, TermEntry}
 use Rattle.model.specs.lists.Names.{number}
 use Rattle.model.specs.lists.Ranges.{reduced}
 use Rattle.model.specs.rules.Values.{is_atom_type}
@@ -29,15 +29,13 @@ three_checked : {X : Type 0} (n d : ℕ) (a b c : Bool) (v w x : Why) (at : Posi
     → AgreesAtDepths n d (λ i. cond (a && (b && c)) (o i) None) (noting (unless a v at ++ (unless b w at ++ unless c x at)) t)
 three_checked n d true true true v w x at t o h = none_noted n d t o h
 three_checked n d true true false v w x at t o h = noted n d _ [] t _ (λ i. refl)
-three_checked n d true false c v w x at t o h = noted n d _ _ t _ (λ i. refl)
-three_checked n d false b c v w x at t o h = noted n d _ _ t _ (λ i. refl)
+three_checked n d _ _ c v w x at t o h = noted n d _ _ t _ (λ i. refl)
 
 allowed_agrees : {X : Type 0} (n d : ℕ) (flags : Flags) (name : List ℕ) (at : Position) (kind : TermKindEntry) (t : Step X) (o : ℕ → Option (Typing X)) → AgreesAtDepths n d o t
     → AgreesAtDepths n d (λ c. cond (is_callable flags (made_kind kind)) (o c) None) (noting (forbidden flags name at kind) t)
-allowed_agrees n d flags name at (variant_term variant) t o h = none_noted n d t o h
-allowed_agrees n d flags name at struct_term t o h = none_noted n d t o h
 allowed_agrees n d flags name at (declared_term own constructor_kind extractor_kind) t o h =
     three_checked n d (not flags.pure || own.pure) (flags.multi || not own.multi) (flags.partial || not own.partial) (impure_constructor name) (multi_constructor name) (partial_constructor name) at t o h
+allowed_agrees n d flags name at _ t o h = none_noted n d t o h
 
 -- something of a type where a type, or any type, is expected
 expected_agrees : (e : Setting) (n d own : ℕ) (ty : Option ℕ) (at : Position) (s : Scope) (why : Why) (t : Step TypedExpr) (o : ℕ → Option (Typing TypedExpr)) (convert : TermEntry → Step TypedExpr)
@@ -170,8 +168,7 @@ module _ (e : Setting) (flags : Flags) (d : ℕ)
 
 -- one more expansion at each depth
 deeper_same : (e : Setting) (flags : Flags) (x : ExprTree) (ty : Option ℕ) (s : Scope) (c : ℕ) → one_deeper (λ c. expr_with (all_made e) flags (deeper_expr (all_made e) flags c) x ty s) c ≡ counted (deeper_expr (all_made e) flags c x ty s)
-deeper_same e flags x ty s zero = refl
-deeper_same e flags x ty s (suc c) = refl
+deeper_same e flags x ty s c = grind (arith, common_steps)
 
 -- what expansions make
 deeper_agrees : (e : Setting) (flags : Flags) (d : ℕ) (x : ExprTree) (ty : Option ℕ) (n : ℕ) (s : Scope) → AgreesAtDepths n d (λ c. counted (deeper_expr (all_made e) flags c x ty s)) (deeper_expr_step e flags d x ty n s)

@@ -5,14 +5,14 @@ use Rattle.model.specs.lists.Syntax.{Position, Name, ExprTree, term_expr, var_ex
 use Rattle.model.specs.rules.Outcome.{then_option}
 use Rattle.model.specs.rules.Typed.{TypedExpr, make_term, make_var, TypedLets, TypedVar}
 use Rattle.model.specs.lists.Tables.{Flags, TermKindEntry, TermEntry}
-use Rattle.model.specs.lists.Setting.{Setting, Scope, met, term_of, type_of_name, is_expected, is_callable, converter, expr_converter}
+use Rattle.model.specs.lists.Setting.{Setting, Scope, met, term_of, type_of_name, is_expected, is_callable}
 use Rattle.model.specs.lists.Typings.{Typing}
 use Rattle.model.specs.lists.Expansions.{wrapped_expr}
 use Rattle.model.specs.lists.Elaborated.{as_expected, expr_with, lets_with, bound_let, deeper_expr, most_expansions}
 use Rattle.model.specs.claims.Refusals.{NamedLimit, of_expansions}
 use Rattle.laws_errors.specs.AllMade.{made_kind, made_entry, all_made}
 use Rattle.laws_errors.specs.Steps.{Why, variable_type, Step, stopped, unless, here, noting, made_step, counted_step, last_made}
-use Rattle.laws_errors.specs.ExprSteps.{expr_list, converted_or, expected_step, forbidden, called_step, used_step, made_constant_step, with_arg, with_def, let_step, ended_step, expr_step, args_step, lets_step, deeper_expr_step}
+use Rattle.laws_errors.specs.ExprSteps.{expr_list, expected_step, forbidden, called_step, used_step, made_constant_step, with_arg, with_def, let_step, ended_step, expr_step, args_step, lets_step, deeper_expr_step}
 use Rattle.laws_errors.specs.ReachedLimits.{or_after, where_counted, expr_limit, args_limit, lets_limit, deeper_expr_limit}
 use Rattle.laws_errors.specs.LimitLaws.{first_limit, ExprLimitsAreFirst}
 use Rattle.laws_errors.proofs.MadeSettings.{term_made, converter_made}
@@ -25,18 +25,7 @@ allowed_first flags name at kind t = grind (arith, common_steps)
 expected_first : (e : Setting) (own : ℕ) (ty : Option ℕ) (at : Position) (s : Scope) (why : Why) (t : Step TypedExpr) (l : Option NamedLimit) (convert : TermEntry → Step TypedExpr) (limit : TermEntry → Option NamedLimit)
     → first_limit t ≡ l → ((c : TermEntry) → first_limit (convert c) ≡ limit (made_entry c))
     → first_limit (expected_step e own ty at s (noting (unless (is_expected ty own) why at) t) convert) ≡ as_expected (all_made e) own ty l limit
-expected_first e own None at s why t l convert limit h i = first_none t ∙ h
-expected_first e own (Some ty) at s why t l convert limit h i = elim (eqb own ty) as (λ b. first_limit
-    (cond b (noting (unless b why at) t) (converted_or at s (noting (unless b why at) t) convert (expr_converter e own ty) (converter e own ty)))
-    ≡ cond b l (then_option (expr_converter (all_made e) own ty) limit)) [
-      | true ↦ first_none t ∙ h
-      | false ↦ rw (converter_made e own ty (expr_converter e own ty) refl) (either (expr_converter e own ty) (converter e own ty))
-    ]
-  where
-    either : (by declared : Option TermEntry) → first_limit (converted_or at s (noting (unless false why at) t) convert by declared) ≡ then_option (option_map made_entry by) limit
-    either (Some c) declared = i c
-    either None (Some c) = refl
-    either None None = first_noted _ [] t
+expected_first e own ty at s why t l convert limit h i = grind (arith, common_steps, first_none, converter_made, first_noted)
 
 constant_first : (ty : Option ℕ) (x : List ℕ) (at : Position) (s : Scope) (o : Option ℕ) → first_limit (made_constant_step ty x at s o) ≡ None
 constant_first ty x at s o = grind (arith, common_steps)
@@ -101,9 +90,7 @@ module _ (e : Setting) (flags : Flags) (d : ℕ)
         (λ a. lets_first rest at (n + a.expansions) a.scope)
         ∙ let_first name.text ty.text at s _ (λ own. expr_with (all_made e) flags (deeper_expr (all_made e) flags d) value (Some own) (met s name.text)) (type_of_name e s ty.text)
         (λ a. lets_limit (all_made e) flags (deeper_expr (all_made e) flags d) (deeper_expr_limit (all_made e) flags d) rest (n + a.expansions) a.scope)
-        ∙ same_then (type_of_name e s ty.text) _ _ (λ own. ap
-        (λ l. or_after l (bound_let name.text own (expr_with (all_made e) flags (deeper_expr (all_made e) flags d) value (Some own) (met s name.text)))
-        (λ a. lets_limit (all_made e) flags (deeper_expr (all_made e) flags d) (deeper_expr_limit (all_made e) flags d) rest (n + a.expansions) a.scope)) (first value (Some own) n (met s name.text)))
+        ∙ same_then (type_of_name e s ty.text) _ _ (λ own. grind (arith, common_steps, first value (Some own) n (met s name.text)))
 
 -- what expansions make
 pub deeper_first : (e : Setting) (flags : Flags) (d : ℕ) (x : ExprTree) (ty : Option ℕ) (n : ℕ) (s : Scope)

@@ -3,14 +3,14 @@ use Rattle.std.proofs.Common.{ℕ, zero, suc, ◌+◌, true, false, cond, eqb, n
 use Rattle.std.proofs.lemmas.Grind.{common_steps}
 use Rattle.std.specs.Prelude.{Contains}
 use Rattle.model.specs.lists.Syntax.{Position, Name, ExprTree, term_expr, let_expr, ExprTrees, expr_and, LetTrees, no_let, let_and}
-use Rattle.model.specs.rules.Typed.{TypedExpr, make_term, TypedLets, TypedVar}
+use Rattle.model.specs.rules.Typed.{TypedExpr, make_term, TypedLets}
 use Rattle.model.specs.lists.Tables.{Flags, TermKindEntry, TermEntry}
 use Rattle.model.specs.lists.Setting.{Setting, Scope, met, term_of, type_of_name, is_expected}
 use Rattle.model.specs.lists.Expansions.{wrapped_expr}
 use Rattle.model.specs.lists.Elaborated.{most_expansions}
 use Rattle.model.specs.claims.Refusals.{of_expansions}
 use Rattle.laws_errors.specs.Steps.{constructor_type, argument_count, Step, stopped, here, made_step, counted_step, after_made, last_made, then_made}
-use Rattle.laws_errors.specs.ExprSteps.{expr_list, expected_step, forbidden, call_step, called_step, used_step, made_constant_step, with_arg, with_def, let_step, ended_step, expr_step, args_step, lets_step, deeper_expr_step}
+use Rattle.laws_errors.specs.ExprSteps.{expr_list, expected_step, forbidden, call_step, called_step, with_arg, with_def, let_step, ended_step, expr_step, args_step, lets_step, deeper_expr_step}
 use Rattle.laws_errors.specs.PlaceLaws.{ExprStandsAt, ExprsStandAt, LetsStandAt, AreAt, wrong_of, ExprErrorsArePlaced}
 use Rattle.laws_errors.proofs.PlacedErrors.{noting_at, checked_step_at, made_at, counted_at, in_order_at}
 
@@ -20,11 +20,7 @@ module _ (P : Position → Type 0) where
 
   expected_at : (e : Setting) (own : ℕ) (ty : Option ℕ) (at : Position) (s : Scope) (t : Step TypedExpr) (convert : TermEntry → Step TypedExpr) → P at → AreAt P (wrong_of t)
       → ((c : TermEntry) → AreAt P (wrong_of (convert c))) → AreAt P (wrong_of (expected_step e own ty at s t convert))
-  expected_at e own None at s t convert here h i = h
-  expected_at e own (Some ty) at s t convert here h i = grind (arith, common_steps)
-
-  constant_at : (ty : Option ℕ) (x : List ℕ) (at : Position) (s : Scope) (o : Option ℕ) → P at → AreAt P (wrong_of (made_constant_step ty x at s o))
-  constant_at ty x at s o h = grind (arith, common_steps)
+  expected_at e own ty at s t convert k h i = grind (arith, common_steps)
 
   ended_at : (defs : TypedLets) (t : Step TypedExpr) → AreAt P (wrong_of t) → AreAt P (wrong_of (ended_step defs t))
   ended_at defs t h = grind (arith, common_steps)
@@ -33,11 +29,7 @@ module _ (P : Position → Type 0) where
   let_at x ty at s value o h i = grind (arith, common_steps)
 
   pub then_made_at : {X Y : Type 0} (t : Step X) (next : X → Scope → ℕ → Step Y) → AreAt P (wrong_of t) → ((x : X) (s : Scope) (k : ℕ) → AreAt P (wrong_of (next x s k))) → AreAt P (wrong_of (then_made t next))
-  then_made_at {X} {Y} t next h r = in_order_at P last_made t (after_made next) h later
-    where
-      later : (m : Option X) (s : Scope) (k : ℕ) → AreAt P (wrong_of (after_made next m s k))
-      later None s k = tt
-      later (Some x) s k = r x s k
+  then_made_at {X} {Y} t next h r = grind (arith, common_steps, in_order_at P last_made t (after_made next) h)
 
   module _ (e : Setting) (flags : Flags) (d : ℕ)
       (deeper : (x : ExprTree) (ty : Option ℕ) (n : ℕ) (s : Scope) → ExprStandsAt P x → AreAt P (wrong_of (deeper_expr_step e flags d x ty n s))) where
@@ -51,9 +43,6 @@ module _ (P : Position → Type 0) where
         (checked_step_at P (eqb (length (expr_list args)) (length t.arg_tys)) (argument_count name.text (length (expr_list args)) (length t.arg_tys)) at (made_step (make_term t.ret_ty t.id) (args_step e flags (deeper_expr_step e flags d) args t.arg_tys n s)) here
         (made_at P (make_term t.ret_ty t.id) (args_step e flags (deeper_expr_step e flags d) args t.arg_tys n s) (parts t.arg_tys)))))
         (λ c. deeper (wrapped_expr s c at (term_expr name args at)) ty n s (here, ((here, given), tt)))
-
-    used_at : (name : Name) (at : Position) (ty : Option ℕ) (n : ℕ) (s : Scope) → P at → (o : Option TypedVar) → AreAt P (wrong_of (used_step e (deeper_expr_step e flags d) name at ty n s o))
-    used_at name at ty n s h i = grind (arith, common_steps)
 
     mutual
       pub placed : (x : ExprTree) (ty : Option ℕ) (n : ℕ) (s : Scope) → ExprStandsAt P x → AreAt P (wrong_of (expr_step e flags (deeper_expr_step e flags d) x ty n s))

@@ -1,5 +1,5 @@
 -- Which limit stops a step first, by what it is made of.
-use Rattle.std.proofs.Common.{◌≡◌, ℕ, zero, suc, ◌+◌, Bool, true, false, cond, eqb, nat_le, List, [], ◌∷◌, length, Option, Some, None, refl, sym, ap, ◌∙◌, arith}
+use Rattle.std.proofs.Common.{◌≡◌, ℕ, zero, suc, ◌+◌, Bool, true, false, cond, eqb, nat_le, List, [], ◌∷◌, length, Option, Some, None, refl, ap, ◌∙◌, arith}
 use Rattle.std.proofs.lemmas.Grind.{common_steps}
 use Rattle.model.specs.lists.Syntax.{Position, Name, PatternTree, bind_pattern, term_pattern, and_pattern, PatternTrees, no_pattern, pattern_and, pattern_list}
 use Rattle.model.specs.rules.Outcome.{then_option}
@@ -11,8 +11,8 @@ use Rattle.model.specs.lists.Expansions.{expanded, wrapped_pattern}
 use Rattle.model.specs.lists.Elaborated.{or_expanded, pattern_with, deeper_pattern, most_expansions}
 use Rattle.model.specs.claims.Refusals.{NamedLimit, of_expansions}
 use Rattle.laws_errors.specs.Steps.{Why, Mistake, Step, went_on, stopped, unless, noting, made_step, counted_step, joined_step, then_step}
-use Rattle.laws_errors.specs.PatternSteps.{bind_step, constant_step, with_part, use_step, converted_step, found_step, pattern_step, parts_step, each_step, deeper_step}
-use Rattle.laws_errors.specs.StepLaws.{TemplatesAreWhole, AgreesAtDepths, only_read, never_read, too_deep, too_long, never_read_later}
+use Rattle.laws_errors.specs.PatternSteps.{bind_step, with_part, use_step, converted_step, found_step, pattern_step, parts_step, each_step, deeper_step}
+use Rattle.laws_errors.specs.StepLaws.{TemplatesAreWhole, AgreesAtDepths}
 use Rattle.laws_errors.specs.ReachedLimits.{or_after, where_counted, pattern_limit, parts_limit, each_limit, deeper_pattern_limit}
 use Rattle.laws_errors.specs.LimitLaws.{first_limit, PatternLimitsAreFirst}
 use Rattle.laws_errors.proofs.PatternDepths.{pattern_steps_agree_at_depths_lem}
@@ -39,18 +39,11 @@ first_joined g m k t = grind (arith, common_steps)
 pub first_at_depths : {X Y Z : Type 0} (n d : ℕ) (g : Option X → Y → Z) (t : Step X) (o : ℕ → Option (Typing X)) (next : Option X → Scope → ℕ → Step Y) (rest : Typing X → Option NamedLimit) → AgreesAtDepths n d o t
     → ((a : Typing X) → first_limit (next (Some a.made) a.scope a.expansions) ≡ rest a)
     → first_limit (then_step g t next) ≡ or_after (first_limit t) (o d) rest
-first_at_depths n d g _ o next rest (only_read x s k fits only) r = first_none _ ∙ first_joined g (Some x) k _ ∙ r (record { made = x; scope = s; expansions = k }) ∙ ap (λ v. or_after None v rest) (sym only.here)
-first_at_depths n d g _ o next rest (never_read m s k w ws none) r = first_noted w ws _ ∙ ap (λ v. or_after None v rest) (sym (none d))
-first_at_depths n d g _ o next rest (too_deep z none) r = refl
-first_at_depths n d g _ o next rest (too_long z past) r = refl
-first_at_depths n d g _ o next rest (never_read_later l z w ws none) r = ap (λ v. or_after None v rest) (sym (none d))
+first_at_depths n d g t o next rest h r = grind (arith, first_none, first_joined)
 
 -- a test that holds either way, where nothing can stop
 pub leaf_first : {X : Type 0} (b : Bool) (why : Why) (at : Position) (m : Option X) (s : Scope) (k : ℕ) (es : List Mistake) → first_limit (noting (unless b why at) (went_on m s k es)) ≡ None
 leaf_first b why at m s k es = refl
-
-constant_first : (ty : ℕ) (x : List ℕ) (at : Position) (s : Scope) (o : Option ℕ) → first_limit (constant_step ty x at s o) ≡ None
-constant_first ty x at s o = grind (arith, common_steps)
 
 module _ (e : Setting) (multi : Bool) (templates : TemplatesAreWhole e) (d : ℕ)
     (deeper : (p : PatternTree) (ty n : ℕ) (s : Scope) → first_limit (deeper_step e multi d p ty n s) ≡ deeper_pattern_limit e multi d p ty n s) where

@@ -1,16 +1,17 @@
 -- What can be used behind an expression: what could be before it, and above that what was left open. A let that is made puts its names back.
-use Rattle.std.proofs.Common.{◌≡◌, ℕ, zero, suc, ◌+◌, ◌≤◌, true, false, cond, eqb, nat_le, List, [], ◌∷◌, ◌++◌, length, Option, Some, None, slice_get, append_assoc, append-nil, length-append, true≢false, inl, inr, refl, sym, ap, ◌∙◌, arith}
+use Rattle.std.proofs.Common.{◌≡◌, ℕ, zero, suc, ◌≤◌, true, false, cond, eqb, nat_le, List, [], ◌∷◌, ◌++◌, length, Option, Some, None, slice_get, append_assoc, append-nil, length-append, true≢false, inl, inr, refl, sym, ap, ◌∙◌, arith}
 use Rattle.std.proofs.lemmas.Bool.{cases_Bool, eq-eqb, eqb-true, ne_eqb}
+use Rattle.std.proofs.lemmas.Grind.{common_steps}
 use Rattle.model.specs.lists.Syntax.{Position, Name, ExprTree, term_expr, var_expr, bool_expr, int_expr, prim_expr, let_expr, ExprTrees, no_expr, expr_and, LetTrees, no_let, let_and}
 use Rattle.model.specs.lists.Names.{number, with_name}
 use Rattle.model.specs.lists.Tables.{Flags, TermEntry}
-use Rattle.model.specs.lists.Setting.{Setting, Scope, new_var, var_named, met, bound, var_of, term_of, type_of_name, type_of_constant, is_expected, converter, expr_converter}
+use Rattle.model.specs.lists.Setting.{Setting, Scope, new_var, var_named, met, bound, var_of, term_of, type_of_name, type_of_constant, is_expected}
 use Rattle.model.specs.lists.Expansions.{wrapped_expr}
 use Rattle.model.specs.lists.Elaborated.{most_expansions}
-use Rattle.model.specs.rules.Typed.{TypedExpr, make_term, make_var, make_prim, TypedLets, no_typed_let, typed_let_and, TypedVar}
+use Rattle.model.specs.rules.Typed.{TypedExpr, make_term, TypedLets, no_typed_let, typed_let_and, TypedVar}
 use Rattle.model.specs.claims.Refusals.{of_expansions}
-use Rattle.laws_errors.specs.Steps.{variable_type, constructor_type, constant_type, argument_count, Mistake, Step, went_on, stopped, unless, here, nothing, noting, made_step, counted_step, joined_step, then_step, last_made, then_made}
-use Rattle.laws_errors.specs.ExprSteps.{expr_list, converted_or, expected_step, forbidden, call_step, called_step, used_step, made_constant_step, with_arg, with_def, def_step, let_step, uncovered, put_back, closed, ended_step, expr_step, args_step, lets_step, deeper_expr_step}
+use Rattle.laws_errors.specs.Steps.{constructor_type, argument_count, Mistake, Step, went_on, stopped, unless, here, noting, made_step, counted_step, joined_step, then_step, then_made}
+use Rattle.laws_errors.specs.ExprSteps.{expr_list, converted_or, expected_step, forbidden, call_step, called_step, used_step, made_constant_step, with_def, let_step, uncovered, put_back, closed, ended_step, expr_step, args_step, lets_step, deeper_expr_step}
 
 -- 1. scopes
 abbrev pub AreNewer : ℕ → List TypedVar → Type 0
@@ -70,11 +71,7 @@ newer_kept n name (v ∷ vs) h = elim (eqb name v.name) as (λ b. AreNewer n (co
 
 pub uncovered_is : (x : ℕ) (w : TypedVar) (top rest : List TypedVar) → w.id ≡ x → AreNewer (suc x) top → uncovered x (Some w) (top ++ w ∷ rest) ≡ but_named w.name top ++ rest
 uncovered_is x w [] rest here newer = ap (λ b. cond b rest (cond (eqb w.name w.name) (uncovered x (Some w) rest) (w ∷ uncovered x (Some w) rest))) (eq-eqb w.id x here)
-uncovered_is x w (v ∷ top) rest here newer =
-    let other : eqb v.id x ≡ false = ne_eqb v.id x (λ same. let l = newer.0 in omega (arith, l, same)) in
-    ap (λ b. cond b (top ++ w ∷ rest) (cond (eqb w.name v.name) (uncovered x (Some w) (top ++ w ∷ rest)) (v ∷ uncovered x (Some w) (top ++ w ∷ rest)))) other
-    ∙ ap (λ us. cond (eqb w.name v.name) us (v ∷ us)) (uncovered_is x w top rest here newer.1)
-    ∙ (elim (eqb w.name v.name) as (λ b. cond b (but_named w.name top ++ rest) (v ∷ (but_named w.name top ++ rest)) ≡ cond b (but_named w.name top) (v ∷ but_named w.name top) ++ rest) [ true ↦ refl | false ↦ refl ])
+uncovered_is x w (v ∷ top) rest here newer = grind (arith, common_steps, uncovered_is x w top rest here newer.1, ne_eqb)
 
 -- what a name stands for once a newer variable is put back
 but_is : (k : ℕ) (w : TypedVar) (top rest : List TypedVar) → var_named k (but_named w.name top ++ rest) ≡ cond (eqb w.name k) (var_named k rest) (var_named k (top ++ w ∷ rest))
@@ -85,19 +82,14 @@ but_is k w (v ∷ top) rest =
     let old : Option TypedVar = var_named k (top ++ w ∷ rest) in
     let under : Option TypedVar = var_named k rest in
     elim (cases_Bool (eqb w.name v.name)) [
-      | inl same ↦
-          let alike : eqb w.name k ≡ eqb v.name k = ap (λ (n : ℕ). eqb n k) (eqb-true w.name v.name same) in
-          ap (λ b. var_named k (cond b kept (v ∷ kept) ++ rest)) same ∙ before
-          ∙ (elim (eqb w.name k) as (λ b. cond b under old ≡ cond b under (cond b (Some v) old)) [ true ↦ refl | false ↦ refl ])
-          ∙ ap (λ b. cond (eqb w.name k) under (cond b (Some v) old)) alike
+      | inl same ↦ grind (arith, common_steps, eqb-true)
       | inr other ↦
           ap (λ b. var_named k (cond b kept (v ∷ kept) ++ rest)) other ∙ ap (cond (eqb v.name k) (Some v)) before
           ∙ (elim (cases_Bool (eqb v.name k)) [
             | inl here ↦
                 let apart : eqb w.name k ≡ false = ne_eqb w.name k (λ there. true≢false (sym (eq-eqb w.name v.name (there ∙ sym (eqb-true v.name k here))) ∙ other)) in
                 ap (λ b. cond b (Some v) (cond (eqb w.name k) under old)) here ∙ sym (ap (λ b. cond b under (cond (eqb v.name k) (Some v) old)) apart ∙ ap (λ b. cond b (Some v) old) here)
-            | inr not_here ↦
-                ap (λ b. cond b (Some v) (cond (eqb w.name k) under old)) not_here ∙ ap (cond (eqb w.name k) under) (sym (ap (λ b. cond b (Some v) old) not_here))
+            | inr not_here ↦ grind (arith, common_steps)
           ])
     ]
 
@@ -168,30 +160,24 @@ module _ {X : Type 0} where
   StepGrows s (stopped l t es) = Unit {0}
 
   noting_grows : (s : Scope) (ws : List Mistake) (t : Step X) → StepGrows s t → StepGrows s (noting ws t)
-  noting_grows s ws (went_on m t k es) h = h
-  noting_grows s ws (stopped l t es) h = tt
+  noting_grows s ws t h = grind (arith, common_steps)
 
   counted_grows : (s : Scope) (t : Step X) → StepGrows s t → StepGrows s (counted_step t)
-  counted_grows s (went_on m t k es) h = h
-  counted_grows s (stopped l t es) h = tt
+  counted_grows s t h = grind (arith, common_steps)
 
   later_grows : (s u : Scope) (t : Step X) → GrowsOn s u → StepGrows u t → StepGrows s t
   later_grows s u (went_on m t k es) a h = grows_both s u t a h
   later_grows s u (stopped l t es) a h = tt
 
 made_grows : {X Y : Type 0} (f : X → Y) (s : Scope) (t : Step X) → StepGrows s t → StepGrows s (made_step f t)
-made_grows f s (went_on m t k es) h = h
-made_grows f s (stopped l t es) h = tt
+made_grows f s t h = grind (arith, common_steps)
 
 module _ {X Y Z : Type 0} (g : Option X → Y → Z) where
   joined_grows : (s : Scope) (m : Option X) (k : ℕ) (t : Step Y) → StepGrows s t → StepGrows s (joined_step g m k t)
-  joined_grows s m k (went_on None t j es) h = h
-  joined_grows s m k (went_on (Some y) t j es) h = h
-  joined_grows s m k (stopped l t es) h = tt
+  joined_grows s m k t h = grind arith
 
   in_order_grows : (s : Scope) (t : Step X) (next : Option X → Scope → ℕ → Step Y) → StepGrows s t → ((m : Option X) (u : Scope) (k : ℕ) → StepGrows u (next m u k)) → StepGrows s (then_step g t next)
-  in_order_grows s (went_on m u k es) next h r = noting_grows s es (joined_step g m k (next m u k)) (joined_grows s m k (next m u k) (later_grows s u (next m u k) h (r m u k)))
-  in_order_grows s (stopped l u es) next h r = tt
+  in_order_grows s t next h r = grind (arith, common_steps, noting_grows, joined_grows, later_grows)
 
 converted_grows : (at : Position) (s : Scope) (itself : Step TypedExpr) (convert : TermEntry → Step TypedExpr) → StepGrows s itself → ((c : TermEntry) → StepGrows s (convert c)) → (o p : Option TermEntry)
     → StepGrows s (converted_or at s itself convert o p)
@@ -201,12 +187,7 @@ converted_grows at s itself convert h i None None = h
 
 expected_grows : (e : Setting) (own : ℕ) (ty : Option ℕ) (at : Position) (s : Scope) (itself : Step TypedExpr) (convert : TermEntry → Step TypedExpr) → StepGrows s itself → ((c : TermEntry) → StepGrows s (convert c))
     → StepGrows s (expected_step e own ty at s itself convert)
-expected_grows e own None at s itself convert h i = h
-expected_grows e own (Some ty) at s itself convert h i =
-    elim (eqb own ty) as (λ b. StepGrows s (cond b itself (converted_or at s itself convert (expr_converter e own ty) (converter e own ty)))) [
-      | true ↦ h
-      | false ↦ converted_grows at s itself convert h i (expr_converter e own ty) (converter e own ty)
-    ]
+expected_grows e own ty at s itself convert h i = grind (arith, common_steps, converted_grows)
 
 -- 5. lets
 abbrev pub LetsGrow : Scope → Step TypedLets → Type 0
@@ -220,9 +201,7 @@ ended_grows ds s u (went_on (Some body) t k es) o h = closed_grows ds s t (opene
 ended_grows ds s u (stopped l t es) o h = tt
 
 let_grows : (s : Scope) (t : Step TypedLets) (next : TypedLets → Scope → ℕ → Step TypedExpr) → LetsGrow s t → ((ds : TypedLets) (u : Scope) (k : ℕ) → Opened ds s u → StepGrows s (next ds u k)) → StepGrows s (then_made t next)
-let_grows s (went_on None u k es) next h r = h
-let_grows s (went_on (Some ds) u k es) next h r = noting_grows s es (joined_step last_made (Some ds) k (next ds u k)) (joined_grows last_made s (Some ds) k (next ds u k) (r ds u k h))
-let_grows s (stopped l u es) next h r = tt
+let_grows s t next h r = grind (arith, joined_grows)
 
 -- one definition, by its value
 abbrev pub DefGrows : Scope → Step (TypedLets → TypedLets) → Type 0
@@ -230,30 +209,20 @@ DefGrows s (went_on None t k es) = GrowsOn s t
 DefGrows s (went_on (Some f) t k es) = (rest : TypedLets) (u : Scope) → Opened rest t u → Opened (f rest) s u
 DefGrows s (stopped l t es) = Unit {0}
 
-def_grows : (x : List ℕ) (ty : ℕ) (s : Scope) (t : Step TypedExpr) → StepGrows s t → DefGrows s (def_step x ty t)
-def_grows x ty s (went_on None t k es) h = h
-def_grows x ty s (went_on (Some v) t k es) h = λ rest u o. (t, x, h, refl, o)
-def_grows x ty s (stopped l t es) h = tt
-
 one_def_grows : (x ty : List ℕ) (at : Position) (s : Scope) (value : ℕ → Step TypedExpr) (o : Option ℕ) → ((own : ℕ) → StepGrows (met s x) (value own)) → DefGrows s (let_step x ty at s value o)
-one_def_grows x ty at s value None h = grows_met s x
-one_def_grows x ty at s value (Some own) h = def_grows x own s (value own) (later_grows s (met s x) (value own) (grows_met s x) (h own))
+one_def_grows x ty at s value o h = grind (arith, common_steps, grows_met, later_grows)
 
 rest_grows : (s u : Scope) (es : List Mistake) (m : Option (TypedLets → TypedLets)) (k : ℕ) (t : Step TypedLets) → DefGrows s (went_on m u k es) → LetsGrow u t → LetsGrow s (noting es (joined_step with_def m k t))
 rest_grows s u es None k (went_on None t j ws) h i = grows_both s u t h i
 rest_grows s u es None k (went_on (Some ds) t j ws) h i = opened_after ds s u t h i
-rest_grows s u es (Some f) k (went_on None t j ws) h i = grows_both s u t (opened_grows_to (h no_typed_let u (grows_same u))) i
-  where
-    opened_grows_to : Opened (f no_typed_let) s u → GrowsOn s u
-    opened_grows_to o = opened_grows (f no_typed_let) s u o
+rest_grows s u es (Some f) k (went_on None t j ws) h i = grind (arith, common_steps, grows_both s u t, grows_same u, opened_grows (f no_typed_let) s u)
 rest_grows s u es (Some f) k (went_on (Some ds) t j ws) h i = h ds t i
 rest_grows s u es None k (stopped l t ws) h i = tt
 rest_grows s u es (Some f) k (stopped l t ws) h i = tt
 
 defs_grow : (s : Scope) (t : Step (TypedLets → TypedLets)) (next : Option (TypedLets → TypedLets) → Scope → ℕ → Step TypedLets) → DefGrows s t → ((m : Option (TypedLets → TypedLets)) (u : Scope) (k : ℕ) → LetsGrow u (next m u k))
     → LetsGrow s (then_step with_def t next)
-defs_grow s (went_on m u k es) next h r = rest_grows s u es m k (next m u k) h (r m u k)
-defs_grow s (stopped l u es) next h r = tt
+defs_grow s t next h r = grind (arith, common_steps, rest_grows)
 
 -- 6. expressions
 module _ (e : Setting) (flags : Flags) (d : ℕ) (deeper : (x : ExprTree) (ty : Option ℕ) (n : ℕ) (s : Scope) → StepGrows s (deeper_expr_step e flags d x ty n s)) where
@@ -269,14 +238,10 @@ module _ (e : Setting) (flags : Flags) (d : ℕ) (deeper : (x : ExprTree) (ty : 
       (λ c. deeper (wrapped_expr s c at (term_expr name args at)) ty n s)
 
   used_grows : (name : Name) (at : Position) (ty : Option ℕ) (n : ℕ) (s : Scope) (o : Option TypedVar) → StepGrows s (used_step e (deeper_expr_step e flags d) name at ty n s o)
-  used_grows name at ty n s None = grows_same s
-  used_grows name at ty n s (Some v) =
-      expected_grows e v.ty ty at s (noting (unless (is_expected ty v.ty) (variable_type name.text ty v.ty) at) (here (make_var v.ty v.id) s)) (λ c. deeper_expr_step e flags d (wrapped_expr s c at (var_expr name at)) ty n s)
-      (grows_same s) (λ c. deeper (wrapped_expr s c at (var_expr name at)) ty n s)
+  used_grows name at ty n s o = grind (arith, common_steps, grows_same)
 
   constant_grows : (ty : Option ℕ) (x : List ℕ) (at : Position) (s : Scope) (o : Option ℕ) → StepGrows s (made_constant_step ty x at s o)
-  constant_grows ty x at s None = grows_met s x
-  constant_grows ty x at s (Some own) = elim (is_expected ty own) as (λ b. StepGrows s (cond b (here (make_prim own (number s.names x)) s) (nothing s (constant_type x ty own) at))) [ true ↦ grows_same s | false ↦ grows_same s ]
+  constant_grows ty x at s o = grind (arith, common_steps, grows_met, grows_same)
 
   mutual
     pub expr_grows : (x : ExprTree) (ty : Option ℕ) (n : ℕ) (s : Scope) → StepGrows s (expr_step e flags (deeper_expr_step e flags d) x ty n s)
@@ -286,22 +251,16 @@ module _ (e : Setting) (flags : Flags) (d : ℕ) (deeper : (x : ExprTree) (ty : 
     expr_grows (int_expr z at) None n s = grows_same s
     expr_grows (int_expr z at) (Some own) n s = grows_same s
     expr_grows (prim_expr name at) ty n s = constant_grows ty name.text at s (type_of_constant e s name.text)
-    expr_grows (let_expr defs body at) ty n s =
-        let_grows s (lets_step e flags (deeper_expr_step e flags d) defs at n s) (λ ds t k. ended_step ds (expr_step e flags (deeper_expr_step e flags d) body ty (n + k) t)) (lets_grow defs at n s)
-        (λ ds u k o. ended_grows ds s u (expr_step e flags (deeper_expr_step e flags d) body ty (n + k) u) o (expr_grows body ty (n + k) u))
+    expr_grows (let_expr defs body at) ty n s = grind (arith, common_steps, lets_grow defs at n s, expr_grows body ty, let_grows, ended_grows)
 
     args_grow : (args : ExprTrees) (tys : List ℕ) (n : ℕ) (s : Scope) → StepGrows s (args_step e flags (deeper_expr_step e flags d) args tys n s)
     args_grow no_expr tys n s = grows_same s
     args_grow (expr_and x rest) [] n s = grows_same s
-    args_grow (expr_and x rest) (ty ∷ tys) n s =
-        in_order_grows with_arg s (expr_step e flags (deeper_expr_step e flags d) x (Some ty) n s) (λ m t k. args_step e flags (deeper_expr_step e flags d) rest tys (n + k) t) (expr_grows x (Some ty) n s) (λ m u k. args_grow rest tys (n + k) u)
+    args_grow (expr_and x rest) (ty ∷ tys) n s = grind (arith, common_steps, expr_grows x (Some ty) n s, args_grow rest tys, in_order_grows)
 
     pub lets_grow : (defs : LetTrees) (at : Position) (n : ℕ) (s : Scope) → LetsGrow s (lets_step e flags (deeper_expr_step e flags d) defs at n s)
     lets_grow no_let at n s = grows_same s
-    lets_grow (let_and name ty value own_at rest) at n s =
-        defs_grow s (let_step name.text ty.text at s (λ own. expr_step e flags (deeper_expr_step e flags d) value (Some own) n (met s name.text)) (type_of_name e s ty.text)) (λ m t k. lets_step e flags (deeper_expr_step e flags d) rest at (n + k) t)
-        (one_def_grows name.text ty.text at s (λ own. expr_step e flags (deeper_expr_step e flags d) value (Some own) n (met s name.text)) (type_of_name e s ty.text) (λ own. expr_grows value (Some own) n (met s name.text)))
-        (λ m u k. lets_grow rest at (n + k) u)
+    lets_grow (let_and name ty value own_at rest) at n s = grind (arith, common_steps, expr_grows value, lets_grow rest at, defs_grow, one_def_grows)
 
 -- what expansions make
 pub deeper_grows : (e : Setting) (flags : Flags) (d : ℕ) (x : ExprTree) (ty : Option ℕ) (n : ℕ) (s : Scope) → StepGrows s (deeper_expr_step e flags d x ty n s)

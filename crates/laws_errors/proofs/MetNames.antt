@@ -1,18 +1,19 @@
 -- The names after a step go on from those before it, and where a limit stops it this is one on expansions.
-use Rattle.std.proofs.Common.{◌≡◌, ℕ, zero, suc, ◌+◌, Bool, true, false, cond, eqb, nat_le, List, [], ◌∷◌, ◌++◌, length, map, Option, Some, None, append_assoc, append-nil, refl, sym, ap, subst, ◌∙◌}
-use Rattle.model.specs.lists.Syntax.{Position, Name, PatternTree, var_pattern, bind_pattern, bool_pattern, int_pattern, prim_pattern, term_pattern, wildcard_pattern, and_pattern, macro_arg, PatternTrees, no_pattern, pattern_and, pattern_list, ExprTree, term_expr, var_expr, bool_expr, int_expr, prim_expr, let_expr, ExprTrees, no_expr, expr_and, LetTrees, no_let, let_and, IfLetTree, RuleTree}
-use Rattle.model.specs.lists.Names.{has_name, number, with_name}
+use Rattle.std.proofs.Common.{◌≡◌, ℕ, zero, suc, ◌+◌, Bool, true, false, cond, eqb, nat_le, List, [], ◌∷◌, ◌++◌, length, map, Option, Some, None, append_assoc, append-nil, refl, sym, ap, ◌∙◌, arith}
+use Rattle.std.proofs.lemmas.Grind.{common_steps}
+use Rattle.model.specs.lists.Syntax.{Position, Name, PatternTree, var_pattern, bind_pattern, prim_pattern, term_pattern, and_pattern, PatternTrees, no_pattern, pattern_and, pattern_list, ExprTree, term_expr, var_expr, bool_expr, int_expr, prim_expr, let_expr, ExprTrees, no_expr, expr_and, LetTrees, no_let, let_and, IfLetTree, RuleTree}
+use Rattle.model.specs.lists.Names.{has_name, with_name}
 use Rattle.model.specs.lists.Tables.{Flags, TermEntry}
 use Rattle.model.specs.lists.TermTable.{root_name}
-use Rattle.model.specs.lists.Setting.{Setting, Scope, met, var_of, term_of, type_of_name, type_of_constant, is_expected, is_matchable, template_in, converter, expr_converter, pattern_converter, on_lhs, expr_type, declared_flags, new_scope}
-use Rattle.model.specs.lists.Expansions.{wrapped_expr, wrapped_pattern, substituted}
+use Rattle.model.specs.lists.Setting.{Setting, Scope, met, var_of, term_of, type_of_constant, is_expected, is_matchable, on_lhs, expr_type, declared_flags, new_scope}
+use Rattle.model.specs.lists.Expansions.{wrapped_expr, substituted}
 use Rattle.model.specs.lists.Elaborated.{most_expansions, typed_iflet, root_parts, Sides, with_own_name, most_nested}
-use Rattle.model.specs.rules.Typed.{TypedPattern, TypedExpr, match_and, match_term, make_term, make_var, make_prim, TypedLets, no_typed_let, typed_let_and, TypedVar, TypedRule}
+use Rattle.model.specs.rules.Typed.{TypedPattern, TypedExpr, match_and, match_term, make_term, TypedLets, no_typed_let, typed_let_and, TypedVar, TypedRule}
 use Rattle.model.specs.claims.Refusals.{of_expansions}
 use Rattle.model.proofs.Names.{distinct_names}
-use Rattle.laws_errors.specs.Steps.{variable_type, constructor_type, constant_type, argument_count, extractor_type, Mistake, Step, went_on, stopped, unless, here, nothing, noting, made_step, counted_step, joined_step, then_step, after_made, last_made, then_made}
-use Rattle.laws_errors.specs.PatternSteps.{var_step, bind_step, constant_step, with_part, template_step, why_not_matched, use_step, converted_step, found_step, pattern_step, parts_step, each_step, deeper_step}
-use Rattle.laws_errors.specs.ExprSteps.{expr_list, converted_or, expected_step, forbidden, call_step, called_step, used_step, made_constant_step, with_arg, with_def, def_step, let_step, closed, ended_step, expr_step, args_step, lets_step, deeper_expr_step}
+use Rattle.laws_errors.specs.Steps.{constructor_type, argument_count, Mistake, Step, went_on, stopped, unless, noting, made_step, counted_step, joined_step, then_step, then_made}
+use Rattle.laws_errors.specs.PatternSteps.{var_step, bind_step, constant_step, template_step, why_not_matched, use_step, converted_step, found_step, pattern_step, parts_step, each_step, deeper_step}
+use Rattle.laws_errors.specs.ExprSteps.{expr_list, converted_or, expected_step, forbidden, call_step, called_step, used_step, made_constant_step, def_step, let_step, closed, ended_step, expr_step, args_step, lets_step, deeper_expr_step}
 use Rattle.laws_errors.specs.RuleSteps.{is_wrong, passes, errors_of, rule_step, iflet_step, with_iflet, iflets_step, root_step, sides_step, finished_step, declared_step, of_term_step, rooted_step, step_of_rule, then_rules, rules_step}
 use Rattle.laws_errors.specs.NameLaws.{names_in, GoOn, NamesGoOn, IsOfExpansions, StopsOfExpansions, StepsStopOfExpansions, AreInOrder, no_rule, rule_first, RulesAreInOrder}
 
@@ -36,51 +37,38 @@ module _ {X : Type 0} where
   StepOn s (stopped l t es) = GoOn s.names t.names × IsOfExpansions l
 
   step_goes_on : (s : Scope) (t : Step X) → StepOn s t → GoOn s.names (names_in t)
-  step_goes_on s (went_on m t k es) h = h
-  step_goes_on s (stopped l t es) h = h.0
+  step_goes_on s t h = grind (arith, common_steps)
 
   step_stops : (s : Scope) (t : Step X) → StepOn s t → StopsOfExpansions t
-  step_stops s (went_on m t k es) h = tt
-  step_stops s (stopped l t es) h = h.1
+  step_stops s t h = grind (arith, common_steps)
 
   later_on : (s u : Scope) (t : Step X) → GoOn s.names u.names → StepOn u t → StepOn s t
   later_on s u (went_on m t k es) a h = both_on s.names u.names t.names a h
   later_on s u (stopped l t es) a h = (both_on s.names u.names t.names a h.0, h.1)
 
   noting_on : (s : Scope) (ws : List Mistake) (t : Step X) → StepOn s t → StepOn s (noting ws t)
-  noting_on s ws (went_on m t k es) h = h
-  noting_on s ws (stopped l t es) h = h
+  noting_on s ws t h = grind (arith, common_steps)
 
   counted_on : (s : Scope) (t : Step X) → StepOn s t → StepOn s (counted_step t)
-  counted_on s (went_on m t k es) h = h
-  counted_on s (stopped l t es) h = h
+  counted_on s t h = grind (arith, common_steps)
 
 made_on : {X Y : Type 0} (f : X → Y) (s : Scope) (t : Step X) → StepOn s t → StepOn s (made_step f t)
-made_on f s (went_on m t k es) h = h
-made_on f s (stopped l t es) h = h
+made_on f s t h = grind (arith, common_steps)
 
 module _ {X Y Z : Type 0} (g : Option X → Y → Z) where
   joined_on : (s : Scope) (m : Option X) (k : ℕ) (t : Step Y) → StepOn s t → StepOn s (joined_step g m k t)
-  joined_on s m k (went_on None t j es) h = h
-  joined_on s m k (went_on (Some y) t j es) h = h
-  joined_on s m k (stopped l t es) h = h
+  joined_on s m k t h = grind (arith, common_steps)
 
   in_order_on : (s : Scope) (t : Step X) (next : Option X → Scope → ℕ → Step Y) → StepOn s t → ((m : Option X) (u : Scope) (k : ℕ) → StepOn u (next m u k)) → StepOn s (then_step g t next)
-  in_order_on s (went_on m u k es) next h r = noting_on s es (joined_step g m k (next m u k)) (joined_on s m k (next m u k) (later_on s u (next m u k) h (r m u k)))
-  in_order_on s (stopped l u es) next h r = h
+  in_order_on s t next h r = grind (arith, common_steps, noting_on, joined_on, later_on)
 
 then_made_on : {X Y : Type 0} (s : Scope) (t : Step X) (next : X → Scope → ℕ → Step Y) → StepOn s t → ((x : X) (u : Scope) (k : ℕ) → StepOn u (next x u k)) → StepOn s (then_made t next)
-then_made_on {X} {Y} s t next h r = in_order_on last_made s t (after_made next) h later
-  where
-    later : (m : Option X) (u : Scope) (k : ℕ) → StepOn u (after_made next m u k)
-    later None u k = same_on u.names
-    later (Some x) u k = r x u k
+then_made_on {X} {Y} s t next h r = grind (arith, common_steps, in_order_on, same_on)
 
 -- 3. patterns
 bind_on : (x : List ℕ) (at : Position) (s : Scope) (t : Step TypedPattern) → StepOn s t → StepOn s (bind_step x at t)
-bind_on x at s (went_on None u k es) h = h
 bind_on x at s (went_on (Some q) u k es) h = both_on s.names u.names (with_name u.names x) h (met_on u.names x)
-bind_on x at s (stopped l u es) h = h
+bind_on x at s _ h = h
 
 var_on : (ty : ℕ) (x : List ℕ) (at : Position) (s : Scope) (o : Option TypedVar) → StepOn s (var_step ty x at s o)
 var_on ty x at s None = met_on s.names x
@@ -92,8 +80,7 @@ matched_on ty x at s (Some own) = same_on s.names
 
 module _ (e : Setting) (multi : Bool) (d : ℕ) (deeper : (p : PatternTree) (ty n : ℕ) (s : Scope) → StepOn s (deeper_step e multi d p ty n s)) where
   template_on : (ty n : ℕ) (s : Scope) (o : Option PatternTree) → StepOn s (template_step (deeper_step e multi d) ty n s o)
-  template_on ty n s None = same_on s.names
-  template_on ty n s (Some p) = deeper p ty n s
+  template_on ty n s o = grind (arith, common_steps, same_on)
 
   module _ (name : Name) (args : PatternTrees) (at : Position) (ty n : ℕ) (s : Scope) (parts : (tys : List ℕ) → StepOn s (parts_step e multi (deeper_step e multi d) args tys n s)) where
     use_on : (t : TermEntry) (o : Option PatternTree) → StepOn s (use_step multi (deeper_step e multi d) name args at ty n s t (λ tys. parts_step e multi (deeper_step e multi d) args tys n s) o)
@@ -104,42 +91,28 @@ module _ (e : Setting) (multi : Bool) (d : ℕ) (deeper : (p : PatternTree) (ty 
         (made_on (match_term t.ret_ty t.id) s (parts_step e multi (deeper_step e multi d) args t.arg_tys n s) (parts t.arg_tys)))
 
     converted_on : (t : TermEntry) (o : Option TermEntry) → StepOn s (converted_step e multi (deeper_step e multi d) name args at ty n s t (λ tys. parts_step e multi (deeper_step e multi d) args tys n s) o)
-    converted_on t (Some c) = deeper (wrapped_pattern s c at (term_pattern name args at)) ty n s
-    converted_on t None =
-        noting_on s (unless false (extractor_type name.text ty t.ret_ty) at) (use_step multi (deeper_step e multi d) name args at ty n s t (λ tys. parts_step e multi (deeper_step e multi d) args tys n s) (template_in e t.kind))
-        (use_on t (template_in e t.kind))
+    converted_on t o = grind (arith, common_steps, use_on)
 
     found_on : (o : Option TermEntry) → StepOn s (found_step e multi (deeper_step e multi d) name args at ty n s (λ tys. parts_step e multi (deeper_step e multi d) args tys n s) o)
-    found_on None = same_on s.names
-    found_on (Some t) = elim (eqb t.ret_ty ty) as (λ b. StepOn s
-        (cond b (use_step multi (deeper_step e multi d) name args at ty n s t (λ tys. parts_step e multi (deeper_step e multi d) args tys n s) (template_in e t.kind))
-        (converted_step e multi (deeper_step e multi d) name args at ty n s t (λ tys. parts_step e multi (deeper_step e multi d) args tys n s) (pattern_converter e t.ret_ty ty)))) [
-          | true ↦ use_on t (template_in e t.kind)
-          | false ↦ converted_on t (pattern_converter e t.ret_ty ty)
-        ]
+    found_on o = grind (arith, common_steps, same_on, use_on, converted_on)
 
   mutual
     pattern_on : (p : PatternTree) (ty n : ℕ) (s : Scope) → StepOn s (pattern_step e multi (deeper_step e multi d) p ty n s)
     pattern_on (var_pattern name at) ty n s = var_on ty name.text at s (var_of s name.text)
     pattern_on (bind_pattern name of at) ty n s = bind_on name.text at s (pattern_step e multi (deeper_step e multi d) of ty n s) (pattern_on of ty n s)
-    pattern_on (bool_pattern b at) ty n s = same_on s.names
-    pattern_on (int_pattern z at) ty n s = same_on s.names
     pattern_on (prim_pattern name at) ty n s = matched_on ty name.text at s (type_of_constant e s name.text)
     pattern_on (term_pattern name args at) ty n s = found_on name args at ty n s (λ tys. parts_on args tys n s) (term_of e s name.text)
-    pattern_on (wildcard_pattern at) ty n s = same_on s.names
     pattern_on (and_pattern parts at) ty n s = made_on (match_and ty) s (each_step e multi (deeper_step e multi d) parts ty n s) (each_on parts ty n s)
-    pattern_on (macro_arg i at) ty n s = same_on s.names
+    pattern_on _ ty n s = same_on s.names
 
     parts_on : (args : PatternTrees) (tys : List ℕ) (n : ℕ) (s : Scope) → StepOn s (parts_step e multi (deeper_step e multi d) args tys n s)
     parts_on no_pattern tys n s = same_on s.names
     parts_on (pattern_and p rest) [] n s = same_on s.names
-    parts_on (pattern_and p rest) (ty ∷ tys) n s =
-        in_order_on with_part s (pattern_step e multi (deeper_step e multi d) p ty n s) (λ m t k. parts_step e multi (deeper_step e multi d) rest tys (n + k) t) (pattern_on p ty n s) (λ m u k. parts_on rest tys (n + k) u)
+    parts_on (pattern_and p rest) (ty ∷ tys) n s = grind (arith, common_steps, pattern_on p ty n s, parts_on rest tys, in_order_on)
 
     each_on : (ps : PatternTrees) (ty n : ℕ) (s : Scope) → StepOn s (each_step e multi (deeper_step e multi d) ps ty n s)
     each_on no_pattern ty n s = same_on s.names
-    each_on (pattern_and p rest) ty n s =
-        in_order_on with_part s (pattern_step e multi (deeper_step e multi d) p ty n s) (λ m t k. each_step e multi (deeper_step e multi d) rest ty (n + k) t) (pattern_on p ty n s) (λ m u k. each_on rest ty (n + k) u)
+    each_on (pattern_and p rest) ty n s = grind (arith, common_steps, pattern_on p ty n s, each_on rest ty, in_order_on)
 
 -- what expansions make
 deeper_on : (e : Setting) (multi : Bool) (d : ℕ) (p : PatternTree) (ty n : ℕ) (s : Scope) → StepOn s (deeper_step e multi d p ty n s)
@@ -152,38 +125,28 @@ deeper_on e multi (suc d) p ty n s = elim (nat_le most_expansions n) as (λ b. S
 -- 4. expressions
 module _ (e : Setting) (at : Position) (s : Scope) (itself : Step TypedExpr) (convert : TermEntry → Step TypedExpr) (h : StepOn s itself) (i : (c : TermEntry) → StepOn s (convert c)) where
   converts_on : (o p : Option TermEntry) → StepOn s (converted_or at s itself convert o p)
-  converts_on (Some c) p = i c
-  converts_on None (Some c) = same_on s.names
-  converts_on None None = h
+  converts_on o p = grind (arith, common_steps)
 
   expected_on : (own : ℕ) (ty : Option ℕ) → StepOn s (expected_step e own ty at s itself convert)
-  expected_on own None = h
-  expected_on own (Some ty) = elim (eqb own ty) as (λ b. StepOn s (cond b itself (converted_or at s itself convert (expr_converter e own ty) (converter e own ty)))) [
-    | true ↦ h
-    | false ↦ converts_on (expr_converter e own ty) (converter e own ty)
-  ]
+  expected_on own ty = grind (arith, common_steps, converts_on)
 
 closed_names : (ds : TypedLets) (s : Scope) → (closed ds s).names ≡ s.names
 closed_names no_typed_let s = refl
 closed_names (typed_let_and x ty value rest) s = closed_names rest s
 
 ended_on : (ds : TypedLets) (s : Scope) (t : Step TypedExpr) → StepOn s t → StepOn s (ended_step ds t)
-ended_on ds s (went_on None u k es) h = h
-ended_on ds s (went_on (Some body) u k es) h = subst (GoOn s.names) (sym (closed_names ds u)) h
-ended_on ds s (stopped l u es) h = h
+ended_on ds s t h = grind (arith, closed_names)
 
 def_on : (x : List ℕ) (ty : ℕ) (s : Scope) (t : Step TypedExpr) → StepOn s t → StepOn s (def_step x ty t)
-def_on x ty s (went_on None u k es) h = h
 def_on x ty s (went_on (Some v) u k es) h = both_on s.names u.names (with_name u.names x) h (met_on u.names x)
-def_on x ty s (stopped l u es) h = h
+def_on x ty s _ h = h
 
 let_on : (x ty : List ℕ) (at : Position) (s : Scope) (value : ℕ → Step TypedExpr) (o : Option ℕ) → ((own : ℕ) → StepOn (met s x) (value own)) → StepOn s (let_step x ty at s value o)
 let_on x ty at s value None h = met_on s.names x
 let_on x ty at s value (Some own) h = def_on x own s (value own) (later_on s (met s x) (value own) (met_on s.names x) (h own))
 
 constant_on : (ty : Option ℕ) (x : List ℕ) (at : Position) (s : Scope) (o : Option ℕ) → StepOn s (made_constant_step ty x at s o)
-constant_on ty x at s None = met_on s.names x
-constant_on ty x at s (Some own) = elim (is_expected ty own) as (λ b. StepOn s (cond b (here (make_prim own (number s.names x)) s) (nothing s (constant_type x ty own) at))) [ true ↦ same_on s.names | false ↦ same_on s.names ]
+constant_on ty x at s o = grind (arith, common_steps, met_on s.names x, same_on s.names)
 
 module _ (e : Setting) (flags : Flags) (d : ℕ) (deeper : (x : ExprTree) (ty : Option ℕ) (n : ℕ) (s : Scope) → StepOn s (deeper_expr_step e flags d x ty n s)) where
   called_on : (name : Name) (args : ExprTrees) (at : Position) (ty : Option ℕ) (n : ℕ) (s : Scope) → ((tys : List ℕ) → StepOn s (args_step e flags (deeper_expr_step e flags d) args tys n s)) → (o : Option TermEntry)
@@ -198,10 +161,7 @@ module _ (e : Setting) (flags : Flags) (d : ℕ) (deeper : (x : ExprTree) (ty : 
       (λ c. deeper (wrapped_expr s c at (term_expr name args at)) ty n s) t.ret_ty ty
 
   used_on : (name : Name) (at : Position) (ty : Option ℕ) (n : ℕ) (s : Scope) (o : Option TypedVar) → StepOn s (used_step e (deeper_expr_step e flags d) name at ty n s o)
-  used_on name at ty n s None = same_on s.names
-  used_on name at ty n s (Some v) =
-      expected_on e at s (noting (unless (is_expected ty v.ty) (variable_type name.text ty v.ty) at) (here (make_var v.ty v.id) s)) (λ c. deeper_expr_step e flags d (wrapped_expr s c at (var_expr name at)) ty n s)
-      (same_on s.names) (λ c. deeper (wrapped_expr s c at (var_expr name at)) ty n s) v.ty ty
+  used_on name at ty n s o = grind (arith, common_steps, same_on)
 
   mutual
     expr_on : (x : ExprTree) (ty : Option ℕ) (n : ℕ) (s : Scope) → StepOn s (expr_step e flags (deeper_expr_step e flags d) x ty n s)
@@ -218,15 +178,11 @@ module _ (e : Setting) (flags : Flags) (d : ℕ) (deeper : (x : ExprTree) (ty : 
     args_on : (args : ExprTrees) (tys : List ℕ) (n : ℕ) (s : Scope) → StepOn s (args_step e flags (deeper_expr_step e flags d) args tys n s)
     args_on no_expr tys n s = same_on s.names
     args_on (expr_and x rest) [] n s = same_on s.names
-    args_on (expr_and x rest) (ty ∷ tys) n s =
-        in_order_on with_arg s (expr_step e flags (deeper_expr_step e flags d) x (Some ty) n s) (λ m t k. args_step e flags (deeper_expr_step e flags d) rest tys (n + k) t) (expr_on x (Some ty) n s) (λ m u k. args_on rest tys (n + k) u)
+    args_on (expr_and x rest) (ty ∷ tys) n s = grind (arith, common_steps, expr_on x (Some ty) n s, args_on rest tys, in_order_on)
 
     lets_on : (defs : LetTrees) (at : Position) (n : ℕ) (s : Scope) → StepOn s (lets_step e flags (deeper_expr_step e flags d) defs at n s)
     lets_on no_let at n s = same_on s.names
-    lets_on (let_and name ty value own_at rest) at n s =
-        in_order_on with_def s (let_step name.text ty.text at s (λ own. expr_step e flags (deeper_expr_step e flags d) value (Some own) n (met s name.text)) (type_of_name e s ty.text)) (λ m t k. lets_step e flags (deeper_expr_step e flags d) rest at (n + k) t)
-        (let_on name.text ty.text at s (λ own. expr_step e flags (deeper_expr_step e flags d) value (Some own) n (met s name.text)) (type_of_name e s ty.text) (λ own. expr_on value (Some own) n (met s name.text)))
-        (λ m u k. lets_on rest at (n + k) u)
+    lets_on (let_and name ty value own_at rest) at n s = grind (arith, common_steps, expr_on value, lets_on rest at, in_order_on, let_on)
 
 deeper_expr_on : (e : Setting) (flags : Flags) (d : ℕ) (x : ExprTree) (ty : Option ℕ) (n : ℕ) (s : Scope) → StepOn s (deeper_expr_step e flags d x ty n s)
 deeper_expr_on e flags zero x ty n s = (same_on s.names, tt)
@@ -259,17 +215,15 @@ module _ (e : Setting) (flags : Flags) (d : ℕ) where
       (root_on r x t n s)
       (λ args u k. then_made_on u (iflets_step e flags d r.iflets (n + k) u) (λ iflets v j. made_step (λ rhs. (args, (iflets, rhs))) (expr_step e flags (deeper_expr_step e flags d) r.expr (Some t.ret_ty) ((n + k) + j) v))
       (iflets_on r.iflets (n + k) u)
-      (λ iflets v j. made_on (λ rhs. (args, (iflets, rhs))) v (expr_step e flags (deeper_expr_step e flags d) r.expr (Some t.ret_ty) ((n + k) + j) v)
-      (expr_on e flags d (deeper_expr_on e flags d) r.expr (Some t.ret_ty) ((n + k) + j) v)))
+      (λ iflets v j. grind (arith, common_steps, made_on, expr_on e flags d (deeper_expr_on e flags d) r.expr (Some t.ret_ty), deeper_expr_on e flags d)))
 
 own_on : (name : Option Name) (s u : Scope) → GoOn s.names u.names → GoOn s.names (with_own_name name u).names
 own_on None s u h = h
 own_on (Some x) s u h = both_on s.names u.names (with_name u.names x.text) h (met_on u.names x.text)
 
 finished_on : (id : ℕ) (r : RuleTree) (t : TermEntry) (flags : Flags) (s : Scope) (x : Step Sides) → StepOn s x → StepOn s (finished_step id r t flags x)
-finished_on id r t flags s (went_on None u k es) h = h
 finished_on id r t flags s (went_on (Some q) u k es) h = own_on r.name s u h
-finished_on id r t flags s (stopped l u es) h = h
+finished_on id r t flags s _ h = h
 
 module _ (e : Setting) (d id : ℕ) (r : RuleTree) (n : ℕ) (s : Scope) where
   of_flags : (x : Name) (t : TermEntry) (o : Option Flags) → StepOn s (declared_step e d id r x t n s o)

@@ -155,8 +155,7 @@ module _ (e : Setting) (multi : Bool) (templates : TemplatesAreWhole e) (d : ℕ
 
 -- one more expansion at each depth
 deeper_same : (e : Setting) (multi : Bool) (p : PatternTree) (ty : ℕ) (s : Scope) (c : ℕ) → one_deeper (λ c. pattern_with e multi (deeper_pattern e multi c) p ty s) c ≡ counted (deeper_pattern e multi c p ty s)
-deeper_same e multi p ty s zero = refl
-deeper_same e multi p ty s (suc c) = refl
+deeper_same e multi p ty s c = grind (arith, common_steps)
 
 -- what expansions make
 deeper_agrees : (e : Setting) (multi : Bool) (templates : TemplatesAreWhole e) (d : ℕ) (p : PatternTree) (ty n : ℕ) (s : Scope) → AgreesAtDepths n d (λ c. counted (deeper_pattern e multi c p ty s)) (deeper_step e multi d p ty n s)

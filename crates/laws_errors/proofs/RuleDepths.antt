@@ -1,5 +1,5 @@
 -- Rules: at all depths the function of typing makes what reading makes where nothing is wrong.
-use Rattle.std.proofs.Common.{◌≡◌, ℕ, ◌+◌, Bool, true, false, cond, eqb, List, [], ◌∷◌, length, Option, Some, None, refl, sym, ap, ◌∙◌, arith}
+use Rattle.std.proofs.Common.{◌≡◌, ℕ, ◌+◌, Bool, true, false, cond, eqb, List, [], ◌∷◌, length, Option, Some, None, refl, sym, ap, arith}
 use Rattle.std.proofs.lemmas.Grind.{common_steps}
 use Rattle.std.proofs.lemmas.Option.{same_Some}
 use Rattle.std.proofs.lemmas.Bool.Decides.{Decides-eqb}
@@ -65,8 +65,7 @@ module _ (e : Setting) (templates : TemplatesAreWhole e) (flags : Flags) (d : �
   sides_agree r x t n s = same_at_depths n d _ _ _
       (λ c. sym (within sides_of (elaborated_parts e flags.multi c (root_parts r.pattern) t.arg_tys s) (λ a. ends_reading e flags c r t a.scope)))
       (later_made n d _ _ _ (λ c a. made_into (sides_of a.made) (ends_reading e flags c r t a.scope)) (root_agrees r x t n s) (λ a h. same_at_depths (n + a.expansions) d _ _ _
-      (λ c. sym (ap (made_into (sides_of a.made)) (within last_sides (iflets_reading e flags c r.iflets a.scope) (λ b. elaborated_expr (all_made e) flags c r.expr (Some t.ret_ty) b.scope))
-      ∙ both_made last_sides (sides_of a.made) (iflets_reading e flags c r.iflets a.scope) (λ b. elaborated_expr (all_made e) flags c r.expr (Some t.ret_ty) b.scope)))
+      (λ c. grind (arith, common_steps, within, both_made))
       (later_made (n + a.expansions) d _ _ _ (λ c b. made_into (λ y. sides_of a.made (last_sides b.made y)) (elaborated_expr (all_made e) flags c r.expr (Some t.ret_ty) b.scope))
       (iflets_agree r.iflets (n + a.expansions) a.scope)
       (λ b i. made ((n + a.expansions) + b.expansions) d _ _ _ (expr_steps_agree_at_depths_lem e flags d r.expr (Some t.ret_ty) ((n + a.expansions) + b.expansions) b.scope)))))

@@ -1,7 +1,6 @@
 -- Which limit stops the steps of a rule first.
-use Rattle.std.proofs.Common.{◌≡◌, ℕ, ◌+◌, Bool, true, false, cond, eqb, List, [], ◌∷◌, length, Option, Some, None, refl, ap, ◌∙◌, arith}
+use Rattle.std.proofs.Common.{◌≡◌, ℕ, ◌+◌, Bool, cond, eqb, List, [], ◌∷◌, length, Option, Some, None, refl, ap, ◌∙◌, arith}
 use Rattle.std.proofs.lemmas.Grind.{common_steps}
-use Rattle.std.proofs.lemmas.Bool.Decides.{Decides-eqb}
 use Rattle.model.specs.lists.Syntax.{Position, Name, PatternTrees, pattern_list, IfLetTree, RuleTree}
 use Rattle.model.specs.lists.Tables.{Flags, TermEntry}
 use Rattle.model.specs.lists.TermTable.{root_name}
@@ -43,8 +42,7 @@ module _ (e : Setting) (templates : TemplatesAreWhole e) (flags : Flags) (d : �
 
   counted_limit : (ps : PatternTrees) (tys : List ℕ) (n : ℕ) (s : Scope) → (b : Bool) → eqb (length (pattern_list ps)) (length tys) ≡ b
       → cond b (first_limit (parts_step e flags.multi (deeper_step e flags.multi d) ps tys n s)) None ≡ cond b (parts_limit e flags.multi (deeper_pattern e flags.multi d) (deeper_pattern_limit e flags.multi d) ps tys n s) None
-  counted_limit ps tys n s true h = parts_limits_are_first_lem e flags.multi templates d ps tys n s ((Decides-eqb (length (pattern_list ps)) (length tys)).0 h)
-  counted_limit ps tys n s false h = refl
+  counted_limit ps tys n s b h = grind (arith, common_steps, parts_limits_are_first_lem e flags.multi templates d ps tys n s)
 
   root_first : (r : RuleTree) (x : Name) (t : TermEntry) (n : ℕ) (s : Scope) → first_limit (root_step e flags d r x t n s) ≡ root_limits e flags.multi d (root_parts r.pattern) t.arg_tys n s
   root_first r x t n s = grind (arith, common_steps, counted_first, counted_limit)
