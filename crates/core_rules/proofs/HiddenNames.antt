@@ -1,6 +1,6 @@
 -- What names stood for before the definitions of a let, and that what is hidden gives what closing their scope gives.
-use Rattle.std.proofs.Common.{◌≡◌, ℕ, cond, eqb, nat_eq, true, List, [], ◌∷◌, ◌++◌, length, Option, Some, None, inl, inr, refl, sym, ap, ◌∙◌, arith}
-use Rattle.std.proofs.lemmas.Bool.{cases_Bool, eqb-true}
+use Rattle.std.proofs.Common.{◌≡◌, ℕ, cond, eqb, nat_eq, true, List, [], ◌∷◌, ◌++◌, length, Option, Some, None, refl, sym, ap, ◌∙◌, arith}
+use Rattle.std.proofs.lemmas.Bool.{eqb-true}
 use Rattle.std.proofs.lemmas.Option.{none-some}
 use Rattle.std.proofs.lemmas.Grind.{common_steps}
 use Rattle.model.specs.rules.Typed.{TypedVar, TypedExpr, TypedLets, no_typed_let, typed_let_and}
@@ -96,13 +96,7 @@ within k w (v ∷ top) rest here none = grind (arith, common_steps, within k w t
 
 none_stood : (ds : TypedLets) (s u : Scope) (o : Opened ds s u) (k : ℕ) → var_named k u.visible ≡ None → stood ds s u o k None ≡ None
 none_stood no_typed_let s u o k none = refl
-none_stood (typed_let_and x ty value rest) s u o k none =
-    let v : TypedVar = fresh o.0 o.1 ty in
-    let a : GrowsOn (bound o.0 o.1 ty) u = opened_grows rest (bound o.0 o.1 ty) u o.4 in
-    elim (cases_Bool (eqb v.name k)) [
-      | inl here ↦ absurd (within k v a.top o.0.visible here (ap (var_named k) (sym a.visible) ∙ none))
-      | inr other ↦ ap (λ b. cond b (var_named k o.0.visible) (stood rest (bound o.0 o.1 ty) u o.4 k None)) other ∙ none_stood rest (bound o.0 o.1 ty) u o.4 k none
-    ]
+none_stood (typed_let_and x ty value rest) s u o k none = grind (arith, none_stood rest (bound o.0 o.1 ty) u o.4 k none, fresh, opened_grows, within)
 
 pub closed_some : (ds : TypedLets) (s u : Scope) → Opened ds s u → (k : ℕ) (v : TypedVar) → var_named k (closed ds u).visible ≡ Some v → (w : TypedVar) × (var_named k u.visible ≡ Some w)
 closed_some ds s u o k v h = grind (arith, common_steps, none-some v, none_stood ds s u o k, closed_stood ds s u o k)

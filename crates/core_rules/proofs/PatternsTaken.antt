@@ -1,6 +1,7 @@
 -- What patterns without parts do as their steps say, and a name around a pattern.
 use Rattle.std.proofs.Common.{◌≡◌, ℕ, ℤ, Bool, not, nat_eq, List, [], ◌∷◌, length, Option, Some, None, is_some, option_map, slice_get, Result, Ok, Err, inl, refl, sym, ap, subst, ◌∙◌, arith}
 use Rattle.std.proofs.lemmas.Option.{none-some, same_Some}
+use Rattle.std.proofs.lemmas.Grind.{common_steps}
 use Rattle.model.specs.lists.Syntax.{Position, Name, var_pattern, bool_pattern, int_pattern, prim_pattern, macro_arg, wildcard_pattern, PatternTree, bind_pattern}
 use Rattle.model.specs.lists.Names.{number, with_name}
 use Rattle.model.specs.lists.Ranges.{reduced}
@@ -10,7 +11,7 @@ use Rattle.model.specs.rules.Values.{is_atom_type}
 use Rattle.model.specs.rules.Typed.{TypedPattern, TypedVar, match_bind, match_var, match_bool, match_int, match_prim, match_any}
 use Rattle.model.specs.claims.Refusals.{NamedLimit, of_nesting, of_expansions}
 use Rattle.model.proofs.Names.{known_name}
-use Rattle.laws_errors.specs.Steps.{unknown_constant, macro_argument, bound_type, matched_constant_type, no_truth, no_integer, rebound, Step, went_on, stopped, unless, here}
+use Rattle.laws_errors.specs.Steps.{unknown_constant, macro_argument, bound_type, no_truth, no_integer, rebound, Step, went_on, stopped, unless, here}
 use Rattle.laws_errors.specs.PatternSteps.{var_step, bind_step, constant_step}
 use Rattle.core_types.specs.Envs.{names_of, constant_at}
 use Rattle.core_types.specs.TypeViews.{type_views}
@@ -44,14 +45,7 @@ module _ (env : TermEnv) (old new : Standing) (x : Name) (at : Position) (ty : �
 
   pub new_taken : None ≡ newest old.work (number (names_of old.tyenv) x.text) → BindsNext (number (names_of old.tyenv) x.text) ty old.work new.work → (id : ℕ) → id ≡ length old.work.seen.items
       → EndsAs env old new (leaf_steps (var_pattern x at) ty) (Ok (Some (match_bind ty id (match_any ty))))
-  new_taken none b id place = (
-    inl b.errors,
-    λ e s is sh.
-        subst (λ o. Took old new (var_step ty x.text at s o) (Ok (Some (match_bind ty id (match_any ty))))) (sym (var_is old s x.text None sh none))
-        (taken_as old new (Some (match_bind ty (length s.vars) (match_any ty))) (Some (match_bind ty id (match_any ty))) (bound s x.text ty) 0 []
-        (ap (λ (i : ℕ). Some (match_bind ty i (match_any ty))) (sym (place ∙ as_many old s sh)))
-        (none_at old.work.errors.items new.work.errors.items b.errors) (bound_shows old new s x.text ty sh names b) (let k = b.expansions in omega (arith, k))),
-  )
+  new_taken none b id place = grind (arith, common_steps, var_is, taken_as, as_many, none_at, bound_shows)
 
   -- a named constant
   pub unknown_taken : None ≡ constant_at old.tyenv (number (names_of old.tyenv) x.text) → Remains old.work new.work → NotesEachAt (at ∷ []) old.work.errors.items new.work.errors.items
@@ -65,37 +59,17 @@ module _ (env : TermEnv) (old new : Standing) (x : Name) (at : Position) (ty : �
 
   pub constant_taken : (own name : ℕ) → Some own ≡ constant_at old.tyenv (number (names_of old.tyenv) x.text) → name ≡ number (names_of old.tyenv) x.text → Remains old.work new.work
       → NotesEachAt (place_unless (nat_eq own ty) at) old.work.errors.items new.work.errors.items → EndsAs env old new (leaf_steps (prim_pattern x at) ty) (Ok (Some (match_prim own name)))
-  constant_taken own name there named r n = (
-    may_note n,
-    λ e s is sh.
-        subst (λ o. Took old new (constant_step ty x.text at s o) (Ok (Some (match_prim own name)))) (sym (constant_is env old x e s is sh (Some own) there))
-        (tested old new (nat_eq own ty) (matched_constant_type x.text ty own) at (match_prim own (number s.names x.text)) (match_prim own name) s
-        (ap (λ (k : ℕ). match_prim own k) (sym (named ∙ ap (λ ns. number ns x.text) sh.names))) n
-        (still old new s (names ∙ known_name (names_of old.tyenv) x.text (is_met (names_of old.tyenv) x.text (is.constants_met (number (names_of old.tyenv) x.text) own (sym there)))) r sh) r.expansions),
-  )
+  constant_taken own name there named r n = grind (arith, common_steps, may_note, constant_is, tested, still, known_name, is_met)
 
   -- a name around what was made
   module _ (mid : Standing) (same_names : names_of mid.tyenv ≡ names_of old.tyenv) (r : Remains old.work mid.work) (q : TypedPattern) (is_type : pattern_type q ≡ ty)
       (b : BindsNext (number (names_of old.tyenv) x.text) ty mid.work new.work) (id : ℕ) (place : id ≡ length mid.work.seen.items) where
     shown : (s : Scope) → Shows old s → Shows new (bound s x.text (pattern_type q))
-    shown s sh =
-        subst (λ (t : ℕ). Shows new (bound s x.text t)) (sym is_type)
-        (bound_shows mid new s x.text ty (still old mid s same_names r sh) (names ∙ ap (λ ns. with_name ns x.text) (sym same_names)) (subst (λ ns. BindsNext (number ns x.text) ty mid.work new.work) (sym same_names) b))
+    shown s sh = grind (arith, bound_shows, still)
 
     pub around_taken : NotesEachAt (place_unless (not (is_some (newest old.work (number (names_of old.tyenv) x.text)))) at) old.work.errors.items mid.work.errors.items
         → EndsAs env old new (around_steps x.text at q) (Ok (Some (match_bind (pattern_type q) id q)))
-    around_taken n = (
-      may_note (subst (NotesEachAt (place_unless (not (is_some (newest old.work (number (names_of old.tyenv) x.text)))) at) old.work.errors.items) (sym b.errors) n),
-      λ e s is sh.
-          let before = still old mid s same_names r sh in
-          let wrong : NotesEachAt (place_unless (not (is_some (var_of s x.text))) at) old.work.errors.items new.work.errors.items =
-          subst (λ o. NotesEachAt (place_unless (not (is_some o)) at) old.work.errors.items new.work.errors.items) (sym (var_is old s x.text (newest old.work (number (names_of old.tyenv) x.text)) sh refl))
-          (subst (NotesEachAt (place_unless (not (is_some (newest old.work (number (names_of old.tyenv) x.text)))) at) old.work.errors.items) (sym b.errors) n) in
-          taken_as old new (Some (match_bind (pattern_type q) (length s.vars) q)) (Some (match_bind (pattern_type q) id q)) (bound s x.text (pattern_type q)) 0 (unless (not (is_some (var_of s x.text))) (rebound x.text) at)
-          (ap (λ (i : ℕ). Some (match_bind (pattern_type q) i q)) (sym (place ∙ as_many mid s before)))
-          (unless_at (not (is_some (var_of s x.text))) (rebound x.text) at old.work.errors.items new.work.errors.items wrong)
-          (shown s sh) (let k = b.expansions in let l = r.expansions in omega (arith, k, l)),
-    )
+    around_taken n = grind (arith, common_steps, may_note, still, var_is, taken_as, as_many, unless_at, shown)
 
 -- literals, anything, and a template's argument
 module _ (env : TermEnv) (old new : Standing) (same : names_of new.tyenv ≡ names_of old.tyenv) (at : Position) (ty : ℕ) (r : Remains old.work new.work) where

@@ -1,5 +1,5 @@
 -- What stands at the end of the reading of rules: all of them are typed, named and defined, or something was noted.
-use Rattle.std.proofs.Common.{◌≡◌, ◌≢◌, List, [], Some, None, option_map, sym, ap, subst, ◌∙◌, inl, inr, ◌⊎◌}
+use Rattle.std.proofs.Common.{◌≡◌, ◌≢◌, List, [], Some, None, option_map, sym, ap, subst, ◌∙◌, inl, inr, ◌⊎◌, arith}
 use Rattle.std.specs.List.{flat_map}
 use Rattle.std.proofs.lemmas.Option.{none-some, same_Some}
 use Rattle.core_syntax.specs.declared.syntax.Error.{Error}
@@ -38,25 +38,15 @@ module _ (env : TermEnv) (old new : TypeEnv) (defs : List Definition) (after : T
   abbrev Ends : List Error → Type 0
   Ends errors = ((errors ≡ []) × AreReadRules e defs old new after) ⊎ ((errors ≢ []) × ((l : TypedRules) → CanBeRead e defs (names_of old) l → ⊥))
 
-  all_named : rules ≡ named_rules e.terms (rule_views typed)
-  all_named = names_are ∙ ap (λ ts. named_rules ts (rule_views typed)) is.terms
-
   -- the rules that can be read are these
   same_rules : typed_rules e 0 (rule_trees defs) (names_of old) ≡ Some read → (l : TypedRules) → CanBeRead e defs (names_of old) l → l.rules ≡ rules
-  same_rules t l c =
-      ap (λ (x : TypedRules). x.rules) (same_Some l (named e read) (sym c.elaborate.typed ∙ ap (option_map (named e)) t)) ∙ sym all_named
+  same_rules t l c = grind (arith, same_Some)
 
   not_typed : typed_rules e 0 (rule_trees defs) (names_of old) ≡ None → (l : TypedRules) → CanBeRead e defs (names_of old) l → ⊥
   not_typed t l c = none-some l (sym (ap (option_map (named e)) t) ∙ c.elaborate.typed)
 
   right : typed_rules e 0 (rule_trees defs) (names_of old) ≡ Some read → IsDistinct (rule_names rules) → AreDefined (term_views env.terms.items) → CanBeRead e defs (names_of old) (record { rules = rules; names = names_of new })
-  right t once defined = record {
-    elaborate = record {
-      typed = ap (option_map (named e)) t ∙ ap (λ rs. Some (record { rules = rs; names = names_of new })) (sym all_named);
-      distinct = once;
-    };
-    defined = subst AreDefined is.terms defined;
-  }
+  right t once defined = grind arith
 
   module _ (e1 e2 e3 e4 : List Error) where
     -- all are typed

@@ -71,9 +71,7 @@ module _ {Q : Type 0} where
   -- what goes on from a scope without an expansion, behind what went before
   pub later : (old mid new : Standing) (m : Option Q) (u : Scope) (k : ℕ) (ws es : List Mistake) → NotesEachAt (places_of ws) old.work.errors.items mid.work.errors.items → mid.work.expansions ≡ old.work.expansions + k
       → (r : MadeOrLimit Q) → Goes mid new (went_on m u 0 es) r → Took old new (went_on m u k (ws ++ es)) r
-  later old mid new m u k ws es h xs (Ok o) y =
-      taken_as old new m o u k (ws ++ es) y.0 (behind ws es old.work.errors.items mid.work.errors.items new.work.errors.items h y.1) y.2 (let c = y.3 in omega (arith, xs, c))
-  later old mid new m u k ws es h xs (Err l) y = absurd y
+  later old mid new m u k ws es h xs r y = grind (arith, taken_as, behind)
 
 -- the same of what was made
 pub made : {P Q : Type 0} (f : P → Q) (old new : Standing) (t : Step P) (r : MadeOrLimit P) → Took old new t r → Took old new (made_step f t) (made_end f r)
