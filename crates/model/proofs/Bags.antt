@@ -19,10 +19,7 @@ module _ {X Y Z : Type 0} where
 module _ {X Z : Type 0} where
   pub flat_map_same : (f g : X → List Z) (xs : List X) → ((x : X) → Contains xs x → f x ≡ g x) → flat_map f xs ≡ flat_map g xs
   flat_map_same f g [] h = refl
-  flat_map_same f g (x ∷ xs) h =
-      let e = h x (in_head x xs) in
-      let r = flat_map_same f g xs (λ y c. h y (in_tail x y xs c)) in
-      λ j. e j ++ r j
+  flat_map_same f g (x ∷ xs) h = grind (arith, flat_map_same f g xs (λ y c. h y (in_tail x y xs c)), in_head, in_tail)
 
   pub all_nothing : (f : X → List Z) (xs : List X) → ((x : X) → Contains xs x → f x ≡ []) → flat_map f xs ≡ []
   all_nothing f [] h = refl
@@ -80,14 +77,7 @@ counted_middle p xs x ys = sym (sum_by-IsPermutation (λ y. cond (p y) 1 0) (xs 
 
 counted : (x : ℕ) (xs : List ℕ) → Contains xs x → 0 < count_by (λ j. j == x) xs
 counted x [] c = absurd (nothing_in x c)
-counted x (y ∷ ys) c =
-    elim (cases_Bool (y == x)) [
-      | inl t ↦ let a = counted_yes (λ j. j == x) y ys t in omega (arith, a)
-      | inr f ↦
-          let a = counted_no (λ j. j == x) y ys f in
-          let b : 0 < count_by (λ j. j == x) ys = elim (in_cases y x ys c) [ inl e ↦ absurd (false≢true (sym f ∙ eq-eqb y x e)) | inr d ↦ counted x ys d ] in
-          omega (arith, a, b)
-    ]
+counted x (y ∷ ys) c = grind (arith, common_steps, counted x ys, counted_yes, counted_no, in_cases)
 
 pub as_numbers : {X Z : Type 0} (f : ℕ → List Z) (i : ℕ) (xs : List X) (ms : List ℕ) → ((j : ℕ) → i ≤ j → j < i + length xs → count_by (λ n. n == j) ms ≡ 1) → ((j : ℕ) → Contains ms j → (i ≤ j) × (j < i + length xs))
     → IsPermutation (flat_map f (numbers_from i xs)) (flat_map f ms)
@@ -99,13 +89,7 @@ as_numbers f i (x ∷ xs) ms once known =
     by s.0 s.1 s.2 (as_numbers f (suc i) xs (s.0 ++ s.1))
   where
     others : (a b : List ℕ) → ms ≡ a ++ i ∷ b → (j : ℕ) → suc i ≤ j → count_by (λ n. n == j) ms ≡ count_by (λ n. n == j) (a ++ b)
-    others a b e j l =
-        ap (count_by (λ n. n == j)) e
-        ∙ counted_middle (λ n. n == j) a i b
-        ∙ elim (cases_Bool (i == j)) [
-          | inl t ↦ let q = eqb-true i j t in absurd (omega (arith, l, q))
-          | inr f ↦ counted_no (λ n. n == j) i (a ++ b) f
-        ]
+    others a b e j l = grind (arith, common_steps, counted_middle, counted_no)
 
     here : (a b : List ℕ) → ms ≡ a ++ i ∷ b → count_by (λ n. n == i) (a ++ b) ≡ 0
     here a b e =

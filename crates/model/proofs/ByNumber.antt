@@ -1,5 +1,5 @@
 -- What is known of names, read off by their numbers, while more names are met.
-use Rattle.std.proofs.Common.{◌≡◌, ℕ, suc, nat_eq, true, false, cond, List, [], ◌∷◌, ◌++◌, Option, Some, None, option_and_then, slice_get, refl, sym, ap, subst, ◌∙◌, eq-eqb, arith}
+use Rattle.std.proofs.Common.{◌≡◌, ℕ, suc, nat_eq, true, false, cond, List, [], ◌∷◌, ◌++◌, Option, Some, None, option_and_then, slice_get, refl, eq-eqb, arith}
 use Rattle.std.proofs.lemmas.Grind.{common_steps}
 use Rattle.std.specs.Str.{bytes_eq}
 use Rattle.model.specs.lists.Names.{number, has_name, with_name, with_names, IsDistinct}
@@ -25,13 +25,7 @@ module _ {X : Type 0} where
 
   -- what is known of a text stands at its number
   pub of_text : (ns : List (List ℕ)) (P : List ℕ → Option X) (x : List ℕ) → (has_name ns x ≡ false → P x ≡ None) → then_option (slice_get ns (number ns x)) P ≡ P x
-  of_text ns P x h =
-      elim (has_name ns x) as (λ b. has_name ns x ≡ b → then_option (slice_get ns (number ns x)) P ≡ P x) [
-        | true ↦ λ e. ap (λ o. then_option o P) (found ns x e)
-        | false ↦ λ e.
-            let none : slice_get ns (number ns x) ≡ None = subst (λ k. slice_get ns k ≡ None) (last ns x e) (past_end ns) in
-            ap (λ o. then_option o P) none ∙ sym (h e)
-      ] refl
+  of_text ns P x h = grind (arith, found, last, past_end)
 
 -- a look-up that finds each name at its place and nothing else
 module _ (ns : List (List ℕ)) (look_up : List ℕ → Option ℕ) (numbered : (x : List ℕ) (k : ℕ) → slice_get ns k ≡ Some x → look_up x ≡ Some k) (named : (x : List ℕ) (k : ℕ) → look_up x ≡ Some k → slice_get ns k ≡ Some x) where
@@ -56,8 +50,4 @@ module _ (ns : List (List ℕ)) (once : IsDistinct ns) (n : ℕ) (x : List ℕ) 
 
   -- at the other numbers stand the others, which keep their places
   pub others : (k : ℕ) → nat_eq n k ≡ false → then_option (slice_get ns k) (λ y. place_from 0 y ts) ≡ then_option (slice_get ns k) (λ y. place_from 0 y (ts ++ x ∷ []))
-  others k e =
-      elim (slice_get ns k) as (λ o. slice_get ns k ≡ o → then_option o (λ y. place_from 0 y ts) ≡ then_option o (λ y. place_from 0 y (ts ++ x ∷ []))) [
-        | None ↦ λ _. refl
-        | Some y ↦ λ g. sym (place_push_other 0 ts x y (other_text k y e g))
-      ] refl
+  others k e = grind (arith, place_push_other, other_text)

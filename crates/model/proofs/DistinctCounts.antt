@@ -1,5 +1,6 @@
 -- How long lists are in which nothing stands twice.
-use Rattle.std.proofs.Common.{◌≡◌, ◌⊎◌, ◌≤◌, suc, List, [], ◌∷◌, length, Contains, refl, sym, ap, ◌∙◌, subst, inl, inr, arith}
+use Rattle.std.proofs.Common.{◌≡◌, ◌⊎◌, ◌≤◌, suc, List, [], ◌∷◌, length, refl, sym, ap, ◌∙◌, inl, inr, arith}
+use Rattle.std.proofs.lemmas.Grind.{common_steps}
 use Rattle.model.specs.lists.Names.{IsDistinct}
 use Rattle.model.proofs.Elements.{In, contains_from_in}
 use Rattle.model.proofs.DistinctJoined.{distinct_tail, not_in_tail}
@@ -19,9 +20,6 @@ module _ {X : Type 0} where
   no_more_distinct (x ∷ xs) ys d h =
       let r = dropped ys x (h x (inl refl)) in
       let l = no_more_distinct xs r.0 (distinct_tail x xs d)
-      (λ y i. elim (r.2 y (h y (inr i))) [
-        | inl e ↦ absurd (not_in_tail x xs d (subst (Contains xs) (sym e) (contains_from_in xs y i)))
-        | inr j ↦ j
-      ]) in
+      (λ y i. grind (arith, common_steps, not_in_tail, contains_from_in)) in
       let e = r.1 in
       omega (arith, e, l)

@@ -115,7 +115,6 @@ zip_in (a ∷ xs) (b ∷ ys) (suc i) x y e f = inr (zip_in xs ys i x y e f)
 zip_in xs ys i x y e f = grind (arith, common_steps, none_some, some_is)
 
 pub in_zip : {X Y : Type 0} (xs : List X) (ys : List Y) (e : X × Y) → In (zip xs ys) e → (i : ℕ) × (slice_get xs i ≡ Some e.0) × (slice_get ys i ≡ Some e.1)
-in_zip [] ys e i = absurd i
-in_zip (a ∷ xs) [] e i = absurd i
 in_zip (a ∷ xs) (b ∷ ys) e (inl p) = (0, ap (λ q. Some q.0) p, ap (λ q. Some q.1) p)
 in_zip (a ∷ xs) (b ∷ ys) e (inr i) = let r = in_zip xs ys e i in (suc r.0, r.1, r.2)
+in_zip _ _ e i = absurd i

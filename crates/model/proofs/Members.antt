@@ -49,21 +49,11 @@ member_kept i (x ∷ xs) h = grind (arith, common_steps, member_kept i xs, eqb-t
 member_kept i [] h = absurd (h refl)
 
 pub member_counted : (i : ℕ) (xs : List ℕ) → count_by (λ j. j == i) xs ≡ 1 → Contains xs i
-member_counted i xs h =
-    let n = length-filter (λ j. j == i) xs in
-    member_kept i xs (λ e. let z : length (filter (λ j. j == i) xs) ≡ 0 = ap length e in omega arith)
+member_counted i xs h = grind (arith, common_steps, length-filter (λ j. j == i) xs, member_kept i xs)
 
 pub constraint_in : (ds : List (ℕ × Constraint)) (s : ℕ) (c : Constraint) → constraint_at ds s ≡ Some c → Contains ds (s, c)
 constraint_in [] s c e = absurd (none-some c e)
-constraint_in (d ∷ ds) s c e =
-    elim (cases_Bool (d.0 == s)) [
-      | inl t ↦
-          let same = eqb-true d.0 s t in
-          let this = same_Some d.1 c (sym (cond-true (d.0 == s) (Some d.1) (constraint_at ds s) t) ∙ e) in
-          let pair : d ≡ (s, c) = λ i. (same i, this i) in
-          subst (Contains (d ∷ ds)) pair (in_head d ds)
-      | inr n ↦ in_tail d (s, c) ds (constraint_in ds s c (sym (cond-false (d.0 == s) (Some d.1) (constraint_at ds s) n) ∙ e))
-    ]
+constraint_in (d ∷ ds) s c e = grind (arith, constraint_in ds s c, same_Some, in_head, in_tail)
 
 module _ {X : Type 0} where
   pub each_passes : (p : X → Bool) (xs : List X) → list_all p xs ≡ true → (x : X) → Contains xs x → p x ≡ true
@@ -106,24 +96,12 @@ module _ {X : Type 0} where
 
   pub from_filter : (p : X → Bool) (xs : List X) (x : X) → Contains (filter p xs) x → Contains xs x × (p x ≡ true)
   from_filter p [] x c = absurd (nothing_in x c)
-  from_filter p (y ∷ ys) x c =
-      elim (cases_Bool (p y)) [
-        | inl t ↦
-            elim (in_cases y x (filter p ys) (subst (λ l. Contains l x) (cond-true (p y) (y ∷ filter p ys) (filter p ys) t) c)) [
-              | inl e ↦ (subst (Contains (y ∷ ys)) e (in_head y ys), ap p (sym e) ∙ t)
-              | inr d ↦ let r = from_filter p ys x d in (in_tail y x ys r.0, r.1)
-            ]
-        | inr n ↦ let r = from_filter p ys x (subst (λ l. Contains l x) (cond-false (p y) (y ∷ filter p ys) (filter p ys) n) c) in (in_tail y x ys r.0, r.1)
-      ]
+  from_filter p (y ∷ ys) x c = grind (arith, from_filter p ys x, in_cases, in_head, in_tail)
 
 module _ {X Y : Type 0} where
   pub from_map : (f : X → Y) (xs : List X) (y : Y) → Contains (map f xs) y → (x : X) × Contains xs x × (f x ≡ y)
   from_map f [] y c = absurd (nothing_in y c)
-  from_map f (x ∷ xs) y c =
-      elim (in_cases (f x) y (map f xs) c) [
-        | inl e ↦ (x, in_head x xs, e)
-        | inr d ↦ let r = from_map f xs y d in (r.0, in_tail x r.0 xs r.1, r.2)
-      ]
+  from_map f (x ∷ xs) y c = grind (arith, from_map f xs y, in_cases, in_head, in_tail)
 
   pub in_map : (f : X → Y) (xs : List X) (x : X) → Contains xs x → Contains (map f xs) (f x)
   in_map f (y ∷ ys) x c = grind (arith, common_steps, in_map f ys x, in_cases y x ys c, in_head (f y) (map f ys), in_tail (f y) (f x) (map f ys), in_cases, in_head, in_tail)

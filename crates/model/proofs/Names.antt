@@ -1,8 +1,8 @@
 -- Names that were met: each stands at its number and keeps it, and which are there once more were met.
-use Rattle.std.proofs.Common.{◌≡◌, ℕ, zero, suc, ◌<◌, ◌==◌, ◌||◌, Bool, true, false, cond, List, [], ◌∷◌, ◌++◌, length, Some, slice_get, IsTrue, refl, sym, ap, subst, ◌∙◌, inl, inr, eqb-true, arith}
+use Rattle.std.proofs.Common.{◌≡◌, ℕ, zero, suc, ◌<◌, ◌==◌, ◌||◌, Bool, true, false, cond, List, [], ◌∷◌, ◌++◌, length, Some, slice_get, IsTrue, refl, ap, ◌∙◌, arith}
 use Rattle.std.proofs.lemmas.Grind.{common_steps}
 use Rattle.std.specs.Str.{bytes_eq}
-use Rattle.std.proofs.lemmas.Bool.{false≢true, eq-eqb, cases_Bool}
+use Rattle.std.proofs.lemmas.Bool.{false≢true, eq-eqb}
 use Rattle.std.proofs.lemmas.Option.{same_Some, slice_get_within}
 use Rattle.std.proofs.Math.Bool.{or_assoc}
 use Rattle.model.specs.lists.Names.{number, has_name, with_name, with_names, IsDistinct, all_different}
@@ -49,17 +49,7 @@ at_number [] x z e = absurd (cc)
 
 -- names are told apart by their numbers
 pub same_test : (ns : List (List ℕ)) (y x : List ℕ) → has_name ns y ≡ true → (number ns y == number ns x) ≡ bytes_eq y x
-same_test ns y x h =
-    elim (cases_Bool (number ns y == number ns x)) [
-      | inl t ↦
-          let e = eqb-true (number ns y) (number ns x) t in
-          let same : y ≡ x = at_number ns x y (subst (λ k. slice_get ns k ≡ Some y) e (found ns y h)) in
-          t ∙ sym (subst (λ z. bytes_eq y z ≡ true) same (same_self y))
-      | inr n ↦ elim (cases_Bool (bytes_eq y x)) [
-        | inl t ↦ absurd (false≢true (sym n ∙ eq-eqb (number ns y) (number ns x) (ap (number ns) (same_bytes y x t))))
-        | inr f ↦ n ∙ sym f
-      ]
-    ]
+same_test ns y x h = grind (arith, common_steps, at_number ns x y, found ns y h, same_self y, eq-eqb (number ns y) (number ns x), same_bytes y x)
 
 -- names of two lists
 pub has_append : (xs ys : List (List ℕ)) (x : List ℕ) → has_name (xs ++ ys) x ≡ has_name xs x || has_name ys x
@@ -90,11 +80,7 @@ with_missing ns x y e = grind (arith, common_steps, has_with ns x y, same_bytes 
 
 -- a name that is met stands at its number
 pub with_name_at : (ns : List (List ℕ)) (x : List ℕ) → slice_get (with_name ns x) (number ns x) ≡ Some x
-with_name_at ns x =
-    elim (has_name ns x) as (λ b. has_name ns x ≡ b → slice_get (cond b ns (ns ++ x ∷ [])) (number ns x) ≡ Some x) [
-      | true ↦ λ e. found ns x e
-      | false ↦ λ e. subst (λ k. slice_get (ns ++ x ∷ []) k ≡ Some x) (last ns x e) (get_middle ns x [])
-    ] refl
+with_name_at ns x = grind (arith, found, last, get_middle)
 
 get_with : (ns : List (List ℕ)) (y : List ℕ) (k : ℕ) (x : List ℕ) → slice_get ns k ≡ Some x → slice_get (with_name ns y) k ≡ Some x
 get_with ns y k x h = elim (has_name ns y) as (λ b. slice_get (cond b ns (ns ++ y ∷ [])) k ≡ Some x) [ true ↦ h | false ↦ get_front ns (y ∷ []) k x h ]

@@ -1,5 +1,5 @@
 -- Numbers in lists: in one list or another, and the numbers of a list's elements, in order.
-use Rattle.std.proofs.Common.{◌≡◌, ◌⊎◌, ℕ, suc, ◌+◌, ◌<◌, ◌≤◌, ◌==◌, Bool, true, false, List, [], ◌∷◌, ◌++◌, length, filter, Contains, refl, sym, ap, ◌∙◌, inl, inr, eqb-true, eq-eqb, arith}
+use Rattle.std.proofs.Common.{◌≡◌, ◌⊎◌, ℕ, suc, ◌+◌, ◌<◌, ◌≤◌, ◌==◌, Bool, true, false, List, [], ◌∷◌, ◌++◌, length, filter, Contains, refl, ap, ◌∙◌, inl, inr, eqb-true, eq-eqb, arith}
 use Rattle.std.proofs.lemmas.Grind.{common_steps}
 use Rattle.std.proofs.lemmas.Bool.{cases_Bool, cond-true, cond-false, cases_lt, or_cases, or_left, or_right}
 use Rattle.std.proofs.lemmas.List.Folds.{list_any-append}
@@ -67,23 +67,9 @@ module _ {X : Type 0} (P Q : ℕ → Bool) where
                 others = cond-true (Q i) (i ∷ rest_q) rest_q (e ∙ t) ∙ ap (λ y. i ∷ y) r.others;
                 less = λ t k. elim (in_cases i t r.first k) [ inl d ↦ omega (arith, d, g) | inr d ↦ r.less t d ];
               }
-              | inr n ↦ record {
-                first = r.first;
-                after = r.after;
-                all = cond-false (P i) (i ∷ rest_p) rest_p n ∙ r.all;
-                others = cond-false (Q i) (i ∷ rest_q) rest_q (e ∙ n) ∙ r.others;
-                less = r.less;
-              }
+              | inr n ↦ grind (arith, common_steps)
             ]
-        | inr g ↦
-            let same : s ≡ i = omega (arith, l, g) in
-            record {
-              first = [];
-              after = rest_p;
-              all = cond-true (P i) (i ∷ rest_p) rest_p (ap P (sym same) ∙ p) ∙ ap (λ y. y ∷ rest_p) (sym same);
-              others = cond-false (Q i) (i ∷ rest_q) rest_q (ap Q (sym same) ∙ q) ∙ filters_same (suc i) xs (λ t k. h t (λ d. absurd (omega (arith, d, k, same))));
-              less = λ t k. absurd (nothing_in t k);
-            }
+        | inr g ↦ grind (arith, common_steps, filters_same, nothing_in)
       ]
     where
       rest_p : List ℕ

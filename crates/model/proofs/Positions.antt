@@ -1,5 +1,5 @@
 -- What stands at a position, in a list and in a longer one, and lists in which nothing stands twice.
-use Rattle.std.proofs.Common.{◌≡◌, ℕ, zero, suc, ◌<◌, List, [], ◌∷◌, ◌++◌, length, None, Some, slice_get, refl, sym, ap, ◌∙◌, arith, inl, inr, ◌⊎◌, ⊎_elim}
+use Rattle.std.proofs.Common.{◌≡◌, ℕ, suc, ◌<◌, List, [], ◌∷◌, ◌++◌, length, None, Some, slice_get, refl, ap, arith, inl, inr, ◌⊎◌, ⊎_elim}
 use Rattle.std.proofs.lemmas.Grind.{common_steps}
 use Rattle.model.specs.lists.Names.{IsDistinct}
 
@@ -18,10 +18,8 @@ module _ {X : Type 0} where
 
   -- what stands in a list with one more element stood there before, or is the last
   pub get_push_cases : (xs : List X) (y z : X) (k : ℕ) → slice_get (xs ++ y ∷ []) k ≡ Some z → (slice_get xs k ≡ Some z) ⊎ ((k ≡ length xs) × (y ≡ z))
-  get_push_cases [] y z zero e = inr (refl, cc)
-  get_push_cases [] y z (suc k) e = absurd (cc)
-  get_push_cases (x ∷ xs) y z zero e = inl e
   get_push_cases (x ∷ xs) y z (suc k) e = ⊎_elim (λ h. inl h) (λ h. inr (ap suc h.0, h.1)) (get_push_cases xs y z k e)
+  get_push_cases xs y z k e = grind arith
 
   pub distinct_nil : IsDistinct {X = X} []
   distinct_nil j k x p q = absurd (cc)
@@ -30,10 +28,7 @@ module _ {X : Type 0} where
   distinct_one y h k x p q = grind (arith, common_steps)
 
   pub distinct_push : (xs : List X) (x : X) → IsDistinct xs → ((j : ℕ) → slice_get xs j ≡ Some x → ⊥) → IsDistinct (xs ++ x ∷ [])
-  distinct_push xs x once new j k a p q =
-      ⊎_elim (λ u. ⊎_elim (λ v. once j k a u v) (λ v. absurd (new j (u ∙ ap Some (sym v.1)))) (get_push_cases xs x a k q))
-      (λ u. ⊎_elim (λ v. absurd (new k (v ∙ ap Some (sym u.1)))) (λ v. u.0 ∙ sym v.0) (get_push_cases xs x a k q))
-      (get_push_cases xs x a j p)
+  distinct_push xs x once new j k a p q = grind (arith, get_push_cases)
 
   -- what stands before itself stands twice
   pub twice : (xs rest whole : List X) (x : X) (j : ℕ) → IsDistinct whole → xs ++ x ∷ rest ≡ whole → j < length xs → slice_get xs j ≡ Some x → ⊥
