@@ -4,14 +4,13 @@ use Rattle.std.proofs.lemmas.Grind.{common_steps}
 use Rattle.std.proofs.Math.Path.{ap₂}
 use Rattle.std.specs.List.{cons_option, filter_map}
 use Rattle.std.proofs.lemmas.List.{length-append}
-use Rattle.std.proofs.lemmas.List.Elements.{All-contains}
 use Rattle.std.proofs.lemmas.Option.{same_Some}
-use Rattle.model.specs.lists.Syntax.{Definition, DeclTree, ExtractorTree, ConverterTree}
-use Rattle.model.specs.lists.Names.{has_name, IsDistinct}
+use Rattle.model.specs.lists.Syntax.{Definition, DeclTree, ExtractorTree}
+use Rattle.model.specs.lists.Names.{IsDistinct}
 use Rattle.model.specs.lists.Tables.{VariantEntry, TypeEntry, enum_type, struct_type}
 use Rattle.model.specs.lists.TypeTable.{place_from, IsKnownType}
 use Rattle.model.specs.lists.KnownTypes.{KnownTypes, entry_numbers, variant_numbers, field_numbers}
-use Rattle.model.specs.lists.TermTable.{decl_names, decl_trees, made_by, term_names, terms_in, extractor_trees, converter_trees, IsValidTerms}
+use Rattle.model.specs.lists.TermTable.{decl_names, decl_trees, made_by, term_names, terms_in, extractor_trees, IsValidTerms}
 use Rattle.model.specs.claims.Environments.{TypesRead, AreReadable, TypeEnvironment, IsLeftByRefusal}
 use Rattle.model.proofs.Elements.{In, contains_from_in, in_left, in_right, in_either}
 use Rattle.model.proofs.Members.{all_members, get_within}
@@ -59,9 +58,7 @@ moved k l defs types names h = record {
   no_macro_args = h.no_macro_args;
   declared_arguments = h.declared_arguments;
   acyclic = h.acyclic;
-  known_converters =
-      subst (λ (ns : List (List ℕ)). All (λ (c : ConverterTree). IsTrue (is_some (place_from 0 c.term.text ns)) × IsKnownType l.type_names c.inner_ty × IsKnownType l.type_names c.outer_ty) (converter_trees defs)) names
-      (subst (λ (ns : List (List ℕ)). All (λ (c : ConverterTree). IsTrue (is_some (place_from 0 c.term.text (term_names k defs))) × IsKnownType ns c.inner_ty × IsKnownType ns c.outer_ty) (converter_trees defs)) types h.known_converters);
+  known_converters = grind (arith, common_steps);
   one_converter = h.one_converter;
 }
 
@@ -91,23 +88,18 @@ module _ (a : TypesReadAgain) where
       ids = a.readable.well_formed.ids;
       type_names_distinct = a.readable.well_formed.type_names_distinct;
       as_many_names = a.readable.well_formed.as_many_names;
-      names_of_types_met = all_members (λ x. IsTrue (has_name (k.names ++ a.more) x)) k.type_names
-          (λ x c. has_left k.names a.more x (All-contains (λ y. IsTrue (has_name k.names y)) k.type_names x a.readable.well_formed.names_of_types_met c));
+      names_of_types_met = grind (arith, common_steps, all_members, has_left);
       types_in_range = a.readable.well_formed.types_in_range;
-      numbers_in_range = all_members (λ n. n < length (k.names ++ a.more)) (flat_map entry_numbers k.types)
-          (λ n c. longer n (All-contains (λ m. m < length k.names) (flat_map entry_numbers k.types) n a.readable.well_formed.numbers_in_range c));
+      numbers_in_range = grind (arith, common_steps, all_members, longer);
     };
     variants = a.readable.variants;
-    names_of_constants = all_members (λ (c : ℕ × ℕ). c.0 < length (k.names ++ a.more)) a.types.constants
-        (λ c i. longer c.0 (All-contains (λ (d : ℕ × ℕ). d.0 < length k.names) a.types.constants c a.readable.names_of_constants i));
+    names_of_constants = grind (arith, common_steps, all_members, longer);
     types_of_constants = a.readable.types_of_constants;
   }
 
   -- a name of a term that a type makes is one of those that were met before
   pub made_below : (n : ℕ) → In (flat_map made_by k.types) n → n < length k.names
-  made_below n i =
-      All-contains (λ m. m < length k.names) (flat_map entry_numbers k.types) n a.readable.well_formed.numbers_in_range
-      (contains_from_in (flat_map entry_numbers k.types) n (all_made_inside k.types n i))
+  made_below n i = grind (arith, common_steps, contains_from_in (flat_map entry_numbers k.types) n (all_made_inside k.types n i), all_made_inside k.types n i)
 
   pub names_stay : (defs : List Definition) → term_names k defs ≡ term_names later.known defs
   names_stay defs = ap (λ l. decl_names defs ++ l) (read_alike k.names a.more (flat_map made_by k.types) made_below)

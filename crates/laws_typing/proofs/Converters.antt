@@ -2,13 +2,12 @@
 use Rattle.std.proofs.Common.{◌≡◌, ℕ, suc, ◌≤◌, true, false, cond, List, [], ◌∷◌, map, Some, Contains, refl, sym, ap, ◌∙◌, subst, arith}
 use Rattle.std.proofs.lemmas.Grind.{common_steps}
 use Rattle.std.specs.Str.{bytes_eq}
-use Rattle.std.proofs.lemmas.List.Elements.{All-contains}
 use Rattle.std.proofs.lemmas.Option.{same_Some}
 use Rattle.model.specs.lists.Syntax.{Name, ConverterTree}
 use Rattle.model.specs.lists.Names.{IsDistinct}
 use Rattle.model.specs.lists.TypeTable.{place_from, IsKnownType}
-use Rattle.model.specs.lists.KnownTypes.{KnownTypes, type_named, known_type}
-use Rattle.model.specs.lists.TermTable.{converter_trees, known_term, IsKnownConverter}
+use Rattle.model.specs.lists.KnownTypes.{KnownTypes, known_type}
+use Rattle.model.specs.lists.TermTable.{converter_trees, known_term}
 use Rattle.laws_typing.specs.TableLaws.{ConvertersStandOnce}
 use Rattle.model.proofs.Bytes.{same_bytes}
 use Rattle.model.proofs.Mapped.{get_mapped, get_map}
@@ -37,12 +36,9 @@ one_place (z ∷ zs) n k x y p q =
       ] refl q
     ] refl p
 
-known_place : (k : KnownTypes) (n : Name) → IsKnownType k.type_names n → type_named k n.text ≡ Some (known_type k n)
-known_place k n h = grind (arith, common_steps)
-
 -- known types of one id have one name
 one_type : (k : KnownTypes) (a b : Name) → IsKnownType k.type_names a → IsKnownType k.type_names b → known_type k a ≡ known_type k b → a.text ≡ b.text
-one_type k a b h j e = one_place k.type_names 0 (known_type k b) a.text b.text (known_place k a h ∙ ap Some e) (known_place k b j)
+one_type k a b h j e = grind (arith, one_place)
 
 -- what differs by one reading differs by another one that tells as much apart
 distinct_by : {X Y Z : Type 0} (f : X → Y) (g : X → Z) (xs : List X) → ((x y : X) → Contains xs x → Contains xs y → f x ≡ f y → g x ≡ g y) → IsDistinct (map g xs) → IsDistinct (map f xs)
@@ -63,12 +59,7 @@ converters_stand_once_lem k defs v =
     texts c = (c.inner_ty.text, c.outer_ty.text)
 
     tells : (c d : ConverterTree) → Contains (converter_trees defs) c → Contains (converter_trees defs) d → ids c ≡ ids d → texts c ≡ texts d
-    tells c d h j e =
-        let a = All-contains (IsKnownConverter k defs) (converter_trees defs) c v.known_converters h in
-        let b = All-contains (IsKnownConverter k defs) (converter_trees defs) d v.known_converters j in
-        let inner = one_type k c.inner_ty d.inner_ty a.1 b.1 (ap (λ (p : ℕ × ℕ). p.0) e) in
-        let outer = one_type k c.outer_ty d.outer_ty a.2 b.2 (ap (λ (p : ℕ × ℕ). p.1) e) in
-        ap (λ x. (x, c.outer_ty.text)) inner ∙ ap (λ y. (d.inner_ty.text, y)) outer
+    tells c d h j e = grind (arith, common_steps, one_type)
 
     firsts : (cs : List ConverterTree) → map ids cs ≡ map (λ (e : (ℕ × ℕ) × ℕ). e.0) (map (λ c. (ids c, known_term k defs c.term)) cs)
     firsts [] = refl

@@ -22,11 +22,7 @@ use Rattle.laws_typing.proofs.FormedParts.{type_is}
 -- 1. look-ups as lists
 not_looked_up : (es : List (ℕ × ℕ)) (k : ℕ) → ((v : ℕ) → In es (k, v) → ⊥) → look (λ n. n == k) es ≡ None
 not_looked_up [] k f = refl
-not_looked_up (e ∷ es) k f =
-    elim (cases_Bool (e.0 == k)) [
-      | inl t ↦ absurd (f e.1 (inl (λ j. (eqb-true e.0 k t j, e.1))))
-      | inr n ↦ cond-false (e.0 == k) (Some e.1) (look (λ n. n == k) es) n ∙ not_looked_up es k (λ v i. f v (inr i))
-    ]
+not_looked_up (e ∷ es) k f = grind (arith, not_looked_up es k (λ v i. f v (inr i)), e.0, f e.1, e.1)
 
 answers_by : (f : ℕ → Option ℕ) (es : List (ℕ × ℕ)) → ((k v : ℕ) → In es (k, v) → f k ≡ Some v) → ((k v : ℕ) → f k ≡ Some v → In es (k, v)) → AnswersBy f es
 answers_by f es a b k = of (f k) refl
@@ -171,11 +167,7 @@ module _ (env : TypeEnvironment) (h : IsWellFormedEnvironment env) where
       (map_in (λ (p : ℕ × List ℕ). (number env.names p.1, p.0)) (enumerate_from 0 (names_by 0 env.types)) (ty, n.0) (enumerated_in 0 ty ty (names_by 0 env.types) n.0 (omega arith) n.1.listed))
 
   names_differ : IsDistinct (names_by 0 env.types)
-  names_differ j k x e f =
-      let a = listed_named j x e in
-      let b = listed_named k x f in
-      let same = once a.key b.key x a.at_key b.at_key in
-      same_Some j k (sym a.of_type ∙ ap env.type_of same ∙ b.of_type)
+  names_differ j k x e f = grind (arith, common_steps, listed_named j x e, listed_named k x f, once, same_Some j k)
 
   names_met : All (λ x. IsTrue (has_name env.names x)) (names_by 0 env.types)
   names_met =

@@ -7,7 +7,7 @@ use Rattle.std.specs.List.{enumerate_from}
 use Rattle.model.specs.lists.Names.{number, has_name}
 use Rattle.model.specs.lists.Tables.{TypeEntry}
 use Rattle.model.specs.lists.TypeTable.{builtin_names, builtin_from}
-use Rattle.model.specs.lists.KnownTypes.{types_inside, entry_numbers, StandAtIds}
+use Rattle.model.specs.lists.KnownTypes.{types_inside, StandAtIds}
 use Rattle.model.specs.rules.Meaning.{look}
 use Rattle.model.specs.claims.Environments.{TypesRead, HasVariantsAtIds, AreReadable, numbered, TypeEnvironment, IsReadAs}
 use Rattle.model.specs.claims.Questions.{HasOneNumber, IsWellFormedEnvironment}
@@ -40,12 +40,7 @@ module _ (e : TypesRead) (r : AreReadable e) where
   name_met ty x l = All-contains (λ y. has_name names y ≡ true) e.known.type_names x r.well_formed.names_of_types_met (member_from_get e.known.type_names ty x l)
 
   name_of : (k ty : ℕ) → In pairs (k, ty) → IsNameOf ty k
-  name_of k ty i =
-      let m = in_map (λ (p : ℕ × List ℕ). (number e.known.names p.1, p.0)) (enumerate_from 0 e.known.type_names) (k, ty) i in
-      let q = in_enumerated 0 0 e.known.type_names m.0 m.1 in
-      let j : q.0 ≡ ty = (let a = q.1 in let s : m.0.0 ≡ ty = ap (λ (x : ℕ × ℕ). x.1) m.2 in omega (arith, a, s)) in
-      let l = subst (λ a. slice_get e.known.type_names a ≡ Some m.0.1) j q.2 in
-      record { name = m.0.1; listed = l; met = name_met ty m.0.1 l; numbered_so = ap (λ (x : ℕ × ℕ). x.0) m.2 }
+  name_of k ty i = grind (arith, common_steps, in_map, in_enumerated, name_met)
 
   pair_of : (ty : ℕ) (x : List ℕ) → slice_get e.known.type_names ty ≡ Some x → In pairs (number names x, ty)
   pair_of ty x l = map_in (λ (p : ℕ × List ℕ). (number e.known.names p.1, p.0)) (enumerate_from 0 e.known.type_names) (ty, x) (enumerated_in 0 ty ty e.known.type_names x (omega arith) l)
@@ -77,10 +72,7 @@ module _ (e : TypesRead) (r : AreReadable e) where
           of_type =
               h.look_ups (number names g.0)
               ∙ looked_up pairs (number names g.0) ty (pair_of ty g.0 g.1)
-              (λ w i.
-              let n = name_of (number names g.0) w i in
-              let same : g.0 ≡ n.name = one_name g.0 n.name (name_met ty g.0 g.1) n.numbered_so in
-              r.well_formed.type_names_distinct w ty g.0 (n.listed ∙ ap Some (sym same)) g.1);
+              (λ w i. grind (arith, common_steps, name_of, one_name, name_met));
           only = λ k q.
               let n = name_of k ty (look_in pairs k ty (sym (h.look_ups k) ∙ q)) in
               sym n.numbered_so ∙ ap (number names) (same_Some n.name g.0 (sym n.listed ∙ g.1));
@@ -96,9 +88,7 @@ module _ (e : TypesRead) (r : AreReadable e) where
       type_names = type_below;
       constants = constant_below;
       types_in_range = subst (λ (l : List TypeEntry). All (λ ty. ty < length l) (flat_map types_inside l)) (sym h.types) r.well_formed.types_in_range;
-      numbers_in_range =
-          subst (λ (l : List TypeEntry). All (λ n. n < length env.names) (flat_map entry_numbers l)) (sym h.types)
-          (subst (λ (l : List (List ℕ)). All (λ n. n < length l) (flat_map entry_numbers e.known.types)) (sym h.names) r.well_formed.numbers_in_range);
+      numbers_in_range = grind (arith, common_steps);
       no_errors = h.no_errors;
     }
 

@@ -8,7 +8,7 @@ use Rattle.model.specs.lists.Syntax.{PatternTree, PatternTrees, ExprTree, ExprTr
 use Rattle.model.specs.lists.Tables.{Flags, TermEntry, TermKindEntry}
 use Rattle.model.specs.rules.Program.{Program}
 use Rattle.model.specs.rules.Typed.{TypedPattern, TypedPatterns, typed_pattern_and, TypedExpr, TypedExprs, TypedLets, TypedVar, TypedIfLet, TypedRule}
-use Rattle.model.specs.lists.Setting.{new_var, var_named, Setting, Scope, bound, entry_named, bool_type, expr_type, has_constructor, has_extractor, is_callable, is_matchable, on_lhs}
+use Rattle.model.specs.lists.Setting.{new_var, var_named, Setting, Scope, bound, entry_named, bool_type, expr_type, has_constructor, is_callable, on_lhs}
 use Rattle.model.specs.lists.Names.{number, with_name}
 use Rattle.model.specs.lists.Elaborated.{typed_list}
 use Rattle.model.specs.lists.Elaborates.{ElaboratesPattern, ElaboratesParts, ElaboratesEach, new_name, bound_name, binding, a_truth, an_integer, a_constant, a_term, a_template, a_conversion, anything, all_of, no_part, part, no_more, one_more, ElaboratesExpr, ElaboratesArgs, ElaboratesLets, a_call, converted_call, a_variable, converted_variable, truth_expr, integer_expr, constant_expr, let_in, no_arg, an_arg, no_def, a_def, ElaboratesIfLets, no_iflet, an_iflet, a_rule}
@@ -46,9 +46,6 @@ below n name [] v d h = absurd (none-some v h)
 has_its_type : (n name : ℕ) (vs : List TypedVar) (v : TypedVar) → Descends n vs → var_named name vs ≡ Some v → var_type (usable vs) v.id ≡ Some v.ty
 has_its_type n name (w ∷ ws) v d h = grind (arith, common_steps, has_its_type w.id name ws v d.1, same_Some, eq-eqb, below, ne-eqb)
 has_its_type n name [] v d h = absurd (none-some v h)
-
-extracts : (multi : Bool) (k : TermKindEntry) → is_matchable multi k ≡ true → has_extractor k ≡ true
-extracts multi k h = grind (arith, common_steps, and_parts)
 
 pub constructs : (flags : Flags) (k : TermKindEntry) → is_callable flags k ≡ true → has_constructor k ≡ true
 constructs flags k h = grind (arith, common_steps, and_parts)
@@ -89,8 +86,7 @@ module _ (e : Setting) (rules : List TypedRule) (at_ids : TermsAtIds e.terms) wh
       pattern_formed (a_truth {ty = ty} h) o = (rw (eq-eqb ty bool_type h) refl, o)
       pattern_formed (an_integer {ty = ty} {z = z} h) o = (rw (reduced_is_literal (slice_get e.types ty) z h) refl, o)
       pattern_formed (a_constant {ty = ty} h) o = (rw (h, eq-eqb ty ty refl) refl, o)
-      pattern_formed (a_term {ty = ty} {entry = entry} h i j k g) o =
-          let r = parts_formed g o in (rw (at_id _ entry h, eq-eqb entry.ret_ty ty i, extracts multi entry.kind k, r.0) refl, r.1)
+      pattern_formed (a_term {ty = ty} {entry = entry} h i j k g) o = grind (arith, common_steps, parts_formed g o, at_id, eq-eqb)
       pattern_formed (a_template h i j k g) o = pattern_formed g o
       pattern_formed (a_conversion h i j g) o = pattern_formed g o
       pattern_formed anything o = (refl, o)
@@ -109,20 +105,14 @@ module _ (e : Setting) (rules : List TypedRule) (at_ids : TermsAtIds e.terms) wh
     mutual
       expr_formed : {d n : ℕ} {ty : Option ℕ} {x : ExprTree} {s t : Scope} {q : TypedExpr} → ElaboratesExpr e flags d x ty s q t n → InOrder s
           → (is_formed_expr p q (usable s.visible) ≡ true) × (t.visible ≡ s.visible) × (length s.vars ≤ length t.vars)
-      expr_formed (a_call {s = s} {entry = entry} h i j g) o =
-          let r = args_formed g o in (rw (at_id _ entry h, eq-eqb entry.ret_ty entry.ret_ty refl, constructs flags entry.kind j, r.0) refl, r.1, r.2)
+      expr_formed (a_call {s = s} {entry = entry} h i j g) o = grind (arith, common_steps, args_formed g o, at_id, eq-eqb, constructs)
       expr_formed (converted_call h i j g) o = expr_formed g o
       expr_formed (a_variable {s = s} {v = v} h i) o = (rw (has_its_type (length s.vars) _ s.visible v o h, eq-eqb v.ty v.ty refl) refl, refl, omega arith)
       expr_formed (converted_variable h i j g) o = expr_formed g o
       expr_formed (truth_expr h) o = (refl, refl, omega arith)
       expr_formed (integer_expr {ty = ty} {z = z} h) o = (reduced_is_literal (slice_get e.types ty) z h, refl, omega arith)
       expr_formed (constant_expr {own = own} h i) o = (rw (h, eq-eqb own own refl) refl, refl, omega arith)
-      expr_formed (let_in {s = s} {t = t} {u = u} {q = q} g h) o =
-          let l = lets_formed g o in
-          let r = expr_formed h l.1 in
-          let m = l.2 in
-          let k = r.2 in
-          (rw (l.0, eq-eqb (expr_type q) (expr_type q) refl, r.0) refl, refl, omega (arith, m, k))
+      expr_formed (let_in {s = s} {t = t} {u = u} {q = q} g h) o = grind (arith, common_steps, lets_formed g o, expr_formed h, eq-eqb)
 
       args_formed : {d n : ℕ} {tys : List ℕ} {xs : ExprTrees} {s t : Scope} {qs : TypedExprs} → ElaboratesArgs e flags d xs tys s qs t n → InOrder s
           → (are_formed_args p qs tys (usable s.visible) ≡ true) × (t.visible ≡ s.visible) × (length s.vars ≤ length t.vars)

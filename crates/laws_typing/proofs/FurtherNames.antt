@@ -1,6 +1,7 @@
 -- Further names don't matter: by one table twice, a rule has a typed rule from names that the table speaks of, and from these
 -- and more.
-use Rattle.std.proofs.Common.{◌≡◌, ℕ, suc, ◌<◌, List, [], ◌∷◌, ◌++◌, length, Some, slice_get, refl}
+use Rattle.std.proofs.Common.{◌≡◌, ℕ, suc, ◌<◌, List, [], ◌∷◌, ◌++◌, length, Some, slice_get, refl, arith}
+use Rattle.std.proofs.lemmas.Grind.{common_steps}
 use Rattle.model.specs.lists.Names.{IsDistinct}
 use Rattle.model.specs.lists.Tables.{TermEntry}
 use Rattle.model.specs.lists.Setting.{Setting, new_scope}
@@ -16,10 +17,7 @@ one_text ns k l = (let x = get_within ns k l in (x.0, x.1, x.1))
 
 same_entries : (ns : List (List ℕ)) (ts : List TermEntry) → ((i : ℕ) (t : TermEntry) → slice_get ts i ≡ Some t → t.name < length ns) → EntriesAlike ns ns ts ts
 same_entries ns [] k = tt
-same_entries ns (t ∷ ts) k = (
-  record { name = t.name; kind = t.kind; same = refl; named = one_text ns t.name (k 0 t refl); kinds = same_kind t.kind },
-  same_entries ns ts (λ i u h. k (suc i) u h),
-)
+same_entries ns (t ∷ ts) k = grind (arith, common_steps, same_entries ns ts (λ i u h. k (suc i) u h), one_text ns t.name (k 0 t refl), same_kind t.kind)
 
 -- a table beside itself
 abbrev twice : (e : Setting) (ns : List (List ℕ)) → SpeaksOfNames e (length ns) → TwoTables

@@ -1,10 +1,10 @@
 -- The judge of types that are handed in is exact.
-use Rattle.std.proofs.Common.{◌≡◌, ℕ, suc, ◌+◌, ◌<◌, ◌==◌, Bool, true, false, ◌&&◌, nat_lt, List, [], ◌∷◌, length, take, Some, slice_get, Decides, IsTrue, refl, ap, ap₂, arith}
+use Rattle.std.proofs.Common.{◌≡◌, ℕ, suc, ◌+◌, ◌<◌, ◌==◌, Bool, true, false, ◌&&◌, nat_lt, List, [], ◌∷◌, length, take, Some, slice_get, Decides, IsTrue, refl, ap, arith}
 use Rattle.std.proofs.lemmas.Grind.{common_steps}
 use Rattle.std.specs.List.{flat_map}
 use Rattle.std.proofs.lemmas.Bool.{false≢true}
-use Rattle.std.proofs.lemmas.Bool.Decides.{Decides-at, Decides-like, Decides-and, Decides-eqb, Decides-ltb, not_from_Decides}
-use Rattle.std.proofs.lemmas.Option.{none-some, same_Some}
+use Rattle.std.proofs.lemmas.Bool.Decides.{Decides-like, Decides-eqb, Decides-ltb, not_from_Decides}
+use Rattle.std.proofs.lemmas.Option.{none-some}
 use Rattle.model.specs.lists.Names.{has_name}
 use Rattle.model.specs.lists.Tables.{VariantEntry, TypeEntry, builtin_type, primitive_type, enum_type, struct_type}
 use Rattle.model.specs.lists.TypeTable.{builtin_names, builtin_from}
@@ -28,13 +28,8 @@ builtin_there n (primitive_type id name at) = (λ h. absurd (false≢true h), λ
 builtin_there n (enum_type name id is_extern is_nodebug variants at) = (λ h. absurd (false≢true h), λ e. cc)
 builtin_there n (struct_type name id is_extern is_nodebug fields at) = (λ h. absurd (false≢true h), λ e. cc)
 
-same_rest : (n m : ℕ) (xs : List (List ℕ)) (t : TypeEntry) (ts : List TypeEntry) → t ∷ ts ≡ builtin_type n ∷ builtin_from m xs → (t ≡ builtin_type n) × (ts ≡ builtin_from m xs)
-same_rest n m xs t ts e = (cc, cc)
-
 begins : (n : ℕ) (xs : List (List ℕ)) (types : List TypeEntry) → Decides (begin_with_builtins n xs types) (take (length xs) types ≡ builtin_from n xs)
-begins n (x ∷ xs) (t ∷ types) =
-    Decides-like (begin_with_builtins n (x ∷ xs) (t ∷ types)) (λ h. ap₂ ◌∷◌ h.0 h.1) (same_rest n (suc n) xs t (take (length xs) types))
-    (both (builtin_there n t) (begins (suc n) xs types))
+begins n (x ∷ xs) (t ∷ types) = grind (arith, common_steps, begins (suc n) xs types, both)
 begins n xs types = grind (arith, common_steps)
 
 -- a test whether the ids of things count up from a number
@@ -48,25 +43,15 @@ module _ {X : Type 0} (t : CountTest X) where
   abbrev Counts : ℕ → List X → Type 0
   Counts n xs = (i : ℕ) (x : X) → slice_get xs i ≡ Some x → t.id x ≡ n + i
 
-  one_more : (n : ℕ) (x : X) (xs : List X) → (t.id x ≡ n) × Counts (suc n) xs → Counts n (x ∷ xs)
-  one_more n x xs h i y e = grind (arith, common_steps, same_Some)
-
   one_less : (n : ℕ) (x : X) (xs : List X) → Counts n (x ∷ xs) → (t.id x ≡ n) × Counts (suc n) xs
   one_less n x xs h = ((let first = h 0 x refl in omega arith), λ i y e. (let later = h (suc i) y e in omega arith))
 
   counts : (n : ℕ) (xs : List X) → Decides (t.count_up n xs) (Counts n xs)
   counts n [] = ((λ _ i x h. absurd (none-some x h)), λ _. t.none n)
-  counts n (x ∷ xs) =
-      Decides-at (t.count_up n (x ∷ xs)) ((t.id x == n) && t.count_up (suc n) xs) (t.more n x xs)
-      (Decides-like ((t.id x == n) && t.count_up (suc n) xs) (one_more n x xs) (one_less n x xs)
-      (Decides-and (t.id x == n) (t.count_up (suc n) xs) (Decides-eqb (t.id x) n) (counts (suc n) xs)))
+  counts n (x ∷ xs) = grind (arith, common_steps, counts (suc n) xs, one_less n x xs)
 
   places_count : (xs : List X) → Decides (t.count_up 0 xs) ((i : ℕ) (x : X) → slice_get xs i ≡ Some x → t.id x ≡ i)
-  places_count xs =
-      Decides-like (t.count_up 0 xs)
-      (λ h i x e. (let at = h i x e in omega arith))
-      (λ h i x e. (let at = h i x e in omega arith))
-      (counts 0 xs)
+  places_count xs = grind (arith, common_steps, counts)
 
 abbrev types_count : CountTest TypeEntry
 types_count = record { id = entry_id; count_up = stand_at_ids; none = λ _. refl; more = λ _ _ _. refl }

@@ -20,9 +20,6 @@ use Rattle.laws_typing.proofs.JudgedTerms.{terms_are_judged_lem, defined_are_jud
 apart_gives : (o : Option TypedRules) (rules : TypedRules) → named_apart o ≡ Some rules → (o ≡ Some rules) × (are_distinct (rule_names rules.rules) ≡ true)
 apart_gives o rules h = grind (arith, common_steps, none-some, if_gives, same_Some)
 
-apart : (rules : TypedRules) → are_distinct (rule_names rules.rules) ≡ true → named_apart (Some rules) ≡ Some rules
-apart rules h = cond-true (are_distinct (rule_names rules.rules)) (Some rules) None h
-
 module _ (e : TypesRead) (defs : List Definition) (expand : Bool) (rules : TypedRules) where
   abbrev all_typed : Option TypedRules
   all_typed = elaborated_rules (setting_of e defs expand) (rule_trees defs) (term_names_met e.known defs)
@@ -44,7 +41,7 @@ module _ (e : TypesRead) (defs : List Definition) (expand : Bool) (rules : Typed
       }
 
   given : IsElaborated e defs expand rules → elaborated_list e defs expand ≡ Some rules
-  given r = grind (arith, common_steps, and_from, read_types_are_judged_lem, terms_are_judged_lem, defined_are_judged_lem, apart, numbers_differ)
+  given r = grind (arith, common_steps, and_from, read_types_are_judged_lem, terms_are_judged_lem, defined_are_judged_lem, numbers_differ)
 
 pub lists_are_elaborated_lem : ListsAreElaborated
 lists_are_elaborated_lem e defs expand rules = (elaborated e defs expand rules, given e defs expand rules)

@@ -2,7 +2,6 @@
 use Rattle.std.proofs.Common.{◌≡◌, Bool, false, not, ◌&&◌, ◌||◌, List, All, Decides, IsTrue, refl, ℕ, ◌<◌, nat_lt, arith}
 use Rattle.std.proofs.lemmas.Grind.{common_steps}
 use Rattle.std.specs.List.{list_all}
-use Rattle.std.proofs.lemmas.Bool.{not-true, not_from_false}
 use Rattle.std.proofs.lemmas.Bool.Decides.{Decides-like, Decides-and, Decides-by_and, Decides-ltb}
 use Rattle.model.specs.lists.TypeTable.{type_trees, constant_trees, all_type_names, field_lists, field_names, field_type_names, is_primitive, variants_of, IsKnownType, IsUnmarkedIfPrimitive, HasAtMostOneMark, HasDistinctVariants, HasDistinctFields, HasKnownTypes, IsOfKnownType}
 use Rattle.model.specs.lists.ListJudge.{is_known_type, is_unmarked_if_primitive, has_at_most_one_mark, has_distinct_variants, has_distinct_fields, has_known_types, has_valid_types}
@@ -23,11 +22,8 @@ each p P d xs = Decides-by_and p P (list_all p) d refl (λ _ _. refl) xs
 pub below : (n : ℕ) (xs : List ℕ) → Decides (list_all (λ x. nat_lt x n) xs) (All (λ x. x < n) xs)
 below n xs = each (λ x. nat_lt x n) (λ x. x < n) (λ x. Decides-ltb x n) xs
 
-clear : (b : Bool) → Decides (not b) (b ≡ false)
-clear b = (not-true b, not_from_false b)
-
 unmarked : (a b c : Bool) → Decides (not a || (not b && not c)) (IsTrue a → (b ≡ false) × (c ≡ false))
-unmarked a b c = grind (arith, common_steps, Decides-like, both, clear)
+unmarked a b c = grind (arith, common_steps, Decides-like, both)
 
 pub types_are_judged_lem : TypesAreJudged
 types_are_judged_lem defs =

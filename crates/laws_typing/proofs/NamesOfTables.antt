@@ -1,10 +1,11 @@
 -- The tables that rules are read with speak of names that the terms have met, so the names of rules before don't matter.
-use Rattle.std.proofs.Common.{◌≡◌, ℕ, ◌<◌, Bool, true, List, [], ◌∷◌, ◌++◌, length, map, Option, Some, None, slice_get, option_map, refl, sym, ap, ◌∙◌, subst, inl, inr}
+use Rattle.std.proofs.Common.{◌≡◌, ℕ, ◌<◌, Bool, true, List, [], ◌∷◌, ◌++◌, length, map, Option, Some, None, slice_get, option_map, refl, sym, ap, ◌∙◌, subst, inl, inr, arith}
 use Rattle.std.specs.List.{cons_option, filter_map, flat_map}
 use Rattle.std.specs.Str.{bytes_eq}
 use Rattle.std.proofs.lemmas.Bool.{or_cases}
 use Rattle.std.proofs.lemmas.Option.{slice_get_within, slice_get-map}
 use Rattle.std.proofs.lemmas.List.Elements.{All-contains}
+use Rattle.std.proofs.lemmas.Grind.{common_steps}
 use Rattle.model.specs.lists.Syntax.{Definition}
 use Rattle.model.specs.lists.Names.{number, has_name}
 use Rattle.model.specs.lists.Tables.{TermEntry}
@@ -23,11 +24,7 @@ use Rattle.model.proofs.Mapped.{get_mapped}
 step_names : (ns : List (List ℕ)) (m : ℕ) (o : Option (List ℕ)) → slice_get ns m ≡ o → (rest : List (List ℕ)) (x : List ℕ) → (has_name rest x ≡ true → has_name ns x ≡ true)
     → has_name (cons_option o rest) x ≡ true → has_name ns x ≡ true
 step_names ns m None e rest x all h = all h
-step_names ns m (Some y) e rest x all h =
-    elim (or_cases (bytes_eq y x) (has_name rest x) h) [
-      | inl b ↦ has_at ns m x (e ∙ ap Some (same_bytes y x b))
-      | inr c ↦ all c
-    ]
+step_names ns m (Some y) e rest x all h = grind (arith, common_steps, or_cases (bytes_eq y x) (has_name rest x) h, has_at ns m x, same_bytes y x)
 
 names_at : (ns : List (List ℕ)) (ms : List ℕ) (x : List ℕ) → has_name (filter_map (slice_get ns) ms) x ≡ true → has_name ns x ≡ true
 names_at ns [] x h = absurd (cc)
@@ -57,9 +54,7 @@ module _ (k : KnownTypes) (defs : List Definition) where
       subst (λ n. n < length (term_names_met k defs)) x.2 (number_below (term_names_met k defs) x.0 (names_met x.0 (has_at (term_names k defs) i x.0 x.1)))
 
   type_below : IsWellFormed k → (i n : ℕ) → slice_get (map (number k.names) k.type_names) i ≡ Some n → n < length (term_names_met k defs)
-  type_below w i n h =
-      let x = get_mapped (number k.names) k.type_names i n h in
-      still_below n (subst (λ m. m < length k.names) x.2 (number_below k.names x.0 (All-contains (λ y. has_name k.names y ≡ true) k.type_names x.0 w.names_of_types_met (member_from_get k.type_names i x.0 x.1))))
+  type_below w i n h = grind (arith, get_mapped (number k.names) k.type_names i n h, still_below n, number_below k.names, member_from_get k.type_names i)
 
 tables_speak : (e : TypesRead) (defs : List Definition) (expand : Bool) → AreReadable e → SpeaksOfNames (setting_of e defs expand) (length (term_names_met e.known defs))
 tables_speak e defs expand r = record {

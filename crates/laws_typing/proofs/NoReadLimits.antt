@@ -42,8 +42,7 @@ module _ (e : Setting) where
         rule = q;
         scope = t;
         count = n;
-        made = subst (λ j. ElaboratesRule e most_nested j r (names ++ []) q t n) a
-            (subst (λ y. ElaboratesRule e most_nested id y (names ++ []) q t n) (some_is x r h) (subst (λ ns. ElaboratesRule e most_nested id x ns q t n) b g));
+        made = grind (arith, common_steps, some_is);
         few = l;
       }
   derived_at {id = id} {names = names} (one_rule {n = n} {r = x} {q = q} {t = t} g l rest) (suc i) r h k same =

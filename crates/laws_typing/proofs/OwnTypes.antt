@@ -1,5 +1,5 @@
 -- The types and constants of a list of definitions with valid types can be read.
-use Rattle.std.proofs.Common.{◌≡◌, ℕ, zero, suc, ◌+◌, ◌<◌, true, false, cond, List, [], ◌∷◌, ◌++◌, length, map, Some, slice_get, All, Contains, sym, ap, ◌∙◌, subst, inl, inr, arith}
+use Rattle.std.proofs.Common.{◌≡◌, ℕ, zero, suc, ◌+◌, ◌<◌, true, List, [], ◌∷◌, ◌++◌, length, map, Some, slice_get, All, Contains, sym, ap, ◌∙◌, subst, arith}
 use Rattle.std.proofs.lemmas.Grind.{common_steps}
 use Rattle.std.specs.List.{enumerate_from, flat_map, AllByRecursion}
 use Rattle.std.proofs.lemmas.List.Elements.{All-from_recursion}
@@ -45,14 +45,7 @@ module _ (defs : List Definition) where
   -- the last definitions are some of the definitions
   kept : (cs : List ConstantTree) (c : ConstantTree) → Contains (last_definitions cs) c → Contains cs c
   kept [] c i = i
-  kept (d ∷ cs) c i =
-      elim (has_name (map (λ e. e.name.text) cs) d.name.text) as (λ b. Contains (cond b (last_definitions cs) (d ∷ last_definitions cs)) c → Contains (d ∷ cs) c) [
-        | true ↦ λ j. in_tail d c cs (kept cs c j)
-        | false ↦ λ j. elim (in_cases d c (last_definitions cs) j) [
-          | inl e ↦ subst (λ x. Contains (d ∷ cs) x) e (in_head d cs)
-          | inr k ↦ in_tail d c cs (kept cs c k)
-        ]
-      ] i
+  kept (d ∷ cs) c i = grind (arith, common_steps, kept cs c, in_tail, in_cases, in_head)
 
   -- the names of constants were met
   abbrev texts : List (List ℕ)
@@ -64,12 +57,8 @@ module _ (defs : List Definition) where
       has_met builtin_names (names_later defs) c.name.text
       (has_right (type_names defs ++ flat_map (λ t. names_inside t.name.text t.value) (type_trees defs)) texts c.name.text (has_at texts there.0 c.name.text there.1))
 
-  -- the type of a name is one of the types
-  first_type : 0 < length (all_type_names defs)
-  first_type = omega arith
-
   type_below : (n : Name) → type_or_first defs n < length (type_table defs)
-  type_below n = grind (arith, common_steps, as_many defs, place_below (all_type_names defs) 0 n.text, as_many, first_type, place_below)
+  type_below n = grind (arith, common_steps, as_many defs, place_below (all_type_names defs) 0 n.text, as_many, place_below)
 
   -- what holds of each constant
   each_constant : (P : ℕ × ℕ → Type 0) → ((c : ConstantTree) → Contains (constant_trees defs) c → P (name_number defs c.name.text, type_or_first defs c.ty)) → All P (constant_types defs)

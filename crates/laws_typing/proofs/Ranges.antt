@@ -8,7 +8,7 @@ use Rattle.std.proofs.lemmas.Int.{ints, int_rem_euclid_is}
 use Rattle.std.proofs.lemmas.Nat.{pow_pos, mul-le, mod_below, mod-mul-add, div-add-mod'}
 use Rattle.model.specs.lists.Tables.{TypeEntry}
 use Rattle.model.specs.rules.Values.{is_atom_type}
-use Rattle.model.specs.lists.Ranges.{Range, size, IsInRange, DifferByMultiple, reduce, range_of, reduce_where, reduced, is_literal_of}
+use Rattle.model.specs.lists.Ranges.{Range, size, IsInRange, DifferByMultiple, reduce, range_of, reduced, is_literal_of}
 use Rattle.laws_typing.specs.RangeLaws.{ReducedNumbersAreInRange, NumbersInRangeStay, ReducingTwiceIsReducing, ReducedAlikeByMultiples, ReducedNumbersDifferByMultiples, OneOfTheRangeDiffersByAMultiple}
 
 -- 1. a number, lifted by a multiple of n
@@ -31,8 +31,7 @@ gap : (a b : ℤ) → a ≤ℤ b → (j : ℕ) × (b -ℤ a ≡ pos j)
 gap a b l = by (b -ℤ a) refl
   where
     by : (w : ℤ) → b -ℤ a ≡ w → (j : ℕ) × (b -ℤ a ≡ pos j)
-    by (pos j) e = (j, e)
-    by (negsuc j) e = absurd (omega (arith, ints, l, e))
+    by w e = grind (arith, common_steps, ints)
 
 some_size : (r : Range) → 0 < size r
 some_size r = pow_pos r.bits
@@ -111,12 +110,9 @@ pub one_of_the_range_differs_by_a_multiple_lem : OneOfTheRangeDiffersByAMultiple
 one_of_the_range_differs_by_a_multiple_lem r z x h d = (reduced_alike_by_multiples_lem r z x).1 d ∙ numbers_in_range_stay_lem r x h
 
 -- 3. literals
-once_reduced : (o : Option Range) (z : ℤ) → reduce_where o (reduce_where o z) ≡ reduce_where o z
-once_reduced o z = grind (arith, common_steps, reducing_twice_is_reducing_lem)
-
 -- what a literal stands for is a literal
 pub reduced_is_literal : (ty : Option TypeEntry) (z : ℤ) → is_atom_type ty ≡ true → is_literal_of ty (reduced ty z) ≡ true
-reduced_is_literal ty z h = and_from (is_atom_type ty) _ h ((Decides-int_eq (reduced ty (reduced ty z)) (reduced ty z)).1 (once_reduced (range_of ty) z))
+reduced_is_literal ty z h = grind (arith, common_steps, and_from, reducing_twice_is_reducing_lem)
 
 -- a literal of a type with a range lies in it
 pub literal_in_range : (ty : Option TypeEntry) (z : ℤ) (r : Range) → is_literal_of ty z ≡ true → range_of ty ≡ Some r → IsInRange r z

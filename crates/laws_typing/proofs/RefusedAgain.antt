@@ -9,15 +9,10 @@ use Rattle.model.specs.lists.Elaborated.{elaborated_rule, few_enough, most_neste
 use Rattle.model.specs.rules.Typed.{TypedRule}
 use Rattle.model.specs.claims.Environments.{setting_of}
 use Rattle.model.specs.claims.Refusals.{NamedLimit, Refusal, PassedInReading, nesting_passes, expansions_pass, RefusesRules}
-use Rattle.laws_typing.specs.FurtherNames.{AreThereAlike}
 use Rattle.laws_typing.proofs.TwoTables.{few_alike}
 use Rattle.laws_typing.specs.AfterRefusals.{RulesAreRefusedAgain}
 use Rattle.laws_typing.proofs.AfterRefusals.{TypesReadAgain, later, valid_alike, left_again}
 use Rattle.laws_typing.proofs.RulesAgain.{rules_there, rules_again, rules_before}
-
--- where two answers are alike, both are none or neither is
-none_too : (o p : Option (Typing TypedRule)) → AreThereAlike o p → (o ≡ None) ↔ (p ≡ None)
-none_too o p h = grind (arith, common_steps, none-some)
 
 module _ (a : TypesReadAgain) (defs : List Definition) (expand : Bool) where
   abbrev typing : ℕ → ℕ → RuleTree → Option (Typing TypedRule)
@@ -28,11 +23,11 @@ module _ (a : TypesReadAgain) (defs : List Definition) (expand : Bool) where
 
   -- a limit on nesting
   none_alike : (d id : ℕ) (q : RuleTree) → (typing d id q ≡ None) ↔ (typing_again d id q ≡ None)
-  none_alike d id q = none_too (typing d id q) (typing_again d id q) (rules_there a defs expand d id q)
+  none_alike d id q = grind (arith, rules_there, none-some)
 
   -- and one on expansions
   few_none_alike : (d id : ℕ) (q : RuleTree) → (few_enough (typing d id q) ≡ None) ↔ (few_enough (typing_again d id q) ≡ None)
-  few_none_alike d id q = none_too (few_enough (typing d id q)) (few_enough (typing_again d id q)) (few_alike (typing d id q) (typing_again d id q) (rules_there a defs expand d id q))
+  few_none_alike d id q = grind (arith, few_alike, rules_there, none-some)
 
   passed_again : (l : NamedLimit) (at : Position) → PassedInReading a.types defs expand l at → PassedInReading (later a) defs expand l at
   passed_again l at (nesting_passes id h) =

@@ -1,16 +1,16 @@
 -- More names leave a list its typed rules, or none.
-use Rattle.std.proofs.Common.{◌≡◌, ℕ, suc, ◌+◌, ◌==◌, ◌<◌, not, ◌&&◌, Bool, true, cond, List, [], ◌∷◌, ◌++◌, length, map, Option, Some, None, option_map, slice_get, is_some, flat_map, IsTrue, refl, sym, ap, ◌∙◌, subst, inl, inr, arith}
+use Rattle.std.proofs.Common.{◌≡◌, ℕ, suc, ◌+◌, ◌==◌, ◌<◌, not, ◌&&◌, Bool, true, cond, List, [], ◌∷◌, ◌++◌, length, map, Option, Some, option_map, slice_get, is_some, flat_map, refl, sym, ap, ◌∙◌, subst, inl, inr, arith}
 use Rattle.std.proofs.lemmas.Grind.{common_steps}
 use Rattle.std.proofs.Math.Path.{ap₂}
-use Rattle.std.specs.List.{cons_option, enumerate_from, count_by, fold, find}
+use Rattle.std.specs.List.{enumerate_from, count_by, fold, find}
 use Rattle.std.specs.Str.{bytes_eq}
 use Rattle.std.proofs.lemmas.List.Elements.{All-contains}
 use Rattle.std.proofs.lemmas.Option.{none-some, same_Some}
 use Rattle.model.specs.lists.Syntax.{Definition, DeclTree, ExtractorTree, RuleTree}
 use Rattle.model.specs.lists.Names.{number, has_name, IsDistinct}
-use Rattle.model.specs.lists.Tables.{VariantEntry, TypeEntry, enum_type, struct_type, TermEntry, ConstructorEntry, external_constructor, ExtractorEntry, internal_extractor, external_extractor, declared_term}
+use Rattle.model.specs.lists.Tables.{VariantEntry, TypeEntry, TermEntry, ConstructorEntry, external_constructor, ExtractorEntry, internal_extractor, external_extractor, declared_term}
 use Rattle.model.specs.lists.KnownTypes.{KnownTypes}
-use Rattle.model.specs.lists.TermTable.{ConstructorTree, ExternalTree, decl_names, decl_trees, function_of, rule_trees, constructor_trees, extractor_trees, external_trees, extractor_template, decl_flags, constructor_kind, extractor_kind, decl_as_term, variant_as_term, made_by, terms_made, term_names_met, term_table, converters}
+use Rattle.model.specs.lists.TermTable.{ConstructorTree, ExternalTree, decl_names, decl_trees, function_of, rule_trees, constructor_trees, extractor_trees, external_trees, extractor_template, decl_flags, constructor_kind, extractor_kind, decl_as_term, made_by, terms_made, term_names_met, term_table, converters}
 use Rattle.model.specs.lists.Setting.{new_scope, entry_template}
 use Rattle.model.specs.lists.Elaborated.{TypedRules, elaborated_rule, term_name, named_rule, named_rules, rule_names, named, typed_rules, RulesElaborate}
 use Rattle.model.specs.rules.Typed.{TypedRule}
@@ -31,9 +31,6 @@ use Rattle.laws_typing.proofs.AfterRefusals.{TypesReadAgain, later, still_readab
 -- 1. two choices, by one test
 either_two : {X : Type 0} (P : X → X → Type 0) (a b : Bool) (x y z w : X) → a ≡ b → P x z → P y w → P (cond a x y) (cond b z w)
 either_two P a b x y z w e p q = grind (arith, common_steps)
-
-same_there : {X Y Z : Type 0} (f : X → Y) (g : X → Z) (o : Option X) → is_some (option_map g o) ≡ is_some (option_map f o)
-same_there f g o = grind (arith, common_steps)
 
 -- 2. rules that are alike have names alike once the only rules of their terms are named by these
 term_names_alike : (ns ms : List (List ℕ)) (ts us : List TermEntry) → EntriesAlike ns ms ts us → (i : ℕ) → NumbersAlike ns ms (term_name ts i) (term_name us i)
@@ -56,8 +53,7 @@ module _ (two : TwoTables) (after last : List (List ℕ)) (names : Alike two (ne
         (term_name two.setting.terms q.root_term) q.name (term_name two.other_terms r.root_term) r.name
         (ap₂ (λ a n. not a && (n == 1)) (sym (some_alike q.name r.name h.name)) (counts_alike qs rs all q.root_term 0 ∙ ap (λ t. count_by (λ (x : TypedRule). x.root_term == t) rs) (sym h.term)))
         (numbers_kept two.names two.other_names after last names.kept names.kept' (term_name two.setting.terms q.root_term) (term_name two.other_terms r.root_term)
-        (subst (λ t. NumbersAlike two.names two.other_names (term_name two.setting.terms q.root_term) (term_name two.other_terms t)) (sym h.term)
-        (term_names_alike two.names two.other_names two.setting.terms two.other_terms two.terms q.root_term)))
+        (grind (arith, common_steps, term_names_alike)))
         h.name;
   }
 
@@ -70,12 +66,6 @@ module _ (two : TwoTables) (after last : List (List ℕ)) (names : Alike two (ne
   OfTexts [] [] = Unit {0}
   OfTexts (k ∷ ks) (l ∷ ls) = OfOneText after last k l × OfTexts ks ls
   OfTexts _ _ = ⊥
-
-  with_number : (o p : Option ℕ) (ks ls : List ℕ) → NumbersAlike after last o p → OfTexts ks ls → OfTexts (cons_option o ks) (cons_option p ls)
-  with_number None None ks ls h g = g
-  with_number None (Some y) ks ls h g = absurd h
-  with_number (Some x) None ks ls h g = absurd h
-  with_number (Some x) (Some y) ks ls h g = (h, g)
 
   names_of_texts : (qs rs : List TypedRule) → RulesAlike after last qs rs → OfTexts (rule_names qs) (rule_names rs)
   names_of_texts (q ∷ qs) (r ∷ rs) h = grind (arith, common_steps, names_of_texts qs rs h.1)
@@ -113,9 +103,7 @@ map_same f g (x ∷ xs) h = ap₂ (λ y ys. y ∷ ys) (h x (inl refl)) (map_same
 
 -- a declared term is there
 has_declared : (ds : List DeclTree) (d : DeclTree) → In ds d → has_name (map (λ (x : DeclTree). x.term.text) ds) d.term.text ≡ true
-has_declared ds d i =
-    let names = map (λ (x : DeclTree). x.term.text) ds in
-    (has_name_decides names d.term.text).1 (contains_from_in names d.term.text (map_in (λ (x : DeclTree). x.term.text) ds d i))
+has_declared ds d i = grind (arith, common_steps, has_name_decides, contains_from_in, map_in)
 
 module _ (a : TypesReadAgain) (defs : List Definition) where
   abbrev k : KnownTypes
@@ -153,17 +141,13 @@ module _ (a : TypesReadAgain) (defs : List Definition) where
   own_internal x = option_map (λ (e : ExtractorTree). internal_extractor (extractor_template e)) (find (λ (e : ExtractorTree). bytes_eq e.term.text x) (extractor_trees defs))
 
   constructor_there : (x : List ℕ) → is_some (constructor_kind defs ms x) ≡ is_some (constructor_kind defs ns x)
-  constructor_there x = grind (arith, common_steps, either_two, same_there)
+  constructor_there x = grind (arith, common_steps, either_two)
 
   extractor_there : (x : List ℕ) → is_some (extractor_kind defs ms x) ≡ is_some (extractor_kind defs ns x)
-  extractor_there x = grind (arith, common_steps, either_two, same_there)
-
-  no_template : (o : Option ExternalTree) → entry_template (option_map (λ (e : ExternalTree). external_extractor (number ms e.function.text) e.infallible e.at) o)
-      ≡ entry_template (option_map (λ (e : ExternalTree). external_extractor (number ns e.function.text) e.infallible e.at) o)
-  no_template o = grind (arith, common_steps)
+  extractor_there x = grind (arith, common_steps, either_two)
 
   template_there : (x : List ℕ) → entry_template (extractor_kind defs ms x) ≡ entry_template (extractor_kind defs ns x)
-  template_there x = grind (arith, common_steps, either_two, no_template)
+  template_there x = grind (arith, common_steps, either_two)
 
   decl_alike : (d : DeclTree) (id : ℕ) → has_name (decl_names defs) d.term.text ≡ true → EntryAlike ns ms (decl_as_term k defs ns d id) (decl_as_term k defs ms d id)
   decl_alike d id h =
@@ -179,16 +163,7 @@ module _ (a : TypesReadAgain) (defs : List Definition) where
 
   -- the names of the terms that types make
   name_made : (t : TypeEntry) (g : ℕ → TermEntry) → In (terms_made t) g → (id : ℕ) → In (made_by t) (g id).name
-  name_made (struct_type name n is_extern is_nodebug fields at) g (inl e) id = inl (ap (λ (h : ℕ → TermEntry). (h id).name) e)
-  name_made (enum_type name n is_extern is_nodebug variants at) g i id =
-      let v = in_map (variant_as_term n) variants g i in
-      subst (λ (h : ℕ → TermEntry). In (map (λ (w : VariantEntry). w.full_name) variants) (h id).name) v.2 (map_in (λ (w : VariantEntry). w.full_name) variants v.0 v.1)
-  name_made t g i id = grind (arith, common_steps)
-
-  names_made : (g : ℕ → TermEntry) → In (flat_map terms_made k.types) g → (id : ℕ) → OfOneText ns ms (g id).name (g id).name
-  names_made g i id =
-      let t = from_flat_map terms_made k.types g i in
-      made_stay (g id).name (in_flat_map made_by k.types t.0 (g id).name t.1 (name_made t.0 g t.2 id))
+  name_made t g i id = grind (arith, common_steps, in_map, map_in (λ (w : VariantEntry). w.full_name))
 
   abbrev at_ids : ℕ → List (ℕ → TermEntry) → List TermEntry
   at_ids i gs = map (λ (p : ℕ × (ℕ → TermEntry)). p.1 p.0) (enumerate_from i gs)
@@ -202,15 +177,12 @@ module _ (a : TypesReadAgain) (defs : List Definition) where
 
   terms_alike : (i : ℕ) (ds : List DeclTree) → ((d : DeclTree) → In ds d → has_name (decl_names defs) d.term.text ≡ true)
       → EntriesAlike ns ms (at_ids i (map (decl_as_term k defs ns) ds ++ flat_map terms_made k.types)) (at_ids i (map (decl_as_term k defs ms) ds ++ flat_map terms_made k.types))
-  terms_alike i [] h = made_alike i (flat_map terms_made k.types) names_made
+  terms_alike i [] h = grind (arith, made_alike, from_flat_map, made_stay, in_flat_map, name_made)
   terms_alike i (d ∷ ds) h = (decl_alike d i (h d (inl refl)), terms_alike (i + 1) ds (λ x j. h x (inr j)))
 
   -- 6. the tables
   type_stays : (i n : ℕ) → slice_get (map (number k.names) k.type_names) i ≡ Some n → OfOneText ns ms n n
-  type_stays i n h =
-      let x = get_mapped (number k.names) k.type_names i n h in
-      stays n (subst (λ m. m < length k.names) x.2
-      (number_below k.names x.0 (All-contains (λ y. IsTrue (has_name k.names y)) k.type_names x.0 a.readable.well_formed.names_of_types_met (member_from_get k.type_names i x.0 x.1))))
+  type_stays i n h = grind (arith, common_steps, get_mapped, stays, number_below, member_from_get)
 
   constant_stays : (i : ℕ) (c : ℕ × ℕ) → slice_get a.types.constants i ≡ Some c → OfOneText ns ms c.0 c.0
   constant_stays i c h = stays c.0 (All-contains (λ (d : ℕ × ℕ). d.0 < length k.names) a.types.constants c a.readable.names_of_constants (member_from_get a.types.constants i c h))
@@ -227,27 +199,17 @@ module _ (a : TypesReadAgain) (defs : List Definition) where
       constants = constant_stays;
     }
 
-    first_once : IsDistinct ns
-    first_once = distinct_names k.names met_names a.readable.well_formed.names_distinct
-
-    second_once : IsDistinct ms
-    second_once = distinct_names (k.names ++ a.more) met_names a.once
-
     start : Alike two (new_scope ns) (new_scope ms)
-    start = names_alike two ns ms (λ n x h. h) (λ n x h. h) first_once second_once
+    start = grind (arith, names_alike, distinct_names)
 
     start_back : Alike (turned two) (new_scope ms) (new_scope ns)
-    start_back = names_alike (turned two) ms ns (λ n x h. h) (λ n x h. h) second_once first_once
-
-    -- the setting with more names is this one with the other terms
-    type_numbers : map (number (k.names ++ a.more)) k.type_names ≡ map (number k.names) k.type_names
-    type_numbers = grind (arith, common_steps, map_same, number_front, All-contains, contains_from_in)
+    start_back = grind (arith, names_alike, turned, distinct_names)
 
     converters_stay : converters (later a).known defs ≡ converters k defs
     converters_stay = grind (arith, common_steps, names_stay a defs, names_stay)
 
     same_setting : setting_of (later a) defs expand ≡ other_setting two
-    same_setting = λ i. record { types = k.types; type_names = type_numbers i; constants = a.types.constants; terms = two.other_terms; converters = converters_stay i; expand = expand }
+    same_setting = grind (arith, converters_stay, map_same, number_front, All-contains, contains_from_in)
 
     -- a rule has a typed rule by the types with more names exactly where it has one by these
     pub rules_there : (d id : ℕ) (q : RuleTree) → AreThereAlike (elaborated_rule (setting_of a.types defs expand) d id q ns) (elaborated_rule (setting_of (later a) defs expand) d id q ms)

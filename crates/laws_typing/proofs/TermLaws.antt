@@ -5,7 +5,7 @@ use Rattle.std.specs.List.{enumerate_from, flat_map, filter_map, cons_option, Al
 use Rattle.std.proofs.lemmas.List.Concat.{flat_map-append}
 use Rattle.std.proofs.lemmas.List.Elements.{recursion_from_All}
 use Rattle.std.proofs.lemmas.Option.{same_Some, slice_get-get_or}
-use Rattle.model.specs.lists.Syntax.{VariantTree, TypeTree, TypeValueTree, enum_value, DeclTree, Definition}
+use Rattle.model.specs.lists.Syntax.{VariantTree, TypeTree, TypeValueTree, DeclTree, Definition}
 use Rattle.model.specs.lists.Names.{number, has_name, with_names, IsDistinct}
 use Rattle.model.specs.lists.Tables.{VariantEntry, TypeEntry, TermEntry}
 use Rattle.model.specs.lists.TypeTable.{builtin_names, builtin_from, type_trees, full_name, field_names, variant_names, names_inside, type_names_met, entry_at, type_entry, type_table, variant_entry}
@@ -42,12 +42,9 @@ variants_named : (ty : ℕ) (vs : List VariantEntry) → AreNamed (map (variant_
 variants_named ty [] = tt
 variants_named ty (v ∷ vs) = ((λ id. (refl, refl)), variants_named ty vs)
 
-made_named : (t : TypeEntry) → AreNamed (terms_made t) (made_by t)
-made_named t = grind (arith, common_steps, variants_named)
-
 all_made_named : (ts : List TypeEntry) → AreNamed (flat_map terms_made ts) (flat_map made_by ts)
 all_made_named [] = tt
-all_made_named (t ∷ ts) = both_named (terms_made t) (flat_map terms_made ts) (made_by t) (flat_map made_by ts) (made_named t) (all_made_named ts)
+all_made_named (t ∷ ts) = grind (arith, all_made_named ts, both_named, variants_named)
 
 declared_named : (k : KnownTypes) (defs : List Definition) (ds : List DeclTree) → AreNamed (map (decl_as_term k defs (term_names_met k defs)) ds) (map (number (term_names_met k defs)) (map (λ d. d.term.text) ds))
 declared_named k defs [] = tt
@@ -117,8 +114,7 @@ variants_make defs ns ty i [] = refl
 variants_make defs ns ty i (v ∷ vs) = ap (λ l. number ns (full_name ty v.name.text) ∷ l) (variants_make defs ns ty (i + 1) vs)
 
 type_makes : (defs : List Definition) (ns : List (List ℕ)) (id : ℕ) (t : TypeTree) (w : TypeValueTree) → made_by (entry_at defs ns id t w) ≡ map (number ns) (names_made t.name.text w)
-type_makes defs ns id t (enum_value variants at) = variants_make defs ns t.name.text 0 variants
-type_makes defs ns id t w = refl
+type_makes defs ns id t w = grind (arith, common_steps, variants_make defs ns t.name.text 0)
 
 types_make : (defs : List Definition) (ns : List (List ℕ)) (id : ℕ) (ts : List TypeTree) → flat_map made_by (map (λ p. type_entry defs ns p.0 p.1) (enumerate_from id ts)) ≡ map (number ns) (flat_map (λ t. names_made t.name.text t.value) ts)
 types_make defs ns id (t ∷ ts) = grind (arith, common_steps, types_make defs ns (id + 1) ts, type_makes, map-append)
@@ -137,11 +133,8 @@ module _ (defs : List Definition) where
   full_names_met ty [] a = tt
   full_names_met ty (v ∷ vs) a = (a.0, full_names_met ty vs (all_right IsMet (field_names v.fields) (flat_map (variant_names ty) vs) a.1.1))
 
-  made_met : (ty : List ℕ) (w : TypeValueTree) → IsMet ty → AllByRecursion IsMet (names_inside ty w) → AllByRecursion IsMet (names_made ty w)
-  made_met ty w h a = grind (arith, common_steps, full_names_met)
-
   all_made_met : (ts : List TypeTree) → AllByRecursion IsMet (map (λ t. t.name.text) ts) → AllByRecursion IsMet (flat_map (λ t. names_inside t.name.text t.value) ts) → AllByRecursion IsMet (flat_map (λ t. names_made t.name.text t.value) ts)
-  all_made_met (t ∷ ts) h a = grind (arith, common_steps, all_made_met ts h.1, made_met t.name.text t.value h.0, all_joined, made_met, all_left, all_right)
+  all_made_met (t ∷ ts) h a = grind (arith, common_steps, all_made_met ts h.1, all_joined, all_left, all_right, full_names_met)
   all_made_met [] h a = tt
 
   pub own_names_made : filter_map (slice_get (type_names_met defs)) (flat_map made_by (type_table defs)) ≡ flat_map (λ t. names_made t.name.text t.value) (type_trees defs)

@@ -1,22 +1,20 @@
 -- Rules elaborate alike by two tables of terms that say the same of terms with the same texts for names, each from the names
 -- that its table speaks of: names (1), entries of terms (2), variables (3), names of rules and what is found (4), two tables and
 -- their scopes (5), look-ups (6), derivations (7), rules (8), and that a rule has a typed rule by both or by none (9).
-use Rattle.std.proofs.Common.{◌≡◌, ℕ, zero, suc, ◌+◌, Bool, true, not, cond, ◌&&◌, ◌||◌, if◌then◌else◌, List, [], ◌∷◌, ◌++◌, length, Option, Some, None, slice_get, is_some, refl, sym, ap, ◌∙◌, subst, eqb-true, inl, inr, arith}
+use Rattle.std.proofs.Common.{◌≡◌, ℕ, suc, ◌+◌, Bool, true, cond, if◌then◌else◌, List, [], ◌∷◌, ◌++◌, length, Option, Some, None, slice_get, is_some, refl, sym, ap, ◌∙◌, subst, arith}
 use Rattle.std.proofs.lemmas.Grind.{common_steps}
 use Rattle.std.proofs.Math.Path.{ap₂}
 use Rattle.std.specs.List.{position_from}
 use Rattle.std.specs.Prelude.{unwrap_or, ◌==◌}
 use Rattle.std.specs.Str.{bytes_eq}
-use Rattle.std.proofs.lemmas.Bool.{cases_Bool, cond-true, cond-false}
 use Rattle.std.proofs.lemmas.List.{length-append}
 use Rattle.std.proofs.lemmas.Option.{none-some, same_Some}
 use Rattle.model.specs.lists.Syntax.{Position, Name, PatternTree, PatternTrees, ExprTree, ExprTrees, LetTrees, IfLetTree, RuleTree, var_pattern, bind_pattern, prim_pattern, term_pattern, var_expr, prim_expr, term_expr, let_and, pattern_and, no_pattern, expr_and, no_expr}
 use Rattle.model.specs.lists.Names.{number, with_name, IsDistinct}
 use Rattle.model.specs.lists.Tables.{Flags, TermEntry, TermKindEntry, ConstructorEntry, ExtractorEntry, declared_term}
 use Rattle.model.specs.rules.Meaning.{look}
-use Rattle.model.specs.rules.Outcome.{then_option}
 use Rattle.model.specs.rules.Typed.{TypedPattern, match_bind, match_var, match_prim, match_any, TypedPatterns, TypedExpr, make_var, make_prim, TypedExprs, TypedLets, typed_let_and, TypedVar, TypedIfLet, TypedRule}
-use Rattle.model.specs.lists.Setting.{Setting, Scope, new_scope, new_var, met, bound, after_let, var_named, var_of, entry_named, term_of, type_of_name, type_of_constant, on_lhs, allow, that, converter, pattern_converter, expr_converter, has_extractor, has_constructor, is_callable, is_matchable, declared_flags, entry_template, kind_template, template_in, is_expected}
+use Rattle.model.specs.lists.Setting.{Setting, Scope, new_scope, new_var, met, bound, after_let, var_named, var_of, entry_named, term_of, type_of_name, type_of_constant, on_lhs, that, converter, pattern_converter, expr_converter, has_extractor, has_constructor, is_callable, is_matchable, declared_flags, entry_template, kind_template, template_in, is_expected}
 use Rattle.model.specs.lists.Expansions.{term_name_at}
 use Rattle.model.specs.lists.Typings.{Typing}
 use Rattle.model.specs.lists.Elaborated.{with_own_name, own_number, rule_of_sides, elaborated_rule, few_enough}
@@ -37,9 +35,7 @@ OfOneText ns ms k l = (x : List ℕ) × (slice_get ns k ≡ Some x) × (slice_ge
 
 -- a number is that of a text exactly where its name is the text
 number_test : (names : List (List ℕ)) → IsDistinct names → (k : ℕ) (x y : List ℕ) → slice_get names k ≡ Some y → (k == number names x) ≡ bytes_eq y x
-number_test names once k x y h =
-    let there = has_at names k y h in
-    ap (λ j. j == number names x) (once k (number names y) y h (found names y there)) ∙ same_test names y x there
+number_test names once k x y h = grind (arith, common_steps, has_at names k y h, found names y, same_test names y x)
 
 kept_by_name : (names : List (List ℕ)) (x : List ℕ) → AreKept names (with_name names x)
 kept_by_name names x k y h = get_kept names (x ∷ []) k y h
@@ -59,14 +55,7 @@ same_kind k = record { extractor = refl; makes = refl; matchable = λ multi. ref
 
 pub declared_alike : (flags : Flags) (c d : Option ConstructorEntry) (x y : Option ExtractorEntry) → is_some d ≡ is_some c → is_some y ≡ is_some x → entry_template y ≡ entry_template x
     → KindAlike (declared_term flags c x) (declared_term flags d y)
-declared_alike flags c d x y p q r = record {
-  extractor = q;
-  makes = p;
-  matchable = λ multi. ap (λ b. b && (multi || not flags.multi)) q;
-  callable = λ force. ap (λ b. b && allow force flags) p;
-  declared = refl;
-  template = r;
-}
+declared_alike flags c d x y p q r = grind (arith, common_steps)
 
 -- an entry with another number for its name, and another kind that answers alike
 pub record EntryAlike (ns ms : List (List ℕ)) (t u : TermEntry) : Type 0 where
@@ -138,12 +127,7 @@ record TermFound (ns ms : List (List ℕ)) (t : TermEntry) (o : Option TermEntry
   kinds : KindAlike t.kind kind
 
 pub that_passes : (p : TermEntry → Bool) (o : Option TermEntry) (t : TermEntry) → that p o ≡ Some t → (o ≡ Some t) × (p t ≡ true)
-that_passes p None t h = absurd (none-some t h)
-that_passes p (Some u) t h =
-    elim (cases_Bool (p u)) [
-      | inl b ↦ let same = same_Some u t (sym (cond-true (p u) (Some u) None b) ∙ h) in (ap Some same, subst (λ z. p z ≡ true) same b)
-      | inr b ↦ absurd (none-some t (sym (cond-false (p u) (Some u) None b) ∙ h))
-    ]
+that_passes p o t h = grind (arith, common_steps, none-some, same_Some)
 
 -- 5. two tables
 -- a setting, with names that it speaks of, and other terms for it, with names that these speak of: the entries are alike, and
@@ -161,34 +145,15 @@ pub record TwoTables : Type 0 where
 abbrev pub other_setting : TwoTables → Setting
 other_setting two = record two.setting { terms = two.other_terms }
 
--- the second table first
-kind_turned : (k l : TermKindEntry) → KindAlike k l → KindAlike l k
-kind_turned k l h = record {
-  extractor = sym h.extractor;
-  makes = sym h.makes;
-  matchable = λ multi. sym (h.matchable multi);
-  callable = λ flags. sym (h.callable flags);
-  declared = sym h.declared;
-  template = sym h.template;
-}
-
 pub text_turned : (ns ms : List (List ℕ)) (k l : ℕ) → OfOneText ns ms k l → OfOneText ms ns l k
 text_turned ns ms k l h = (h.0, h.2, h.1)
 
 entry_turned : (ns ms : List (List ℕ)) (t u : TermEntry) → EntryAlike ns ms t u → EntryAlike ms ns u t
-entry_turned ns ms t u h = record {
-  name = t.name;
-  kind = t.kind;
-  same = sym (λ i. record (h.same i) { name = t.name; kind = t.kind });
-  named = subst (λ (x : TermEntry). OfOneText ms ns x.name t.name) (sym h.same) (text_turned ns ms t.name h.name h.named);
-  kinds = subst (λ (x : TermEntry). KindAlike x.kind t.kind) (sym h.same) (kind_turned t.kind h.kind h.kinds);
-}
+entry_turned ns ms t u h = grind (arith, common_steps, text_turned)
 
 pub entries_turned : (ns ms : List (List ℕ)) (ts us : List TermEntry) → EntriesAlike ns ms ts us → EntriesAlike ms ns us ts
-entries_turned ns ms [] [] h = tt
-entries_turned ns ms [] (u ∷ us) h = absurd h
-entries_turned ns ms (t ∷ ts) [] h = absurd h
 entries_turned ns ms (t ∷ ts) (u ∷ us) h = (entry_turned ns ms t u h.0, entries_turned ns ms ts us h.1)
+entries_turned ns ms ts us h = grind arith
 
 abbrev pub turned : TwoTables → TwoTables
 turned two = record {
@@ -272,40 +237,19 @@ module _ (two : TwoTables) where
       }
 
   after_scope : {s s' t t' : Scope} → Alike s s' → After s s' t t' → After s s' (after_let s t) (after_let s' t')
-  after_scope {s = s} {s' = s'} {t = t} {t' = t'} a b = record {
-    alike = record {
-      kept = b.alike.kept;
-      kept' = b.alike.kept';
-      once = b.alike.once;
-      once' = b.alike.once';
-      visible = vars_kept s.names s'.names t.names t'.names b.kept b.kept' s.visible s'.visible a.visible;
-      count = b.alike.count;
-    };
-    kept = b.kept;
-    kept' = b.kept';
-  }
+  after_scope {s = s} {s' = s'} {t = t} {t' = t'} a b = grind (arith, common_steps, vars_kept)
 
   -- 6. look-ups
   slice_found : (ts us : List TermEntry) → EntriesAlike ns ms ts us → (i : ℕ) (t : TermEntry) → slice_get ts i ≡ Some t → TermFound ns ms t (slice_get us i)
-  slice_found [] us h i t g = absurd (none-some t g)
-  slice_found (v ∷ ts) [] h i t g = absurd h
-  slice_found (v ∷ ts) (w ∷ us) h zero t g =
-      subst (λ z. TermFound ns ms z (Some w)) (same_Some v t g) (record { name = h.0.name; kind = h.0.kind; there = ap Some h.0.same; named = h.0.named; kinds = h.0.kinds })
   slice_found (v ∷ ts) (w ∷ us) h (suc i) t g = slice_found ts us h.1 i t g
+  slice_found ts us h i t g = grind (arith, none-some, same_Some)
 
   converter_found : (i o : ℕ) (t : TermEntry) → converter e i o ≡ Some t → TermFound ns ms t (converter f i o)
-  converter_found i o t h =
-      let c = then_gives _ (slice_get e.terms) h in
-      let r = slice_found e.terms f.terms two.terms c.0 t c.2 in
-      record { name = r.name; kind = r.kind; there = ap (λ q. then_option q (slice_get f.terms)) c.1 ∙ r.there; named = r.named; kinds = r.kinds }
+  converter_found i o t h = grind (arith, common_steps, then_gives, slice_found)
 
   passed_found : (p : TermEntry → Bool) → ((t : TermEntry) (n : ℕ) (k : TermKindEntry) → KindAlike t.kind k → p (record t { name = n; kind = k }) ≡ p t) → (i o : ℕ) (t : TermEntry)
       → that p (converter e i o) ≡ Some t → TermFound ns ms t (that p (converter f i o))
-  passed_found p stays i o t h =
-      let c = that_passes p (converter e i o) t h in
-      let r = converter_found i o t c.0 in
-      let u : TermEntry = record t { name = r.name; kind = r.kind } in
-      record { name = r.name; kind = r.kind; there = ap (that p) r.there ∙ cond-true (p u) (Some u) None (stays t r.name r.kind r.kinds ∙ c.1); named = r.named; kinds = r.kinds }
+  passed_found p stays i o t h = grind (arith, common_steps, that_passes p (converter e i o) t h, converter_found i o t)
 
   pattern_by : (i o : ℕ) (t : TermEntry) → pattern_converter e i o ≡ Some t → TermFound ns ms t (pattern_converter f i o)
   pattern_by = passed_found (λ t. has_extractor t.kind) (λ t n k h. h.extractor)
@@ -321,28 +265,7 @@ module _ (two : TwoTables) where
     same_at k l x y = number_test s.names a.once k x y.0 (a.kept k y.0 y.1) ∙ sym (number_test s'.names a.once' l x y.0 (a.kept' l y.0 y.2))
 
     entry_found : (x : List ℕ) (ts us : List TermEntry) → EntriesAlike ns ms ts us → (t : TermEntry) → entry_named (number s.names x) ts ≡ Some t → TermFound ns ms t (entry_named (number s'.names x) us)
-    entry_found x (v ∷ ts) (w ∷ us) h t g =
-        let test : (v.name == number s.names x) ≡ (w.name == number s'.names x) = same_at v.name h.0.name x h.0.named ∙ ap (λ (z : TermEntry). z.name == number s'.names x) (sym h.0.same) in
-        elim (cases_Bool (v.name == number s.names x)) [
-          | inl c ↦
-              subst (λ z. TermFound ns ms z (entry_named (number s'.names x) (w ∷ us))) (same_Some v t (sym (cond-true (v.name == number s.names x) (Some v) (entry_named (number s.names x) ts) c) ∙ g))
-              (record {
-                name = h.0.name;
-                kind = h.0.kind;
-                there = cond-true (w.name == number s'.names x) (Some w) (entry_named (number s'.names x) us) (sym test ∙ c) ∙ ap Some h.0.same;
-                named = h.0.named;
-                kinds = h.0.kinds;
-              })
-          | inr c ↦
-              let r = entry_found x ts us h.1 t (sym (cond-false (v.name == number s.names x) (Some v) (entry_named (number s.names x) ts) c) ∙ g) in
-              record {
-                name = r.name;
-                kind = r.kind;
-                there = cond-false (w.name == number s'.names x) (Some w) (entry_named (number s'.names x) us) (sym test ∙ c) ∙ r.there;
-                named = r.named;
-                kinds = r.kinds;
-              }
-        ]
+    entry_found x (v ∷ ts) (w ∷ us) h t g = grind (arith, common_steps, entry_found x ts us h.1 t, same_at, same_Some)
     entry_found x ts us h t g = grind (arith, common_steps, none-some)
 
     term_found : (x : List ℕ) (t : TermEntry) → term_of e s x ≡ Some t → TermFound ns ms t (term_of f s' x)
@@ -365,11 +288,7 @@ module _ (two : TwoTables) where
     -- the name of a constant has one number
     constant_number : (x : List ℕ) (cs : List (ℕ × ℕ)) (ty : ℕ) → ((i : ℕ) (c : ℕ × ℕ) → slice_get cs i ≡ Some c → OfOneText ns ms c.0 c.0) → look (λ n. n == number s.names x) cs ≡ Some ty → number s'.names x ≡ number s.names x
     constant_number x [] ty k h = absurd (none-some ty h)
-    constant_number x (c ∷ cs) ty k h =
-        elim (cases_Bool (c.0 == number s.names x)) [
-          | inl t ↦ sym (eqb-true c.0 (number s'.names x) (sym (same_at c.0 c.0 x (k 0 c refl)) ∙ t)) ∙ eqb-true c.0 (number s.names x) t
-          | inr g ↦ constant_number x cs ty (λ i u j. k (suc i) u j) (sym (cond-false (c.0 == number s.names x) (Some c.1) (look (λ n. n == number s.names x) cs) g) ∙ h)
-        ]
+    constant_number x (c ∷ cs) ty k h = grind (arith, common_steps, constant_number x cs ty (λ i u j. k (suc i) u j), same_at c.0 c.0 x (k 0 c refl))
 
     vars_alike : (x : List ℕ) (vs ws : List TypedVar) → VarsAlike s.names s'.names vs ws → FoundAlike (var_named (number s.names x) vs) (var_named (number s'.names x) ws)
     vars_alike x (v ∷ vs) (w ∷ ws) h =
@@ -600,11 +519,8 @@ there_alike : (o p : Option (Typing TypedRule)) → ((a : Typing TypedRule) → 
     → ((b : Typing TypedRule) → p ≡ Some b → (a : Typing TypedRule) × (o ≡ Some a) × (b.expansions ≡ a.expansions)) → AreThereAlike o p
 there_alike o p f g = grind (arith, common_steps, none-some, same_Some)
 
-few_step : (a b : Typing TypedRule) (x y : Bool) → x ≡ y → a.expansions ≡ b.expansions → AreThereAlike (cond x (Some a) None) (cond y (Some b) None)
-few_step a b x y e h = grind (arith, common_steps)
-
 pub few_alike : (o p : Option (Typing TypedRule)) → AreThereAlike o p → AreThereAlike (few_enough o) (few_enough p)
-few_alike o p h = grind (arith, common_steps, few_step)
+few_alike o p h = grind (arith, common_steps)
 
 pub typings_alike : (two : TwoTables) (names names' : List (List ℕ)) → Alike two (new_scope names) (new_scope names') → (d id : ℕ) (r : RuleTree)
     → AreThereAlike (elaborated_rule two.setting d id r names) (elaborated_rule (other_setting two) d id r names')

@@ -104,12 +104,11 @@ module _ (e : Setting) (flags : Flags) where
 
       sound_args : (xs : ExprTrees) (tys : List ℕ) (s : Scope) (r : Typing TypedExprs) → args_with e flags (deeper_expr e flags d) xs tys s ≡ Some r → ElaboratesArgs e flags d xs tys s r.made r.scope r.expansions
       sound_args no_expr [] s r h = subst (λ (v : Typing TypedExprs). ElaboratesArgs e flags d no_expr [] s v.made v.scope v.expansions) (same_Some _ _ h) no_arg
-      sound_args no_expr (ty ∷ tys) s r h = absurd (cc)
-      sound_args (expr_and x rest) [] s r h = absurd (cc)
       sound_args (expr_and x rest) (ty ∷ tys) s r h =
           let m = followed_gives _ (elaborated_expr e flags d x (Some ty) s) (λ a. args_with e flags (deeper_expr e flags d) rest tys a.scope) h in
           subst (λ (v : Typing TypedExprs). ElaboratesArgs e flags d (expr_and x rest) (ty ∷ tys) s v.made v.scope v.expansions) m.4
           (an_arg (sound_with x (Some ty) s m.0 m.2) (sound_args rest tys m.0.scope m.1 m.3))
+      sound_args _ _ s r h = absurd (cc)
 
       sound_lets : (ls : LetTrees) (s : Scope) (r : Typing TypedLets) → lets_with e flags (deeper_expr e flags d) ls s ≡ Some r → ElaboratesLets e flags d ls s r.made r.scope r.expansions
       sound_lets (let_and name ty value at rest) s r h = grind (arith, common_steps, sound_with value, sound_lets rest, then_gives, followed_gives, bound_gives, def_before)

@@ -101,12 +101,11 @@ module _ (e : Setting) (multi : Bool) where
 
       sound_parts : (ps : PatternTrees) (tys : List ℕ) (s : Scope) (r : Typing TypedPatterns) → elaborated_parts e multi d ps tys s ≡ Some r → ElaboratesParts e multi d ps tys s r.made r.scope r.expansions
       sound_parts no_pattern [] s r h = subst (λ (v : Typing TypedPatterns). ElaboratesParts e multi d no_pattern [] s v.made v.scope v.expansions) (same_Some _ _ h) no_part
-      sound_parts no_pattern (ty ∷ tys) s r h = absurd (cc)
-      sound_parts (pattern_and p rest) [] s r h = absurd (cc)
       sound_parts (pattern_and p rest) (ty ∷ tys) s r h =
           let m = followed_gives _ (elaborated_pattern e multi d p ty s) (λ a. elaborated_parts e multi d rest tys a.scope) h in
           subst (λ (v : Typing TypedPatterns). ElaboratesParts e multi d (pattern_and p rest) (ty ∷ tys) s v.made v.scope v.expansions) m.4
           (part (sound_with p ty s m.0 m.2) (sound_parts rest tys m.0.scope m.1 m.3))
+      sound_parts _ _ s r h = absurd (cc)
 
       sound_each : (ps : PatternTrees) (ty : ℕ) (s : Scope) (r : Typing TypedPatterns) → each_with e multi (deeper_pattern e multi d) ps ty s ≡ Some r → ElaboratesEach e multi d ps ty s r.made r.scope r.expansions
       sound_each no_pattern ty s r h = subst (λ (v : Typing TypedPatterns). ElaboratesEach e multi d no_pattern ty s v.made v.scope v.expansions) (same_Some _ _ h) no_more

@@ -20,11 +20,7 @@ from_with_name ns y x = grind (arith, common_steps, Contains-push_cases ns y x, 
 
 from_with_names : (ns ys : List (List ℕ)) (x : List ℕ) → Contains (with_names ns ys) x → Contains ns x ⊎ Contains ys x
 from_with_names ns [] x c = inl c
-from_with_names ns (y ∷ ys) x c =
-    elim (from_with_names (with_name ns y) ys x c) [
-      | inl a ↦ elim (from_with_name ns y x a) [ inl b ↦ inl b | inr e ↦ inr (subst (Contains (y ∷ ys)) e (in_head y ys)) ]
-      | inr b ↦ inr (in_tail y x ys b)
-    ]
+from_with_names ns (y ∷ ys) x c = grind (arith, from_with_names (with_name ns y) ys x c, from_with_name ns y x, in_head y ys, in_tail y x ys)
 
 kept_with_name : (ns : List (List ℕ)) (y x : List ℕ) → Contains ns x → Contains (with_name ns y) x
 kept_with_name ns y x c = grind (arith, common_steps, Contains-append_left ns (y ∷ []) x c, Contains-append_left)
@@ -84,12 +80,7 @@ module _ (x : List ℕ) (uses : List TermUses) where
   entry_goes_on u b c d = grind (arith, common_steps, has_name_decides u.comes_to x, new_with_names u.comes_to (uses_of uses x) b d, has_name_decides, new_with_names)
 
   entry_says : (u : TermUses) (b : List ℕ) → Contains (with_uses_of x uses u).comes_to b → Contains u.comes_to b ⊎ (Contains u.comes_to x × Comes uses x b)
-  entry_says u b =
-      elim (has_name u.comes_to x) as (λ t. has_name u.comes_to x ≡ t → Contains (cond t (record { term = u.term; comes_to = with_names u.comes_to (uses_of uses x) }) u).comes_to b
-      → Contains u.comes_to b ⊎ (Contains u.comes_to x × Comes uses x b)) [
-        | true ↦ λ t c. elim (from_with_names u.comes_to (uses_of uses x) b c) [ inl a ↦ inl a | inr d ↦ inr ((has_name_decides u.comes_to x).0 t, d) ]
-        | false ↦ λ _ c. inl c
-      ] refl
+  entry_says u b = grind (arith, from_with_names u.comes_to (uses_of uses x) b, has_name_decides u.comes_to x, u.term)
 
   step_grows : (a b : List ℕ) → Comes uses a b → Comes (through_term x uses) a b
   step_grows a b c =
@@ -183,13 +174,9 @@ module _ (defs : List Definition) where
   found_so : IsSound (all_uses defs)
   found_so = all_sound (internal_extractors defs) (direct_uses defs) (λ a b c. directly (uses a b c))
 
-  -- what comes to something has an internal extractor
-  starts : (t u : List ℕ) → Uses defs t u → Contains (internal_extractors defs) t
-  starts t u x = subst (Contains (internal_extractors defs)) x.of_term (in_map (λ e. e.term.text) (extractor_trees defs) x.definition x.there)
-
   leaves : (t u : List ℕ) → Reaches defs t u → Contains (internal_extractors defs) t
-  leaves t u (directly x) = starts t u x
-  leaves t u (through {u = w} x r) = starts t w x
+  leaves t u (directly x) = grind (arith, common_steps, in_map)
+  leaves t u (through {u = w} x r) = grind (arith, common_steps, in_map)
 
   -- all that is so is found
   found : (t u : List ℕ) → Reaches defs t u → Comes (all_uses defs) t u
@@ -206,9 +193,7 @@ away u = Decides-not (has_name u.comes_to u.term) (has_name_decides u.comes_to u
 
 pub cycles_are_found_lem : CyclesAreFound
 cycles_are_found_lem defs = (
-  (λ h t r.
-      let c = from_comes (all_uses defs) t t (found defs t t r) in
-      (away c.0).0 (each_passes goes_away (all_uses defs) h c.0 c.1) (subst (Contains c.0.comes_to) (sym c.2) c.3)),
+  (λ h t r. grind (arith, common_steps, from_comes (all_uses defs) t t (found defs t t r), found defs t t r, away, each_passes goes_away (all_uses defs) h)),
   λ h. all_pass goes_away (all_uses defs)
       (λ u i. (away u).1 (λ c. h u.term (found_so defs u.term u.term (to_comes (all_uses defs) u u.term u.term i refl c)))),
 )

@@ -1,7 +1,6 @@
 -- Each variant of a well-formed type has its term in the table of a valid list, and the look-up of its full name finds it.
-use Rattle.std.proofs.Common.{◌≡◌, ◌==◌, false, ℕ, suc, ◌+◌, ◌<◌, List, [], ◌∷◌, ◌++◌, length, map, Some, slice_get, refl, sym, ap, ◌∙◌, subst, inl, inr, arith, eq-eqb, eqb-true}
+use Rattle.std.proofs.Common.{◌≡◌, ◌==◌, ℕ, suc, ◌+◌, ◌<◌, List, [], ◌∷◌, ◌++◌, length, map, Some, slice_get, refl, sym, ap, ◌∙◌, subst, inl, inr, arith}
 use Rattle.std.proofs.lemmas.Grind.{common_steps}
-use Rattle.std.proofs.lemmas.Bool.{cases_Bool, cond-true, cond-false, false≢true}
 use Rattle.std.proofs.lemmas.List.Elements.{All-contains}
 use Rattle.std.proofs.lemmas.Option.{same_Some, none-some}
 use Rattle.std.specs.List.{enumerate_from, flat_map}
@@ -26,17 +25,7 @@ use Rattle.model.proofs.Mapped.{get_map, get_mapped}
 -- the one entry of a key is looked up
 pub looked_up : (es : List (ℕ × ℕ)) (k v : ℕ) → In es (k, v) → ((w : ℕ) → In es (k, w) → w ≡ v) → look (λ n. n == k) es ≡ Some v
 looked_up [] k v i f = absurd i
-looked_up (e ∷ es) k v i f =
-    elim (cases_Bool (e.0 == k)) [
-      | inl t ↦
-          cond-true (e.0 == k) (Some e.1) (look (λ n. n == k) es) t
-          ∙ ap Some (f e.1 (inl (λ j. (eqb-true e.0 k t j, e.1))))
-      | inr n ↦ cond-false (e.0 == k) (Some e.1) (look (λ n. n == k) es) n ∙ looked_up es k v (later n i) (λ w j. f w (inr j))
-    ]
-  where
-    later : (e.0 == k) ≡ false → In (e ∷ es) (k, v) → In es (k, v)
-    later n (inl q) = absurd (false≢true (sym n ∙ eq-eqb e.0 k (ap (λ (x : ℕ × ℕ). x.0) q)))
-    later n (inr j) = j
+looked_up (e ∷ es) k v i f = grind (arith, looked_up es k v, e.0, f e.1, e.1)
 
 -- each entry takes the id of its place
 at_place : (fs : List (ℕ → TermEntry)) (k i m : ℕ) (f : ℕ → TermEntry) → k + i ≡ m → slice_get fs i ≡ Some f → slice_get (map (λ p. p.1 p.0) (enumerate_from k fs)) i ≡ Some (f m)

@@ -1,5 +1,5 @@
 -- Rules that hang together can be visited: terms have as many parts as arguments, and variables are bound before their use.
-use Rattle.std.proofs.Common.{◌≡◌, ℕ, suc, ◌==◌, Bool, true, false, cond, not, ◌&&◌, ◌||◌, if◌then◌else◌, List, [], ◌∷◌, length, Option, Some, None, is_some, is_none, slice_get, refl, sym, ap, subst, ◌∙◌, inl, inr, eq-eqb, eqb-true, arith}
+use Rattle.std.proofs.Common.{◌≡◌, ℕ, suc, ◌==◌, Bool, true, false, not, ◌&&◌, ◌||◌, if◌then◌else◌, List, [], ◌∷◌, length, Option, Some, None, is_some, is_none, slice_get, refl, sym, ap, subst, ◌∙◌, inl, inr, eq-eqb, arith}
 use Rattle.std.proofs.lemmas.Grind.{common_steps}
 use Rattle.std.proofs.lemmas.Bool.{and_parts, and_from, cases_Bool, false≢true, or_from}
 use Rattle.std.proofs.lemmas.Option.{cond_some, none-some, same_Some}
@@ -23,11 +23,8 @@ use Rattle.laws_typing.proofs.FormedParts.{from_if, from_entry, from_vars, has_t
 abbrev has : List (ℕ × ℕ) → ℕ → Bool
 has vars y = is_some (var_type vars y)
 
-some_or : (b : Bool) (ty : ℕ) (o : Option ℕ) → is_some (cond b (Some ty) o) ≡ (b || is_some o)
-some_or b ty o = grind (arith, common_steps)
-
 has_with : (x ty : ℕ) (vars : List (ℕ × ℕ)) (y : ℕ) → has ((x, ty) ∷ vars) y ≡ ((x == y) || has vars y)
-has_with x ty vars y = some_or (x == y) ty (var_type vars y)
+has_with x ty vars y = grind arith
 
 -- what can be used is bound
 abbrev Holds : List (ℕ × ℕ) → List ℕ → Type 0
@@ -64,9 +61,6 @@ record Visits (vars more : List (ℕ × ℕ)) (a : PartVisit) : Type 0 where
   can : (ks : List ℕ) → IsReady vars more ks → a.can_visit ks ≡ true
   binds : (ks : List ℕ) → IsReady vars more ks → (y : ℕ) → is_in y (a.after ks) ≡ (is_in y ks || has more y)
 
-among : (a b : Bool) → (b ≡ true → a ≡ true) → a ≡ (a || b)
-among a b h = grind (arith, common_steps)
-
 absorbed : (a b c : Bool) → (b ≡ true → c ≡ true) → ((a || b) || c) ≡ (a || c)
 absorbed a b c h = grind (arith, common_steps)
 
@@ -75,10 +69,7 @@ exchanged a b c = grind (arith, common_steps)
 
 -- where nothing is bound
 unbound : (vars more : List (ℕ × ℕ)) (can_visit : List ℕ → Bool) → Some vars ≡ Some more → ((ks : List ℕ) → Holds vars ks → can_visit ks ≡ true) → Visits vars more (binds_nothing can_visit)
-unbound vars more can_visit e h = subst (λ vs. Visits vars vs (binds_nothing can_visit)) (same_Some vars more e) here
-  where
-    here : Visits vars vars (binds_nothing can_visit)
-    here = record { kept = λ y k. k; can = λ ks r. h ks r.bound; binds = λ ks r y. among (is_in y ks) (has vars y) (r.bound y) }
+unbound vars more can_visit e h = grind (arith, common_steps, same_Some)
 
 outside : {vars more : List (ℕ × ℕ)} {a : PartVisit} → Visits vars more a → (y : ℕ) → has more y ≡ false → has vars y ≡ false
 outside {vars = vars} v y h = elim (cases_Bool (has vars y)) [ inl t ↦ absurd (false≢true (sym h ∙ v.kept y t)) | inr n ↦ n ]
@@ -90,20 +81,14 @@ then_visits {vars = vars} {mid = mid} {more = more} {a = a} {b = b} v w =
       kept = λ y h. w.kept y (v.kept y h);
       can = λ ks r. and_from (a.can_visit ks) (b.can_visit (a.after ks)) (v.can ks (ready_first ks r)) (w.can (a.after ks) (ready_next ks r));
       binds = λ ks r y.
-          (w.binds (a.after ks) (ready_next ks r) y ∙ ap (λ c. c || has more y) (v.binds ks (ready_first ks r) y)
-          ∙ absorbed (is_in y ks) (has mid y) (has more y) (w.kept y));
+          (grind (arith, common_steps, ready_next ks r, ready_first ks r, absorbed));
     }
   where
     ready_first : (ks : List ℕ) → IsReady vars more ks → IsReady vars mid ks
     ready_first ks r = record { bound = r.bound; new = λ y h k. r.new y h (w.kept y k) }
 
     ready_next : (ks : List ℕ) → IsReady vars more ks → IsReady mid more (a.after ks)
-    ready_next ks r =
-        let first = ready_first ks r in
-        record {
-          bound = λ y h. v.binds ks first y ∙ or_right (is_in y ks) (has mid y) h;
-          new = λ y h k. v.binds ks first y ∙ or_from (is_in y ks) (has mid y) (r.new y (outside v y h) k) h;
-        }
+    ready_next ks r = grind (arith, common_steps, ready_first ks r, or_right, or_from, outside)
 
 -- a variable, and then a visit
 bind_visits : {vars mid : List (ℕ × ℕ)} (x ty : ℕ) {a : PartVisit} → Visits vars mid a → has mid x ≡ false → Visits vars ((x, ty) ∷ mid) (with_variable x a)
@@ -118,17 +103,8 @@ bind_visits {vars = vars} {mid = mid} x ty {a = a} v n =
     comes : has ((x, ty) ∷ mid) x ≡ true
     comes = has_with x ty mid x ∙ or_left (x == x) (has mid x) (eq-eqb x x refl)
 
-    apart : (y : ℕ) → has mid y ≡ true → (b : Bool) → (x == y) ≡ b → b ≡ false
-    apart y k false e = refl
-    apart y k true e = absurd (false≢true (sym n ∙ ap (has mid) (eqb-true x y e) ∙ k))
-
     ready_within : (ks : List ℕ) → IsReady vars ((x, ty) ∷ mid) ks → IsReady vars mid (x ∷ ks)
-    ready_within ks r =
-        record {
-          bound = λ y h. or_right (x == y) (is_in y ks) (r.bound y h);
-          new = λ y h k.
-              or_from (x == y) (is_in y ks) (apart y k (x == y) refl) (r.new y h (has_with x ty mid y ∙ or_right (x == y) (has mid y) k));
-        }
+    ready_within ks r = grind (arith, common_steps, or_right, or_from, has_with)
 
 -- 2. rules
 module _ (p : Program) where
@@ -156,8 +132,7 @@ module _ (p : Program) where
         let n = cond_some (is_none (var_type a.1 x)) ((x, ty) ∷ a.1) more a.3 in
         subst (λ vs. Visits vars vs (pattern_walk (match_bind ty x of))) n.1
         (bind_visits x ty (pattern_visits of vars a.1 a.2) (has_none (var_type a.1 x) n.0))
-    pattern_visits (match_var ty x) vars more f =
-        let a = from_if (is_type (var_type vars x) ty) (Some vars) more f in unbound vars more (is_in x) a.1 (λ ks h. h x (has_type (var_type vars x) ty a.0))
+    pattern_visits (match_var ty x) vars more f = grind (arith, common_steps, from_if, unbound, has_type)
     pattern_visits (match_bool ty b) vars more f = unbound vars more (λ ks. true) (from_if (ty == bool_type) (Some vars) more f).1 (λ ks h. refl)
     pattern_visits (match_int ty z) vars more f = unbound vars more (λ ks. true) (from_if (is_literal_of (slice_get p.types ty) z) (Some vars) more f).1 (λ ks h. refl)
     pattern_visits (match_prim ty name) vars more f = unbound vars more (λ ks. true) (from_if (is_type (constant_type p name) ty) (Some vars) more f).1 (λ ks h. refl)
@@ -166,8 +141,7 @@ module _ (p : Program) where
         let b = from_if ((a.0.ret_ty == ty) && has_extractor a.0.kind) (formed_parts p args a.0.arg_tys vars) more a.2 in
         let r = parts_visit args a.0.arg_tys vars more b.1 in
         let opens : of_entry (slice_get p.terms term) (λ e. has_extractor e.kind && (length e.arg_tys == pattern_count args)) ≡ true =
-        (ap (λ o. of_entry o (λ e. has_extractor e.kind && (length e.arg_tys == pattern_count args))) a.1
-        ∙ and_from (has_extractor a.0.kind) (length a.0.arg_tys == pattern_count args) (and_parts (a.0.ret_ty == ty) (has_extractor a.0.kind) b.0).1 (eq-eqb (length a.0.arg_tys) (pattern_count args) r.0)) in
+        (grind (arith, common_steps, and_from, and_parts)) in
         record { kept = r.1.kept; can = λ ks h. and_from _ (are_visitable_parts p.terms args ks) opens (r.1.can ks h); binds = r.1.binds }
     pattern_visits (match_any ty) vars more f = unbound vars more (λ ks. true) f (λ ks h. refl)
     pattern_visits (match_and ty parts) vars more f = each_visit parts ty vars more f
@@ -227,8 +201,7 @@ module _ (p : Program) where
   value_first e a = record { can_visit = λ ks. is_visitable_expr p.terms e ks && a.can_visit ks; after = a.after }
 
   value_visits : (e : TypedExpr) {vars more : List (ℕ × ℕ)} {a : PartVisit} → is_formed_expr p e vars ≡ true → Visits vars more a → Visits vars more (value_first e a)
-  value_visits e {vars = vars} {a = a} f v =
-      record { kept = v.kept; can = λ ks r. and_from (is_visitable_expr p.terms e ks) (a.can_visit ks) (expr_visits e vars ks f r.bound) (v.can ks r); binds = v.binds }
+  value_visits e {vars = vars} {a = a} f v = grind (arith, common_steps, and_from, expr_visits)
 
   iflets_visit : (is : List TypedIfLet) (vars more : List (ℕ × ℕ)) → formed_iflets p is vars ≡ Some more → Visits vars more (iflets_walk is)
   iflets_visit [] vars more f = unbound vars more (λ ks. true) f (λ ks h. refl)
@@ -254,9 +227,7 @@ formed_rules_can_be_visited p r f =
     let last = bound_after_iflets r.iflets (bound_after_list r.args []) in
     let visited = and_parts (are_visitable_list p.terms r.args []) (are_visitable_iflets p.terms r.iflets (bound_after_list r.args [])) (whole.can [] start) in
     and_from _ _ (ap (λ o. of_entry o (λ e. length e.arg_tys == length r.args)) a.1 ∙ eq-eqb (length a.0.arg_tys) (length r.args) args.0)
-    (and_from _ _ visited.0
-    (and_from _ (is_visitable_expr p.terms r.rhs last) visited.1
-    (expr_visits p r.rhs b.0 last (and_parts (expr_type r.rhs == a.0.ret_ty) (is_formed_expr p r.rhs b.0) b.2).1 (at_end b.0 last (whole.binds [] start)))))
+    (grind (arith, common_steps, at_end b.0 last (whole.binds [] start), and_from, expr_visits, and_parts))
   where
     at_end : (vars : List (ℕ × ℕ)) (ks : List ℕ) → ((y : ℕ) → is_in y ks ≡ (false || has vars y)) → Holds vars ks
     at_end vars ks same y h = same y ∙ h

@@ -42,11 +42,8 @@ builtins_count : (n : ℕ) (xs : List (List ℕ)) (ts : List TypeEntry) → Coun
 builtins_count n [] ts c = (let e : n + 0 ≡ n = omega arith in subst (λ m. CountUp m ts) e c)
 builtins_count n (x ∷ xs) ts c = (refl, builtins_count (suc n) xs ts (let e : n + suc (length xs) ≡ suc n + length xs = omega arith in subst (λ m. CountUp m ts) e c))
 
-own_id : (defs : List Definition) (ns : List (List ℕ)) (id : ℕ) (t : TypeTree) (w : TypeValueTree) → entry_id (entry_at defs ns id t w) ≡ id
-own_id defs ns id t w = grind (arith, common_steps)
-
 entries_count : (defs : List Definition) (ns : List (List ℕ)) (n : ℕ) (ts : List TypeTree) → CountUp n (map (λ p. type_entry defs ns p.0 p.1) (enumerate_from n ts))
-entries_count defs ns n (t ∷ ts) = grind (arith, common_steps, entries_count defs ns (n + 1) ts, own_id defs ns n t t.value, own_id)
+entries_count defs ns n (t ∷ ts) = grind (arith, common_steps, entries_count defs ns (n + 1) ts)
 entries_count defs ns n [] = tt
 
 -- a place among names is below their count
@@ -76,11 +73,8 @@ module _ (defs : List Definition) where
   abbrev IsOneOfTypes : ℕ → Type 0
   IsOneOfTypes ty = ty < length (type_table defs)
 
-  first_type : 0 < length (all_type_names defs)
-  first_type = omega arith
-
   named_type : (n : Name) → IsOneOfTypes (type_or_first defs n)
-  named_type n = grind (arith, common_steps, place_below (all_type_names defs) 0 n.text, as_many, first_type, place_below)
+  named_type n = grind (arith, common_steps, place_below (all_type_names defs) 0 n.text, as_many, place_below)
 
   fields_named : (ns : List (List ℕ)) (i : ℕ) (fs : List FieldTree) → AllByRecursion IsOneOfTypes (map (λ f. f.ty) (map (λ p. field_entry defs ns p.0 p.1) (enumerate_from i fs)))
   fields_named ns i [] = tt
@@ -90,17 +84,14 @@ module _ (defs : List Definition) where
   parts_named i [] = tt
   parts_named i (f ∷ fs) = (named_type f.ty, parts_named (i + 1) fs)
 
-  list_named : (ns : List (List ℕ)) (fields : FieldTrees) → AllByRecursion IsOneOfTypes (field_types (field_entries defs ns fields))
-  list_named ns fields = grind (arith, common_steps, fields_named, parts_named)
-
   variants_fields : (ns : List (List ℕ)) (ty : List ℕ) (i : ℕ) (vs : List VariantTree) → AllByRecursion IsOneOfTypes (flat_map (λ v. field_types v.fields) (map (λ p. variant_entry defs ns ty p.0 p.1) (enumerate_from i vs)))
-  variants_fields ns ty i (v ∷ vs) = grind (arith, common_steps, variants_fields ns ty (i + 1) vs, list_named ns v.fields, all_joined, list_named)
+  variants_fields ns ty i (v ∷ vs) = grind (arith, common_steps, variants_fields ns ty (i + 1) vs, all_joined, fields_named, parts_named)
   variants_fields ns ty i [] = tt
 
   type_fields : (ns : List (List ℕ)) (id : ℕ) (t : TypeTree) (w : TypeValueTree) → AllByRecursion IsOneOfTypes (types_inside (entry_at defs ns id t w))
   type_fields ns id t (primitive_value name at) = tt
   type_fields ns id t (enum_value variants at) = variants_fields ns t.name.text 0 variants
-  type_fields ns id t (struct_value fields at) = list_named ns fields
+  type_fields ns id t (struct_value fields at) = grind (arith, fields_named, parts_named)
 
   types_fields : (ns : List (List ℕ)) (id : ℕ) (ts : List TypeTree) → AllByRecursion IsOneOfTypes (flat_map types_inside (map (λ p. type_entry defs ns p.0 p.1) (enumerate_from id ts)))
   types_fields ns id (t ∷ ts) = grind (arith, common_steps, types_fields ns (id + 1) ts, type_fields ns id t t.value, all_joined, type_fields)
@@ -139,9 +130,7 @@ module _ (defs : List Definition) where
   numbers_below = grind (arith, common_steps, flat_map-append, types_below, names_of_types_met, names_inside_met)
 
   pub fields_are_types : AllByRecursion IsOneOfTypes (flat_map types_inside (type_table defs))
-  fields_are_types =
-      subst (AllByRecursion IsOneOfTypes) (sym (flat_map-append types_inside (builtin_from 0 builtin_names) (map (λ p. type_entry defs (type_names_met defs) p.0 p.1) (enumerate_from 13 (type_trees defs)))))
-      (types_fields (type_names_met defs) 13 (type_trees defs))
+  fields_are_types = grind (arith, flat_map-append types_inside (builtin_from 0 builtin_names), types_fields (type_names_met defs) 13 (type_trees defs))
 
 pub own_ids : (defs : List Definition) → StandAtIds (type_table defs)
 own_ids defs i t h =

@@ -1,8 +1,7 @@
 -- Rules that elaborate are well typed: they hang together, and call what the flags of their terms allow.
-use Rattle.std.proofs.Common.{◌≡◌, ℕ, pos, unwrap_or, Bool, true, false, not, List, [], ◌∷◌, take, map, Option, Some, None, option_map, slice_get, IsTrue, refl, sym, ap, subst, inl, inr, ◌∙◌, arith}
+use Rattle.std.proofs.Common.{◌≡◌, ℕ, pos, unwrap_or, Bool, true, false, List, take, map, Option, Some, None, option_map, slice_get, IsTrue, refl, sym, ap, subst, inl, inr, ◌∙◌, arith}
 use Rattle.std.proofs.lemmas.Grind.{common_steps}
 use Rattle.std.proofs.lemmas.Bool.{and_parts}
-use Rattle.std.proofs.Math.Bool.{or-true}
 use Rattle.std.proofs.lemmas.Option.{none-some, same_Some}
 use Rattle.model.specs.lists.Syntax.{Definition, PatternTree, PatternTrees, ExprTree, IfLetTree, RuleTree}
 use Rattle.model.specs.lists.Tables.{Flags, TypeEntry, builtin_type, TermEntry}
@@ -28,12 +27,8 @@ use Rattle.laws_typing.proofs.WellTypedPrograms.{none_allowed}
 use Rattle.laws_typing.proofs.WellTypedTerms.{none_is_both, has_typed_parts}
 
 -- 1. flags
--- flags allow variants and structs
-made_allowed : (flags : Flags) → allow flags (record { pure = true; multi = false; partial = false; rec = false }) ≡ true
-made_allowed flags = rw (or-true (not flags.pure), or-true flags.multi, or-true flags.partial) refl
-
 callable_allowed : (flags : Flags) (t : TermEntry) → is_callable flags t.kind ≡ true → allow flags (flags_of (kind_of t)) ≡ true
-callable_allowed flags t c = grind (arith, common_steps, made_allowed flags, made_allowed, and_parts)
+callable_allowed flags t c = grind (arith, common_steps, and_parts)
 
 matchable_single : (multi : Bool) → multi ≡ false → (t : TermEntry) → is_matchable multi t.kind ≡ true → (flags_of (kind_of t)).multi ≡ false
 matchable_single multi m t c = grind (arith, common_steps, none_allowed multi, none_allowed, and_parts)
@@ -119,8 +114,7 @@ module _ (e : Setting) (rules : List TypedRule) (at_ids : TermsAtIds e.terms) wh
 
 -- 3. programs
 first_type : (ts : List TypeEntry) → take 13 ts ≡ builtin_from 0 builtin_names → slice_get ts 0 ≡ Some (builtin_type 0)
-first_type [] e = absurd (cc)
-first_type (t ∷ ts) e = let same : t ≡ builtin_type 0 = cc in ap Some same
+first_type ts e = grind (arith, common_steps)
 
 pub elaborated_programs_are_well_typed_lem : ElaboratedProgramsAreWellTyped
 elaborated_programs_are_well_typed_lem e defs expand rules h =
