@@ -26,8 +26,7 @@ module _ (m : Model) (X Y : Type 0) (stands : X → Y) (Fits : X → Type 0) whe
   one_described x y e fits = record { sound = by; full = λ z q. inl (record { guard = known true; gives = x }, inl refl, refl) }
     where
       by : (c : Case X) → In (one_case x).cases c → is_so m c.guard ≡ true → (Some y ≡ Some (stands c.gives)) × Fits c.gives
-      by c (inl q) g = (ap Some (sym e) ∙ ap (λ (d : Case X). Some (stands d.gives)) q, subst (λ (d : Case X). Fits d.gives) q fits)
-      by c (inr i) g = absurd i
+      by c h g = grind (arith, common_steps)
 
   -- under a guard
   under_in : (g : Fact) (xs : List (Case X)) (c : Case X) → In (each_under g xs) c → (u : Case X) × In xs u × (c ≡ record { guard = both_of g u.guard; gives = u.gives })
@@ -97,14 +96,11 @@ module _ (m : Model) (X Y X' Y' : Type 0) (stands : X → Y) (Fits : X → Type 
 
       inner : (a : Case X) → In cs.cases a → is_so m a.guard ≡ true → IsTaken m (k a.gives).cases ⊎ (is_so m (k a.gives).rest ≡ true)
           → IsTaken m (from_each cs.cases k).cases ⊎ (is_so m (one_of cs.rest (from_each cs.cases k).rest) ≡ true)
-      inner a i g (inl t) = inl (from_each_taken cs.cases a i g t)
-      inner a i g (inr r) = inr (one_right m cs.rest (from_each cs.cases k).rest (from_each_rest cs.cases a i g r))
+      inner a i g h = grind (arith, common_steps, from_each_taken, one_right, from_each_rest)
 
       by : (z : Y') (y : Y) → o ≡ Some y → h y ≡ Some z → IsTaken m cs.cases ⊎ (is_so m cs.rest ≡ true)
           → IsTaken m (from_each cs.cases k).cases ⊎ (is_so m (one_of cs.rest (from_each cs.cases k).rest) ≡ true)
-      by z y e q (inl a) =
-          let s = d.sound a.0 a.1 a.2 in
-          inner a.0 a.1 a.2 ((dk a.0.gives s.1).full z (ap h (some_is (stands a.0.gives) y (sym s.0 ∙ e)) ∙ q))
+      by z y e q (inl a) = grind (arith, common_steps, inner a.0 a.1 a.2, some_is)
       by z y e q (inr r) = inr (one_left m cs.rest (from_each cs.cases k).rest r)
 
       full : (z : Y') → then_option o h ≡ Some z → IsTaken m (from_each cs.cases k).cases ⊎ (is_so m (one_of cs.rest (from_each cs.cases k).rest) ≡ true)

@@ -1,5 +1,5 @@
 -- What an expression comes to by formulas is what it says of values.
-use Rattle.std.proofs.Common.{◌≡◌, ℕ, ℤ, pos, suc, Bool, true, false, List, [], ◌∷◌, ◌++◌, Option, Some, None, cond, slice_get, refl, sym, ap, ◌∙◌, subst, inl, inr, lt-ltb, arith}
+use Rattle.std.proofs.Common.{◌≡◌, ℕ, pos, suc, Bool, true, false, List, [], ◌∷◌, ◌++◌, Option, Some, None, cond, slice_get, refl, sym, subst, inl, inr, lt-ltb, arith}
 use Rattle.std.proofs.lemmas.Grind.{common_steps}
 use Rattle.std.specs.Bool.{◌==◌}
 use Rattle.std.proofs.lemmas.Bool.Decides.{Decides-int_eq}
@@ -9,10 +9,10 @@ use Rattle.model.specs.rules.Meaning.{look}
 use Rattle.model.specs.rules.Outcome.{then_option}
 use Rattle.model.proofs.Elements.{In, or_split, some_is, none_some}
 use Rattle.laws_specs.specs.Words.{Denoted, a_truth, an_integer, a_word, variant_of, DenotedList, no_denoted, denoted_and, denoted_list, same_sort, denoted_eq, is_formed, are_formed, Operator, equals, field, applied_to}
-use Rattle.laws_specs.specs.Specs.{SpecExpr, operation, unknown, let_in, switch_on, match_on, SpecExprs, no_spec_expr, spec_expr_and, SpecCases, no_case, case_and, SpecArms, spec_arm_and, struct_arm, arm_else, Sort, truths, integers, words, is_of_sort, are_of_sorts, UnknownSort, AreUnknownsSorted, Specs, Unknowns, says, says_each, says_case, says_arm}
+use Rattle.laws_specs.specs.Specs.{SpecExpr, operation, unknown, let_in, switch_on, match_on, SpecExprs, no_spec_expr, spec_expr_and, SpecCases, no_case, case_and, SpecArms, spec_arm_and, struct_arm, arm_else, Sort, truths, integers, words, is_of_sort, are_of_sorts, AreUnknownsSorted, Specs, Unknowns, says, says_each, says_case, says_arm}
 use Rattle.model_questions.specs.Formulas.{Place, Word, number_of, Integer, written_integer, integer_of, Operands, fact_and, integer_and, word_and, Model, number_in, integer_in, truth_in, is_so, operands_in, both_of}
 use Rattle.model_questions.specs.Forms.{Form, a_fact, an_integer_by, a_word_by, variant_by, struct_by, Forms, no_form, form_and, form_list, form_of, Case, Cases, nothing_said, one_case, anything, or_nothing, then_cases, truth_of, is_true, surely, possible_truth, may_be_true, perhaps}
-use Rattle.model_questions.specs.Evaluated.{Known, Result, no_result, truth_result, integer_result, word_result, unknown_result, result, came_to, widths_of, is_size, each_size, by_size, followed, literals, literal_case, folded, operands, is_operand_of, is_surely_formed, are_operands_of, answer_of_sort, answered_as_sorted, answered_of, by_operands, fitted, by_fact, opened, opened_each, evaluated, evaluated_each, evaluated_case, evaluated_arm}
+use Rattle.model_questions.specs.Evaluated.{Known, Result, no_result, truth_result, integer_result, word_result, unknown_result, result, came_to, widths_of, is_size, each_size, followed, literals, literal_case, folded, operands, is_surely_formed, are_operands_of, answer_of_sort, answered_of, by_operands, fitted, by_fact, opened, opened_each, evaluated, evaluated_each, evaluated_case, evaluated_arm}
 use Rattle.model_questions.proofs.FactsSo.{one_so, both_from, both_parts, one_left, one_right}
 use Rattle.model_questions.proofs.Described.{Describes, nothing_described, anything_described, one_described, then_described, choice_described}
 use Rattle.model_questions.proofs.Merging.{merged_described}
@@ -32,9 +32,6 @@ abbrev either_said : Option Denoted → Option Denoted → Bool → Option Denot
 either_said x y true = x
 either_said x y false = y
 
-operand_after : (f : Operands → Operands) (o : Option Operands) (of : Operands) → then_option o (λ ys. Some (f ys)) ≡ Some of → (ys : Operands) × (o ≡ Some ys) × (f ys ≡ of)
-operand_after f o of e = grind (arith, common_steps, none_some, some_is)
-
 module _ (types : List TypeEntry) (specs : Specs) (vs : Place → Denoted) (u : Unknowns) where
   abbrev m : Model
   m = model_of vs u
@@ -51,21 +48,18 @@ module _ (types : List TypeEntry) (specs : Specs) (vs : Place → Denoted) (u : 
   any_is : (o : Option Denoted) → Describe anything o
   any_is o = anything_described m Form Denoted (stands vs u) (Fits types specs vs) o
 
-  one_is : (f : Form) (x : Denoted) → stands vs u f ≡ x → Fits types specs vs f → Describe (one_case f) (Some x)
-  one_is f x e fits = one_described m Form Denoted (stands vs u) (Fits types specs vs) f x e fits
-
   written_is : (x : Denoted) → Describe (one_case (form_of x)) (Some x)
-  written_is x = one_is (form_of x) x (written_stands vs u x) (written_fits types specs vs x)
+  written_is x = grind (arith, written_stands, written_fits, one_described, stands)
 
   -- 1. operators
   operands_stand : (fs : Forms) (of : Operands) → operands fs ≡ Some of → operands_in m of ≡ stand_each vs u fs
-  operands_stand (form_and (a_fact f) rest) of e = grind (arith, common_steps, operands_stand rest, operand_after, stands)
-  operands_stand (form_and (an_integer_by z) rest) of e = grind (arith, common_steps, operands_stand rest, operand_after, stands)
-  operands_stand (form_and (a_word_by w t) rest) of e = grind (arith, common_steps, operands_stand rest, operand_after, stands)
+  operands_stand (form_and (a_fact f) rest) of e = grind (arith, common_steps, operands_stand rest, stands)
+  operands_stand (form_and (an_integer_by z) rest) of e = grind (arith, common_steps, operands_stand rest, stands)
+  operands_stand (form_and (a_word_by w t) rest) of e = grind (arith, common_steps, operands_stand rest, stands)
   operands_stand fs of e = grind (arith, common_steps, some_is, none_some)
 
   came_described : (o : Operator) (of : Operands) (r : Result) → ComesTo r (applied_to o (operands_in m of)) → Describe (came_to o of r) (applied_to o (operands_in m of))
-  came_described o of r c = grind (arith, common_steps, nothing_is, one_is, fact_from_so, integer_from_is, any_is)
+  came_described o of r c = grind (arith, common_steps, nothing_is, fact_from_so, integer_from_is, any_is, one_described, stands)
 
   -- a width that isn't known is each of those that are listed
   sized_described : (ws : List ℕ) (o : Operator) (z : Integer) (rest : Operands) → Describe (each_size ws o z rest) (applied_to o (operands_in m (integer_and z rest)))
@@ -78,11 +72,8 @@ module _ (types : List TypeEntry) (specs : Specs) (vs : Place → Denoted) (u : 
       (came_described o (integer_and (written_integer (pos w)) rest) (result o (integer_and (written_integer (pos w)) rest)) (result_comes m o (integer_and (written_integer (pos w)) rest))))
       (λ e. sized_described ws o z rest)
 
-  by_size_described : (o : Operator) (of : Operands) → Describe (by_size (widths_of specs) o of) (applied_to o (operands_in m of))
-  by_size_described o of = grind (arith, common_steps, sized_described, any_is)
-
   followed_described : (o : Operator) (of : Operands) (r : Result) → result o of ≡ r → Describe (followed (widths_of specs) o of r) (applied_to o (operands_in m of))
-  followed_described o of unknown_result e = by_size_described o of
+  followed_described o of unknown_result e = grind (arith, sized_described, any_is)
   followed_described o of no_result e = came_described o of no_result (subst (λ r. ComesTo r (applied_to o (operands_in m of))) e (result_comes m o of))
   followed_described o of truth_result e = came_described o of truth_result (subst (λ r. ComesTo r (applied_to o (operands_in m of))) e (result_comes m o of))
   followed_described o of integer_result e = came_described o of integer_result (subst (λ r. ComesTo r (applied_to o (operands_in m of))) e (result_comes m o of))
@@ -101,22 +92,13 @@ module _ (types : List TypeEntry) (specs : Specs) (vs : Place → Denoted) (u : 
 
   got_described : (fs : List Form) (xs : List Denoted) → AreDescribed types specs vs u fs xs → (i : ℕ) → Describe (or_nothing (slice_get fs i)) (slice_get xs i)
   got_described (f ∷ fs) (x ∷ xs) d (suc i) = got_described fs xs d.2 i
-  got_described fs xs d i = grind (arith, common_steps, nothing_is, one_is)
+  got_described fs xs d i = grind (arith, common_steps, nothing_is, one_described, stands)
 
   fitted_described : (o : Operator) (fs : Forms) → AllFit types specs vs fs → Describe (fitted (widths_of specs) o fs) (applied_to o (stand_each vs u fs))
   fitted_described (field i) (form_and (struct_by ty fields) no_form) fits = got_described (form_list fields) (denoted_list (stand_each vs u fields)) (forms_described types specs vs u fields fits.0) i
   fitted_described o fs fits = operands_described o fs (operands fs) refl
 
   -- 2. unknown functions
-  truth_sorted : (s : Sort) → is_operand_of s truths ≡ true → (b : Bool) → is_of_sort s (a_truth b) ≡ true
-  truth_sorted s e b = grind (arith, common_steps)
-
-  integer_sorted : (s : Sort) → is_operand_of s integers ≡ true → (z : ℤ) → is_of_sort s (an_integer z) ≡ true
-  integer_sorted s e z = grind (arith, common_steps)
-
-  word_sorted : (s : Sort) (w : ℕ) → is_operand_of s (words w) ≡ true → (n : ℕ) → is_of_sort s (a_word w n) ≡ true
-  word_sorted s w e n = grind (arith, common_steps)
-
   truth_is : (x : Denoted) → is_of_sort truths x ≡ true → a_truth (truth_in (Some x)) ≡ x
   truth_is x e = grind (arith, common_steps)
 
@@ -131,20 +113,17 @@ module _ (types : List TypeEntry) (specs : Specs) (vs : Place → Denoted) (u : 
     word_formed w t e = grind (arith, common_steps, eqb-true, lt-ltb, number_formed)
 
     operands_sorted : (sorts : List Sort) (of : Operands) → are_operands_of sorts of ≡ true → (are_of_sorts sorts (operands_in m of) ≡ true) × (are_formed (operands_in m of) ≡ true)
-    operands_sorted (s ∷ sorts) (fact_and f rest) e = grind (arith, common_steps, operands_sorted sorts rest, and_parts, and_from, truth_sorted)
-    operands_sorted (s ∷ sorts) (integer_and z rest) e = grind (arith, common_steps, operands_sorted sorts rest, and_parts, and_from, integer_sorted)
-    operands_sorted (s ∷ sorts) (word_and w t rest) e = grind (arith, common_steps, operands_sorted sorts rest, and_parts, and_from, word_sorted, word_formed)
+    operands_sorted (s ∷ sorts) (fact_and f rest) e = grind (arith, common_steps, operands_sorted sorts rest, and_parts, and_from)
+    operands_sorted (s ∷ sorts) (integer_and z rest) e = grind (arith, common_steps, operands_sorted sorts rest, and_parts, and_from)
+    operands_sorted (s ∷ sorts) (word_and w t rest) e = grind (arith, common_steps, operands_sorted sorts rest, and_parts, and_from, word_formed)
     operands_sorted sorts of e = grind (arith, common_steps)
 
     of_sort_described : (f : ℕ) (of : Operands) (s : Sort) → is_of_sort s (u f (operands_in m of)) ≡ true → Describe (answer_of_sort f of s) (Some (u f (operands_in m of)))
-    of_sort_described f of s e = grind (arith, common_steps, one_is, truth_is, integer_is, word_is, any_is)
-
-    sorted_described : (f : ℕ) (of : Operands) (o : Option UnknownSort) → look (λ n. n == f) specs.unknown_sorts ≡ o → Describe (answered_as_sorted f of o) (Some (u f (operands_in m of)))
-    sorted_described f of o e = grind (arith, common_steps, any_is, operands_sorted, of_sort_described)
+    of_sort_described f of s e = grind (arith, common_steps, truth_is, integer_is, word_is, any_is, one_described, stands)
 
     answered_described : (f : ℕ) (gs : Forms) (l : Option Operands) → operands gs ≡ l → Describe (answered_of f (look (λ n. n == f) specs.unknown_sorts) l) (Some (u f (stand_each vs u gs)))
     answered_described f gs None e = any_is (Some (u f (stand_each vs u gs)))
-    answered_described f gs (Some of) e = grind (arith, common_steps, operands_stand gs of e, sorted_described f of, operands_stand, sorted_described)
+    answered_described f gs (Some of) e = grind (arith, common_steps, operands_stand gs of e, operands_stand, any_is, operands_sorted, of_sort_described)
 
   -- 3. a choice
   by_fact_described : (x y : Cases Form) (a b : Option Denoted) → Describe x a → Describe y b → (f : Form) → Describe (by_fact x y f) (on_truth (either_said a b) (stands vs u f))
@@ -176,7 +155,7 @@ module _ (types : List TypeEntry) (specs : Specs) (vs : Place → Denoted) (u : 
     said e bound = says u (stand_each vs u args) (stands_if result) e bound
 
     result_described : (o : Option Form) → FitsIf o → Describe (or_nothing o) (stands_if o)
-    result_described o f = grind (arith, common_steps, nothing_is, one_is, stands)
+    result_described o f = grind (arith, common_steps, nothing_is, stands, one_described)
 
     struct_described : (t ty : ℕ) (cs : Cases Form) (o : Option Denoted) → Describe cs o → Describe (cond (t == ty) cs nothing_said) (cond (t == ty) o None)
     struct_described t ty cs o d = grind (arith, common_steps, nothing_is)
@@ -209,8 +188,7 @@ module _ (types : List TypeEntry) (specs : Specs) (vs : Place → Denoted) (u : 
     opened_said o cs d = subst (Describe (then_cases cs (opened types specs k))) (same o) (bind cs o (opened types specs k) (λ x. Some x) d (λ f ff. opened_described types specs vs u coherent k told f ff))
       where
         same : (q : Option Denoted) → then_option q (λ x. Some x) ≡ q
-        same None = refl
-        same (Some x) = refl
+        same q = grind (arith, common_steps)
 
     mutual
       pub evaluated_described : (e : SpecExpr) (bf : List Form) (bx : List Denoted) → AreDescribed types specs vs u bf bx → Describe (of_expr e bf) (said e bx)
@@ -223,9 +201,7 @@ module _ (types : List TypeEntry) (specs : Specs) (vs : Place → Denoted) (u : 
           (λ fs. then_cases (opened_each types specs k fs) (λ gs. answered_of f (look (λ n. n == f) specs.unknown_sorts) (operands gs))) (λ xs. Some (u f xs)) (each_described of bf bx d)
           (λ fs ffs. bind_each (opened_each types specs k fs) (Some (stand_each vs u fs)) (λ gs. answered_of f (look (λ n. n == f) specs.unknown_sorts) (operands gs)) (λ xs. Some (u f xs))
           (opened_each_described types specs vs u coherent k told fs ffs) (λ gs fgs. answered_described formed answers f gs (operands gs) refl))
-      evaluated_described (let_in e body) bf bx d =
-          bind (of_expr e bf) (said e bx) (λ x. of_expr body (x ∷ bf)) (λ x. said body (x ∷ bx)) (evaluated_described e bf bx d)
-          (λ f ff. evaluated_described body (f ∷ bf) (stands vs u f ∷ bx) (refl, ff, d))
+      evaluated_described (let_in e body) bf bx d = grind (arith, common_steps, evaluated_described e bf bx d, evaluated_described body, bind, stands)
       evaluated_described (switch_on e cases) bf bx d =
           bind (of_expr e bf) (said e bx) (λ x. evaluated_case types specs k args result cases x bf) (λ x. says_case u (stand_each vs u args) (stands_if result) cases x bx) (evaluated_described e bf bx d)
           (λ f ff. cases_described cases f ff bf bx d)
@@ -243,10 +219,7 @@ module _ (types : List TypeEntry) (specs : Specs) (vs : Place → Denoted) (u : 
           then_described m Form Denoted Forms DenotedList (stands vs u) (Fits types specs vs) (stand_each vs u) (AllFit types specs vs)
           (λ x. then_option (says_each u (stand_each vs u args) (stands_if result) rest bx) (λ xs. Some (denoted_and x xs)))
           (λ x. then_cases (evaluated_each types specs k args result rest bf) (λ xs. one_case (form_and x xs)))
-          (λ f ff. then_described m Forms DenotedList Forms DenotedList (stand_each vs u) (AllFit types specs vs) (stand_each vs u) (AllFit types specs vs)
-          (λ xs. Some (denoted_and (stands vs u f) xs)) (λ xs. one_case (form_and f xs))
-          (λ fs ffs. one_described m Forms DenotedList (stand_each vs u) (AllFit types specs vs) (form_and f fs) (denoted_and (stands vs u f) (stand_each vs u fs)) refl (ff, ffs))
-          (evaluated_each types specs k args result rest bf) (says_each u (stand_each vs u args) (stands_if result) rest bx) (each_described rest bf bx d))
+          (λ f ff. grind (arith, common_steps, each_described rest bf bx d, then_described, stand_each, stands, one_described))
           (of_expr e bf) (said e bx) (evaluated_described e bf bx d)
 
       cases_described : (cases : SpecCases) (x : Form) → Fits types specs vs x → (bf : List Form) (bx : List Denoted) → AreDescribed types specs vs u bf bx
@@ -279,30 +252,19 @@ module _ (types : List TypeEntry) (specs : Specs) (vs : Place → Denoted) (u : 
     come_described e = opened_said (said_here e) (evaluated types specs k args result e []) (evaluated_described e [] [] tt)
 
   -- 5. that something is true
-  true_in : (cs : List (Case Form)) (c : Case Form) → In cs c → is_so m c.guard ≡ true → is_so m (truth_of c.gives) ≡ true → is_so m (is_true cs) ≡ true
-  true_in (d ∷ cs) c (inl q) g t = grind (arith, common_steps, one_left, both_from)
-  true_in (d ∷ cs) c (inr i) g t = one_right m (both_of d.guard (truth_of d.gives)) (is_true cs) (true_in cs c i g t)
-  true_in [] c i g t = absurd i
-
   true_from : (cs : List (Case Form)) → is_so m (is_true cs) ≡ true → (c : Case Form) × In cs c × (is_so m c.guard ≡ true) × (is_so m (truth_of c.gives) ≡ true)
   true_from (c ∷ cs) e = grind (arith, common_steps, true_from cs, or_split, one_so, both_parts)
   true_from [] e = absurd (false≢true e)
 
-  truth_back : (f : Form) → is_so m (truth_of f) ≡ true → stands vs u f ≡ a_truth true
-  truth_back f e = grind (arith, common_steps)
-
   -- what is surely true is said to be
   pub surely_said : (cs : Cases Form) (o : Option Denoted) → Describe cs o → is_so m (surely cs) ≡ true → o ≡ Some (a_truth true)
-  surely_said cs o d e = let k = true_from cs.cases e in (d.sound k.0 k.1 k.2).0 ∙ ap Some (truth_back k.0.gives k.3)
+  surely_said cs o d e = grind (arith, true_from)
 
   possible_in : (cs : List (Case Form)) (c : Case Form) → In cs c → is_so m c.guard ≡ true → is_so m (possible_truth c.gives) ≡ true → is_so m (may_be_true cs) ≡ true
   possible_in (d ∷ cs) c (inl q) g t = grind (arith, common_steps, one_left, both_from)
   possible_in (d ∷ cs) c (inr i) g t = one_right m (both_of d.guard (possible_truth d.gives)) (may_be_true cs) (possible_in cs c i g t)
   possible_in [] c i g t = absurd i
 
-  truth_stands : (f : Form) → stands vs u f ≡ a_truth true → is_so m (possible_truth f) ≡ true
-  truth_stands f e = grind (arith, common_steps)
-
   -- what is said to be true perhaps is
   pub perhaps_so : (cs : Cases Form) (o : Option Denoted) → Describe cs o → o ≡ Some (a_truth true) → is_so m (perhaps cs) ≡ true
-  perhaps_so cs o d e = grind (arith, common_steps, possible_in cs.cases, stands vs u, one_left, possible_in, truth_stands, some_is, stands, one_right)
+  perhaps_so cs o d e = grind (arith, common_steps, possible_in cs.cases, stands vs u, one_left, possible_in, some_is, stands, one_right)

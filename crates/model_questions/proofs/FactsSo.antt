@@ -5,27 +5,21 @@ use Rattle.std.proofs.lemmas.Bool.{and_parts, and_from}
 use Rattle.model.proofs.Elements.{or_left, or_right}
 use Rattle.model_questions.specs.Formulas.{Fact, Model, is_so, and_last, both_of, or_last, one_of, none_of}
 
-and_true : (b : Bool) → b ≡ (b && true)
-and_true b = grind (arith, common_steps)
-
 and_false : (b : Bool) → false ≡ (b && false)
 and_false b = grind (arith, common_steps)
-
-or_true : (b : Bool) → true ≡ (b || true)
-or_true b = grind (arith, common_steps)
 
 pub or_false : (b : Bool) → b ≡ (b || false)
 or_false b = grind (arith, common_steps)
 
 module _ (m : Model) where
   last_so : (a b : Fact) → is_so m (and_last a b) ≡ (is_so m a && is_so m b)
-  last_so a b = grind (arith, common_steps, and_true, and_false)
+  last_so a b = grind (arith, common_steps, and_false)
 
   pub both_so : (a b : Fact) → is_so m (both_of a b) ≡ (is_so m a && is_so m b)
   both_so a b = grind (arith, common_steps, last_so)
 
   or_last_so : (a b : Fact) → is_so m (or_last a b) ≡ (is_so m a || is_so m b)
-  or_last_so a b = grind (arith, common_steps, or_true, or_false)
+  or_last_so a b = grind (arith, common_steps, or_false)
 
   pub one_so : (a b : Fact) → is_so m (one_of a b) ≡ (is_so m a || is_so m b)
   one_so a b = grind (arith, common_steps, or_last_so)

@@ -1,13 +1,12 @@
 -- Cases of one sort as one describe the same.
-use Rattle.std.proofs.Common.{◌≡◌, ◌⊎◌, Bool, true, false, List, [], ◌∷◌, Option, Some, None, cond, refl, sym, ap, ◌∙◌, subst, inl, inr, arith}
+use Rattle.std.proofs.Common.{◌≡◌, Bool, true, false, List, [], ◌∷◌, Option, Some, None, cond, refl, ap, ◌∙◌, subst, inl, inr, arith}
 use Rattle.std.proofs.lemmas.Grind.{common_steps}
-use Rattle.std.proofs.lemmas.Bool.{false≢true, eqb-true}
-use Rattle.std.specs.Bool.{◌==◌}
+use Rattle.std.proofs.lemmas.Bool.{eqb-true}
 use Rattle.model.specs.lists.Tables.{TypeEntry}
 use Rattle.model.proofs.Elements.{In, or_split, some_is, none_some}
-use Rattle.laws_specs.specs.Words.{Denoted, a_truth, a_word}
+use Rattle.laws_specs.specs.Words.{Denoted, a_truth}
 use Rattle.laws_specs.specs.Specs.{Specs, Unknowns}
-use Rattle.model_questions.specs.Formulas.{Place, either_word, either_integer, Fact, Model, number_of, is_so, both_of, one_of, none_of}
+use Rattle.model_questions.specs.Formulas.{Place, either_integer, Fact, Model, is_so, both_of, one_of, none_of}
 use Rattle.model_questions.specs.Forms.{Form, a_fact, an_integer_by, a_word_by, Case, Cases, either_of, merged_or, merged_in, merged_all, merged}
 use Rattle.model_questions.proofs.FactsSo.{or_false, none_so, both_so, one_so, one_left, one_right}
 use Rattle.model_questions.proofs.Described.{Describes, IsTaken}
@@ -32,14 +31,7 @@ module _ (types : List TypeEntry) (specs : Specs) (vs : Place → Denoted) (u : 
 
     either_by : (a b e : Form) → (is_so m g ≡ true → stands vs u e ≡ stands vs u a) → (is_so m g ≡ false → stands vs u e ≡ stands vs u b) → Fits types specs vs e
         → IsEither o (of g a) (of h b) (of (one_of g h) e)
-    either_by a b e first second fits = record { sound = by; left = λ p. one_left m g h p; right = λ p. one_right m g h p }
-      where
-        take : (c : Bool) → is_so m g ≡ c → IsSound o (of g a) → IsSound o (of h b) → is_so m (one_of g h) ≡ true → (o ≡ Some (stands vs u e)) × Fits types specs vs e
-        take true q s t k = ((s q).0 ∙ ap Some (sym (first q)), fits)
-        take false q s t k = ((t (elim (or_split (is_so m g) (is_so m h) (sym (one_so m g h) ∙ k)) [ inl w ↦ absurd (false≢true (sym q ∙ w)) | inr w ↦ w ])).0 ∙ ap Some (sym (second q)), fits)
-
-        by : IsSound o (of g a) → IsSound o (of h b) → IsSound o (of (one_of g h) e)
-        by s t k = take (is_so m g) refl s t k
+    either_by a b e first second fits = grind (arith, common_steps, one_left, one_right, stands, or_split, one_so)
 
     fact_either : (a b : Fact) (c : Bool) → is_so m g ≡ c → is_so m (one_of (both_of g a) (both_of (none_of g) b)) ≡ cond c (is_so m a) (is_so m b)
     fact_either a b c q = grind (arith, common_steps, one_so, both_so, none_so, or_false)
@@ -49,15 +41,7 @@ module _ (types : List TypeEntry) (specs : Specs) (vs : Place → Denoted) (u : 
         subst (λ (x : Case Form). IsEither o (of g (a_fact a)) (of h (a_fact b)) x) (some_is (of (one_of g h) (a_fact (one_of (both_of g a) (both_of (none_of g) b)))) e q)
         (either_by (a_fact a) (a_fact b) (a_fact (one_of (both_of g a) (both_of (none_of g) b))) (λ p. ap a_truth (fact_either a b true p)) (λ p. ap a_truth (fact_either a b false p)) tt)
     either_is (an_integer_by a) (an_integer_by b) e q = grind (arith, common_steps, either_by (an_integer_by a) (an_integer_by b) (an_integer_by (either_integer g a b)), some_is, either_by)
-    either_is (a_word_by w a) (a_word_by v b) e q = by (w == v) refl q
-      where
-        by : (c : Bool) → (w == v) ≡ c → cond c (Some (of (one_of g h) (a_word_by w (either_word g a b)))) None ≡ Some e → IsEither o (of g (a_word_by w a)) (of h (a_word_by v b)) e
-        by true s t =
-            subst (λ x. IsEither o (of g (a_word_by w a)) (of h (a_word_by x b)) e) (eqb-true w v s)
-            (subst (λ (x : Case Form). IsEither o (of g (a_word_by w a)) (of h (a_word_by w b)) x) (some_is (of (one_of g h) (a_word_by w (either_word g a b))) e t)
-            (either_by (a_word_by w a) (a_word_by w b) (a_word_by w (either_word g a b))
-            (λ p. ap (λ x. a_word w (cond x (number_of m a) (number_of m b))) p) (λ p. ap (λ x. a_word w (cond x (number_of m a) (number_of m b))) p) tt))
-        by false s t = absurd (none_some e t)
+    either_is (a_word_by w a) (a_word_by v b) e q = grind (arith, common_steps, eqb-true, some_is, either_by, none_some)
     either_is a b e q = absurd (none_some e q)
 
   module _ (o : Option Denoted) where
@@ -97,8 +81,4 @@ module _ (types : List TypeEntry) (specs : Specs) (vs : Place → Denoted) (u : 
     merged_all_taken [] k = absurd k.1
 
     pub merged_described : (cs : Cases Form) → Describes m Form Denoted (stands vs u) (Fits types specs vs) cs o → Describes m Form Denoted (stands vs u) (Fits types specs vs) (merged cs) o
-    merged_described cs d = record { sound = merged_all_sound cs.cases d.sound; full = λ x e. by (d.full x e) }
-      where
-        by : IsTaken m cs.cases ⊎ (is_so m cs.rest ≡ true) → IsTaken m (merged_all cs.cases) ⊎ (is_so m cs.rest ≡ true)
-        by (inl k) = inl (merged_all_taken cs.cases k)
-        by (inr r) = inr r
+    merged_described cs d = grind (arith, common_steps, merged_all_sound, merged_all_taken)

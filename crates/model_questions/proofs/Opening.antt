@@ -1,5 +1,5 @@
 -- A place whose type is known, opened by one layer, has the value that stands there.
-use Rattle.std.proofs.Common.{◌≡◌, ◌⊎◌, ◌+◌, ℕ, ℤ, zero, suc, Bool, true, false, not, ◌&&◌, ◌||◌, List, [], ◌∷◌, Option, Some, None, slice_get, refl, sym, ap, ◌∙◌, subst, inl, inr, arith, eq-eqb}
+use Rattle.std.proofs.Common.{◌≡◌, ◌⊎◌, ◌+◌, ℕ, zero, suc, Bool, true, false, not, ◌&&◌, ◌||◌, List, [], ◌∷◌, Option, Some, None, slice_get, refl, sym, ap, ◌∙◌, subst, inl, inr, arith, eq-eqb}
 use Rattle.std.proofs.lemmas.Grind.{common_steps}
 use Rattle.std.specs.Bool.{◌==◌}
 use Rattle.std.specs.List.{list_any}
@@ -10,9 +10,9 @@ use Rattle.model.proofs.Elements.{In, or_split, some_is, none_some}
 use Rattle.laws_specs.specs.Words.{Denoted, a_truth, an_integer, a_word, variant_of, struct_of, DenotedList, no_denoted, denoted_and, denoted_list, is_plain}
 use Rattle.laws_specs.specs.Specs.{Sort, truths, integers, words, words_among, is_of_sort, Specs, sort_of, Unknowns}
 use Rattle.laws_specs.specs.Conditions.{is_modelled_as, is_atom_as, is_of_type, are_of_types}
-use Rattle.model_questions.specs.Formulas.{Place, variant_field_at, struct_field_at, word_at, Fact, known, truth_at, as_wide, is_kind, Model, is_so, both_of, none_of}
-use Rattle.model_questions.specs.Forms.{Form, a_fact, a_word_by, struct_by, Forms, no_form, form_and, Case, Cases, one_case, anything, then_cases}
-use Rattle.model_questions.specs.Evaluated.{Known, found, fields_at, wide_case, at_each, at_widths, integer_known, at_sort, variant_at, each_variant, is_no_variant, one_variant, variant_known, at_variants, at_enum, at_type, opened, opened_each}
+use Rattle.model_questions.specs.Formulas.{Place, variant_field_at, struct_field_at, word_at, Fact, known, as_wide, is_kind, Model, is_so, both_of, none_of}
+use Rattle.model_questions.specs.Forms.{Form, a_word_by, struct_by, Forms, no_form, form_and, Case, Cases, one_case, then_cases}
+use Rattle.model_questions.specs.Evaluated.{Known, found, fields_at, wide_case, at_each, at_widths, at_sort, variant_at, each_variant, is_no_variant, one_variant, variant_known, at_variants, at_enum, at_type, opened, opened_each}
 use Rattle.model_questions.proofs.FactsSo.{none_so, both_from, both_parts, none_from}
 use Rattle.model_questions.proofs.Described.{Describes, IsTaken, anything_described, one_described, then_described}
 use Rattle.model_questions.proofs.Standing.{model_of, number_if, width_in, kind_in, IsCoherent, AreKnown, stands, stand_each, Fits, AllFit}
@@ -64,9 +64,6 @@ variant_there : (types : List TypeEntry) (specs : Specs) (o : Option VariantEntr
     → (v : VariantEntry) × (o ≡ Some v) × (are_of_types types specs (Some (field_types v.fields)) xs ≡ true)
 variant_there types specs o xs e = grind (arith, common_steps, none_of_types)
 
-zero_apart : (j : ℕ) → (0 == suc j) ≡ false
-zero_apart j = grind (arith, common_steps, eqb-true 0 (suc j), eqb-true)
-
 module _ (types : List TypeEntry) (specs : Specs) (vs : Place → Denoted) (u : Unknowns) where
   abbrev m : Model
   m = model_of vs u
@@ -80,40 +77,22 @@ module _ (types : List TypeEntry) (specs : Specs) (vs : Place → Denoted) (u : 
   one_is : (f : Form) (x : Denoted) → stands vs u f ≡ x → Fits types specs vs f → Describe (one_case f) (Some x)
   one_is f x e fits = one_described m Form Denoted (stands vs u) (Fits types specs vs) f x e fits
 
-  any_is : (o : Option Denoted) → Describe anything o
-  any_is o = anything_described m Form Denoted (stands vs u) (Fits types specs vs) o
-
   at_case : (o : Option Denoted) (a b : Case Form) → a ≡ b → Gives o a.gives → Gives o b.gives
   at_case o a b e h = subst (λ (c : Case Form). Gives o c.gives) e h
 
   -- 1. sorts
-  truth_described : (at : Place) (x : Denoted) → vs at ≡ x → is_of_sort truths x ≡ true → Describe (one_case (a_fact (truth_at at))) (Some x)
-  truth_described at x e h = grind (arith, common_steps, one_is, stands)
-
-  wide_stands : (at : Place) (w n v : ℕ) → vs at ≡ a_word w n → w ≡ v → stands vs u (a_word_by v (word_at at v)) ≡ a_word w n
-  wide_stands at w n v e q = grind (arith, common_steps, number_if (a_word w n), same_is w, number_if, same_is)
-
   wide_gives : (at : Place) (w n v : ℕ) → vs at ≡ a_word w n → w ≡ v → Gives (Some (a_word w n)) (a_word_by v (word_at at v))
-  wide_gives at w n v e q = (ap Some (sym (wide_stands at w n v e q)), tt)
-
-  is_as_wide : (at : Place) (w n v : ℕ) → vs at ≡ a_word w n → is_so m (as_wide at v) ≡ true → w ≡ v
-  is_as_wide at w n v e h = eqb-true w v (ap (λ y. width_in y == v) (sym e) ∙ h)
+  wide_gives at w n v e q = grind (arith, number_if, same_is)
 
   each_width_sound : (at : Place) (w n : ℕ) → vs at ≡ a_word w n → (g : Fact) (ws : List ℕ) → (is_so m g ≡ true → In ws w) → (c : Case Form) → In (at_each g ws at) c → is_so m c.guard ≡ true
       → Gives (Some (a_word w n)) c.gives
   each_width_sound at w n e g [] there c i h = absurd i
   each_width_sound at w n e g (v ∷ []) there c (inl q) h = grind (arith, common_steps, at_case (Some (a_word w n)) (wide_case g at v) c q, wide_gives at w n v e, at_case, wide_gives)
   each_width_sound at w n e g (v ∷ []) there c (inr i) h = absurd i
-  each_width_sound at w n e g (v ∷ (v' ∷ ws)) there c (inl q) h =
-      at_case (Some (a_word w n)) (wide_case (both_of g (as_wide at v)) at v) c q
-      (wide_gives at w n v e (is_as_wide at w n v e (both_parts m g (as_wide at v) (ap (λ (d : Case Form). is_so m d.guard) q ∙ h)).1))
+  each_width_sound at w n e g (v ∷ (v' ∷ ws)) there c (inl q) h = grind (arith, common_steps, at_case, wide_gives, both_parts)
   each_width_sound at w n e g (v ∷ (v' ∷ ws)) there c (inr i) h =
       each_width_sound at w n e (both_of g (none_of (as_wide at v))) (v' ∷ ws)
-      (λ s. let p = both_parts m g (none_of (as_wide at v)) s in
-      elim (there p.0) [
-        | inl q ↦ absurd (not_is (is_so m (as_wide at v)) (sym (none_so m (as_wide at v)) ∙ p.1) (ap (λ y. width_in y == v) e ∙ ap (λ z. z == v) (sym q) ∙ same_is v))
-        | inr r ↦ r
-      ]) c i h
+      (λ s. grind (arith, common_steps, both_parts, not_is, none_so, width_in, same_is)) c i h
 
   each_width_full : (at : Place) (w n : ℕ) → vs at ≡ a_word w n → (g : Fact) (ws : List ℕ) → is_so m g ≡ true → In ws w → IsTaken m (at_each g ws at)
   each_width_full at w n e g [] s i = absurd i
@@ -124,11 +103,7 @@ module _ (types : List TypeEntry) (specs : Specs) (vs : Place → Denoted) (u : 
           → (is_so m (both_of g (none_of (as_wide at v))) ≡ true → In (v' ∷ ws) w → IsTaken m (at_each (both_of g (none_of (as_wide at v))) (v' ∷ ws) at))
           → IsTaken m (at_each g (v ∷ (v' ∷ ws)) at)
       by true q more = (wide_case (both_of g (as_wide at v)) at v, inl refl, both_from m g (as_wide at v) s q)
-      by false q more =
-          elim i [
-            | inl r ↦ absurd (false≢true (sym q ∙ ap (λ y. width_in y == v) e ∙ ap (λ z. z == v) (sym r) ∙ same_is v))
-            | inr j ↦ let t = more (both_from m g (none_of (as_wide at v)) s (none_from m (as_wide at v) q)) j in (t.0, inr t.1, t.2)
-          ]
+      by false q more = grind (arith, common_steps, width_in, same_is, both_from, none_from)
 
   module _ (k : Known) (told : AreKnown m k) where
     widths_described : (at : Place) (ws : List ℕ) (x : Denoted) → vs at ≡ x → is_of_sort (words_among ws) x ≡ true → (o : Option ℕ) → ((v : ℕ) → o ≡ Some v → m.widths at ≡ v)
@@ -136,19 +111,16 @@ module _ (types : List TypeEntry) (specs : Specs) (vs : Place → Denoted) (u : 
     widths_described at ws (a_word w n) e h None q =
         let i = listed_width w ws h in
         record { sound = each_width_sound at w n e (known true) ws (λ s. i); full = λ y r. inl (each_width_full at w n e (known true) ws refl i) }
-    widths_described at ws (a_word w n) e h (Some v) q = one_is (a_word_by v (word_at at v)) (a_word w n) (wide_stands at w n v e (ap width_in (sym e) ∙ q v refl)) tt
+    widths_described at ws (a_word w n) e h (Some v) q = grind (arith, common_steps, one_is, number_if, same_is, q v refl)
     widths_described at ws x e h o q = grind (arith, common_steps)
 
     word_described : (at : Place) (v : ℕ) (x : Denoted) → vs at ≡ x → is_of_sort (words v) x ≡ true → Describe (one_case (a_word_by v (word_at at v))) (Some x)
-    word_described at v x e h = grind (arith, common_steps, one_is, wide_stands, eqb-true)
-
-    integer_described : (at : Place) (x : Denoted) → vs at ≡ x → is_of_sort integers x ≡ true → (o : Option ℤ) → ((z : ℤ) → o ≡ Some z → m.integers at ≡ z) → Describe (integer_known at o) (Some x)
-    integer_described at x e h o q = grind (arith, common_steps, one_is, stands)
+    word_described at v x e h = grind (arith, common_steps, one_is, eqb-true)
 
     sort_described : (at : Place) (x : Denoted) → vs at ≡ x → (s : Option Sort) → is_modelled_as s x ≡ true → Describe (at_sort k at s) (Some x)
-    sort_described at x e None h = any_is (Some x)
-    sort_described at x e (Some truths) h = truth_described at x e h
-    sort_described at x e (Some integers) h = integer_described at x e h (found k.integers at) (told.integers at)
+    sort_described at x e None h = grind (arith, anything_described, stands)
+    sort_described at x e (Some truths) h = grind (arith, one_is, stands)
+    sort_described at x e (Some integers) h = grind (arith, common_steps, one_is, stands, told.integers at)
     sort_described at x e (Some (words v)) h = word_described at v x e h
     sort_described at x e (Some (words_among ws)) h = widths_described at ws x e h (found k.widths at) (told.widths at)
 
@@ -262,11 +234,11 @@ module _ (types : List TypeEntry) (specs : Specs) (vs : Place → Denoted) (u : 
     -- of an extern enum something else may stand there
     no_kind_so : (at : Place) → kind_in (vs at) ≡ 0 → (j : ℕ) (ws : List VariantEntry) → is_so m (is_no_variant at j ws) ≡ true
     no_kind_so at e j [] = refl
-    no_kind_so at e j (w ∷ ws) = both_from m (none_of (is_kind at j)) (is_no_variant at (suc j) ws) (none_from m (is_kind at j) (ap (λ n. n == suc j) e ∙ zero_apart j)) (no_kind_so at e (suc j) ws)
+    no_kind_so at e j (w ∷ ws) = grind (arith, no_kind_so at e (suc j) ws, both_from, none_from, eqb-true)
 
     no_kind_taken : (ty : ℕ) (at : Place) (o : Option Denoted) → kind_in (vs at) ≡ 0 → (j : ℕ) (ws : List VariantEntry) (c : Case Form) → In (each_variant ty at j ws) c → is_so m c.guard ≡ true → Gives o c.gives
     no_kind_taken ty at o e j [] c i g = absurd i
-    no_kind_taken ty at o e j (w ∷ ws) c (inl r) g = absurd (false≢true (sym (zero_apart j) ∙ ap (λ n. n == suc j) (sym e) ∙ ap (λ (d : Case Form). is_so m d.guard) r ∙ g))
+    no_kind_taken ty at o e j (w ∷ ws) c (inl r) g = grind (arith, eqb-true)
     no_kind_taken ty at o e j (w ∷ ws) c (inr i) g = no_kind_taken ty at o e (suc j) ws c i g
 
     others_described : (ty : ℕ) (at : Place) (x : Denoted) → vs at ≡ x → is_plain x ≡ true → (ws : List VariantEntry) (o : Option ℕ) → ((j : ℕ) → o ≡ Some j → m.kinds at ≡ suc j) → Describe (at_variants true ty at ws o) (Some x)
@@ -282,10 +254,8 @@ module _ (types : List TypeEntry) (specs : Specs) (vs : Place → Denoted) (u : 
     module _ (k : Known) (told : AreKnown m k) where
       enum_described : (ty : ℕ) (at : Place) (name id : ℕ) (is_extern is_nodebug : Bool) (ws : List VariantEntry) (place : _) (x : Denoted) → vs at ≡ x
           → IsOf types specs ty (Some (enum_type name id is_extern is_nodebug ws place)) x → Describe (at_enum specs k is_extern ty at ws) (Some x)
-      enum_described ty at name id is_extern is_nodebug [] place x e (inl h) =
-          sort_described k told at x e (sort_of specs ty) (and_parts (is_modelled_as (sort_of specs ty) x) true (and_parts is_extern (is_modelled_as (sort_of specs ty) x && true) h).1).0
-      enum_described ty at name id is_extern is_nodebug [] place x e (inr h) =
-          absurd (nothing_made types specs ty (Some (enum_type name id is_extern is_nodebug [] place)) x (λ i. refl) refl h)
+      enum_described ty at name id is_extern is_nodebug [] place x e (inl h) = grind (arith, common_steps, sort_described, and_parts)
+      enum_described ty at name id is_extern is_nodebug [] place x e (inr h) = grind (arith, common_steps, nothing_made)
       enum_described ty at name id true is_nodebug (w ∷ ws) place x e (inl h) =
           others_described ty at x e (and_parts (is_modelled_as (sort_of specs ty) x) (is_plain x) h).1 (w ∷ ws) (found k.kinds at) (told.kinds at)
       enum_described ty at name id false is_nodebug (w ∷ ws) place x e (inl h) = absurd (false≢true h)
@@ -298,12 +268,8 @@ module _ (types : List TypeEntry) (specs : Specs) (vs : Place → Denoted) (u : 
       enum_described ty at name id is_extern is_nodebug (w ∷ ws) place (a_word v n) e (inr h) = absurd h
 
       type_described : (ty : ℕ) (at : Place) (x : Denoted) → vs at ≡ x → (o : Option TypeEntry) → IsOf types specs ty o x → Describe (at_type specs k ty at o) (Some x)
-      type_described ty at x e None h = any_is (Some x)
-      type_described ty at x e (Some (builtin_type zero)) (inl h) = by (is_of_sort truths x) refl h
-        where
-          by : (b : Bool) → is_of_sort truths x ≡ b → (b || false) ≡ true → Describe (one_case (a_fact (truth_at at))) (Some x)
-          by true q r = truth_described at x e q
-          by false q r = absurd (false≢true r)
+      type_described ty at x e None h = grind (arith, anything_described, stands)
+      type_described ty at x e (Some (builtin_type zero)) (inl h) = grind (arith, common_steps, one_is, stands)
       type_described ty at x e (Some (builtin_type zero)) (inr h) = absurd (nothing_made types specs ty (Some (builtin_type zero)) x (λ i. refl) refl h)
       type_described ty at x e (Some (builtin_type (suc n))) (inl h) = sort_described k told at x e (sort_of specs ty) (and_parts (is_modelled_as (sort_of specs ty) x) true h).0
       type_described ty at x e (Some (builtin_type (suc n))) (inr h) = absurd (nothing_made types specs ty (Some (builtin_type (suc n))) x (λ i. refl) refl h)
@@ -322,7 +288,7 @@ module _ (types : List TypeEntry) (specs : Specs) (vs : Place → Denoted) (u : 
 
       -- a form, and each of several
       pub opened_described : (f : Form) → Fits types specs vs f → Describe (opened types specs k f) (Some (stands vs u f))
-      opened_described f fits = grind (arith, common_steps, type_described, type_says, any_is, one_is, stands)
+      opened_described f fits = grind (arith, common_steps, type_described, type_says, one_is, stands, anything_described)
 
       abbrev pub DescribeEach : Cases Forms → Option DenotedList → Type 0
       DescribeEach cs o = Describes m Forms DenotedList (stand_each vs u) (AllFit types specs vs) cs o

@@ -1,77 +1,53 @@
 -- Where no question can be satisfied, what the steps show holds: values that break it would satisfy a question.
-use Rattle.std.proofs.Common.{◌≡◌, ℕ, ℤ, suc, Bool, true, false, ◌&&◌, List, [], ◌∷◌, Option, Some, None, slice_get, refl, sym, ap, ◌∙◌, subst, inl, inr, arith}
+use Rattle.std.proofs.Common.{◌≡◌, ℕ, ℤ, suc, Bool, true, false, List, [], ◌∷◌, Option, Some, None, slice_get, refl, sym, ap, ◌∙◌, subst, inl, inr, arith}
 use Rattle.std.proofs.lemmas.Grind.{common_steps}
 use Rattle.std.specs.Bool.{◌==◌}
-use Rattle.std.proofs.lemmas.Bool.{and_parts, and_from, false≢true, eqb-true, cond-true}
+use Rattle.std.proofs.lemmas.Bool.{and_parts, and_from, false≢true, eqb-true}
 use Rattle.std.proofs.lemmas.Bool.Decides.{Decides-int_eq}
 use Rattle.model.specs.lists.Tables.{TypeEntry}
 use Rattle.model.specs.sites.Sites.{Constraint, is_variant, is_bool, is_int, is_prim}
 use Rattle.model.specs.visits.Demands.{site_term_eq}
 use Rattle.model.proofs.Elements.{In, in_left, in_right, some_is, none_some}
 use Rattle.model.proofs.SameSites.{term_means, number_same, beq_same}
-use Rattle.laws_specs.specs.Words.{Denoted, a_truth, variant_of, struct_of, DenotedList, no_denoted, denoted_and, same_sort, denoted_eq, denoted_list_eq, is_formed, Operator, equals, applied_to}
-use Rattle.laws_specs.specs.Specs.{Sort, truths, integers, words, words_among, is_of_sort, Specs, sort_of, constant_of, literal_of, Unknowns, AreUnknownsSorted, says}
+use Rattle.laws_specs.specs.Words.{Denoted, a_truth, variant_of, struct_of, DenotedList, no_denoted, denoted_and, denoted_eq, denoted_list_eq, is_formed, Operator, equals, applied_to}
+use Rattle.laws_specs.specs.Specs.{Sort, words_among, is_of_sort, Specs, sort_of, constant_of, literal_of, Unknowns, AreUnknownsSorted, says}
 use Rattle.laws_specs.specs.Conditions.{is_of_type, is_modelled_as}
-use Rattle.model_questions.specs.Formulas.{Place, argument_at, site_at, output_at, variant_field_at, struct_field_at, place_eq, Integer, Fact, as_wide, fact_by, both_facts, Operands, Model, integer_of, is_so, are_so, one_of, none_of}
+use Rattle.model_questions.specs.Formulas.{Place, argument_at, site_at, output_at, variant_field_at, struct_field_at, place_eq, Fact, as_wide, fact_by, both_facts, Operands, Model, is_so, are_so, one_of, none_of}
 use Rattle.model_questions.specs.Forms.{Form, no_form, form_and, then_cases, surely, perhaps}
-use Rattle.model_questions.specs.Evaluated.{Known, found, widths_of, fitted, opened_each}
+use Rattle.model_questions.specs.Evaluated.{Known, widths_of, fitted, opened_each}
 use Rattle.model_questions.specs.Steps.{Said, Step, split_at, told_as, told_same, assumed, assumed_under, shown}
-use Rattle.model_questions.specs.Questions.{with_width, with_integer, with_kind, same_learned, equals_learned, learned, each_of, unless_false, split_sort, at_each_width, kind_fact, truth_fact, come_to, same_fact, same_if, told_fact, all_surely, fact_of, paths, IsModel, IsUnsatisfiable}
+use Rattle.model_questions.specs.Questions.{with_width, with_integer, with_kind, equals_learned, learned, each_of, unless_false, split_sort, at_each_width, truth_fact, come_to, same_fact, same_if, told_fact, all_surely, fact_of, paths, IsModel, IsUnsatisfiable}
 use Rattle.model_questions.proofs.FactsSo.{both_parts, one_left, one_right, none_from}
-use Rattle.model_questions.proofs.Evaluating.{Describe, stands_if, FitsIf, opened_fitted_described, come_described, surely_said, perhaps_so}
+use Rattle.model_questions.proofs.Evaluating.{stands_if, FitsIf, opened_fitted_described, come_described, surely_said, perhaps_so}
 use Rattle.model_questions.proofs.Opening.{IsOf, type_says, nothing_made, listed_width}
-use Rattle.model_questions.proofs.Standing.{width_in, kind_in, model_of, IsCoherent, AreKnown, stands, stand_each, written_stands, Fits, AllFit, written_fits, number_formed}
+use Rattle.model_questions.proofs.Standing.{width_in, model_of, IsCoherent, AreKnown, stands, stand_each, written_stands, Fits, AllFit, written_fits, number_formed}
 
 -- 1. places, and what is told of them
 pub place_means : (a b : Place) → place_eq a b ≡ true → a ≡ b
 place_means (argument_at i) (argument_at j) h = ap argument_at (eqb-true i j h)
 place_means (site_at s) (site_at t) h = ap site_at (term_means s t h)
 place_means (output_at s i) (output_at t j) h = grind (arith, common_steps, and_parts (site_term_eq s t) (i == j) h, term_means s t, eqb-true i j, and_parts, term_means, eqb-true)
-place_means (variant_field_at a s v i) (variant_field_at b t w j) h =
-    let p = and_parts ((place_eq a b && (s == t)) && (v == w)) (i == j) h in
-    let q = and_parts (place_eq a b && (s == t)) (v == w) p.0 in
-    let r = and_parts (place_eq a b) (s == t) q.0 in
-    let e = place_means a b r.0 in
-    let f = eqb-true s t r.1 in
-    let g = eqb-true v w q.1 in
-    let l = eqb-true i j p.1 in
-    λ k. variant_field_at (e k) (f k) (g k) (l k)
-place_means (struct_field_at a s i) (struct_field_at b t j) h =
-    let p = and_parts (place_eq a b && (s == t)) (i == j) h in
-    let q = and_parts (place_eq a b) (s == t) p.0 in
-    let e = place_means a b q.0 in
-    let f = eqb-true s t q.1 in
-    let g = eqb-true i j p.1 in
-    λ k. struct_field_at (e k) (f k) (g k)
+place_means (variant_field_at a s v i) (variant_field_at b t w j) h = grind (arith, common_steps, place_means a b, and_parts, eqb-true)
+place_means (struct_field_at a s i) (struct_field_at b t j) h = grind (arith, common_steps, place_means a b, and_parts, eqb-true)
 place_means _ _ h = absurd (false≢true h)
-
-found_more : {X : Type 0} (P : Place → X → Type 0) (k : List (Place × X)) (at : Place) (v : X) → P at v → ((a : Place) (y : X) → found k a ≡ Some y → P a y)
-    → (a : Place) (y : X) → found ((at, v) ∷ k) a ≡ Some y → P a y
-found_more {X} P k at v here more a y e = grind (arith, common_steps, some_is v y, place_means at a, some_is, place_means)
 
 module _ (m : Model) where
   width_more : (k : Known) (at : Place) (w : ℕ) → m.widths at ≡ w → AreKnown m k → AreKnown m (with_width at w k)
-  width_more k at w e told = record { widths = found_more (λ p v. m.widths p ≡ v) k.widths at w e told.widths; integers = told.integers; kinds = told.kinds }
+  width_more k at w e told = grind (arith, some_is, place_means)
 
   integer_more : (k : Known) (at : Place) (z : ℤ) → m.integers at ≡ z → AreKnown m k → AreKnown m (with_integer at z k)
-  integer_more k at z e told = record { widths = told.widths; integers = found_more (λ p v. m.integers p ≡ v) k.integers at z e told.integers; kinds = told.kinds }
+  integer_more k at z e told = grind (arith, some_is, place_means)
 
   kind_more : (k : Known) (at : Place) (i : ℕ) → m.kinds at ≡ suc i → AreKnown m k → AreKnown m (with_kind at i k)
-  kind_more k at i e told = record { widths = told.widths; integers = told.integers; kinds = found_more (λ p v. m.kinds p ≡ suc v) k.kinds at i e told.kinds }
-
-  same_told : (a b : Integer) (k : Known) → integer_of m a ≡ integer_of m b → AreKnown m k → AreKnown m (same_learned a b k)
-  same_told a b k e told = grind (arith, common_steps, integer_more)
+  kind_more k at i e told = grind (arith, some_is, place_means)
 
   equals_told : (o : Operator) (of : Operands) (k : Known) → is_so m (fact_by o of) ≡ true → AreKnown m k → AreKnown m (equals_learned o of k)
-  equals_told o of k e told = grind (arith, common_steps, same_told, Decides-int_eq)
+  equals_told o of k e told = grind (arith, common_steps, Decides-int_eq, integer_more)
 
   -- what is learned from a fact that is so
   learned_told : (f : Fact) (k : Known) → is_so m f ≡ true → AreKnown m k → AreKnown m (learned f k)
   learned_told (both_facts a b) k e told = let s = and_parts (is_so m a) (is_so m b) e in learned_told a (learned b k) s.0 (learned_told b k s.1 told)
   learned_told f k e told = grind (arith, common_steps, width_more, eqb-true, kind_more, equals_told)
-
-  not_false : (f : Fact) (qs : List (List Fact)) (q : List Fact) → is_so m f ≡ true → In qs q → In (unless_false f qs) q
-  not_false f qs q e i = grind (arith, common_steps)
 
 in_each : {X Y : Type 0} (f : X → List Y) (xs : List X) (x : X) (y : Y) → In xs x → In (f x) y → In (each_of f xs) y
 in_each {X} {Y} f (z ∷ xs) x y (inl e) j = in_left (f z) (each_of f xs) y (subst (λ w. In (f w) y) (sym e) j)
@@ -89,11 +65,8 @@ mutual
   denoted_list_same no_denoted = refl
   denoted_list_same (denoted_and x xs) = and_from (denoted_eq x x) (denoted_list_eq xs xs) (denoted_same x) (denoted_list_same xs)
 
-sort_same : (x : Denoted) → same_sort x x ≡ true
-sort_same x = grind (arith, common_steps, number_same)
-
 equals_itself : (x : Denoted) → applied_to equals (denoted_and x (denoted_and x no_denoted)) ≡ Some (a_truth true)
-equals_itself x = cond-true (same_sort x x) (Some (a_truth (denoted_eq x x))) None (sort_same x) ∙ ap (λ b. Some (a_truth b)) (denoted_same x)
+equals_itself x = grind (arith, denoted_same, number_same)
 
 -- 3. a word's width is among those that are listed
 width_listed : (ws : List ℕ) (x : Denoted) → is_of_sort (words_among ws) x ≡ true → In ws (width_in x)
@@ -146,19 +119,15 @@ module _ (types : List TypeEntry) (specs : Specs) (vs : Place → Denoted) (u : 
     is_model : IsModel specs m
     is_model = record { formed = λ at width. number_formed (vs at) width (formed at); functions = answers }
 
-    described : (k : Known) (s : Said) → AreKnown m k → FitsSaid s → Describe types specs vs u (come_to types specs k s) (says u (stand_each vs u s.args) (stands_if types specs vs u s.result) s.expr [])
-    described k s told fits = come_described types specs vs u coherent formed answers k told s.args s.result fits.0 fits.1 s.expr
-
     assumed_so : (k : Known) (s : Said) → AreKnown m k → FitsSaid s → IsHeld s → is_so m (perhaps (come_to types specs k s)) ≡ true
-    assumed_so k s told fits h = perhaps_so types specs vs u (come_to types specs k s) (says u (stand_each vs u s.args) (stands_if types specs vs u s.result) s.expr []) (described k s told fits) h
+    assumed_so k s told fits h = grind (arith, perhaps_so, stand_each, stands_if, come_described)
 
     shown_said : (k : Known) (s : Said) → AreKnown m k → FitsSaid s → is_so m (surely (come_to types specs k s)) ≡ true → IsHeld s
-    shown_said k s told fits h = surely_said types specs vs u (come_to types specs k s) (says u (stand_each vs u s.args) (stands_if types specs vs u s.result) s.expr []) (described k s told fits) h
+    shown_said k s told fits h = grind (arith, surely_said, stand_each, stands_if, come_described)
 
     all_said : (k : Known) (ss : List Said) → AreKnown m k → AllSaidFit ss → is_so m (all_surely types specs k ss) ≡ true → AllHeld ss
     all_said k [] told fits h s i = absurd i
-    all_said k (r ∷ ss) told fits h s (inl e) =
-        subst IsHeld e (shown_said k r told (fits r (inl refl)) (both_parts m (surely (come_to types specs k r)) (all_surely types specs k ss) h).0)
+    all_said k (r ∷ ss) told fits h s (inl e) = grind (arith, common_steps, shown_said, both_parts)
     all_said k (r ∷ ss) told fits h s (inr i) = all_said k ss told (λ x j. fits x (inr j)) (both_parts m (surely (come_to types specs k r)) (all_surely types specs k ss) h).1 s i
 
     under_so : (k : Known) (ss : List Said) (s : Said) → AreKnown m k → AllSaidFit ss → FitsSaid s → (AllHeld ss → IsHeld s)
@@ -178,14 +147,11 @@ module _ (types : List TypeEntry) (specs : Specs) (vs : Place → Denoted) (u : 
     same_if_so : (k : Known) (f : Form) (o : Option Denoted) → AreKnown m k → ((x : Denoted) → o ≡ Some x → (stands vs u f ≡ x) × Fits types specs vs f) → is_so m (same_if types specs k f o) ≡ true
     same_if_so k f o told h = grind (arith, common_steps, same_so, written_fits, written_stands)
 
-    kind_so : (ty variant : ℕ) (xs : DenotedList) (f : Form) → stands vs u f ≡ variant_of ty variant xs → is_so m (kind_fact variant f) ≡ true
-    kind_so ty variant xs f e = grind (arith, common_steps, kind_in, number_same)
-
     truth_so : (b : Bool) (f : Form) → stands vs u f ≡ a_truth b → is_so m (truth_fact b f) ≡ true
     truth_so b f e = grind (arith, common_steps, none_from, model_of)
 
     told_so : (k : Known) (f : Form) (c : Constraint) → AreKnown m k → IsToldAs f c → is_so m (told_fact types specs k f c) ≡ true
-    told_so k f c told h = grind (arith, common_steps, kind_so, truth_so, same_if_so)
+    told_so k f c told h = grind (arith, common_steps, truth_so, same_if_so)
 
     -- 5. one step after another
     abbrev AreRefuted : List (List Fact) → Type 0
@@ -200,7 +166,7 @@ module _ (types : List TypeEntry) (specs : Specs) (vs : Place → Denoted) (u : 
 
     assumed_next : (rest : List Step) (k : Known) (fs : List Fact) (f : Fact) → Next rest → AreKnown m k → are_so m fs ≡ true → is_so m f ≡ true
         → AreRefuted (unless_false f (paths types specs rest (learned f k) (f ∷ fs))) → AreShown rest
-    assumed_next rest k fs f next told so e r = added rest k fs f next told so e (λ q i. r q (not_false m f (paths types specs rest (learned f k) (f ∷ fs)) q e i))
+    assumed_next rest k fs f next told so e r = grind (arith, added)
 
     split_next : (ty : ℕ) (at : Place) (rest : List Step) (k : Known) (fs : List Fact) (o : Option Sort) → split_sort (slice_get types ty) (sort_of specs ty) ≡ o → Next rest → AreKnown m k → are_so m fs ≡ true
         → AreRefuted (at_each_width o (λ w. paths types specs rest (with_width at w k) (as_wide at w ∷ fs)) (paths types specs rest k fs)) → is_of_type types specs ty (vs at) ≡ true → AreShown rest
@@ -209,10 +175,7 @@ module _ (types : List TypeEntry) (specs : Specs) (vs : Place → Denoted) (u : 
         let listed = width_listed ws (vs at) (atoms_alone ty (slice_get types ty) (words_among ws) (vs at) (type_says types specs ty (vs at) fits) e) in
         next (with_width at w k) (as_wide at w ∷ fs) (width_more m k at w refl told) (and_from (is_so m (as_wide at w)) (are_so m fs) (number_same w) so)
         (λ q i. r q (in_each (λ v. paths types specs rest (with_width at v k) (as_wide at v ∷ fs)) ws w q listed i))
-    split_next ty at rest k fs None e next told so r fits = next k fs told so r
-    split_next ty at rest k fs (Some truths) e next told so r fits = next k fs told so r
-    split_next ty at rest k fs (Some integers) e next told so r fits = next k fs told so r
-    split_next ty at rest k fs (Some (words w)) e next told so r fits = next k fs told so r
+    split_next ty at rest k fs _ e next told so r fits = next k fs told so r
 
     goal_so : (k : Known) (fs : List Fact) (s : Said) → are_so m fs ≡ true → IsUnsatisfiable specs (none_of (surely (come_to types specs k s)) ∷ fs) → is_so m (surely (come_to types specs k s)) ≡ true
     goal_so k fs s so refuted = by (is_so m (surely (come_to types specs k s))) refl
@@ -230,10 +193,8 @@ module _ (types : List TypeEntry) (specs : Specs) (vs : Place → Denoted) (u : 
         λ h. (tt, assumed_next rest k fs (fact_of types specs k (told_as f c)) (λ k' fs' t s q. steps_shown rest k' fs' t s q) told so (told_so k f c told h) r)
     steps_shown (told_same f g ∷ rest) k fs told so r =
         λ h. (tt, assumed_next rest k fs (fact_of types specs k (told_same f g)) (λ k' fs' t s q. steps_shown rest k' fs' t s q) told so (same_so k f g told h.0 h.1 h.2) r)
-    steps_shown (assumed s ∷ rest) k fs told so r =
-        λ h. (tt, assumed_next rest k fs (fact_of types specs k (assumed s)) (λ k' fs' t s' q. steps_shown rest k' fs' t s' q) told so (assumed_so k s told h.0 h.1) r)
-    steps_shown (assumed_under ss s ∷ rest) k fs told so r =
-        λ h. (tt, assumed_next rest k fs (fact_of types specs k (assumed_under ss s)) (λ k' fs' t s' q. steps_shown rest k' fs' t s' q) told so (under_so k ss s told h.0 h.1 h.2) r)
+    steps_shown (assumed s ∷ rest) k fs told so r = grind (arith, common_steps, steps_shown rest, assumed_next, assumed_so)
+    steps_shown (assumed_under ss s ∷ rest) k fs told so r = grind (arith, common_steps, steps_shown rest, assumed_next, under_so)
     steps_shown (shown s ∷ rest) k fs told so r =
         λ h. let e = goal_so k fs s so (r (none_of (fact_of types specs k (shown s)) ∷ fs) (inl refl)) in
         (shown_said k s told h e, added rest k fs (fact_of types specs k (shown s)) (λ k' fs' t s' q. steps_shown rest k' fs' t s' q) told so e (λ q i. r q (inr i)))
