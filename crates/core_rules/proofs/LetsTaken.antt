@@ -111,19 +111,13 @@ module _ (env : TermEnv) (old mid : Standing) (name ty : Name) (value : ExprTree
   module _ (keeps : Keeps old.tyenv mid.tyenv) (own : ℕ) (there : Some own ≡ type_of_name old.tyenv ty.text) (errors : mid.work.errors.items ≡ old.work.errors.items) (next : Standing) where
     -- what its value comes to
     goes_at : (end : MadeOrLimit TypedExpr) → EndsAs env mid next (values own) end → (e : Setting) (s : Scope) → IsSettingOf old.tyenv env e → Shows old s → Goes mid next (values own e old.work.expansions (met s name.text)) end
-    goes_at end h e s is sh =
-        subst (λ (n : ℕ). Goes mid next (values own e n (met s name.text)) end) r.expansions
-        (seen mid next (values own e mid.work.expansions (met s name.text)) end (h.1 e (met s name.text) (keep_setting env old.tyenv mid.tyenv e keeps is) (shown s sh)))
+    goes_at end h e s is sh = grind (arith, seen, keep_setting, shown, h.1 e (met s name.text) (keep_setting env old.tyenv mid.tyenv e keeps is) (shown s sh))
 
     may : MayNoteMore mid.work.errors.items next.work.errors.items → MayNoteMore old.work.errors.items next.work.errors.items
     may h = subst (λ es. MayNoteMore es next.work.errors.items) errors h
 
     value_ends : (l : NamedLimit) → EndsAs env mid next (values own) (Err l) → EndsAs env old next one (Err l)
-    value_ends l h = (
-      may h.0,
-      λ e s is sh. subst (λ t. Took old next t (Err l)) (sym (found_type (Some own) there e s is sh))
-          (value_ended name.text own old mid next errors r.expansions l (values own e old.work.expansions (met s name.text)) (goes_at (Err l) h e s is sh)),
-    )
+    value_ends l h = grind (arith, may h.0, found_type (Some own) there, value_ended name.text own old mid next errors r.expansions l, goes_at (Err l) h)
 
     pub value_stops : (stop : Stop) → StopsBy env mid next (values own) stop → StopsBy env old next one stop
     value_stops (Memory a) h = tt
@@ -131,11 +125,7 @@ module _ (env : TermEnv) (old mid : Standing) (name ty : Name) (value : ExprTree
     value_stops Expansions h = value_ends of_expansions h
 
     pub def_not_made : EndsAs env mid next (values own) (Ok None) → EndsAs env old next one (Ok None)
-    def_not_made h = (
-      may h.0,
-      λ e s is sh. subst (λ t. Took old next t (Ok None)) (sym (found_type (Some own) there e s is sh))
-          (no_value name.text own old mid next errors r.expansions (values own e old.work.expansions (met s name.text)) (goes_at (Ok None) h e s is sh)),
-    )
+    def_not_made h = grind (arith, may h.0, found_type (Some own) there, no_value name.text own old mid next errors r.expansions, goes_at (Ok None) h)
 
     pub def_not_hidden : EndsAs env mid next (values own) (Ok None) → (hidden : List (Sym × Option BoundVar)) → HidesBy env old one def_made hidden hidden
     def_not_hidden h hidden e s is sh = subst (HidesIn def_made hidden hidden) (sym (found_type (Some own) there e s is sh))

@@ -62,8 +62,7 @@ wrong_views (w ∷ ws) = ap (λ vs. ill_typed w.at ∷ vs) (wrong_views ws)
 
 -- errors behind none each have single spans where they stand at positions
 single_among : (ps : List Position) (old new more : List Error) → old ≡ [] → NotesAt ps old new → new ≡ old ++ more → All HasSingleSpans more
-single_among ps old new more none placed added =
-    all_members HasSingleSpans more (λ x h. grind (arith, common_steps))
+single_among ps old new more none placed added = grind (arith, all_members HasSingleSpans more, placed.each)
 
 -- 2. one rule, on which nothing was done
 module _ (env : TermEnv) (tyenv : TypeEnv) (fresh : Progress) (found : List Error) (f : IsFresh fresh found) (id : ℕ) (r : T.Rule) (new : Standing) where

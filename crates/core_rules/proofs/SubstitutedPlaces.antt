@@ -66,6 +66,7 @@ part_places no_pattern i p h = absurd (cc)
 part_places (pattern_and q ps) zero p h = subst (λ x. OccurAmong (pattern_positions x) (pattern_positions q ++ patterns_positions ps)) (same_Some q p h) (among_left (pattern_positions q) (patterns_positions ps))
 part_places (pattern_and q ps) (suc i) p h = grind (arith, common_steps, part_places ps i p h, among_both, among_right)
 
+-- a term's template has positions among those of the term
 of_kind : (k : TermKindEntry) (p : PatternTree) → kind_template k ≡ Some p → OccurAmong (pattern_positions p) (kind_positions k)
 of_kind k p h = grind (arith, none-some)
 

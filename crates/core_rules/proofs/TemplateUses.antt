@@ -53,10 +53,7 @@ first_of_name [] i d once h = absurd (none-some d h)
 first_of_name (e ∷ ds) zero d once h = grind (arith, common_steps, same_Some, same_self)
 first_of_name (e ∷ ds) (suc i) d once h =
     elim (bytes_eq e.term.text d.term.text) as (λ b. bytes_eq e.term.text d.term.text ≡ b → cond b (Some e) (find (λ e. bytes_eq e.term.text d.term.text) ds) ≡ Some d) [
-      | true ↦ λ t.
-          let there : slice_get (map (λ (e : DeclTree). e.term.text) (e ∷ ds)) (suc i) ≡ Some d.term.text = get_map (λ (e : DeclTree). e.term.text) ds i d h in
-          let apart : 0 ≡ suc i = once 0 (suc i) d.term.text (ap Some (same_bytes e.term.text d.term.text t)) there in
-          absurd (omega (arith, apart))
+      | true ↦ grind (arith, get_map (λ (e : DeclTree). e.term.text) ds i d h, same_bytes e.term.text d.term.text, e.term.text, once 0 (suc i) d.term.text)
       | false ↦ λ _. first_of_name ds i d (λ j k x p q. let s : suc j ≡ suc k = once (suc j) (suc k) x p q in omega (arith, s)) h
     ] refl
 

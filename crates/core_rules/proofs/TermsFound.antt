@@ -1,5 +1,5 @@
 -- The term of a name, as the tables find it, is that of a setting.
-use Rattle.std.proofs.Common.{◌≡◌, ℕ, false, List, Option, None, option_and_then, slice_get, sym, ap, ◌∙◌, arith}
+use Rattle.std.proofs.Common.{◌≡◌, ℕ, false, List, Option, None, option_and_then, slice_get, refl, sym, ap, ◌∙◌, arith}
 use Rattle.std.proofs.lemmas.Grind.{common_steps}
 use Rattle.model.specs.lists.Names.{number, has_name}
 use Rattle.model.specs.lists.Setting.{Setting, entry_named}
@@ -18,9 +18,7 @@ module _ (env : TermEnv) (tyenv : TypeEnv) (inv : IsInterned tyenv) (x : List �
   past o k none = grind (arith, common_steps, last)
 
   by_number : term_in_env env (number (names_of tyenv) x) ≡ option_and_then (term_in_env env) (symbol_of tyenv x)
-  by_number =
-      sym (ap (option_and_then (term_in_env env)) (looked_up (names_of tyenv) (symbol_of tyenv) inv.numbered inv.named x)
-      ∙ (grind (arith, common_steps, past)))
+  by_number = grind (arith, looked_up (names_of tyenv) (symbol_of tyenv) inv.numbered inv.named x, past (term_in_env env (number (names_of tyenv) x)) refl)
 
   pub found_named : entry_named (number (names_of tyenv) x) e.terms ≡ found_term env tyenv x
   found_named =

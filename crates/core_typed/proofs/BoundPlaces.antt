@@ -1,5 +1,5 @@
 -- Entries of variables that ascend: what is found at a place, and what binding a variable there makes.
-use Rattle.std.proofs.Common.{◌≡◌, ℕ, zero, suc, ◌+◌, ◌<◌, ◌-◌, cond, List, [], ◌∷◌, length, drop, get_or, Some, None, Result, Ok, Err, MatchResult, refl, sym, ap, ◌∙◌, arith, set, false, slice_get}
+use Rattle.std.proofs.Common.{◌≡◌, ℕ, zero, suc, ◌+◌, ◌<◌, ◌-◌, cond, List, [], ◌∷◌, length, drop, get_or, Some, None, Result, MatchResult, refl, sym, ap, ◌∙◌, arith, set, false, slice_get}
 use Rattle.std.specs.List.{AllByRecursion, insert}
 use Rattle.std.specs.List.Sorted.{IsBinarySearchResult, IsNonDecreasingBy, IsSearchInRange, IsStrictlySortedBy}
 use Rattle.std.specs.Ordering.{nat_cmp, is_eq, is_le, match_ordering, ordering_index, ordering_reverse}
@@ -78,9 +78,7 @@ module _ {P : Type 0} where
   none_there (b ∷ vs) x zero h =
       ap (λ o. cond (is_eq o) (Some b.1) (bound_at (by_number vs) x)) (is_less x b.0.0 (h.2 0 b (omega arith) (omega arith)))
       ∙ none_there vs x 0 (omega arith, (λ k d l. absurd (omega arith)), (λ k d l m. h.2 (suc k) d (omega arith) (omega arith)))
-  none_there (b ∷ vs) x (suc i) h =
-      ap (λ o. cond (is_eq o) (Some b.1) (bound_at (by_number vs) x)) (is_greater x b.0.0 (h.1 0 b (omega arith)))
-      ∙ none_there vs x i (rest_fits b vs x i h)
+  none_there (b ∷ vs) x (suc i) h = grind (arith, common_steps, none_there vs x i (rest_fits b vs x i h), is_greater x b.0.0, rest_fits b vs x i h, h.1 0 b)
 
   -- 3. what binding makes
   pub bound_there : (vs : Entries P) (x : VarId) (id : P) (i : ℕ) → IsStrictlySortedBy nat_cmp (numbers vs) → StandsAt vs x.0 i → by_number (set vs i (x, id)) ≡ with_bound (by_number vs) x.0 id
@@ -93,8 +91,7 @@ module _ {P : Type 0} where
   pub bound_between : (vs : Entries P) (x : VarId) (id : P) (i : ℕ) → FitsAt vs x.0 i → by_number (insert vs i (x, id)) ≡ with_bound (by_number vs) x.0 id
   bound_between [] x id zero h = refl
   bound_between [] x id (suc i) h = absurd (omega (arith, h.0))
-  bound_between (b ∷ vs) x id zero h =
-      sym (ap (λ o. match_ordering o ((x.0, id) ∷ by_number (b ∷ vs)) ((b.0.0, id) ∷ by_number vs) ((b.0.0, b.1) ∷ with_bound (by_number vs) x.0 id)) (is_less x.0 b.0.0 (h.2 0 b (omega arith) (omega arith))))
+  bound_between (b ∷ vs) x id zero h = grind (arith, common_steps, is_less x.0 b.0.0, x.0, b.0.0, b.1, h.2 0 b)
   bound_between (b ∷ vs) x id (suc i) h =
       ap (λ l. (b.0.0, b.1) ∷ l) (bound_between vs x id i (rest_fits b vs x.0 i h))
       ∙ sym (ap (λ o. match_ordering o ((x.0, id) ∷ by_number (b ∷ vs)) ((b.0.0, id) ∷ by_number vs) ((b.0.0, b.1) ∷ with_bound (by_number vs) x.0 id)) (is_greater x.0 b.0.0 (h.1 0 b (omega arith))))
@@ -120,17 +117,11 @@ module _ {P : Type 0} where
 
   pub searched : (vs : Entries P) (x : ℕ) (r : Result ℕ ℕ) → IsStrictlySortedBy nat_cmp (numbers vs) → IsSearchInRange r (length vs)
       → IsBinarySearchResult (λ e. nat_cmp e.0.0 x) vs r → MatchResult r (StandsAt vs x) (FitsAt vs x)
-  searched vs x (Ok i) s l equal = (l, λ d. ranked _ x _ (sym (equal d)))
-  searched vs x (Err i) s l parted =
-      let p = parted (rises vs x s) in
-      (l, (λ k d m. ranked _ x _ (sym (p.0 k d (omega arith) m))), (λ k d m n. ranked _ x _ (sym (p.1 k d m n))))
+  searched vs x r s l equal = grind (arith, ranked, rises)
 
   -- a variable past the last fits at the end
   pub past_last : (vs : Entries P) (x : ℕ) (last : VarId × P) → IsStrictlySortedBy nat_cmp (numbers vs) → slice_get vs (length vs - 1) ≡ Some last → false ≡ is_le (nat_cmp x last.0.0) → FitsAt vs x (length vs)
-  past_last vs x last s at f = (omega arith, below, (λ k d l m. absurd (omega arith)))
-    where
-      below : (k : ℕ) (d : VarId × P) → k < length vs → (get_or vs k d).0.0 < x
-      below k d l = grind (arith, common_steps, get_or_from_slice_get vs (length vs - 1) last d at, is_past x last.0.0 f, ascends vs s k (length vs - 1) d)
+  past_last vs x last s at f = grind (arith, get_or_from_slice_get, is_past, ascends)
 
   -- 5. one after another
   pub next_entry : (vs : Entries P) (i : ℕ) (e : VarId × P) → i < length vs → e ≡ get_or vs i e → by_number (drop i vs) ≡ (e.0.0, e.1) ∷ by_number (drop (i + 1) vs)

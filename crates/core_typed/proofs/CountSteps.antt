@@ -25,10 +25,7 @@ module _ (n : ℕ) (rules : List TypedRule) (i : ℕ) (q : TypedRule) (h : i < l
   one_more c is =
       let here : (t : ℕ) → ((eqb q.root_term t ≡ true) × (q.root_term ≡ t)) ⊎ ((eqb q.root_term t ≡ false) × (q.root_term ≢ t)) → t < n → get_or (set counts q.root_term (c + 1)) t 0 ≡ count_by (λ r. r.root_term == t) (take (i + 1) rules) =
       λ t d l. elim d [
-        | inl e ↦
-            let same : count_by (λ r. r.root_term == t) (take i rules) ≡ c = same_Some (count_by (λ r. r.root_term == t) (take i rules)) c (sym (k.each t l) ∙ ap (slice_get counts) (sym e.1) ∙ is) in
-            subst (λ u. get_or (set counts q.root_term (c + 1)) u 0 ≡ c + 1) e.1 (get_or-set_same counts q.root_term (c + 1) 0 (slice_get_within counts q.root_term c is))
-            ∙ ap (λ m. m + 1) (sym same) ∙ sym (of_this t e.0)
+        | inl e ↦ grind (arith, same_Some, get_or-set_same, slice_get_within, of_this)
         | inr e ↦ get_or-set_other counts q.root_term t (c + 1) 0 (λ s. e.1 (sym s)) ∙ get_or_from_slice_get counts t (count_by (λ r. r.root_term == t) (take i rules)) 0 (k.each t l) ∙ sym (of_other t e.0)
       ] in
       let long : length (set counts q.root_term (c + 1)) ≡ n = length-set counts q.root_term (c + 1) ∙ k.len in
@@ -43,12 +40,7 @@ module _ (n : ℕ) (rules : List TypedRule) (i : ℕ) (q : TypedRule) (h : i < l
 
   -- no term has more rules than were counted
   at_most : (t c : ℕ) → slice_get counts t ≡ Some c → c ≤ i
-  at_most t c is =
-      let l : t < n = subst (λ m. t < m) k.len (slice_get_within counts t c is) in
-      let same : c ≡ count_by (λ r. r.root_term == t) (take i rules) = same_Some c (count_by (λ r. r.root_term == t) (take i rules)) (sym is ∙ k.each t l) in
-      let few = count_by-le-length (λ r. r.root_term == t) (take i rules) in
-      let long : length (take i rules) ≡ i = length-take-le i rules (omega (arith, h)) in
-      omega (arith, same, few, long)
+  at_most t c is = grind (arith, slice_get_within, same_Some, count_by-le-length, length-take-le)
 
 -- what is read at a place that is there
 pub read_at : (counts : List ℕ) (t c : ℕ) → t < length counts → c ≡ get_or counts t c → slice_get counts t ≡ Some c

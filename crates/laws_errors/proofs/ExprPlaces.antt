@@ -1,16 +1,16 @@
 -- Where what is wrong with an expression stands.
-use Rattle.std.proofs.Common.{ℕ, zero, suc, ◌+◌, true, false, cond, eqb, nat_le, List, [], ◌∷◌, length, Option, Some, None, arith}
+use Rattle.std.proofs.Common.{ℕ, zero, suc, ◌+◌, true, false, cond, nat_le, List, [], ◌∷◌, Option, Some, None, arith}
 use Rattle.std.proofs.lemmas.Grind.{common_steps}
 use Rattle.std.specs.Prelude.{Contains}
 use Rattle.model.specs.lists.Syntax.{Position, Name, ExprTree, term_expr, let_expr, ExprTrees, expr_and, LetTrees, no_let, let_and}
-use Rattle.model.specs.rules.Typed.{TypedExpr, make_term, TypedLets}
+use Rattle.model.specs.rules.Typed.{TypedExpr, TypedLets}
 use Rattle.model.specs.lists.Tables.{Flags, TermKindEntry, TermEntry}
-use Rattle.model.specs.lists.Setting.{Setting, Scope, met, term_of, type_of_name, is_expected}
+use Rattle.model.specs.lists.Setting.{Setting, Scope, met, term_of, type_of_name}
 use Rattle.model.specs.lists.Expansions.{wrapped_expr}
 use Rattle.model.specs.lists.Elaborated.{most_expansions}
 use Rattle.model.specs.claims.Refusals.{of_expansions}
-use Rattle.laws_errors.specs.Steps.{constructor_type, argument_count, Step, stopped, here, made_step, counted_step, after_made, last_made, then_made}
-use Rattle.laws_errors.specs.ExprSteps.{expr_list, expected_step, forbidden, call_step, called_step, with_arg, with_def, let_step, ended_step, expr_step, args_step, lets_step, deeper_expr_step}
+use Rattle.laws_errors.specs.Steps.{Step, stopped, here, counted_step, after_made, last_made, then_made}
+use Rattle.laws_errors.specs.ExprSteps.{expected_step, forbidden, call_step, called_step, with_arg, with_def, let_step, ended_step, expr_step, args_step, lets_step, deeper_expr_step}
 use Rattle.laws_errors.specs.PlaceLaws.{ExprStandsAt, ExprsStandAt, LetsStandAt, AreAt, wrong_of, ExprErrorsArePlaced}
 use Rattle.laws_errors.proofs.PlacedErrors.{noting_at, checked_step_at, made_at, counted_at, in_order_at}
 
@@ -38,10 +38,7 @@ module _ (P : Position → Type 0) where
         → AreAt P (wrong_of (called_step e flags (deeper_expr_step e flags d) name args at ty n s (λ tys. args_step e flags (deeper_expr_step e flags d) args tys n s) o))
     called_at name args at ty n s here given parts None = (here, tt)
     called_at name args at ty n s here given parts (Some t) = expected_at e t.ret_ty ty at s (call_step flags name args at ty t (λ tys. args_step e flags (deeper_expr_step e flags d) args tys n s)) (λ c. deeper_expr_step e flags d (wrapped_expr s c at (term_expr name args at)) ty n s) here
-        (checked_step_at P (is_expected ty t.ret_ty) (constructor_type name.text ty t.ret_ty) at _ here
-        (noting_at P (forbidden flags name.text at t.kind) _ (forbidden_at flags name.text at t.kind here)
-        (checked_step_at P (eqb (length (expr_list args)) (length t.arg_tys)) (argument_count name.text (length (expr_list args)) (length t.arg_tys)) at (made_step (make_term t.ret_ty t.id) (args_step e flags (deeper_expr_step e flags d) args t.arg_tys n s)) here
-        (made_at P (make_term t.ret_ty t.id) (args_step e flags (deeper_expr_step e flags d) args t.arg_tys n s) (parts t.arg_tys)))))
+        (grind (arith, common_steps, checked_step_at, noting_at, forbidden_at, made_at, parts t.arg_tys))
         (λ c. deeper (wrapped_expr s c at (term_expr name args at)) ty n s (here, ((here, given), tt)))
 
     mutual

@@ -5,13 +5,12 @@ use Rattle.std.proofs.lemmas.Grind.{common_steps}
 use Rattle.model.specs.lists.Syntax.{Position, Name, ExprTree, term_expr, var_expr, bool_expr, int_expr, prim_expr, let_expr, ExprTrees, no_expr, expr_and, LetTrees, no_let, let_and}
 use Rattle.model.specs.lists.Names.{number, with_name}
 use Rattle.model.specs.lists.Tables.{Flags, TermEntry}
-use Rattle.model.specs.lists.Setting.{Setting, Scope, new_var, var_named, met, bound, var_of, term_of, type_of_name, type_of_constant, is_expected}
-use Rattle.model.specs.lists.Expansions.{wrapped_expr}
+use Rattle.model.specs.lists.Setting.{Setting, Scope, new_var, var_named, met, bound, var_of, term_of, type_of_name, type_of_constant}
 use Rattle.model.specs.lists.Elaborated.{most_expansions}
-use Rattle.model.specs.rules.Typed.{TypedExpr, make_term, TypedLets, no_typed_let, typed_let_and, TypedVar}
+use Rattle.model.specs.rules.Typed.{TypedExpr, TypedLets, no_typed_let, typed_let_and, TypedVar}
 use Rattle.model.specs.claims.Refusals.{of_expansions}
-use Rattle.laws_errors.specs.Steps.{constructor_type, argument_count, Mistake, Step, went_on, stopped, unless, here, noting, made_step, counted_step, joined_step, then_step, then_made}
-use Rattle.laws_errors.specs.ExprSteps.{expr_list, converted_or, expected_step, forbidden, call_step, called_step, used_step, made_constant_step, with_def, let_step, uncovered, put_back, closed, ended_step, expr_step, args_step, lets_step, deeper_expr_step}
+use Rattle.laws_errors.specs.Steps.{Mistake, Step, went_on, stopped, here, noting, made_step, counted_step, joined_step, then_step, then_made}
+use Rattle.laws_errors.specs.ExprSteps.{converted_or, expected_step, called_step, used_step, made_constant_step, with_def, let_step, uncovered, put_back, closed, ended_step, expr_step, args_step, lets_step, deeper_expr_step}
 
 -- 1. scopes
 abbrev pub AreNewer : ℕ → List TypedVar → Type 0
@@ -229,13 +228,7 @@ module _ (e : Setting) (flags : Flags) (d : ℕ) (deeper : (x : ExprTree) (ty : 
   called_grows : (name : Name) (args : ExprTrees) (at : Position) (ty : Option ℕ) (n : ℕ) (s : Scope) → ((tys : List ℕ) → StepGrows s (args_step e flags (deeper_expr_step e flags d) args tys n s)) → (o : Option TermEntry)
       → StepGrows s (called_step e flags (deeper_expr_step e flags d) name args at ty n s (λ tys. args_step e flags (deeper_expr_step e flags d) args tys n s) o)
   called_grows name args at ty n s parts None = grows_same s
-  called_grows name args at ty n s parts (Some t) =
-      expected_grows e t.ret_ty ty at s (call_step flags name args at ty t (λ tys. args_step e flags (deeper_expr_step e flags d) args tys n s)) (λ c. deeper_expr_step e flags d (wrapped_expr s c at (term_expr name args at)) ty n s)
-      (noting_grows s (unless (is_expected ty t.ret_ty) (constructor_type name.text ty t.ret_ty) at) _
-      (noting_grows s (forbidden flags name.text at t.kind) _
-      (noting_grows s (unless (eqb (length (expr_list args)) (length t.arg_tys)) (argument_count name.text (length (expr_list args)) (length t.arg_tys)) at) _
-      (made_grows (make_term t.ret_ty t.id) s (args_step e flags (deeper_expr_step e flags d) args t.arg_tys n s) (parts t.arg_tys)))))
-      (λ c. deeper (wrapped_expr s c at (term_expr name args at)) ty n s)
+  called_grows name args at ty n s parts (Some t) = grind (arith, common_steps, expected_grows, noting_grows, made_grows, parts t.arg_tys)
 
   used_grows : (name : Name) (at : Position) (ty : Option ℕ) (n : ℕ) (s : Scope) (o : Option TypedVar) → StepGrows s (used_step e (deeper_expr_step e flags d) name at ty n s o)
   used_grows name at ty n s o = grind (arith, common_steps, grows_same)

@@ -1,14 +1,16 @@
 -- The setting in which each term has a constructor.
-use Rattle.std.proofs.Common.{◌≡◌, ℕ, ◌&&◌, Bool, true, false, cond, List, [], ◌∷◌, filter, map, Option, None, option_map, is_some, slice_get, refl, ap, ◌∙◌, arith}
+use Rattle.std.proofs.Common.{◌≡◌, ℕ, ◌&&◌, Bool, true, false, cond, List, [], ◌∷◌, filter, map, Option, None, option_map, is_some, refl, ap, ◌∙◌, arith}
 use Rattle.std.proofs.lemmas.Grind.{common_steps}
 use Rattle.std.specs.Bool.{◌==◌}
 use Rattle.std.proofs.lemmas.Bool.{and_parts, eqb-true}
 use Rattle.std.proofs.lemmas.Option.{slice_get-map}
 use Rattle.model.specs.rules.Meaning.{look}
-use Rattle.model.specs.rules.Outcome.{then_option}
-use Rattle.model.specs.lists.Tables.{TermEntry}
-use Rattle.model.specs.lists.Setting.{Setting, Scope, entry_named, term_of, that, has_constructor, expr_converter}
-use Rattle.laws_errors.specs.AllMade.{made_entry, all_made}
+use Rattle.model.specs.lists.Tables.{TermKindEntry, TermEntry}
+use Rattle.model.specs.lists.Setting.{Setting, Scope, entry_named, term_of, has_constructor, expr_converter}
+use Rattle.laws_errors.specs.AllMade.{made_kind, made_entry, all_made}
+
+constructed : (k : TermKindEntry) → has_constructor (made_kind k) ≡ true
+constructed k = grind (arith, common_steps)
 
 named_made : (name : ℕ) (ts : List TermEntry) → entry_named name (map made_entry ts) ≡ option_map made_entry (entry_named name ts)
 named_made name (t ∷ ts) = grind (arith, common_steps, named_made name ts)
@@ -30,14 +32,4 @@ module _ (p : ℕ → ℕ → Bool) (i o : ℕ) where
   kept [] = elim (p i o) as (λ b. ◌≡◌ {A = Option ℕ} None (cond b None None)) [ true ↦ refl | false ↦ refl ]
 
 pub converter_made : (e : Setting) (i o : ℕ) (own : Option TermEntry) → expr_converter e i o ≡ own → expr_converter (all_made e) i o ≡ option_map made_entry own
-converter_made e i o own h =
-    ap (λ k. that (λ t. has_constructor t.kind) (then_option k (slice_get (map made_entry e.terms)))) (kept (λ j k. is_some (expr_converter e j k)) i o e.converters)
-    ∙ (grind (arith, there (look (λ k. (k.0 == i) && (k.1 == o)) e.converters), is_nothing (expr_converter e i o)))
-    ∙ ap (option_map made_entry) h
-  where
-    is_nothing : (x : Option TermEntry) → is_some x ≡ false → x ≡ None
-    is_nothing x n = grind arith
-
-    there : (k : Option ℕ) → is_some (that (λ t. has_constructor t.kind) (then_option k (slice_get e.terms))) ≡ true
-        → that (λ t. has_constructor t.kind) (then_option k (slice_get (map made_entry e.terms))) ≡ option_map made_entry (that (λ t. has_constructor t.kind) (then_option k (slice_get e.terms)))
-    there k h = grind (arith, slice_get-map)
+converter_made e i o own h = grind (arith, kept (λ j k. is_some (expr_converter e j k)) i o e.converters, constructed, slice_get-map made_entry e.terms)

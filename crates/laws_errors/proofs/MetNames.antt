@@ -1,19 +1,19 @@
 -- The names after a step go on from those before it, and where a limit stops it this is one on expansions.
-use Rattle.std.proofs.Common.{◌≡◌, ℕ, zero, suc, ◌+◌, Bool, true, false, cond, eqb, nat_le, List, [], ◌∷◌, ◌++◌, length, map, Option, Some, None, append_assoc, append-nil, refl, sym, ap, ◌∙◌, arith}
+use Rattle.std.proofs.Common.{◌≡◌, ℕ, zero, suc, ◌+◌, Bool, true, false, cond, nat_le, List, [], ◌∷◌, ◌++◌, map, Option, Some, None, append_assoc, append-nil, refl, sym, ap, ◌∙◌, arith}
 use Rattle.std.proofs.lemmas.Grind.{common_steps}
 use Rattle.model.specs.lists.Syntax.{Position, Name, PatternTree, var_pattern, bind_pattern, prim_pattern, term_pattern, and_pattern, PatternTrees, no_pattern, pattern_and, pattern_list, ExprTree, term_expr, var_expr, bool_expr, int_expr, prim_expr, let_expr, ExprTrees, no_expr, expr_and, LetTrees, no_let, let_and, IfLetTree, RuleTree}
 use Rattle.model.specs.lists.Names.{has_name, with_name}
 use Rattle.model.specs.lists.Tables.{Flags, TermEntry}
 use Rattle.model.specs.lists.TermTable.{root_name}
-use Rattle.model.specs.lists.Setting.{Setting, Scope, met, var_of, term_of, type_of_constant, is_expected, is_matchable, on_lhs, expr_type, declared_flags, new_scope}
-use Rattle.model.specs.lists.Expansions.{wrapped_expr, substituted}
+use Rattle.model.specs.lists.Setting.{Setting, Scope, met, var_of, term_of, type_of_constant, on_lhs, expr_type, declared_flags, new_scope}
+use Rattle.model.specs.lists.Expansions.{substituted}
 use Rattle.model.specs.lists.Elaborated.{most_expansions, typed_iflet, root_parts, Sides, with_own_name, most_nested}
-use Rattle.model.specs.rules.Typed.{TypedPattern, TypedExpr, match_and, match_term, make_term, TypedLets, no_typed_let, typed_let_and, TypedVar, TypedRule}
+use Rattle.model.specs.rules.Typed.{TypedPattern, TypedExpr, match_and, TypedLets, no_typed_let, typed_let_and, TypedVar, TypedRule}
 use Rattle.model.specs.claims.Refusals.{of_expansions}
 use Rattle.model.proofs.Names.{distinct_names}
-use Rattle.laws_errors.specs.Steps.{constructor_type, argument_count, Mistake, Step, went_on, stopped, unless, noting, made_step, counted_step, joined_step, then_step, then_made}
-use Rattle.laws_errors.specs.PatternSteps.{var_step, bind_step, constant_step, template_step, why_not_matched, use_step, converted_step, found_step, pattern_step, parts_step, each_step, deeper_step}
-use Rattle.laws_errors.specs.ExprSteps.{expr_list, converted_or, expected_step, forbidden, call_step, called_step, used_step, made_constant_step, def_step, let_step, closed, ended_step, expr_step, args_step, lets_step, deeper_expr_step}
+use Rattle.laws_errors.specs.Steps.{Mistake, Step, went_on, stopped, noting, made_step, counted_step, joined_step, then_step, then_made}
+use Rattle.laws_errors.specs.PatternSteps.{var_step, bind_step, constant_step, template_step, use_step, converted_step, found_step, pattern_step, parts_step, each_step, deeper_step}
+use Rattle.laws_errors.specs.ExprSteps.{converted_or, expected_step, called_step, used_step, made_constant_step, def_step, let_step, closed, ended_step, expr_step, args_step, lets_step, deeper_expr_step}
 use Rattle.laws_errors.specs.RuleSteps.{is_wrong, passes, errors_of, rule_step, iflet_step, with_iflet, iflets_step, root_step, sides_step, finished_step, declared_step, of_term_step, rooted_step, step_of_rule, then_rules, rules_step}
 use Rattle.laws_errors.specs.NameLaws.{names_in, GoOn, NamesGoOn, IsOfExpansions, StopsOfExpansions, StepsStopOfExpansions, AreInOrder, no_rule, rule_first, RulesAreInOrder}
 
@@ -85,10 +85,7 @@ module _ (e : Setting) (multi : Bool) (d : ℕ) (deeper : (p : PatternTree) (ty 
   module _ (name : Name) (args : PatternTrees) (at : Position) (ty n : ℕ) (s : Scope) (parts : (tys : List ℕ) → StepOn s (parts_step e multi (deeper_step e multi d) args tys n s)) where
     use_on : (t : TermEntry) (o : Option PatternTree) → StepOn s (use_step multi (deeper_step e multi d) name args at ty n s t (λ tys. parts_step e multi (deeper_step e multi d) args tys n s) o)
     use_on t (Some template) = noting_on s _ (template_step (deeper_step e multi d) ty n s (substituted (pattern_list args) template)) (template_on ty n s (substituted (pattern_list args) template))
-    use_on t None =
-        noting_on s _ (noting (unless (is_matchable multi t.kind) (why_not_matched name.text t.kind) at) (made_step (match_term t.ret_ty t.id) (parts_step e multi (deeper_step e multi d) args t.arg_tys n s)))
-        (noting_on s (unless (is_matchable multi t.kind) (why_not_matched name.text t.kind) at) (made_step (match_term t.ret_ty t.id) (parts_step e multi (deeper_step e multi d) args t.arg_tys n s))
-        (made_on (match_term t.ret_ty t.id) s (parts_step e multi (deeper_step e multi d) args t.arg_tys n s) (parts t.arg_tys)))
+    use_on t None = grind (arith, common_steps, noting_on, made_on, parts t.arg_tys)
 
     converted_on : (t : TermEntry) (o : Option TermEntry) → StepOn s (converted_step e multi (deeper_step e multi d) name args at ty n s t (λ tys. parts_step e multi (deeper_step e multi d) args tys n s) o)
     converted_on t o = grind (arith, common_steps, use_on)
@@ -152,13 +149,7 @@ module _ (e : Setting) (flags : Flags) (d : ℕ) (deeper : (x : ExprTree) (ty : 
   called_on : (name : Name) (args : ExprTrees) (at : Position) (ty : Option ℕ) (n : ℕ) (s : Scope) → ((tys : List ℕ) → StepOn s (args_step e flags (deeper_expr_step e flags d) args tys n s)) → (o : Option TermEntry)
       → StepOn s (called_step e flags (deeper_expr_step e flags d) name args at ty n s (λ tys. args_step e flags (deeper_expr_step e flags d) args tys n s) o)
   called_on name args at ty n s parts None = same_on s.names
-  called_on name args at ty n s parts (Some t) =
-      expected_on e at s (call_step flags name args at ty t (λ tys. args_step e flags (deeper_expr_step e flags d) args tys n s)) (λ c. deeper_expr_step e flags d (wrapped_expr s c at (term_expr name args at)) ty n s)
-      (noting_on s (unless (is_expected ty t.ret_ty) (constructor_type name.text ty t.ret_ty) at) _
-      (noting_on s (forbidden flags name.text at t.kind) _
-      (noting_on s (unless (eqb (length (expr_list args)) (length t.arg_tys)) (argument_count name.text (length (expr_list args)) (length t.arg_tys)) at) _
-      (made_on (make_term t.ret_ty t.id) s (args_step e flags (deeper_expr_step e flags d) args t.arg_tys n s) (parts t.arg_tys)))))
-      (λ c. deeper (wrapped_expr s c at (term_expr name args at)) ty n s) t.ret_ty ty
+  called_on name args at ty n s parts (Some t) = grind (arith, common_steps, expected_on, noting_on, made_on, parts t.arg_tys)
 
   used_on : (name : Name) (at : Position) (ty : Option ℕ) (n : ℕ) (s : Scope) (o : Option TypedVar) → StepOn s (used_step e (deeper_expr_step e flags d) name at ty n s o)
   used_on name at ty n s o = grind (arith, common_steps, same_on)

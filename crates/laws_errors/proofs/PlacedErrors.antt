@@ -1,17 +1,17 @@
 -- Where what is wrong stands, by what a step is made of.
-use Rattle.std.proofs.Common.{◌≡◌, ℕ, zero, suc, ◌+◌, Bool, true, false, cond, eqb, nat_le, List, [], ◌∷◌, ◌++◌, length, Option, Some, None, option_map, slice_get, subst, refl, arith}
+use Rattle.std.proofs.Common.{◌≡◌, ℕ, zero, suc, ◌+◌, Bool, true, false, cond, eqb, nat_le, List, [], ◌∷◌, ◌++◌, Option, Some, None, option_map, slice_get, subst, refl, arith}
 use Rattle.std.proofs.lemmas.Grind.{common_steps}
 use Rattle.std.specs.Prelude.{Contains}
 use Rattle.std.proofs.lemmas.Option.{same_Some}
 use Rattle.model.specs.lists.Syntax.{Position, Name, PatternTree, bind_pattern, term_pattern, and_pattern, PatternTrees, no_pattern, pattern_and, pattern_list}
-use Rattle.model.specs.rules.Typed.{TypedPattern, match_and, match_term, TypedVar}
+use Rattle.model.specs.rules.Typed.{TypedPattern, match_and}
 use Rattle.model.specs.lists.Tables.{TermEntry}
-use Rattle.model.specs.lists.Setting.{Setting, Scope, term_of, is_matchable, template_in, pattern_converter}
+use Rattle.model.specs.lists.Setting.{Setting, Scope, term_of, template_in, pattern_converter}
 use Rattle.model.specs.lists.Expansions.{with_pattern, substituted, all_substituted, wrapped_pattern}
 use Rattle.model.specs.lists.Elaborated.{most_expansions}
 use Rattle.model.specs.claims.Refusals.{of_expansions}
-use Rattle.laws_errors.specs.Steps.{Why, extractor_type, argument_count, Mistake, Step, stopped, unless, noting, made_step, counted_step, joined_step, then_step}
-use Rattle.laws_errors.specs.PatternSteps.{var_step, bind_step, constant_step, with_part, template_step, why_not_matched, use_step, converted_step, found_step, pattern_step, parts_step, each_step, deeper_step}
+use Rattle.laws_errors.specs.Steps.{Why, extractor_type, Mistake, Step, stopped, unless, noting, made_step, counted_step, joined_step, then_step}
+use Rattle.laws_errors.specs.PatternSteps.{bind_step, with_part, template_step, use_step, converted_step, found_step, pattern_step, parts_step, each_step, deeper_step}
 use Rattle.laws_errors.specs.PlaceLaws.{StandsAt, StandAt, AreAt, wrong_of, TemplatesStandAt, PatternErrorsArePlaced}
 
 module _ (P : Position → Type 0) where
@@ -43,12 +43,6 @@ module _ (P : Position → Type 0) where
 
   bind_at : (x : List ℕ) (at : Position) (t : Step TypedPattern) → P at → AreAt P (wrong_of t) → AreAt P (wrong_of (bind_step x at t))
   bind_at x at t h i = grind (arith, common_steps, both_at, checked_at)
-
-  var_at : (ty : ℕ) (x : List ℕ) (at : Position) (s : Scope) (o : Option TypedVar) → P at → AreAt P (wrong_of (var_step ty x at s o))
-  var_at ty x at s o h = grind (arith, common_steps)
-
-  constant_at : (ty : ℕ) (x : List ℕ) (at : Position) (s : Scope) (o : Option ℕ) → P at → AreAt P (wrong_of (constant_step ty x at s o))
-  constant_at ty x at s o h = grind (arith, common_steps)
 
   -- one of these patterns
   nth_at : (ps : PatternTrees) (i : ℕ) (p : PatternTree) → StandAt P ps → slice_get (pattern_list ps) i ≡ Some p → StandsAt P p
@@ -94,12 +88,8 @@ module _ (P : Position → Type 0) where
     used_at : (name : Name) (args : PatternTrees) (at : Position) (ty n : ℕ) (s : Scope) (t : TermEntry) → P at → StandAt P args → ArePartsAt args n s → (o : Option PatternTree)
         → ((template : PatternTree) → o ≡ Some template → StandsAt P template)
         → AreAt P (wrong_of (use_step multi (deeper_step e multi d) name args at ty n s t (λ tys. parts_step e multi (deeper_step e multi d) args tys n s) o))
-    used_at name args at ty n s t here given parts (Some template) whole =
-        checked_step_at (eqb (length (pattern_list args)) (length t.arg_tys)) (argument_count name.text (length (pattern_list args)) (length t.arg_tys)) at (template_step (deeper_step e multi d) ty n s (substituted (pattern_list args) template)) here
-        (template_at name.text args at ty n s template here given (whole template refl) (substituted (pattern_list args) template) refl)
-    used_at name args at ty n s t here given parts None whole =
-        checked_step_at (eqb (length (pattern_list args)) (length t.arg_tys)) (argument_count name.text (length (pattern_list args)) (length t.arg_tys)) at (noting (unless (is_matchable multi t.kind) (why_not_matched name.text t.kind) at) (made_step (match_term t.ret_ty t.id) (parts_step e multi (deeper_step e multi d) args t.arg_tys n s))) here
-        (checked_step_at (is_matchable multi t.kind) (why_not_matched name.text t.kind) at (made_step (match_term t.ret_ty t.id) (parts_step e multi (deeper_step e multi d) args t.arg_tys n s)) here (made_at (match_term t.ret_ty t.id) (parts_step e multi (deeper_step e multi d) args t.arg_tys n s) (parts t.arg_tys)))
+    used_at name args at ty n s t here given parts (Some template) whole = grind (arith, common_steps, checked_step_at, template_at, whole template refl)
+    used_at name args at ty n s t here given parts None whole = grind (arith, common_steps, checked_step_at, made_at, parts t.arg_tys)
 
     found_at : (name : Name) (args : PatternTrees) (at : Position) (ty n : ℕ) (s : Scope) → P at → StandAt P args → ArePartsAt args n s → (o : Option TermEntry) → term_of e s name.text ≡ o
         → AreAt P (wrong_of (found_step e multi (deeper_step e multi d) name args at ty n s (λ tys. parts_step e multi (deeper_step e multi d) args tys n s) o))
