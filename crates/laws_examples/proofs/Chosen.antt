@@ -1,5 +1,6 @@
 -- The term of the sample with an extractor isn't multi, so the laws of choice apply.
-use Rattle.std.proofs.Common.{pos, refl}
+use Rattle.std.proofs.Common.{refl, arith}
+use Rattle.std.proofs.lemmas.Grind.{common_steps}
 use Rattle.model.specs.claims.Headline.{RunsAsChosen}
 use Rattle.model.specs.claims.Layers.{own_program}
 use Rattle.laws_typing.proofs.WellTypedRules.{read_programs_are_well_typed}
@@ -13,10 +14,8 @@ use Rattle.laws_sites.proofs.built.WholeDemands.{built_demands_are_whole_lem}
 use Rattle.laws_trees.proofs.Soundness.{best_trees_are_sound_lem}
 use Rattle.laws_trees.proofs.headline.Choosing.{ChoosingLaws, best_trees_run_as_chosen_lem}
 use Rattle.laws_examples.proofs.SampleStages.{extract_stages}
-use Rattle.laws_examples.proofs.Served.{extract_served}
 use Rattle.laws_examples.specs.Chosen.{ExtractIsChosen, ExtractIsWithoutMulti}
-use Rattle.laws_examples.specs.Extract.{extract_defs, extract_meaning, extract_program, extract_rules, extract_set, extract_tree}
-use Rattle.laws_examples.specs.MeaningForms.{given, just_number}
+use Rattle.laws_examples.specs.Extract.{extract_defs, extract_program, extract_rules, extract_set, extract_tree}
 
 pub extract_is_without_multi : ExtractIsWithoutMulti
 extract_is_without_multi = (refl, refl)
@@ -40,8 +39,4 @@ runs =
     extract_stages.judged.best
 
 pub extract_is_chosen : ExtractIsChosen
-extract_is_chosen = (
-  rules_without_multi_go_over_no_calls_lem (own_program extract_defs extract_rules) 1 (read_programs_are_well_typed extract_stages.accepted.0.read) extract_is_without_multi.0,
-  runs,
-  (runs extract_is_without_multi.0 (extract_meaning (just_number (pos 1))) (given (pos 7)) extract_is_without_multi.1 extract_served.0 (extract_served.3 (just_number (pos 1)))).1,
-)
+extract_is_chosen = grind (arith, common_steps, rules_without_multi_go_over_no_calls_lem, read_programs_are_well_typed, runs)

@@ -1,5 +1,5 @@
 -- The sample with an extractor: a world where the extractor answers serves the tests of its rules; and near sets are not built.
-use Rattle.std.proofs.Common.{◌≡◌, ◌∷◌, [], ◌⊎◌, ◌∙◌, ℕ, pos, false, List, Some, length, slice_get, Contains, IsTrue, refl, sym, ap, subst, inl, inr, arith, is_some}
+use Rattle.std.proofs.Common.{◌≡◌, ◌∷◌, [], ◌⊎◌, ◌∙◌, ℕ, pos, false, List, Some, length, slice_get, Contains, IsTrue, refl, sym, ap, arith, is_some}
 use Rattle.std.proofs.lemmas.Grind.{common_steps}
 use Rattle.std.proofs.lemmas.Bool.{false≢true}
 use Rattle.std.proofs.lemmas.Option.{none-some}
@@ -27,23 +27,7 @@ abbrev Asked : ℕ → Constraint → Type 0
 Asked s d = ((s ≡ 1) × (d ≡ is_present)) ⊎ ((s ≡ 2) × (d ≡ is_int (pos 1) 1))
 
 asked : (r : SetRule) → Contains extract_set.rules r → (s : ℕ) (d : Constraint) → Contains r.constraints (s, d) → Asked s d
-asked r k s d c =
-    elim (in_cases ten_for_answer_one r (answer_itself ∷ []) k) [
-      | inl e ↦ first (subst (λ q. Contains q.constraints (s, d)) (sym e) c)
-      | inr b ↦ second (subst (λ q. Contains q.constraints (s, d)) (sym (in_alone answer_itself r b)) c)
-    ]
-  where
-    present : ◌≡◌ {A = ℕ × Constraint} (1, is_present) (s, d) → Asked s d
-    present e = inl (sym (ap (λ (x : ℕ × Constraint). x.0) e), sym (ap (λ (x : ℕ × Constraint). x.1) e))
-
-    number : ◌≡◌ {A = ℕ × Constraint} (2, is_int (pos 1) 1) (s, d) → Asked s d
-    number e = inr (sym (ap (λ (x : ℕ × Constraint). x.0) e), sym (ap (λ (x : ℕ × Constraint). x.1) e))
-
-    second : Contains answer_itself.constraints (s, d) → Asked s d
-    second m = present (in_alone (1, is_present) (s, d) m)
-
-    first : Contains ten_for_answer_one.constraints (s, d) → Asked s d
-    first m = elim (in_cases (1, is_present) (s, d) ((2, is_int (pos 1) 1) ∷ []) m) [ inl e ↦ present e | inr n ↦ number (in_alone (2, is_int (pos 1) 1) (s, d) n) ]
+asked r k s d c = grind (arith, common_steps, in_cases, in_alone)
 
 no_classes : (r : SetRule) → Contains extract_set.rules r → r.classes ≡ []
 no_classes r k = grind (arith, common_steps, in_cases ten_for_answer_one r (answer_itself ∷ []) k, in_alone answer_itself r, in_cases, in_alone)

@@ -1,5 +1,5 @@
 -- The sample with an impure call: wherever its rule is taken, the call isn't emitted, so it is made.
-use Rattle.std.proofs.Common.{◌≡◌, ◌∷◌, [], ◌++◌, if◌then◌else◌, ◌∙◌, ◌||◌, ℕ, Bool, false, List, Option, Some, None, slice_get, Contains, IsTrue, refl, sym, ap, subst, inl, inr, not, filter, arith}
+use Rattle.std.proofs.Common.{◌≡◌, ◌∷◌, [], ◌++◌, if◌then◌else◌, ◌∙◌, ◌||◌, ℕ, Bool, false, List, Option, Some, slice_get, Contains, IsTrue, sym, ap, subst, inl, inr, not, filter, arith}
 use Rattle.std.proofs.lemmas.Grind.{common_steps}
 use Rattle.std.proofs.lemmas.Bool.{cases_Bool, false≢true}
 use Rattle.std.proofs.lemmas.Option.{none-some, same_Some}
@@ -30,8 +30,7 @@ module _ (m : Meaning) (v : Value) (env : Env) where
   then_returns b = on_bound (then_bind b (λ e calls. all_bound e calls)) at_start (λ e t. or_next (run_check (return_at call_on_argument.at 1) (im_called m v) e t) (run_tree no_step (im_called m v) e))
 
   answered : (a : Option Content) → then_returns (now_bound env (the_call v) 1 a) ≡ after_call v a
-  answered None = refl
-  answered (Some c) = refl
+  answered a = grind (arith, common_steps)
 
 -- nothing that its result is made of waits
 waits_not : (s : ℕ) → Contains (all_below impure_set.sites (return_uses (Some call_on_argument))) s → waits (slice_get impure_set.sites s) ≡ false

@@ -1,7 +1,6 @@
 -- The sample with an impure call is served on 1, and taking its rule gives its right side's outcome.
 use Rattle.std.proofs.Common.{◌≡◌, [], ℕ, pos, suc, true, IsTrue, IsSomeAnd, refl, arith}
 use Rattle.std.proofs.lemmas.Grind.{common_steps}
-use Rattle.std.proofs.lemmas.Bool.{false≢true}
 use Rattle.model.specs.rules.Meaning.{impure_answer}
 use Rattle.model.specs.rules.Program.{kind, rules_of}
 use Rattle.model.specs.sites.Overlap.{built_rule}
@@ -24,20 +23,13 @@ five_answered : (t before : ℕ) (ss : SiteTerms) → call_of_g (constructor_cal
 five_answered t before ss h = grind (arith, common_steps)
 
 serves : Serves impure_program five_at_first (given (pos 1)) (rules_of impure_program 1)
-serves =
-    serves_from impure_program five_at_first call_of_g (given (pos 1)) (rules_of impure_program 1) refl refl
-    (λ k t s w h holds. absurd (false≢true h)) (λ k t ss vs h holds. absurd (pure_none t ss h)) (λ k r t before ss i matched made h gave. five_answered t before ss h)
+serves = grind (arith, common_steps, serves_from, pure_none, five_answered)
 
 apart : TellsConstantsApart impure_program five_at_first (rules_of impure_program 1)
 apart = literals_apart impure_program five_at_first (rules_of impure_program 1) refl refl
 
 pub impure_is_served : ImpureIsServed
-impure_is_served = (
-  serves,
-  apart,
-  tested impure_defs impure_rules 1 impure_set impure_stages.accepted impure_stages.built refl refl,
-  served_sets_serve_tests_lem (own_program impure_defs impure_rules) 1 impure_set (read_programs_are_well_typed impure_stages.accepted.0.read) impure_stages.built.0 five_at_first (given (pos 1)) refl serves apart,
-)
+impure_is_served = grind (arith, common_steps, serves, apart, tested, served_sets_serve_tests_lem, read_programs_are_well_typed)
 
 pub impure_is_taken : ImpureIsTaken
 impure_is_taken =

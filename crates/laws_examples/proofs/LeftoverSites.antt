@@ -1,24 +1,16 @@
 -- The set with left-over sites: a meaning whose call answers what is no number serves its rules, so its world serves the set,
 -- and the run of its tree collects the bag.
-use Rattle.std.proofs.Common.{◌≡◌, ◌∷◌, [], ◌∙◌, ℕ, pos, zero, suc, Bool, true, false, Option, Some, None, Contains, IsSomeAnd, IsTrue, is_some, refl, sym, ap, arith}
+use Rattle.std.proofs.Common.{◌≡◌, ◌∷◌, [], ℕ, pos, zero, suc, Bool, true, false, Contains, IsTrue, is_some, refl, arith}
 use Rattle.std.proofs.lemmas.Grind.{common_steps}
-use Rattle.std.proofs.lemmas.Bool.{false≢true}
 use Rattle.std.proofs.lemmas.List.Elements.{All-cons, All-nil}
 use Rattle.std.proofs.lemmas.List.Sorted.{IsPermutation-refl}
-use Rattle.std.proofs.lemmas.Option.{none-some}
 use Rattle.model.proofs.Members.{in_alone, in_cases}
 use Rattle.model.specs.rules.Matching.{matches}
-use Rattle.model.specs.rules.Meaning.{pure_answer}
-use Rattle.model.specs.rules.Outcome.{then_option}
-use Rattle.model.specs.rules.Picks.{Pick, call_answer, site_values}
-use Rattle.model.specs.rules.Program.{kind}
 use Rattle.model.specs.rules.Typed.{TypedRule}
-use Rattle.model.specs.rules.Values.{Values, no_value, value_and}
 use Rattle.model.specs.visits.Demands.{demands_of}
-use Rattle.model.specs.sites.Serves.{Serves, TellsConstantsApart, fits_constructor}
+use Rattle.model.specs.sites.Serves.{Serves, TellsConstantsApart}
 use Rattle.model.specs.sites.Sites.{SetRule, SiteTerm, SiteTerms, constructor_call, constructor_site, extractor_call, no_site_term, site_term_and}
 use Rattle.model.specs.trees.Collects.{content_at}
-use Rattle.model.specs.trees.Run.{as_value}
 use Rattle.model.specs.claims.Layers.{own_program}
 use Rattle.laws_typing.proofs.WellTypedRules.{read_programs_are_well_typed}
 use Rattle.laws_trees.proofs.taken.ServesSets.{served_multi_sets_serve_lem}
@@ -45,25 +37,13 @@ left_over_call (constructor_call t ss i) = false
 left_over_call (extractor_call t s) = false
 left_over_call u = true
 
--- what im answers is no value
-no_number : (o : Option Values) → then_option (then_option o (call_answer left_over_meaning 0 1)) as_value ≡ None
-no_number o = grind (arith, common_steps)
-
-pures : (k : Pick) (t : ℕ) (ss : SiteTerms) (vs : Values) → left_over_call (constructor_call t ss 0) ≡ true → site_values left_over_meaning (given (pos 7)) k ss ≡ Some vs
-    → IsSomeAnd (pure_answer left_over_meaning t vs) (λ c. IsTrue (fits_constructor left_over_program t (kind left_over_program t) c))
-pures k (suc zero) (site_term_and (constructor_call zero ss (suc zero)) no_site_term) vs h e =
-    absurd (none-some vs (sym (ap (λ o. then_option o (λ y. Some (value_and y no_value))) (no_number (site_values left_over_meaning (given (pos 7)) k ss))) ∙ e))
-pures k _ _ vs h e = absurd (false≢true h)
-
 -- the rule that calls im doesn't match, and the other one makes no impure call
 none_called : (r : TypedRule) (t before : ℕ) (ss : SiteTerms) → Contains left_over_rules.rules r → IsTrue (is_some (matches left_over_program left_over_meaning r (given (pos 7))))
     → Contains (demands_of left_over_program r).made (constructor_call t ss (suc before)) → ⊥
 none_called r t before ss i matched made = grind (arith, common_steps, in_cases, in_alone)
 
 serves : Serves left_over_program left_over_meaning (given (pos 7)) left_over_rules.rules
-serves =
-    serves_from left_over_program left_over_meaning left_over_call (given (pos 7)) left_over_rules.rules refl refl
-    (λ k t s w h holds. absurd (false≢true h)) pures (λ k r t before ss i matched made h gave. absurd (none_called r t before ss i matched made))
+serves = grind (arith, common_steps, serves_from, none_called)
 
 tells_apart : TellsConstantsApart left_over_program left_over_meaning left_over_rules.rules
 tells_apart = literals_apart left_over_program left_over_meaning left_over_rules.rules refl refl

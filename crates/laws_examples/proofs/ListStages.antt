@@ -1,5 +1,6 @@
 -- What lists of definitions become, whether their rules can be told apart, and what has no typed rules: by the judges.
-use Rattle.std.proofs.Common.{◌≡◌, true, false, List, [], Some, None}
+use Rattle.std.proofs.Common.{◌≡◌, true, false, List, [], Some, None, arith}
+use Rattle.std.proofs.lemmas.Grind.{common_steps}
 use Rattle.model.specs.claims.AcceptJudge.{accepted_list}
 use Rattle.model.specs.claims.Layers.{own_program}
 use Rattle.model.specs.claims.ReadJudge.{read_list}
@@ -17,5 +18,4 @@ pub accepted_both : (defs : List Definition) (rules : TypedRules) → accepted_l
 accepted_both defs rules h k none = ((lists_are_accepted_lem defs true rules).0 h, (lists_are_accepted_lem defs false rules).0 k, none)
 
 pub not_read : (defs : List Definition) → read_list defs true ≡ None → read_list defs false ≡ None → IsNotRead defs
-not_read defs h k true rules = (lists_are_refused_lem defs true).0 h rules
-not_read defs h k false rules = (lists_are_refused_lem defs false).0 k rules
+not_read defs h k i rules = grind (arith, common_steps, lists_are_refused_lem defs true, lists_are_refused_lem defs false)

@@ -1,5 +1,5 @@
 -- A named constant and a boolean literal are served.
-use Rattle.std.proofs.Common.{◌≡◌, ◌∷◌, [], ◌∙◌, ◌⊎◌, ℕ, Bool, true, false, Some, None, if◌then◌else◌, slice_get, Contains, sym, ap, inl, inr, arith}
+use Rattle.std.proofs.Common.{◌≡◌, ◌∷◌, [], ◌⊎◌, ℕ, Bool, true, false, Some, None, if◌then◌else◌, slice_get, Contains, inl, inr, arith}
 use Rattle.std.proofs.lemmas.Grind.{common_steps}
 use Rattle.std.proofs.lemmas.Option.{none-some, same_Some}
 use Rattle.model.proofs.Members.{in_alone, in_cases}
@@ -19,11 +19,7 @@ is_named a c = elim (in_cases (prim_term 13) a (bool_term true bool_type ∷ [])
 
 -- they are of different types
 two_types : (a b : SiteTerm) (ty : ℕ) → prim_term 13 ≡ a → bool_term true bool_type ≡ b → written_type constants_program a ≡ Some ty → written_type constants_program b ≡ Some ty → ⊥
-two_types a b ty e f s t =
-    let h : Some 1 ≡ Some ty = ap (written_type constants_program) e ∙ s in
-    let k : Some 0 ≡ Some ty = ap (written_type constants_program) f ∙ t in
-    let z = same_Some 1 0 (h ∙ sym k) in
-    omega (arith, z)
+two_types a b ty e f s t = grind (arith, common_steps, same_Some)
 
 one_of_each : (a b : SiteTerm) (ty : ℕ) → IsNamed a → IsNamed b → written_type constants_program a ≡ Some ty → written_type constants_program b ≡ Some ty → a ≡ b
 one_of_each a b ty h i s t = grind (arith, common_steps, two_types)

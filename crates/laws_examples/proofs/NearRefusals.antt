@@ -69,8 +69,6 @@ pub terms_are_refused : TermsAreRefused
 terms_are_refused = (
   record { some_error = some_error (ill_typed (at 1)); forms = All-from_recursion IsIllTyped (ill_typed (at 1) ∷ []) (tt, tt); not_valid = no_terms (types_of term_twice) term_twice refl },
   (λ r. r.some_error refl),
-  (λ r.
-      All-contains IsIllTyped (ill_typed (at 1) ∷ past_limit of_nesting (at 1) ∷ []) (past_limit of_nesting (at 1)) r.forms
-      (in_tail (ill_typed (at 1)) (past_limit of_nesting (at 1)) (past_limit of_nesting (at 1) ∷ []) (in_head (past_limit of_nesting (at 1)) []))),
+  (λ r. grind (arith, common_steps, in_tail, in_head)),
   (λ errors r. r.not_valid ((terms_are_judged_lem (types_of fall_defs) fall_defs).0 refl)),
 )

@@ -1,15 +1,13 @@
 -- Extern enums: their stages, that they are served, and that the headline speaks of them.
-use Rattle.std.proofs.Common.{◌≡◌, ◌==◌, ◌&&◌, ◌∷◌, [], ◌⊎◌, ℕ, pos, zero, suc, Bool, true, false, Some, None, if◌then◌else◌, slice_get, Contains, IsTrue, IsSomeAnd, refl, inl, inr, arith}
+use Rattle.std.proofs.Common.{◌≡◌, ◌&&◌, ◌∷◌, [], ◌⊎◌, ℕ, pos, zero, suc, Bool, true, false, Some, None, if◌then◌else◌, slice_get, Contains, refl, inl, inr, arith}
 use Rattle.std.proofs.lemmas.Grind.{common_steps}
-use Rattle.std.proofs.lemmas.Bool.{false≢true}
 use Rattle.std.proofs.lemmas.Option.{none-some, same_Some}
 use Rattle.model.proofs.Members.{in_alone, in_cases}
 use Rattle.model.specs.claims.Headline.{RunsAsChosen}
 use Rattle.model.specs.claims.Layers.{own_program}
-use Rattle.model.specs.rules.Meaning.{impure_answer}
-use Rattle.model.specs.rules.Program.{kind, rules_of}
+use Rattle.model.specs.rules.Program.{rules_of}
 use Rattle.model.specs.rules.Values.{Value, well_typed}
-use Rattle.model.specs.sites.Serves.{fits_constructor, is_type_with_parts, tested_constants, written_value}
+use Rattle.model.specs.sites.Serves.{is_type_with_parts, tested_constants, written_value}
 use Rattle.model.specs.sites.Sites.{SiteTerm, SiteTerms, constructor_call, extractor_call, prim_term}
 use Rattle.laws_typing.proofs.WellTypedRules.{read_programs_are_well_typed}
 use Rattle.laws_trees.proofs.headline.Choosing.{best_trees_run_as_chosen_lem}
@@ -35,12 +33,6 @@ calls u = true
 
 no_pure : (t : ℕ) (ss : SiteTerms) → calls (constructor_call t ss 0) ≡ true → ⊥
 no_pure t ss h = grind (arith, common_steps)
-
-answered : (t before : ℕ) (ss : SiteTerms) → calls (constructor_call t ss (suc before)) ≡ true
-    → IsSomeAnd (impure_answer opaque_meaning t before) (λ c. IsTrue (fits_constructor opaque_program t (kind opaque_program t) c))
-answered zero zero ss h = refl
-answered (suc zero) (suc zero) ss h = refl
-answered _ _ ss h = absurd (false≢true h)
 
 pub opaque_is_served : OpaqueIsServed
 opaque_is_served = grind (arith, common_steps, serves_from, no_pure, literals_apart)
@@ -87,14 +79,7 @@ plain_type : (b c : Bool) (ty : ℕ) → (if b then Some own else (if c then Som
 plain_type b c ty e = grind (arith, common_steps, same_Some, none-some)
 
 pub named_is_served : NamedIsServed
-named_is_served = (
-  λ z. refl,
-  λ z. serves_without_calls named_program named_meaning (o z ∷ []) (rules_of named_program 0) refl refl,
-  record {
-    different = λ a b ty w c d q s t u x. one_of_each a b w (is_named a c) (is_named b d) u x;
-    without_parts = λ r s name ty c d e. plain_type (14 == name) (15 == name) ty e;
-  },
-)
+named_is_served = grind (arith, common_steps, serves_without_calls, one_of_each, is_named, plain_type)
 
 pub named_ends : NamedEnds
 named_ends = record { of_k = (refl, refl); of_l = (refl, refl); of_another = (refl, refl) }

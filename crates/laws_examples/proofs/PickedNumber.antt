@@ -1,12 +1,6 @@
 -- A rule that goes over a call and constrains its answers: it is served, and its tree collects the bag.
-use Rattle.std.proofs.Common.{◌≡◌, ℕ, pos, zero, Bool, true, false, Some, IsTrue, IsSomeAnd, refl, arith}
+use Rattle.std.proofs.Common.{zero, Bool, true, false, refl, arith}
 use Rattle.std.proofs.lemmas.Grind.{common_steps}
-use Rattle.std.proofs.lemmas.Bool.{false≢true}
-use Rattle.model.specs.rules.Meaning.{extractor_answer, one}
-use Rattle.model.specs.rules.Picks.{Pick, site_content}
-use Rattle.model.specs.rules.Program.{kind, rules_of}
-use Rattle.model.specs.rules.Values.{Value}
-use Rattle.model.specs.sites.Serves.{fits_extractor}
 use Rattle.model.specs.sites.Sites.{SiteTerm, argument, constructor_call, extractor_call}
 use Rattle.model.specs.claims.Layers.{own_program}
 use Rattle.laws_typing.proofs.WellTypedRules.{read_programs_are_well_typed}
@@ -15,9 +9,8 @@ use Rattle.laws_sites.proofs.built.WholeDemands.{built_demands_are_whole_lem}
 use Rattle.laws_trees.proofs.headline.Collecting.{best_trees_collect_the_bag_lem}
 use Rattle.laws_examples.proofs.Multi.{laws}
 use Rattle.laws_examples.proofs.SampleStages.{stages}
-use Rattle.laws_examples.proofs.Served.{answers_argument, literals_apart, serves_from}
-use Rattle.laws_examples.specs.MeaningForms.{given}
-use Rattle.laws_examples.specs.PickedNumber.{FivesAreNotMatched, PickedNumberGives, PickedNumberIsServed, one_and_five, picked_number_defs, picked_number_program, picked_number_rules, picked_number_sample, picked_number_set, picked_number_tree}
+use Rattle.laws_examples.proofs.Served.{literals_apart, serves_from}
+use Rattle.laws_examples.specs.PickedNumber.{FivesAreNotMatched, PickedNumberGives, PickedNumberIsServed, picked_number_defs, picked_number_rules, picked_number_sample, picked_number_set, picked_number_tree}
 use Rattle.laws_examples.specs.Stages.{HasStages}
 
 pub picked_number_stages : HasStages picked_number_sample
@@ -29,18 +22,8 @@ call_of_me (extractor_call t s) = false
 call_of_me (constructor_call t ss i) = false
 call_of_me u = true
 
-answered : (k : Pick) (t : ℕ) (s : SiteTerm) (w : Value) → call_of_me (extractor_call t s) ≡ true → site_content one_and_five (given (pos 1)) k s ≡ Some (one w)
-    → IsSomeAnd (extractor_answer one_and_five t w) (λ c. IsTrue (fits_extractor picked_number_program t (kind picked_number_program t) c))
-answered k zero (argument zero) w h e = answers_argument picked_number_program one_and_five (pos 1) k w refl e
-answered k _ _ w h holds = absurd (false≢true h)
-
 pub picked_number_is_served : PickedNumberIsServed
-picked_number_is_served = (
-  serves_from picked_number_program one_and_five call_of_me (given (pos 1)) (rules_of picked_number_program 1) refl refl
-      answered (λ k t ss vs h holds. absurd (false≢true h)) (λ k r t before ss i matched made h gave. absurd (false≢true h)),
-  literals_apart picked_number_program one_and_five (rules_of picked_number_program 1) refl refl,
-  record { no_calls = refl; no_call_unused = refl },
-)
+picked_number_is_served = grind (arith, common_steps, serves_from, literals_apart)
 
 pub picked_number_gives : PickedNumberGives
 picked_number_gives = (

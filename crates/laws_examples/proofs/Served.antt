@@ -1,5 +1,5 @@
 -- The samples' meanings serve their rules and tell their constants apart; meanings without literals or calls don't serve.
-use Rattle.std.proofs.Common.{◌≡◌, [], ◌∙◌, ◌==◌, ℕ, ℤ, pos, zero, suc, Bool, true, false, not, ◌&&◌, if◌then◌else◌, slice_get, List, take, Option, Some, None, All, Contains, IsTrue, is_some, refl, sym, ap, arith, IsSomeAnd}
+use Rattle.std.proofs.Common.{◌≡◌, [], ◌==◌, ℕ, ℤ, pos, zero, suc, Bool, true, false, not, ◌&&◌, if◌then◌else◌, slice_get, List, take, Option, Some, None, All, Contains, IsTrue, is_some, refl, ap, arith, IsSomeAnd}
 use Rattle.std.proofs.lemmas.Grind.{common_steps}
 use Rattle.std.specs.List.{list_all}
 use Rattle.std.proofs.lemmas.Bool.{and_parts, false≢true, or_cases}
@@ -55,17 +55,10 @@ module _ (p : Program) (m : Meaning) (call : SiteTerm → Bool) where
       → IsSomeAnd (impure_answer m t before) (λ c. IsTrue (fits_constructor p t (kind p t) c)))
       → Serves p m args rs
   serves_from args rs h g extractors pures impures = record {
-    bools = λ b ty c.
-        some_and_means (literal_value m (bool_literal b ty)) (λ w. well_typed p.types ty w)
-        (some_and_first (literal_value m (bool_literal b ty)) (λ w. well_typed p.types ty w) (λ w. value_eq w (truth b)) (each_passes passes (asked p rs) h (bool_term b ty) c));
-    ints = λ z ty c.
-        some_and_means (literal_value m (int_literal z ty)) (λ w. well_typed p.types ty w)
-        (and_parts (some_and (literal_value m (int_literal z ty)) (λ w. well_typed p.types ty w)) (written z ty) (each_passes passes (asked p rs) h (int_term z ty) c)).0;
+    bools = grind (arith, common_steps, some_and_means, some_and_first, each_passes);
+    ints = grind (arith, common_steps, some_and_means, and_parts, each_passes);
     written_bools = λ b ty c. some_and_is (literal_value m (bool_literal b ty)) (λ w. well_typed p.types ty w) (truth b) (each_passes passes (asked p rs) h (bool_term b ty) c);
-    written_ints = λ z ty c own.
-        some_and_is (literal_value m (int_literal z ty)) (λ w. well_typed p.types ty w) (atom ty z)
-        (sym (ap (λ q. if q then some_and (literal_value m (int_literal z ty)) (λ w. well_typed p.types ty w && value_eq w (atom ty z)) else true) own)
-        ∙ (and_parts (some_and (literal_value m (int_literal z ty)) (λ w. well_typed p.types ty w)) (written z ty) (each_passes passes (asked p rs) h (int_term z ty) c)).1);
+    written_ints = grind (arith, common_steps, some_and_is, and_parts, each_passes);
     prims = λ name c. some_and_means (constant_value m name) (λ w. typed_as p (constant_type p name) w) (each_passes passes (asked p rs) h (prim_term name) c);
     extractors = λ k t s w c holds. extractors k t s w (each_passes passes (asked p rs) h (extractor_call t s) c) holds;
     pures = λ k t ss vs c holds. pures k t ss vs (each_passes passes (asked p rs) h (constructor_call t ss 0) c) holds;
@@ -177,5 +170,4 @@ no_call u = true
 
 pub serves_without_calls : (p : Program) (m : Meaning) (args : List Value) (rs : List TypedRule) → list_all (passes p m no_call) (asked p rs) ≡ true
     → list_all (λ r. list_all (passes p m no_call) (demands_of p r).made) rs ≡ true → Serves p m args rs
-serves_without_calls p m args rs h g =
-    serves_from p m no_call args rs h g (λ k t s w c e. absurd (false≢true c)) (λ k t ss vs c e. absurd (false≢true c)) (λ k r t before ss i matched made c gave. absurd (false≢true c))
+serves_without_calls p m args rs h g = grind (arith, common_steps, serves_from)

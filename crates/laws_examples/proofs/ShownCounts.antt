@@ -3,9 +3,9 @@ use Rattle.std.proofs.Common.{◌≡◌, ℕ, suc, Bool, List, [], ◌∷◌, �
 use Rattle.std.proofs.lemmas.Grind.{common_steps}
 use Rattle.std.proofs.lemmas.List.{append-nil, append_assoc, map-append}
 use Rattle.model.specs.rules.Program.{Program, Kind, kind, is_partial}
-use Rattle.model.specs.rules.Typed.{TypedPattern, match_bind, match_var, match_bool, match_int, match_prim, match_term, match_any, match_and, TypedPatterns, no_typed_pattern, typed_pattern_and, TypedIfLet}
+use Rattle.model.specs.rules.Typed.{TypedPattern, match_bind, match_term, match_and, TypedPatterns, no_typed_pattern, typed_pattern_and, TypedIfLet}
 use Rattle.model.specs.sites.Sites.{is_present, SiteTerm, SiteTerms}
-use Rattle.model.specs.visits.Demands.{Count, outputs_taken, Visit, visit_start, asking, site_term_eq, pattern_count, open_call, open_term, visit_pattern, visit_each, visit_all, Valued, ValuedAll, visit_call, visit_term, visit_expr, asking_all, unwraps, visit_args, visit_iflets, finished, var_site, value_of_rule}
+use Rattle.model.specs.visits.Demands.{Count, outputs_taken, Visit, visit_start, asking, pattern_count, open_call, open_term, visit_pattern, visit_each, visit_all, Valued, ValuedAll, visit_call, visit_term, visit_expr, asking_all, unwraps, visit_args, visit_iflets, finished, value_of_rule}
 use Rattle.model.proofs.Either.{either}
 use Rattle.laws_sites.proofs.VisitInvariants.{KeptByValues, expr_kept}
 use Rattle.laws_sites.proofs.Patterns.{AsManySites, as_many_sites, output_count}
@@ -41,14 +41,9 @@ module _ (p : Program) where
   mutual
     pattern_counts : (q : TypedPattern) (s : SiteTerm) (v : Visit) → counts (visit_pattern p q s v) ≡ counts v ++ shown p q
     pattern_counts (match_bind ty x sub) s v = pattern_counts sub s _
-    pattern_counts (match_var ty x) s v =
-        either (λ (w : Visit). counts w ≡ counts v ++ []) (site_term_eq s (var_site v x)) v (equated s (var_site v x) v) (sym (append-nil (counts v))) (sym (append-nil (counts v)))
-    pattern_counts (match_bool ty b) s v = sym (append-nil (counts v))
-    pattern_counts (match_int ty z) s v = sym (append-nil (counts v))
-    pattern_counts (match_prim ty name) s v = sym (append-nil (counts v))
     pattern_counts (match_term ty t args) s v = term_counts p args (λ ss w m. each_counts args ss w m) (kind p t) t s v
-    pattern_counts (match_any ty) s v = sym (append-nil (counts v))
     pattern_counts (match_and ty parts) s v = all_count parts s v
+    pattern_counts q s v = grind (arith, either, equated, append-nil)
 
     each_counts : (qs : TypedPatterns) (ss : List SiteTerm) (v : Visit) → AsManySites ss qs → counts (visit_each p qs ss v) ≡ counts v ++ shown_in p qs
     each_counts (typed_pattern_and q qs) (s ∷ ss) v m = grind (arith, common_steps, pattern_counts q s v, each_counts qs ss, then_more (counts v), then_more)

@@ -1,14 +1,12 @@
 -- The smallest inputs behind choices of statements do what is said of them.
-use Rattle.std.proofs.Common.{◌≡◌, ◌==◌, ℕ, zero, suc, pos, true, false, List, [], ◌∷◌, Some, None, is_some, slice_get, Contains, All, IsTrue, refl, sym, ap, ◌∙◌, subst, arith, Bool, cond, codes}
+use Rattle.std.proofs.Common.{◌≡◌, ◌==◌, ℕ, zero, suc, true, false, List, [], ◌∷◌, Some, None, is_some, slice_get, Contains, All, IsTrue, refl, sym, ap, ◌∙◌, subst, arith, Bool, cond, codes}
 use Rattle.std.proofs.lemmas.Grind.{common_steps}
 use Rattle.std.proofs.lemmas.Bool.{false≢true}
 use Rattle.std.proofs.lemmas.Option.{none-some, same_Some}
 use Rattle.std.proofs.lemmas.List.Elements.{All-nil, All-cons, All-contains}
-use Rattle.model.specs.rules.Meaning.{one}
 use Rattle.model.specs.sites.Sites.{Constraint, SetRule, make_variant_site}
 use Rattle.model.specs.trees.Collects.{IsPureAt, content_at}
 use Rattle.model.specs.trees.Places.{all_below, joins_in, waits}
-use Rattle.model.specs.trees.Run.{content_fields}
 use Rattle.model.specs.trees.SetRuns.{ServesTests, HasNoWrongOverlap, OverlapInSet}
 use Rattle.model.proofs.Members.{nothing_in, in_alone, in_cases, in_head, in_tail}
 use Rattle.model.specs.visits.Demands.{constraint_eq}
@@ -28,7 +26,7 @@ use Rattle.laws_typing.proofs.JudgedTerms.{terms_are_judged_lem}
 use Rattle.laws_examples.specs.MeaningForms.{v}
 use Rattle.laws_examples.specs.SetForms.{is_byte}
 use Rattle.laws_examples.specs.TypedForms.{own}
-use Rattle.laws_examples.specs.SmallestInputs.{wrapped_call, wrapped_two, wrapped_sites, wrapped_set, wrapped_meaning, wrapped_world, AboveCallsNothingIsAsked, at_one, at_any, at_two, OverlapsMayHoldTwice, NamelessIsNotAnswered, LookUpsHaveNoList, LimitsAreNamedWherePassed, two_unbound, SecondIsReadAlone, EmptySetsAreBuilt, EnvironmentsOfLists, VariantHasItsTerm}
+use Rattle.laws_examples.specs.SmallestInputs.{wrapped_call, wrapped_two, wrapped_sites, wrapped_set, wrapped_world, AboveCallsNothingIsAsked, at_one, at_any, at_two, OverlapsMayHoldTwice, NamelessIsNotAnswered, LookUpsHaveNoList, LimitsAreNamedWherePassed, two_unbound, SecondIsReadAlone, EmptySetsAreBuilt, EnvironmentsOfLists, VariantHasItsTerm}
 use Rattle.laws_examples.specs.Fall.{fall_defs, fall_rules}
 use Rattle.laws_examples.specs.Refused.{two_of_one_name}
 
@@ -54,10 +52,7 @@ wrapped_served = record {
   sites = refl;
   found = λ s p n all. wrapped_found s p n;
   values = λ r a b x k j e. absurd (false≢true (sym (ap (λ l. joins_in l a b) (wrapped_classes r k)) ∙ j));
-  fields = λ r s d c cs k m e f.
-      let a = wrapped_asked r k s d m in
-      let held : one (v (pos 2)) ≡ c = same_Some (one (v (pos 2))) c (sym (ap (content_at wrapped_world []) a.0) ∙ e) in
-      absurd (none-some cs (subst (λ x. content_fields wrapped_meaning (is_byte 1) x ≡ Some cs) (sym held) (subst (λ x. content_fields wrapped_meaning x c ≡ Some cs) a.1 f)));
+  fields = grind (arith, common_steps, wrapped_asked, same_Some, none-some);
   apart = λ r q s d f k l m n h g. (wrapped_asked r k s d m).1 ∙ sym (wrapped_asked q l s f n).1;
 }
 
@@ -145,12 +140,7 @@ empty_sets_are_built_lem = record {
   rules = fall_rules;
   term = 1;
   elaborated = fall_is_accepted.read.elaborated;
-  built = record {
-    rules = tt;
-    sites = record { exact = λ s l. absurd (omega (arith, l)); count = refl };
-    few = omega arith;
-    sources = λ s a c. absurd (nothing_in a c);
-  };
+  built = grind (arith, common_steps, nothing_in);
 }
 
 -- environments

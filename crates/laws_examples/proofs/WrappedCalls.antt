@@ -1,13 +1,9 @@
 -- What the meaning of the sample has on 2: two literals, and no call that is made.
-use Rattle.std.proofs.Common.{◌≡◌, ◌∷◌, [], zero, suc, pos, Bool, true, false, ◌&&◌, Contains, IsTrue, is_some, refl, sym, subst, inl, inr, arith}
+use Rattle.std.proofs.Common.{◌≡◌, zero, pos, Bool, true, false, ◌&&◌, Contains, refl, arith}
 use Rattle.std.proofs.lemmas.Grind.{common_steps}
-use Rattle.std.proofs.lemmas.Bool.{false≢true}
 use Rattle.model.proofs.Members.{each_passes, in_alone, in_cases}
-use Rattle.model.specs.rules.Matching.{matches}
 use Rattle.model.specs.rules.Meaning.{int_literal, literal_value}
-use Rattle.model.specs.rules.Typed.{TypedRule}
 use Rattle.model.specs.rules.Values.{atom, value_eq, well_typed}
-use Rattle.model.specs.visits.Demands.{demands_of}
 use Rattle.model.specs.sites.Serves.{Serves, asked}
 use Rattle.model.specs.sites.Sites.{SiteTerm, bool_term, constructor_call, extractor_call, int_term, prim_term}
 use Rattle.laws_examples.proofs.Served.{literals_apart, some_and, some_and_first, some_and_is, some_and_means}
@@ -15,7 +11,7 @@ use Rattle.laws_examples.proofs.SetStages.{built}
 use Rattle.laws_examples.specs.MeaningForms.{given}
 use Rattle.laws_examples.specs.SmallestInputs.{wrapped_meaning, wrapped_set}
 use Rattle.laws_examples.specs.Stages.{IsBuiltOf}
-use Rattle.laws_examples.specs.WrappedCalls.{NothingIsAskedAboveCalls, first_wrapped, second_wrapped, wrapped_defs, wrapped_program, wrapped_rules}
+use Rattle.laws_examples.specs.WrappedCalls.{NothingIsAskedAboveCalls, wrapped_defs, wrapped_program, wrapped_rules}
 
 pub wrapped_built : IsBuiltOf wrapped_defs wrapped_rules 1 wrapped_set
 wrapped_built = built wrapped_defs wrapped_rules 1 wrapped_set refl refl refl refl refl refl refl refl
@@ -37,23 +33,7 @@ makes_no_call (constructor_call t ss i) = false
 makes_no_call u = true
 
 wrapped_serves : Serves wrapped_program wrapped_meaning (given (pos 2)) wrapped_rules.rules
-wrapped_serves = record {
-  bools = λ b ty c. absurd (false≢true (all_pass (bool_term b ty) c));
-  ints = λ z ty c.
-      some_and_means (literal_value wrapped_meaning (int_literal z ty)) (λ w. well_typed wrapped_program.types ty w)
-      (some_and_first (literal_value wrapped_meaning (int_literal z ty)) (λ w. well_typed wrapped_program.types ty w) (λ w. value_eq w (atom ty z)) (all_pass (int_term z ty) c));
-  written_bools = λ b ty c. absurd (false≢true (all_pass (bool_term b ty) c));
-  written_ints = λ z ty c own. some_and_is (literal_value wrapped_meaning (int_literal z ty)) (λ w. well_typed wrapped_program.types ty w) (atom ty z) (all_pass (int_term z ty) c);
-  prims = λ name c. absurd (false≢true (all_pass (prim_term name) c));
-  extractors = λ k t s w c holds. absurd (false≢true (all_pass (extractor_call t s) c));
-  pures = λ k t ss vs c holds. absurd (false≢true (all_pass (constructor_call t ss 0) c));
-  impures = λ k r t before ss vs i matched made reached holds. elim (in_cases first_wrapped r (second_wrapped ∷ []) i) [
-    | inl e ↦ absurd (false≢true (subst (λ (q : TypedRule). IsTrue (is_some (matches wrapped_program wrapped_meaning q (given (pos 2))))) (sym e) matched))
-    | inr d ↦
-        let here = subst (λ (q : TypedRule). Contains (demands_of wrapped_program q).made (constructor_call t ss (suc before))) (sym (in_alone second_wrapped r d)) made in
-        absurd (false≢true (each_passes makes_no_call (demands_of wrapped_program second_wrapped).made refl (constructor_call t ss (suc before)) here))
-  ];
-}
+wrapped_serves = grind (arith, common_steps, all_pass, some_and_means, some_and_first, some_and_is, in_cases, in_alone, each_passes)
 
 pub nothing_is_asked_above_calls : NothingIsAskedAboveCalls
 nothing_is_asked_above_calls = grind (arith, common_steps, literals_apart wrapped_program wrapped_meaning wrapped_rules.rules refl refl, wrapped_serves, literals_apart)

@@ -81,14 +81,20 @@ then_visits {vars = vars} {mid = mid} {more = more} {a = a} {b = b} v w =
       kept = λ y h. w.kept y (v.kept y h);
       can = λ ks r. and_from (a.can_visit ks) (b.can_visit (a.after ks)) (v.can ks (ready_first ks r)) (w.can (a.after ks) (ready_next ks r));
       binds = λ ks r y.
-          (grind (arith, common_steps, ready_next ks r, ready_first ks r, absorbed));
+          (w.binds (a.after ks) (ready_next ks r) y ∙ ap (λ c. c || has more y) (v.binds ks (ready_first ks r) y)
+          ∙ absorbed (is_in y ks) (has mid y) (has more y) (w.kept y));
     }
   where
     ready_first : (ks : List ℕ) → IsReady vars more ks → IsReady vars mid ks
     ready_first ks r = record { bound = r.bound; new = λ y h k. r.new y h (w.kept y k) }
 
     ready_next : (ks : List ℕ) → IsReady vars more ks → IsReady mid more (a.after ks)
-    ready_next ks r = grind (arith, common_steps, ready_first ks r, or_right, or_from, outside)
+    ready_next ks r =
+        let first = ready_first ks r in
+        record {
+          bound = λ y h. v.binds ks first y ∙ or_right (is_in y ks) (has mid y) h;
+          new = λ y h k. v.binds ks first y ∙ or_from (is_in y ks) (has mid y) (r.new y (outside v y h) k) h;
+        }
 
 -- a variable, and then a visit
 bind_visits : {vars mid : List (ℕ × ℕ)} (x ty : ℕ) {a : PartVisit} → Visits vars mid a → has mid x ≡ false → Visits vars ((x, ty) ∷ mid) (with_variable x a)

@@ -12,7 +12,7 @@ use Rattle.laws_specs.specs.Words.{Denoted, a_truth, an_integer, a_word, variant
 use Rattle.laws_specs.specs.Specs.{SpecExpr, operation, unknown, let_in, switch_on, match_on, SpecExprs, no_spec_expr, spec_expr_and, SpecCases, no_case, case_and, SpecArms, spec_arm_and, struct_arm, arm_else, Sort, truths, integers, words, is_of_sort, are_of_sorts, AreUnknownsSorted, Specs, Unknowns, says, says_each, says_case, says_arm}
 use Rattle.model_questions.specs.Formulas.{Place, Word, number_of, Integer, written_integer, integer_of, Operands, fact_and, integer_and, word_and, Model, number_in, integer_in, truth_in, is_so, operands_in, both_of}
 use Rattle.model_questions.specs.Forms.{Form, a_fact, an_integer_by, a_word_by, variant_by, struct_by, Forms, no_form, form_and, form_list, form_of, Case, Cases, nothing_said, one_case, anything, or_nothing, then_cases, truth_of, is_true, surely, possible_truth, may_be_true, perhaps}
-use Rattle.model_questions.specs.Evaluated.{Known, Result, no_result, truth_result, integer_result, word_result, unknown_result, result, came_to, widths_of, is_size, each_size, followed, literals, literal_case, folded, operands, is_surely_formed, are_operands_of, answer_of_sort, answered_of, by_operands, fitted, by_fact, opened, opened_each, evaluated, evaluated_each, evaluated_case, evaluated_arm}
+use Rattle.model_questions.specs.Evaluated.{Known, Result, no_result, truth_result, integer_result, word_result, unknown_result, result, came_to, widths_of, is_size, each_size, by_size, followed, literals, literal_case, folded, operands, is_surely_formed, are_operands_of, answer_of_sort, answered_of, by_operands, fitted, by_fact, opened, opened_each, evaluated, evaluated_each, evaluated_case, evaluated_arm}
 use Rattle.model_questions.proofs.FactsSo.{one_so, both_from, both_parts, one_left, one_right}
 use Rattle.model_questions.proofs.Described.{Describes, nothing_described, anything_described, one_described, then_described, choice_described}
 use Rattle.model_questions.proofs.Merging.{merged_described}
@@ -72,8 +72,11 @@ module _ (types : List TypeEntry) (specs : Specs) (vs : Place → Denoted) (u : 
       (came_described o (integer_and (written_integer (pos w)) rest) (result o (integer_and (written_integer (pos w)) rest)) (result_comes m o (integer_and (written_integer (pos w)) rest))))
       (λ e. sized_described ws o z rest)
 
+  by_size_described : (o : Operator) (of : Operands) → Describe (by_size (widths_of specs) o of) (applied_to o (operands_in m of))
+  by_size_described o of = grind (arith, common_steps, sized_described, any_is)
+
   followed_described : (o : Operator) (of : Operands) (r : Result) → result o of ≡ r → Describe (followed (widths_of specs) o of r) (applied_to o (operands_in m of))
-  followed_described o of unknown_result e = grind (arith, sized_described, any_is)
+  followed_described o of unknown_result e = by_size_described o of
   followed_described o of no_result e = came_described o of no_result (subst (λ r. ComesTo r (applied_to o (operands_in m of))) e (result_comes m o of))
   followed_described o of truth_result e = came_described o of truth_result (subst (λ r. ComesTo r (applied_to o (operands_in m of))) e (result_comes m o of))
   followed_described o of integer_result e = came_described o of integer_result (subst (λ r. ComesTo r (applied_to o (operands_in m of))) e (result_comes m o of))
