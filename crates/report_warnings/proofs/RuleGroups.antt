@@ -1,17 +1,17 @@
 -- Which rules a rule may overlap, by what is asked of one site.
-use Rattle.std.proofs.Common.{◌≡◌, ℕ, ◌+◌, ◌<◌, ◌≤◌, ◌==◌, Bool, true, false, not, ◌&&◌, ◌||◌, List, [], ◌∷◌, ◌++◌, length, get_or, Option, None, Some, slice_get, Contains, if◌then◌else◌, refl, sym, ap, ◌∙◌, subst, inl, inr, arith, eq-eqb}
+use Rattle.std.proofs.Common.{◌≡◌, ℕ, ◌+◌, ◌<◌, ◌≤◌, ◌==◌, Bool, true, false, not, ◌&&◌, ◌||◌, List, [], ◌∷◌, ◌++◌, length, take, get_or, Option, None, Some, MatchOption, slice_get, Contains, if◌then◌else◌, refl, sym, ap, ◌∙◌, subst, ◌⊎◌, inl, inr, arith, eq-eqb}
 use Rattle.std.specs.BTreeMap.{BTreeMap, Updates, get, is_at}
 use Rattle.std.specs.Global.{Vec}
 use Rattle.std.specs.List.{list_any}
 use Rattle.std.specs.Map.{lookup}
 use Rattle.std.proofs.lemmas.Bool.{cases_Bool, cases_lt, and_from, cond-false, cond-true, or_cases, or_left, or_right, false≢true}
-use Rattle.std.proofs.lemmas.List.{append-nil}
-use Rattle.std.proofs.lemmas.List.Elements.{Contains-append_left, Contains-append_right}
+use Rattle.std.proofs.lemmas.List.{append-nil, take_more}
+use Rattle.std.proofs.lemmas.List.Elements.{Contains-append_left, Contains-append_right, Contains-push_cases}
 use Rattle.std.proofs.lemmas.List.Folds.{Any-from_list_any, list_any_at}
 use Rattle.std.proofs.lemmas.Map.Keys.{any_passes_from_place}
 use Rattle.std.specs.Cmp.{Equal-is}
 use Rattle.std.proofs.lemmas.Cmp.{eq_by_cmp_equiv}
-use Rattle.std.proofs.lemmas.Option.{get_or_from_slice_get, slice_get-get_or, slice_get_within}
+use Rattle.std.proofs.lemmas.Option.{get_or_from_slice_get, none-some, same_Some, slice_get-get_or, slice_get_within}
 use Rattle.std.proofs.Math.Bool.{and-false}
 use Rattle.model.specs.sites.Sites.{Constraint, SetRule}
 use Rattle.model.specs.sites.SetRules.{sites_differ, differs_at, is_subset_of_sites, may_both_match, no_overlap, some_overlap}
@@ -29,7 +29,7 @@ use Rattle.laws_ways.specs.IdlePriorities.{may_meet}
 use Rattle.report_warnings.specs.declared.priorities.Groups.{Groups}
 use Rattle.report_warnings.specs.IdlePriorities.{meets_some}
 use Rattle.report_warnings.proofs.Constraints.{one_said}
-use Rattle.report_warnings.specs.RuleGroups.{AddsNumber, AreGrouped, Asks, listed_with, meets_listed, meets_number, numbers_asking}
+use Rattle.report_warnings.specs.RuleGroups.{AddsIfThere, AddsNumber, AreGrouped, AreGroupedAmong, Asks, listed_with, meets_listed, meets_number, numbers_asking}
 
 -- 1. two rules that overlap ask nothing different of a site
 differ : (as' bs : List (ℕ × Constraint)) (s : ℕ) (c d : Constraint) → constraint_at as' s ≡ Some c → constraint_at bs s ≡ Some d → constraint_eq c d ≡ false → sites_differ as' bs ≡ true
@@ -57,33 +57,53 @@ module _ (rules : List Rule) (rule : Rule) where
   met_by_number n None at m = absurd (false≢true m)
   met_by_number n (Some other) at m = any_passes_from_place (λ s. may_meet (set_rule_view rule) (set_rule_view s)) rules n other at m
 
-  met_listed : (ns : List ℕ) → meets_listed rules rule ns ≡ true → meets_some rules rule ≡ true
+  pub met_listed : (ns : List ℕ) → meets_listed rules rule ns ≡ true → meets_some rules rule ≡ true
   met_listed ns h = let w = Any-from_list_any (meets_number rules rule) ns h in met_by_number w.1 (slice_get rules w.1) refl w.4
 
-  module _ (g : Groups) (asked : C.Constraint) (grouped : AreGrouped rules g) (asks : Asks g.site rule (Some asked)) where
-    by_asked : (n : ℕ) (other : Rule) (now : Option Constraint) → slice_get rules n ≡ Some other → may_meet (set_rule_view rule) (set_rule_view other) ≡ true
-        → constraint_at (set_rule_view other).constraints g.site ≡ now → (meets_listed rules rule (numbers_asking g.asking asked) || meets_listed rules rule g.bare.items) ≡ true
-    by_asked n other None at m e =
-        or_right (meets_listed rules rule (numbers_asking g.asking asked)) (meets_listed rules rule g.bare.items)
-        (listed_met g.bare.items n other (grouped n other None at (sym e)) at m)
-    by_asked n other (Some d) at m e =
+  -- whichever of two lists has it
+  abbrev Either : Groups → C.Constraint → Type 0
+  Either g asked = (meets_listed rules rule (numbers_asking g.asking asked) || meets_listed rules rule g.bare.items) ≡ true
+
+  module _ (g : Groups) (asked : C.Constraint) (asks : Asks g.site rule (Some asked)) where
+    by_asked : (n : ℕ) (other : Rule) (now : Option Constraint) → ((o : Option C.Constraint) → Asks g.site other o → Contains (listed_with g o) n) → slice_get rules n ≡ Some other
+        → may_meet (set_rule_view rule) (set_rule_view other) ≡ true → constraint_at (set_rule_view other).constraints g.site ≡ now → Either g asked
+    by_asked n other None listed at m e =
+        or_right (meets_listed rules rule (numbers_asking g.asking asked)) (meets_listed rules rule g.bare.items) (listed_met g.bare.items n other (listed None (sym e)) at m)
+    by_asked n other (Some d) listed at m e =
         let same = alike (set_rule_view rule) (set_rule_view other) g.site (constraint_view asked) d m (sym asks) e in
         or_left (meets_listed rules rule (numbers_asking g.asking asked)) (meets_listed rules rule g.bare.items)
-        (listed_met (numbers_asking g.asking asked) n other (grouped n other (Some asked) at (ap Some same ∙ sym e)) at m)
+        (listed_met (numbers_asking g.asking asked) n other (listed (Some asked) (ap Some same ∙ sym e)) at m)
 
-    found : meets_some rules rule ≡ true → (meets_listed rules rule (numbers_asking g.asking asked) || meets_listed rules rule g.bare.items) ≡ true
-    found h =
+    found : AreGrouped rules g → meets_some rules rule ≡ true → Either g asked
+    found grouped h =
         let w = Any-from_list_any (λ s. may_meet (set_rule_view rule) (set_rule_view s)) rules h in
-        by_asked w.0 w.1 (constraint_at (set_rule_view w.1).constraints g.site) (slice_get-get_or rules w.0 w.1 w.2 ∙ ap Some w.3) w.4 refl
+        let at = slice_get-get_or rules w.0 w.1 w.2 ∙ ap Some w.3 in
+        by_asked w.0 w.1 (constraint_at (set_rule_view w.1).constraints g.site) (λ o. grouped w.0 w.1 o at) at w.4 refl
 
-    back : (meets_listed rules rule (numbers_asking g.asking asked) || meets_listed rules rule g.bare.items) ≡ true → meets_some rules rule ≡ true
+    -- of those of some numbers
+    pub found_among : (ns : List ℕ) → AreGroupedAmong ns rules g → meets_listed rules rule ns ≡ true → Either g asked
+    found_among ns grouped h = let w = Any-from_list_any (meets_number rules rule) ns h in of_number w.1 (slice_get rules w.1) refl (w.0, w.2, w.3) w.4
+      where
+        of_number : (n : ℕ) (o : Option Rule) → slice_get rules n ≡ o → Contains ns n → elim o [ None ↦ false | Some s ↦ may_meet (set_rule_view rule) (set_rule_view s) ] ≡ true → Either g asked
+        of_number n None at c m = absurd (false≢true m)
+        of_number n (Some other) at c m = by_asked n other (constraint_at (set_rule_view other).constraints g.site) (λ o. grouped n other o c at) at m refl
+
+    pub back : Either g asked → meets_some rules rule ≡ true
     back h = elim (or_cases (meets_listed rules rule (numbers_asking g.asking asked)) (meets_listed rules rule g.bare.items) h) [
       | inl l ↦ met_listed (numbers_asking g.asking asked) l
       | inr r ↦ met_listed g.bare.items r
     ]
 
-    pub only_listed : (meets_listed rules rule (numbers_asking g.asking asked) || meets_listed rules rule g.bare.items) ≡ meets_some rules rule
-    only_listed = alike_tests (meets_listed rules rule (numbers_asking g.asking asked) || meets_listed rules rule g.bare.items) (meets_some rules rule) back found
+    -- where those that ask nothing are looked through in another way
+    pub only_listed : AreGrouped rules g → (bare : Bool) → (meets_listed rules rule g.bare.items ≡ true → bare ≡ true) → (bare ≡ true → meets_some rules rule ≡ true)
+        → (meets_listed rules rule (numbers_asking g.asking asked) || bare) ≡ meets_some rules rule
+    only_listed grouped bare met only = alike_tests (meets_listed rules rule (numbers_asking g.asking asked) || bare) (meets_some rules rule) (λ h. elim (or_cases (meets_listed rules rule (numbers_asking g.asking asked)) bare h) [
+      | inl l ↦ met_listed (numbers_asking g.asking asked) l
+      | inr r ↦ only r
+    ]) (λ h. elim (or_cases (meets_listed rules rule (numbers_asking g.asking asked)) (meets_listed rules rule g.bare.items) (found grouped h)) [
+      | inl l ↦ or_left (meets_listed rules rule (numbers_asking g.asking asked)) bare l
+      | inr r ↦ or_right (meets_listed rules rule (numbers_asking g.asking asked)) bare (met r)
+    ])
       where
         alike_tests : (s t : Bool) → (s ≡ true → t ≡ true) → (t ≡ true → s ≡ true) → s ≡ t
         alike_tests true t f k = sym (f refl)
@@ -152,3 +172,28 @@ grouped_more rules k rule old new this h added n r asked l at asks =
 
 pub all_grouped : (rules : List Rule) (k : ℕ) (g : Groups) → length rules ≤ k → AreGroupedTo k rules g → AreGrouped rules g
 all_grouped rules k g e h n r asked at = h n r asked (let l = slice_get_within rules n r at in omega (arith, l, e)) at
+
+-- likewise those of the first so many numbers
+module _ (rules : List Rule) (ns : List ℕ) (k m : ℕ) (within : k < length ns) (this : m ≡ get_or ns k m) where
+  either : (n : ℕ) → Contains (take (k + 1) ns) n → Contains (take k ns) n ⊎ (m ≡ n)
+  either n c = elim (Contains-push_cases (take k ns) (get_or ns k m) n (subst (λ l. Contains l n) (take_more ns k m within) c)) [
+    | inl before ↦ inl before
+    | inr last ↦ inr (this ∙ last)
+  ]
+
+  one_more : (o : Option Rule) (old new : Groups) → slice_get rules m ≡ o → AreGroupedAmong (take k ns) rules old → MatchOption o (new ≡ old) (λ rule. AddsNumber rule m old new) → AreGroupedAmong (take (k + 1) ns) rules new
+  one_more (Some rule) old new is h added n r asked c at asks =
+      let asked_before = subst (λ s. Asks s r asked) added.site asks in
+      elim (either n c) [
+        | inl before ↦ added.kept asked n (h n r asked before at asked_before)
+        | inr same ↦
+            let one : rule ≡ r = same_Some rule r (sym is ∙ ap (slice_get rules) same ∙ at) in
+            subst (λ i. Contains (listed_with new asked) i) same (added.here asked (subst (λ x. Asks old.site x asked) (sym one) asked_before))
+      ]
+  one_more None old new is h same n r asked c at asks = elim (either n c) [
+    | inl before ↦ subst (λ g. Contains (listed_with g asked) n) (sym same) (h n r asked before at (subst (λ g. Asks g.site r asked) same asks))
+    | inr here ↦ absurd (none-some r (sym is ∙ ap (slice_get rules) here ∙ at))
+  ]
+
+  pub among_more : (old new : Groups) → AreGroupedAmong (take k ns) rules old → AddsIfThere rules m old new → AreGroupedAmong (take (k + 1) ns) rules new
+  among_more old new h added = one_more (slice_get rules m) old new refl h added

@@ -1,6 +1,6 @@
 //! Priorities that have no effect.
 
-ghost use Rattle.std.specs.Prelude.{◌≡◌, ◌||◌, ◌++◌, ◌∷◌, [], if◌then◌else◌, map, IfOk, OnOk};
+ghost use Rattle.std.specs.Prelude.{◌≡◌, ◌||◌, ◌++◌, ◌∷◌, [], true, Some, if◌then◌else◌, map, IfOk, OnOk};
 ghost use Rattle.std.specs.BTreeMap.{is_at};
 ghost use Rattle.core_rule_sets.specs.contracts.trie_again.ConstraintOrd.TheImpl.{ghosts};
 ghost use Rattle.core_syntax.specs.SyntaxViews.{position};
@@ -8,7 +8,7 @@ ghost use Rattle.cranelift_isle.specs.SiteViews.{set_rule_view, set_rule_views};
 ghost use Rattle.laws_ways.specs.IdlePriorities.{idle_priorities, may_meet};
 ghost use Rattle.report_warnings.specs.Added.{told_of, AddsTold};
 ghost use Rattle.report_warnings.specs.IdlePriorities.{is_idle, meets_some, told_of_idle};
-ghost use Rattle.report_warnings.specs.RuleGroups.{AddsNumber, AreGrouped, meets_listed, meets_number, numbers_asking};
+ghost use Rattle.report_warnings.specs.RuleGroups.{AddsIfThere, AddsNumber, AreGrouped, AreGroupedAmong, AreGroupedTwice, Asks, meets_listed, meets_number, numbers_asking};
 
 use crate::kinds::{Warning, begun};
 use cranelift_isle::syntax::{Def, Pos};
@@ -27,14 +27,30 @@ use std::collections::{BTreeMap, BTreeSet};
 pub(crate) fn idle_priorities(alloc: Global, rules: &[Rule]) -> Result<Vec<Pos>, AllocError>
     ensures { IfOk result (λ v. map position v.items ≡ idle_priorities (set_rule_views rules.now)) }
 {
-    let groups = Groups::of(alloc, rules)?;
+    let site = telling_site(alloc, rules, None)?;
+    let another = telling_site(alloc, rules, Some(site))?;
+    let groups = TwoGroups::of(alloc, rules, site, another)?;
+    let others = TwoGroups::of(alloc, rules, another, site)?;
     let mut idle = Vec::new(alloc);
     for rule in rules {
-        if groups.is_idle(rules, rule) {
+        if is_idle(rules, rule, &groups, &others) {
             idle.push(rule.pos)?;
         }
     }
     Ok(idle)
+}
+
+// Whether a rule has a priority and may match together with no other one: looked for by the site of which it asks something.
+fn is_idle(rules: &[Rule], rule: &Rule, groups: &TwoGroups, others: &TwoGroups) -> bool
+    requires groups { AreGroupedTwice rules.now groups.now }
+    requires others { AreGroupedTwice rules.now others.now }
+    ensures { result ≡ is_idle rules.now rule.now }
+{
+    if rule.get_constraint(groups.outer.site).is_some() {
+        groups.is_idle(rules, rule)
+    } else {
+        others.is_idle(rules, rule)
+    }
 }
 
 // The numbers of rules by what they ask of one site: rules that ask different things there never match together.
@@ -47,20 +63,114 @@ struct Groups {
     bare: Vec<usize>,
 }
 
-impl Groups {
-    // The rules by what they ask of a site that tells many apart.
-    fn of(alloc: Global, rules: &[Rule]) -> Result<Groups, AllocError>
-        ensures { IfOk result (AreGrouped rules.now) }
+// Rules by what they ask of one site, and those that ask nothing there by what they ask of another one.
+#[derive(Drop)]
+struct TwoGroups {
+    outer: Groups,
+    inner: Groups,
+}
+
+impl TwoGroups {
+    fn of(
+        alloc: Global,
+        rules: &[Rule],
+        site: BindingId,
+        another: BindingId,
+    ) -> Result<TwoGroups, AllocError>
+        ensures { IfOk result (AreGroupedTwice rules.now) }
     {
-        let mut groups = Groups {
-            site: telling_site(alloc, rules)?,
+        let outer = Groups::of(alloc, rules, site)?;
+        let inner = Groups::among(alloc, rules, &outer.bare, another)?;
+        Ok(TwoGroups { outer, inner })
+    }
+
+    // Whether a rule has a priority and may match together with no other one.
+    fn is_idle(&self, rules: &[Rule], rule: &Rule) -> bool
+        requires { AreGroupedTwice rules.now self.now }
+        ensures { result ≡ is_idle rules.now rule.now }
+    {
+        rule.prio != 0 && !self.meets_some(rules, rule)
+    }
+
+    // Whether a rule may match together with another one of these: one that asks the same of the site, or nothing.
+    fn meets_some(&self, rules: &[Rule], rule: &Rule) -> bool
+        requires { AreGroupedTwice rules.now self.now }
+        ensures { result ≡ meets_some rules.now rule.now }
+    {
+        match rule.get_constraint(self.outer.site) {
+            Some(asked) => self.meets_asking(rules, rule, asked),
+            None => meets_any(rules, rule),
+        }
+    }
+
+    fn meets_asking(&self, rules: &[Rule], rule: &Rule, asked: Constraint) -> bool
+        requires grouped { AreGroupedTwice rules.now self.now }
+        requires asks { Asks self.now.outer.site rule.now (Some asked) }
+        ensures { result ≡ meets_some rules.now rule.now }
+    {
+        meets_listed(rules, rule, self.outer.asking(asked)) || self.meets_bare(rules, rule)
+    }
+
+    // Whether a rule may match together with one that asks nothing of the site: with one that asks the same of the other site,
+    // or nothing.
+    fn meets_bare(&self, rules: &[Rule], rule: &Rule) -> bool
+        requires { AreGroupedTwice rules.now self.now }
+        ensures met { meets_listed rules.now rule.now self.now.outer.bare.items ≡ true → result ≡ true }
+        ensures only { result ≡ true → meets_some rules.now rule.now ≡ true }
+    {
+        match rule.get_constraint(self.inner.site) {
+            Some(asked) => self.inner.meets_asking(rules, rule, asked),
+            None => meets_listed(rules, rule, &self.outer.bare),
+        }
+    }
+}
+
+impl Groups {
+    fn none(alloc: Global, site: BindingId) -> Groups
+        ensures { result.site ≡ site }
+    {
+        Groups {
+            site,
             asking: BTreeMap::new(alloc),
             bare: Vec::new(alloc),
-        };
+        }
+    }
+
+    // The rules by what they ask of a site.
+    fn of(alloc: Global, rules: &[Rule], site: BindingId) -> Result<Groups, AllocError>
+        ensures { IfOk result (AreGrouped rules.now) }
+    {
+        let mut groups = Groups::none(alloc, site);
         for number in 0..rules.len() {
             groups.add(&rules[number], number)?;
         }
         Ok(groups)
+    }
+
+    // Those of these numbers.
+    fn among(
+        alloc: Global,
+        rules: &[Rule],
+        numbers: &[usize],
+        site: BindingId,
+    ) -> Result<Groups, AllocError>
+        ensures { IfOk result (AreGroupedAmong numbers.now rules.now) }
+    {
+        let mut groups = Groups::none(alloc, site);
+        for number in numbers {
+            groups.add_number(rules, *number)?;
+        }
+        Ok(groups)
+    }
+
+    // Adds the rule of a number, if there is one.
+    fn add_number(&mut self, rules: &[Rule], number: usize) -> Result<(), AllocError>
+        ensures { OnOk result (AddsIfThere rules.now number self.old self.new) }
+    {
+        match rules.get(number) {
+            Some(rule) => self.add(rule, number),
+            None => Ok(()),
+        }
     }
 
     fn add(&mut self, rule: &Rule, number: usize) -> Result<(), AllocError>
@@ -71,25 +181,6 @@ impl Groups {
             None => self.bare.push(number)?,
         }
         Ok(())
-    }
-
-    // Whether a rule has a priority and may match together with no other one.
-    fn is_idle(&self, rules: &[Rule], rule: &Rule) -> bool
-        requires { AreGrouped rules.now self.now }
-        ensures { result ≡ is_idle rules.now rule.now }
-    {
-        rule.prio != 0 && !self.meets_some(rules, rule)
-    }
-
-    // Whether a rule may match together with another one of these: one that asks the same of the site, or nothing.
-    fn meets_some(&self, rules: &[Rule], rule: &Rule) -> bool
-        requires { AreGrouped rules.now self.now }
-        ensures { result ≡ meets_some rules.now rule.now }
-    {
-        match rule.get_constraint(self.site) {
-            Some(asked) => self.meets_asking(rules, rule, asked),
-            None => meets_any(rules, rule),
-        }
     }
 
     fn meets_asking(&self, rules: &[Rule], rule: &Rule, asked: Constraint) -> bool
@@ -156,8 +247,12 @@ fn may_meet(rule: &Rule, other: &Rule) -> bool
         }
 }
 
-// The site of which some rules, evenly taken, ask the most different things.
-fn telling_site(alloc: Global, rules: &[Rule]) -> Result<BindingId, AllocError> {
+// The site of which some rules, evenly taken, ask the most different things, but for one.
+fn telling_site(
+    alloc: Global,
+    rules: &[Rule],
+    but: Option<BindingId>,
+) -> Result<BindingId, AllocError> {
     let mut asked = BTreeMap::new(alloc);
     for rule in rules.iter().step_by(rules.len() / LOOKED_AT + 1) {
         add_asked(&mut asked, rule)?;
@@ -165,6 +260,7 @@ fn telling_site(alloc: Global, rules: &[Rule]) -> Result<BindingId, AllocError> 
     Ok(
         asked
             .iter()
+            .filter(|(site, _)| Some(**site) != but)
             .max_by_key(|(_, different)| different.len())
             .map_or(BindingId::from(0), |(site, _)| *site),
     )
