@@ -172,7 +172,7 @@ def shadowing(size):
     yield from numbered("(rule # (f x) #)", size)
 
 
-@text("rules of one term, no key apart", 6000)
+@text("rules of one term, no key apart", 6000, 20000)
 def no_key(size):
     return [shapes.text("ints", size)]
 
