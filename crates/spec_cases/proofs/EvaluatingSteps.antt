@@ -1,6 +1,9 @@
 -- What is bound, arms, and what numbers of expressions come to by what they stand for.
-use Rattle.std.proofs.Common.{◌≡◌, ℕ, List, ◌++◌, map, sym, ap, ◌∙◌}
+use Rattle.std.proofs.Common.{◌≡◌, ◌≢◌, ℕ, List, ◌++◌, map, if◌then◌else◌, sym, ap, ◌∙◌}
+use Rattle.std.specs.Bool.{◌==◌}
+use Rattle.std.proofs.lemmas.Bool.{eq-eqb, ne_eqb}
 use Rattle.std.proofs.lemmas.List.{map-append}
+use Rattle.model.specs.rules.Meaning.{look}
 use Rattle.laws_specs.specs.Specs as L
 use Rattle.laws_specs.specs.Words as D
 use Rattle.model_questions.specs.Forms as MF
@@ -67,3 +70,34 @@ switched_by v s key e rest x b ws keys first later cs h k f l made =
     ∙ ap (λ z. MF.then_cases z (switch_case (types_in s.tables.now) (specs_in s.tables.now) (known_in v s.tables.now) (E.widths_of (specs_in s.tables.now)) x first later)) k
     ∙ ap (λ z. MF.then_cases (evaluated_in v s key b) (switch_case (types_in s.tables.now) (specs_in s.tables.now) (known_in v s.tables.now) (E.widths_of (specs_in s.tables.now)) x z later)) f
     ∙ ap (λ z. MF.then_cases (evaluated_in v s key b) (switch_case (types_in s.tables.now) (specs_in s.tables.now) (known_in v s.tables.now) (E.widths_of (specs_in s.tables.now)) x (evaluated_in v s e b) z)) l
+
+-- an unknown function
+pub asked_by : (v : Naming) (s : Said) (f : ℕ) (of : L.SpecExprs) (b : List MF.Form) (lists : MF.Cases MF.Forms) (cs : MF.Cases MF.Form)
+    → lists ≡ each_in v s of b
+    → cs ≡ MF.then_cases lists (λ fs. MF.then_cases (E.opened_each (types_in s.tables.now) (specs_in s.tables.now) (known_in v s.tables.now) fs) (λ gs. E.answered_of f (look (λ n. n == f) (specs_in s.tables.now).unknown_sorts) (E.operands gs)))
+    → cs ≡ evaluated_in v s (L.unknown f of) b
+asked_by v s f of b lists cs h made =
+    made ∙ ap (λ l. MF.then_cases l (λ fs. MF.then_cases (E.opened_each (types_in s.tables.now) (specs_in s.tables.now) (known_in v s.tables.now) fs) (λ gs. E.answered_of f (look (λ n. n == f) (specs_in s.tables.now).unknown_sorts) (E.operands gs)))) h
+
+-- the arm that fits, in which fields are bound; another arm of an enum
+module _ (v : Naming) (s : Said) (ty own : ℕ) (body : L.SpecExpr) (fields : MF.Forms) (x : MF.Form) (b : List MF.Form) (cs : MF.Cases MF.Form) where
+  pub struct_taken : (inner : List MF.Form) → x ≡ MF.struct_by own fields → own ≡ ty → inner ≡ MF.form_list fields ++ b → cs ≡ evaluated_in v s body inner → cs ≡ arm_in v s (L.struct_arm ty body) x b
+  struct_taken inner is same e made =
+      made ∙ ap (evaluated_in v s body) e
+      ∙ ap (λ t. if t then evaluated_in v s body (MF.form_list fields ++ b) else MF.nothing_said) (sym (eq-eqb own ty same))
+      ∙ ap (λ y. arm_in v s (L.struct_arm ty body) y b) (sym is)
+
+  module _ (variant kind : ℕ) (rest : L.SpecArms) where
+    pub variant_taken : (inner : List MF.Form) → x ≡ MF.variant_by own kind fields → own ≡ ty → kind ≡ variant → inner ≡ MF.form_list fields ++ b → cs ≡ evaluated_in v s body inner → cs ≡ arm_in v s (L.spec_arm_and ty variant body rest) x b
+    variant_taken inner is same one e made =
+        made ∙ ap (evaluated_in v s body) e
+        ∙ ap (λ t. if t then evaluated_in v s body (MF.form_list fields ++ b) else arm_in v s rest (MF.variant_by own kind fields) b) (sym (eq-eqb kind variant one))
+        ∙ ap (λ t. if t then (if kind == variant then evaluated_in v s body (MF.form_list fields ++ b) else arm_in v s rest (MF.variant_by own kind fields) b) else MF.nothing_said) (sym (eq-eqb own ty same))
+        ∙ ap (λ y. arm_in v s (L.spec_arm_and ty variant body rest) y b) (sym is)
+
+    pub variant_passed : x ≡ MF.variant_by own kind fields → own ≡ ty → kind ≢ variant → cs ≡ arm_in v s rest (MF.variant_by own kind fields) b → cs ≡ arm_in v s (L.spec_arm_and ty variant body rest) x b
+    variant_passed is same other made =
+        made
+        ∙ ap (λ t. if t then evaluated_in v s body (MF.form_list fields ++ b) else arm_in v s rest (MF.variant_by own kind fields) b) (sym (ne_eqb kind variant other))
+        ∙ ap (λ t. if t then (if kind == variant then evaluated_in v s body (MF.form_list fields ++ b) else arm_in v s rest (MF.variant_by own kind fields) b) else MF.nothing_said) (sym (eq-eqb own ty same))
+        ∙ ap (λ y. arm_in v s (L.spec_arm_and ty variant body rest) y b) (sym is)
