@@ -1,5 +1,5 @@
 -- Operators on literals, by their shape.
-use Rattle.std.proofs.Common.{◌≡◌, ℕ, pos, negsuc, Bool, true, false, List, [], ◌∷◌, None, ◌⊎◌, inl, inr, refl, sym, ap, ◌∙◌}
+use Rattle.std.proofs.Common.{◌≡◌, pos, negsuc, Bool, true, false, List, [], ◌∷◌, None, ◌⊎◌, inl, inr, refl, sym, ap, ◌∙◌}
 use Rattle.std.proofs.lemmas.Bool.{false≢true}
 use Rattle.laws_specs.specs.Words as D
 use Rattle.spec_cases.specs.declared.literals.Literal.{Literal}

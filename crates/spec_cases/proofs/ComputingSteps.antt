@@ -1,5 +1,5 @@
 -- What operators give by a width that is written.
-use Rattle.std.proofs.Common.{◌≡◌, ℕ, ℤ, pos, negsuc, Bool, true, false, ◌&&◌, Option, Some, None, if◌then◌else◌, refl}
+use Rattle.std.proofs.Common.{◌≡◌, ℕ, ℤ, pos, negsuc, Bool, true, false, ◌&&◌, Some, None, if◌then◌else◌, refl}
 use Rattle.laws_specs.specs.Words as D
 use Rattle.spec_cases.specs.Computing as S
 

@@ -1,5 +1,5 @@
 -- Forms of an operator.
-use Rattle.std.proofs.Common.{◌≡◌, ℕ, ◌<◌, ◌≤◌, List, [], ◌∷◌, length, get_or, map, refl, sym, ap, ◌∙◌, arith}
+use Rattle.std.proofs.Common.{◌≡◌, ℕ, ◌<◌, ◌≤◌, List, [], ◌∷◌, length, get_or, map, refl, sym, ap, arith}
 use Rattle.laws_specs.specs.Words as D
 use Rattle.model_questions.specs.Forms as MF
 use Rattle.model_questions.specs.Evaluated as E

@@ -1,12 +1,11 @@
 -- What numbers of expressions stand for doesn't change with more layers than their own, so each stands for what was made.
-use Rattle.std.proofs.Common.{◌≡◌, ℕ, zero, suc, ◌<◌, true, nat_lt, ◌&&◌, List, length, Option, Some, None, slice_get, refl, ap, ◌∙◌, arith, ltb-true}
+use Rattle.std.proofs.Common.{◌≡◌, ℕ, zero, suc, ◌<◌, true, nat_lt, List, length, Option, Some, None, slice_get, refl, ap, ◌∙◌, arith, ltb-true}
 use Rattle.std.proofs.lemmas.Bool.{and_parts}
 use Rattle.std.proofs.lemmas.Option.{slice_get_within}
 use Rattle.laws_specs.specs.Specs as L
 use Rattle.spec_cases.specs.declared.expressions.Expr.{Expr}
 use Rattle.spec_cases.specs.declared.expressions.Expr.TheVariants as X
 use Rattle.spec_cases.specs.Expressions.{Saying, IsSaid, AreSaid, is_below}
-use Rattle.spec_cases.specs.Literals.{literal_view}
 use Rattle.spec_cases.specs.Namings.{operator_view}
 use Rattle.spec_cases.specs.Sayings.{AreBelow, expr_by, exprs_by, cases_by, arms_by, saying_at, saying_of}
 

@@ -1,5 +1,5 @@
 -- The shape of a list by its length and its items.
-use Rattle.std.proofs.Common.{◌≡◌, ℕ, ◌<◌, ◌≤◌, List, [], ◌∷◌, length, get_or, refl, sym, ap, ◌∙◌, arith}
+use Rattle.std.proofs.Common.{◌≡◌, ◌<◌, ◌≤◌, List, [], ◌∷◌, length, get_or, refl, sym, ap, ◌∙◌, arith}
 use Rattle.spec_cases.specs.declared.formulas.Operand.{Operand}
 use Rattle.spec_cases.specs.declared.shapes.Shape.TheVariants as S
 use Rattle.spec_cases.specs.Shapes.{single_shape, pair_shape, triple_shape, shape_of}

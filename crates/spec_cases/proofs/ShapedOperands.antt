@@ -1,5 +1,5 @@
 -- Operands are those of their shape; of other ones an operator gives nothing that is followed.
-use Rattle.std.proofs.Common.{◌≡◌, ℕ, ℤ, pos, Bool, true, false, List, [], ◌∷◌, ◌⊎◌, inl, inr, refl, sym, ap, ◌∙◌}
+use Rattle.std.proofs.Common.{◌≡◌, pos, Bool, true, false, List, [], ◌∷◌, ◌⊎◌, inl, inr, refl, sym}
 use Rattle.std.proofs.lemmas.Bool.{false≢true}
 use Rattle.laws_specs.specs.Words as D
 use Rattle.model_questions.specs.Formulas as M

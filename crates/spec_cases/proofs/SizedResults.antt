@@ -1,5 +1,5 @@
 -- What operators come to that take a width, by whether it is written; and by the shape of operands.
-use Rattle.std.proofs.Common.{◌≡◌, ℕ, pos, negsuc, Bool, true, false, List, Option, Some, None, inl, inr, refl, sym, ap, ◌∙◌}
+use Rattle.std.proofs.Common.{◌≡◌, ℕ, pos, negsuc, false, List, None, inl, inr, refl, sym, ap, ◌∙◌}
 use Rattle.std.proofs.lemmas.Bool.{false≢true}
 use Rattle.laws_specs.specs.Words as D
 use Rattle.model_questions.specs.Formulas as M

@@ -1,11 +1,10 @@
 -- Cases of one sort as one.
-use Rattle.std.specs.Prelude.{ℕ, Option, Some, None, if◌then◌else◌}
+use Rattle.std.specs.Prelude.{Option, Some, None, if◌then◌else◌}
 use Rattle.std.specs.Bool.{◌==◌}
 use Rattle.model_questions.specs.Formulas as M
 use Rattle.model_questions.specs.Forms as MF
 use Rattle.spec_cases.specs.declared.forms.Form.{Form}
 use Rattle.spec_cases.specs.declared.forms.Form.TheVariants as Fo
-use Rattle.spec_cases.specs.declared.formulas.Word.{Word}
 use Rattle.spec_cases.specs.declared.merging.Pair.{Pair}
 use Rattle.spec_cases.specs.declared.merging.Pair.TheVariants as Pairs
 use Rattle.spec_cases.specs.Namings.{Naming, word_of, integer_of, fact_of}

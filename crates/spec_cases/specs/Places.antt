@@ -1,7 +1,6 @@
 -- Places that are told apart, and what is told of them.
-use Rattle.std.specs.Prelude.{◌≡◌, ℕ, Bool, false, List, map, Option, Some, None}
+use Rattle.std.specs.Prelude.{◌≡◌, ℕ, Bool, List, map}
 use Rattle.std.specs.Bool.{◌==◌}
-use Rattle.model.specs.sites.Sites.{SiteTerm}
 use Rattle.model.specs.visits.Demands.{site_term_eq}
 use Rattle.model_questions.specs.Formulas as M
 use Rattle.model_questions.specs.Evaluated as E

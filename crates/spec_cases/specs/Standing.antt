@@ -1,5 +1,5 @@
 -- What the numbers of formulas stand for where each is made of earlier ones.
-use Rattle.std.specs.Prelude.{◌≡◌, ℕ, zero, suc, Bool, false, List, Option, Some, None, slice_get, length, refl}
+use Rattle.std.specs.Prelude.{◌≡◌, ℕ, zero, suc, false, List, Option, Some, None, slice_get, length, refl}
 use Rattle.model.specs.sites.Sites.{SiteTerm}
 use Rattle.laws_specs.specs.Words.{equals}
 use Rattle.model_questions.specs.Formulas as M

@@ -58,7 +58,11 @@ impl Formulas {
         Ok(self.joined_cases(here, later)?)
     }
 
-    fn lists_with_rest(&mut self, rest: Fact, each: Cases<FieldsId>) -> Result<Cases<FieldsId>, Fault>
+    fn lists_with_rest(
+        &mut self,
+        rest: Fact,
+        each: Cases<FieldsId>,
+    ) -> Result<Cases<FieldsId>, Fault>
         ensures { IfOk result (λ cs. Makes self.old self.new (λ v. list_cases_of v cs ≡ rest_with (fact_of v rest) (list_cases_of v each))) }
     {
         let all = self.one_of(rest, each.rest)?;

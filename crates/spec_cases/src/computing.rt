@@ -160,12 +160,7 @@ fn is_test(test: Test, width: u32, a: u128, b: u128) -> Result<bool, Fault>
 }
 
 // Of words of one width.
-fn of_one_width(
-    how: OfWords,
-    width: u32,
-    a: u128,
-    b: u128,
-) -> Result<Option<Literal>, Fault>
+fn of_one_width(how: OfWords, width: u32, a: u128, b: u128) -> Result<Option<Literal>, Fault>
     ensures { IfOk result (λ o. option_map literal_view o ≡ of_words how width a width b) }
 {
     match how {
@@ -396,8 +391,14 @@ impl Operator {
         ensures { IfOk result (λ o. option_map literal_view o ≡ D.applied_to (operator_view self) (D.denoted_and (D.a_word width a) (D.denoted_and (D.an_integer z) D.no_denoted))) }
     {
         match self {
-            Operator::RotatedLeft => Ok(Some(Literal::Word(width, words::turned_by_integer(width, a, z)?))),
-            Operator::RotatedRight => Ok(Some(Literal::Word(width, words::turned_back_by_integer(width, a, z)?))),
+            Operator::RotatedLeft => Ok(Some(Literal::Word(
+                width,
+                words::turned_by_integer(width, a, z)?,
+            ))),
+            Operator::RotatedRight => Ok(Some(Literal::Word(
+                width,
+                words::turned_back_by_integer(width, a, z)?,
+            ))),
             Operator::Equals
             | Operator::Both
             | Operator::OneOf
@@ -486,7 +487,13 @@ impl Operator {
     }
 
     // Of two integers and a word.
-    fn of_integers_and_word(self, high: i128, low: i128, width: u32, a: u128) -> Result<Option<Literal>, Fault>
+    fn of_integers_and_word(
+        self,
+        high: i128,
+        low: i128,
+        width: u32,
+        a: u128,
+    ) -> Result<Option<Literal>, Fault>
         ensures { IfOk result (λ o. option_map literal_view o ≡ D.applied_to (operator_view self) (D.denoted_and (D.an_integer high) (D.denoted_and (D.an_integer low) (D.denoted_and (D.a_word width a) D.no_denoted)))) }
     {
         match self {

@@ -86,9 +86,7 @@ impl Expr {
             | Expr::SwitchOn(first, second)
             | Expr::MatchOn(first, second)
             | Expr::ExprAnd(first, second) => first.0 < limit && second.0 < limit,
-            Expr::CaseAnd(key, body, rest) => {
-                key.0 < limit && body.0 < limit && rest.0 < limit
-            }
+            Expr::CaseAnd(key, body, rest) => { key.0 < limit && body.0 < limit && rest.0 < limit }
             Expr::VariantArm { body, rest, .. } => body.0 < limit && rest.0 < limit,
             Expr::StructArm { body, .. } | Expr::ElseArm { body } => body.0 < limit,
         }

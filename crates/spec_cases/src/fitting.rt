@@ -29,7 +29,8 @@ impl Form {
             Form::Fact(fact) => Some(Operand::Fact(fact)),
             Form::Integer(integer) => Some(Operand::Integer(integer)),
             Form::Word(width, word) => Some(Operand::Word(width, word)),
-            Form::Variant { .. } | Form::Struct { .. } | Form::AnyOf { .. } | Form::SomeAt { .. } => None,
+            Form::Variant { .. } | Form::Struct { .. } | Form::AnyOf { .. } | Form::SomeAt { .. } =>
+                None,
         }
     }
 }
@@ -148,12 +149,7 @@ impl Formulas {
     }
 
     // A field of one form.
-    fn field_of(
-        &mut self,
-        widths: &[u32],
-        index: usize,
-        form: Form,
-    ) -> Result<Cases<Form>, Fault>
+    fn field_of(&mut self, widths: &[u32], index: usize, form: Form) -> Result<Cases<Form>, Fault>
         ensures { IfOk result (λ cs. Makes self.old self.new (λ v. cases_of v cs ≡ E.fitted widths.now (D.field index) (MF.form_and (form_of v form) MF.no_form))) }
     {
         match form {

@@ -160,10 +160,7 @@ impl Formulas {
                     rest: Fact::Known(false),
                 })
             }
-            Some(width) => Ok(one_case(
-                self.alloc(),
-                Form::Word(width, Word::At(place, width)),
-            )?),
+            Some(width) => Ok(one_case(self.alloc(), Form::Word(width, Word::At(place, width)))?),
         }
     }
 
@@ -181,14 +178,8 @@ impl Formulas {
         ensures { IfOk result (λ cs. Makes self.old self.new (λ v. cases_of v cs ≡ E.integer_known (v.place place.0) known)) }
     {
         match known {
-            None => Ok(one_case(
-                self.alloc(),
-                Form::Integer(Integer::At(place)),
-            )?),
-            Some(number) => Ok(one_case(
-                self.alloc(),
-                Form::Integer(Integer::Written(number)),
-            )?),
+            None => Ok(one_case(self.alloc(), Form::Integer(Integer::At(place)))?),
+            Some(number) => Ok(one_case(self.alloc(), Form::Integer(Integer::Written(number)))?),
         }
     }
 }

@@ -65,13 +65,7 @@ impl Place {
     }
 
     // With a field of a variant.
-    fn beside_variant(
-        self,
-        of: PlaceId,
-        ty: TypeId,
-        variant: VariantId,
-        index: usize,
-    ) -> Compared
+    fn beside_variant(self, of: PlaceId, ty: TypeId, variant: VariantId, index: usize) -> Compared
         ensures { (v : _) → are_same v result ≡ M.place_eq (M.variant_field_at (v.place of.0) ty.0 variant.0 index) (layer_of_place v self) }
     {
         match self {

@@ -93,7 +93,12 @@ impl Formulas {
 
     // A struct, with its fields.
     #[tactic(auto, using(crate::proofs::VariantSteps::struct_steps))]
-    fn struct_at(&mut self, ty: TypeId, place: PlaceId, fields: &Fields) -> Result<Cases<Form>, Fault>
+    fn struct_at(
+        &mut self,
+        ty: TypeId,
+        place: PlaceId,
+        fields: &Fields,
+    ) -> Result<Cases<Form>, Fault>
         ensures { IfOk result (λ cs. Makes self.old self.new (λ v. cases_of v cs ≡ MF.one_case (MF.struct_by ty.0 (E.fields_at (M.struct_field_at (v.place place.0) ty.0) 0 (field_types (fields_view fields.now)))))) }
     {
         let types = fields.types(self.alloc())?;
@@ -157,11 +162,7 @@ impl Formulas {
     ///
     /// As `made_fact`.
     #[tactic(auto, using(crate::proofs::AppliedSteps::case_steps))]
-    pub fn opened(
-        &mut self,
-        tables: &Tables<'_>,
-        form: Form,
-    ) -> Result<Cases<Form>, Fault>
+    pub fn opened(&mut self, tables: &Tables<'_>, form: Form) -> Result<Cases<Form>, Fault>
         ensures { IfOk result (λ cs. MakesApart self.old self.new (λ v. cases_of v cs
             ≡ E.opened (types_in tables.now) (specs_in tables.now) (known_in v tables.now) (form_of v form))) }
     {

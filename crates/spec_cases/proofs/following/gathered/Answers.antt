@@ -1,4 +1,4 @@
-use Rattle.std.proofs.Common.{rules, refl, ap, ◌∙◌}
+use Rattle.std.proofs.Common.{rules}
 use Rattle.spec_cases.proofs.CaseSteps.{gathered_more, gathered_done}
 use Rattle.spec_cases.proofs.following.gathered.Goals as goal
 

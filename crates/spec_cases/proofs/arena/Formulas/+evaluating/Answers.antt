@@ -17,8 +17,7 @@ use Rattle.spec_cases.proofs.arena.Formulas.+evaluating.Goals as goal
 -- expressions
 pub evaluated-returns-in_ok-form_at-in-Argument : goal.evaluated-returns-in_ok-form_at-in-Argument
 evaluated-returns-in_ok-form_at-in-Argument t c = λ v w names apart all.
-    let m = c.in-Argument in
-    (
+    let m = c.in-Argument in (
       names,
       expr_said v c.args.said.now w c.args.expr.0 (map (form_of v) c.args.bound.now) (L.its_argument m.index) _ (subst (IsSaid w c.args.expr.0) m.is (c.in_ok-index.ensures.said w all))
           (c.in_ok-form_at-in-Argument.ensures v ∙ ap (λ l. MF.or_nothing (slice_get l m.index)) (sym (fields_listed v c.args.said.now.args.now))),
@@ -26,24 +25,21 @@ evaluated-returns-in_ok-form_at-in-Argument t c = λ v w names apart all.
 
 pub evaluated-returns-in_ok-answer_said-in-Result : goal.evaluated-returns-in_ok-answer_said-in-Result
 evaluated-returns-in_ok-answer_said-in-Result t c = λ v w names apart all.
-    let m = c.in-Result in
-    (
+    let m = c.in-Result in (
       names,
       expr_said v c.args.said.now w c.args.expr.0 (map (form_of v) c.args.bound.now) L.its_result _ (subst (IsSaid w c.args.expr.0) m.is (c.in_ok-index.ensures.said w all)) (c.in_ok-answer_said-in-Result.ensures v),
     )
 
 pub evaluated-returns-in_ok-form_at-in-Variable : goal.evaluated-returns-in_ok-form_at-in-Variable
 evaluated-returns-in_ok-form_at-in-Variable t c = λ v w names apart all.
-    let m = c.in-Variable in
-    (
+    let m = c.in-Variable in (
       names,
       expr_said v c.args.said.now w c.args.expr.0 (map (form_of v) c.args.bound.now) (L.variable m.index) _ (subst (IsSaid w c.args.expr.0) m.is (c.in_ok-index.ensures.said w all)) (c.in_ok-form_at-in-Variable.ensures v),
     )
 
 pub evaluated-returns-in_ok-one_case-in-Written : goal.evaluated-returns-in_ok-one_case-in-Written
 evaluated-returns-in_ok-one_case-in-Written t c = λ v w names apart all.
-    let m = c.in-Written in
-    (
+    let m = c.in-Written in (
       names,
       expr_said v c.args.said.now w c.args.expr.0 (map (form_of v) c.args.bound.now) (L.the_same (literal_view m.value)) _ (subst (IsSaid w c.args.expr.0) m.is (c.in_ok-index.ensures.said w all))
           (one_seen v c.in_ok-one_case-in-Written.field-0 c.form.result (c.in_ok-one_case-in-Written.ensures v) ∙ ap MF.one_case (c.form.ensures v)),
@@ -52,8 +48,7 @@ evaluated-returns-in_ok-one_case-in-Written t c = λ v w names apart all.
 pub evaluated-returns-in_ok-operation-in-Operation : goal.evaluated-returns-in_ok-operation-in-Operation
 evaluated-returns-in_ok-operation-in-Operation t c = λ v w names apart all.
     let m = c.in-Operation in
-    let made = c.in_ok-operation-in-Operation.ensures v w names apart all in
-    (
+    let made = c.in_ok-operation-in-Operation.ensures v w names apart all in (
       made.0,
       expr_said v c.args.said.now w c.args.expr.0 (map (form_of v) c.args.bound.now) (L.operation (operator_view m.operator) (w.exprs m.of.0)) _ (subst (IsSaid w c.args.expr.0) m.is (c.in_ok-index.ensures.said w all)) made.1,
     )
@@ -61,8 +56,7 @@ evaluated-returns-in_ok-operation-in-Operation t c = λ v w names apart all.
 pub evaluated-returns-in_ok-unknown-in-Unknown : goal.evaluated-returns-in_ok-unknown-in-Unknown
 evaluated-returns-in_ok-unknown-in-Unknown t c = λ v w names apart all.
     let m = c.in-Unknown in
-    let made = c.in_ok-unknown-in-Unknown.ensures v w names apart all in
-    (
+    let made = c.in_ok-unknown-in-Unknown.ensures v w names apart all in (
       made.0,
       expr_said v c.args.said.now w c.args.expr.0 (map (form_of v) c.args.bound.now) (L.unknown m.function (w.exprs m.of.0)) _ (subst (IsSaid w c.args.expr.0) m.is (c.in_ok-index.ensures.said w all)) made.1,
     )
@@ -70,8 +64,7 @@ evaluated-returns-in_ok-unknown-in-Unknown t c = λ v w names apart all.
 pub evaluated-returns-in_ok-let_in-in-LetIn : goal.evaluated-returns-in_ok-let_in-in-LetIn
 evaluated-returns-in_ok-let_in-in-LetIn t c = λ v w names apart all.
     let m = c.in-LetIn in
-    let made = c.in_ok-let_in-in-LetIn.ensures v w names apart all in
-    (
+    let made = c.in_ok-let_in-in-LetIn.ensures v w names apart all in (
       made.0,
       expr_said v c.args.said.now w c.args.expr.0 (map (form_of v) c.args.bound.now) (L.let_in (w.expr m.first.0) (w.expr m.body.0)) _ (subst (IsSaid w c.args.expr.0) m.is (c.in_ok-index.ensures.said w all)) made.1,
     )
@@ -79,8 +72,7 @@ evaluated-returns-in_ok-let_in-in-LetIn t c = λ v w names apart all.
 pub evaluated-returns-in_ok-switch_on-in-SwitchOn : goal.evaluated-returns-in_ok-switch_on-in-SwitchOn
 evaluated-returns-in_ok-switch_on-in-SwitchOn t c = λ v w names apart all.
     let m = c.in-SwitchOn in
-    let made = c.in_ok-switch_on-in-SwitchOn.ensures v w names apart all in
-    (
+    let made = c.in_ok-switch_on-in-SwitchOn.ensures v w names apart all in (
       made.0,
       expr_said v c.args.said.now w c.args.expr.0 (map (form_of v) c.args.bound.now) (L.switch_on (w.expr m.first.0) (w.cases m.cases.0)) _ (subst (IsSaid w c.args.expr.0) m.is (c.in_ok-index.ensures.said w all)) made.1,
     )
@@ -88,8 +80,7 @@ evaluated-returns-in_ok-switch_on-in-SwitchOn t c = λ v w names apart all.
 pub evaluated-returns-in_ok-match_on-in-MatchOn : goal.evaluated-returns-in_ok-match_on-in-MatchOn
 evaluated-returns-in_ok-match_on-in-MatchOn t c = λ v w names apart all.
     let m = c.in-MatchOn in
-    let made = c.in_ok-match_on-in-MatchOn.ensures v w names apart all in
-    (
+    let made = c.in_ok-match_on-in-MatchOn.ensures v w names apart all in (
       made.0,
       expr_said v c.args.said.now w c.args.expr.0 (map (form_of v) c.args.bound.now) (L.match_on (w.expr m.first.0) (w.arms m.arms.0)) _ (subst (IsSaid w c.args.expr.0) m.is (c.in_ok-index.ensures.said w all)) made.1,
     )
@@ -98,8 +89,7 @@ evaluated-returns-in_ok-match_on-in-MatchOn t c = λ v w names apart all.
 pub operation-returns : goal.operation-returns
 operation-returns t c = λ v w names apart all.
     let last = c.in_ok-operated_all.ensures v names apart in
-    let lists = c.in_ok-lists.ensures v w last.0 apart all in
-    (
+    let lists = c.in_ok-lists.ensures v w last.0 apart all in (
       lists.0,
       operated_by v c.args.said.now (operator_view c.args.operator) (w.exprs c.args.of.0) (map (form_of v) c.args.bound.now) c.deref.result.now (list_cases_of v c.in_ok-lists.lists) _ (c.deref.ensures.value ∙ c.in_ok-widths.ensures) lists.1 last.1,
     )
@@ -109,8 +99,7 @@ case_and-returns t c = λ v w names apart all.
     let last = c.in_ok-switched_all.ensures v names apart in
     let later = c.in_ok-later.ensures v w last.0 apart all in
     let first = c.in_ok-first.ensures v w later.0 apart all in
-    let keys = c.in_ok-keys.ensures v w first.0 apart all in
-    (
+    let keys = c.in_ok-keys.ensures v w first.0 apart all in (
       keys.0,
       switched_by v c.args.said.now (w.expr c.args.key.0) (w.expr c.args.body.0) (w.cases c.args.rest.0) (form_of v c.args.value) (map (form_of v) c.args.bound.now) c.deref.result.now (cases_of v c.in_ok-keys.keys) (cases_of v c.in_ok-first.first) (cases_of v c.in_ok-later.later) _ (c.deref.ensures.value ∙ c.in_ok-widths.ensures)
           keys.1 first.1 later.1 last.1,
@@ -126,26 +115,23 @@ evaluated_each-returns-in_ok-paired-in-ExprAnd t c = λ v w names apart all.
     let m = c.in-ExprAnd in
     let last = c.in_ok-paired-in-ExprAnd.ensures v names in
     let later = c.in_ok-later-in-ExprAnd.ensures v w last.0 apart all in
-    let first = c.in_ok-first-in-ExprAnd.ensures v w later.0 apart all in
-    (
+    let first = c.in_ok-first-in-ExprAnd.ensures v w later.0 apart all in (
       first.0,
       exprs_said v c.args.said.now w c.args.exprs.0 (map (form_of v) c.args.bound.now) (L.spec_expr_and (w.expr m.expr.0) (w.exprs m.rest.0)) _ (subst (IsSaid w c.args.exprs.0) m.is (c.in_ok-expr_at.ensures.said w all))
           (each_more v c.args.said.now (w.expr m.expr.0) (w.exprs m.rest.0) (map (form_of v) c.args.bound.now) (cases_of v c.in_ok-first-in-ExprAnd.first) (list_cases_of v c.in_ok-later-in-ExprAnd.later) _ first.1 later.1 last.1),
     )
 
 pub evaluated_case-returns-in-NoCase : goal.evaluated_case-returns-in-NoCase
-evaluated_case-returns-in-NoCase t c = λ v w names apart all.
-    (
-      names,
-      cases_said v c.args.said.now w c.args.cases.0 (map (form_of v) c.args.bound.now) (form_of v c.args.value) L.no_case _ (subst (IsSaid w c.args.cases.0) c.in-NoCase.is (c.in_ok-expr_at.ensures.said w all))
-          (nothing_seen v c.nothing_said.result (c.nothing_said.ensures v)),
-    )
+evaluated_case-returns-in-NoCase t c = λ v w names apart all. (
+  names,
+  cases_said v c.args.said.now w c.args.cases.0 (map (form_of v) c.args.bound.now) (form_of v c.args.value) L.no_case _ (subst (IsSaid w c.args.cases.0) c.in-NoCase.is (c.in_ok-expr_at.ensures.said w all))
+      (nothing_seen v c.nothing_said.result (c.nothing_said.ensures v)),
+)
 
 pub evaluated_case-returns-in_ok-case_and-in-CaseAnd : goal.evaluated_case-returns-in_ok-case_and-in-CaseAnd
 evaluated_case-returns-in_ok-case_and-in-CaseAnd t c = λ v w names apart all.
     let m = c.in-CaseAnd in
-    let made = c.in_ok-case_and-in-CaseAnd.ensures v w names apart all in
-    (
+    let made = c.in_ok-case_and-in-CaseAnd.ensures v w names apart all in (
       made.0,
       cases_said v c.args.said.now w c.args.cases.0 (map (form_of v) c.args.bound.now) (form_of v c.args.value) (L.case_and (w.expr m.key.0) (w.expr m.body.0) (w.cases m.rest.0)) _
           (subst (IsSaid w c.args.cases.0) m.is (c.in_ok-expr_at.ensures.said w all)) made.1,
@@ -153,18 +139,16 @@ evaluated_case-returns-in_ok-case_and-in-CaseAnd t c = λ v w names apart all.
 
 -- arms
 pub evaluated_arm-returns-in-NoArm : goal.evaluated_arm-returns-in-NoArm
-evaluated_arm-returns-in-NoArm t c = λ v w names apart all.
-    (
-      names,
-      arms_said v c.args.said.now w c.args.arms.0 (map (form_of v) c.args.bound.now) (form_of v c.args.value) L.no_spec_arm _ (subst (IsSaid w c.args.arms.0) c.in-NoArm.is (c.in_ok-expr_at.ensures.said w all))
-          (nothing_seen v c.nothing_said.result (c.nothing_said.ensures v)),
-    )
+evaluated_arm-returns-in-NoArm t c = λ v w names apart all. (
+  names,
+  arms_said v c.args.said.now w c.args.arms.0 (map (form_of v) c.args.bound.now) (form_of v c.args.value) L.no_spec_arm _ (subst (IsSaid w c.args.arms.0) c.in-NoArm.is (c.in_ok-expr_at.ensures.said w all))
+      (nothing_seen v c.nothing_said.result (c.nothing_said.ensures v)),
+)
 
 pub evaluated_arm-returns-in_ok-evaluated-in-ElseArm : goal.evaluated_arm-returns-in_ok-evaluated-in-ElseArm
 evaluated_arm-returns-in_ok-evaluated-in-ElseArm t c = λ v w names apart all.
     let m = c.in-ElseArm in
-    let made = c.in_ok-evaluated-in-ElseArm.ensures v w names apart all in
-    (
+    let made = c.in_ok-evaluated-in-ElseArm.ensures v w names apart all in (
       made.0,
       arms_said v c.args.said.now w c.args.arms.0 (map (form_of v) c.args.bound.now) (form_of v c.args.value) (L.arm_else (w.expr m.body.0)) _ (subst (IsSaid w c.args.arms.0) m.is (c.in_ok-expr_at.ensures.said w all))
           (made.1 ∙ ap (λ b. evaluated_in v c.args.said.now (w.expr m.body.0) b) (ap (map (form_of v)) c.deref.ensures.value ∙ c.in_ok-inner-in-ElseArm.ensures v)),
@@ -173,8 +157,7 @@ evaluated_arm-returns-in_ok-evaluated-in-ElseArm t c = λ v w names apart all.
 pub evaluated_arm-returns-in_ok-struct_arm-in-StructArm : goal.evaluated_arm-returns-in_ok-struct_arm-in-StructArm
 evaluated_arm-returns-in_ok-struct_arm-in-StructArm t c = λ v w names apart all.
     let m = c.in-StructArm in
-    let made = c.in_ok-struct_arm-in-StructArm.ensures v w names apart all in
-    (
+    let made = c.in_ok-struct_arm-in-StructArm.ensures v w names apart all in (
       made.0,
       arms_said v c.args.said.now w c.args.arms.0 (map (form_of v) c.args.bound.now) (form_of v c.args.value) (L.struct_arm m.ty.0 (w.expr m.body.0)) _ (subst (IsSaid w c.args.arms.0) m.is (c.in_ok-expr_at.ensures.said w all)) made.1,
     )
@@ -182,8 +165,7 @@ evaluated_arm-returns-in_ok-struct_arm-in-StructArm t c = λ v w names apart all
 pub evaluated_arm-returns-in_ok-variant_arm-in-VariantArm : goal.evaluated_arm-returns-in_ok-variant_arm-in-VariantArm
 evaluated_arm-returns-in_ok-variant_arm-in-VariantArm t c = λ v w names apart all.
     let m = c.in-VariantArm in
-    let made = c.in_ok-variant_arm-in-VariantArm.ensures v w names apart all in
-    (
+    let made = c.in_ok-variant_arm-in-VariantArm.ensures v w names apart all in (
       made.0,
       arms_said v c.args.said.now w c.args.arms.0 (map (form_of v) c.args.bound.now) (form_of v c.args.value) (L.spec_arm_and m.ty.0 m.variant.0 (w.expr m.body.0) (w.arms m.rest.0)) _
           (subst (IsSaid w c.args.arms.0) m.is (c.in_ok-expr_at.ensures.said w all)) made.1,
@@ -280,8 +262,7 @@ matched-returns t c = λ v w names apart all.
 pub struct_arm-returns-in_ok-evaluated-in-Struct : goal.struct_arm-returns-in_ok-evaluated-in-Struct
 struct_arm-returns-in_ok-evaluated-in-Struct t c = λ v w names apart all.
     let m = c.in-Struct in
-    let made = c.in_ok-evaluated-in-Struct.ensures v w names apart all in
-    (
+    let made = c.in_ok-evaluated-in-Struct.ensures v w names apart all in (
       made.0,
       struct_taken v c.args.said.now c.args.ty.0 m.own.0 (w.expr c.args.body.0) (v.fields m.fields.0) (form_of v c.args.value) (map (form_of v) c.args.bound.now) _ (map (form_of v) c.deref.result.now) (ap (form_of v) m.is) (omega arith)
           (ap (map (form_of v)) c.deref.ensures.value ∙ c.in_ok-inner-in-Struct.ensures v made.0) made.1,
@@ -290,8 +271,7 @@ struct_arm-returns-in_ok-evaluated-in-Struct t c = λ v w names apart all.
 pub variant_arm-returns-in_ok-evaluated-in-Variant : goal.variant_arm-returns-in_ok-evaluated-in-Variant
 variant_arm-returns-in_ok-evaluated-in-Variant t c = λ v w names apart all.
     let m = c.in-Variant in
-    let made = c.in_ok-evaluated-in-Variant.ensures v w names apart all in
-    (
+    let made = c.in_ok-evaluated-in-Variant.ensures v w names apart all in (
       made.0,
       variant_taken v c.args.said.now c.args.ty.0 m.own.0 (w.expr c.args.body.0) (v.fields m.fields.0) (form_of v c.args.value) (map (form_of v) c.args.bound.now) _ c.args.variant.0 m.kind.0 (w.arms c.args.rest.0)
           (map (form_of v) c.deref.result.now) (ap (form_of v) m.is) (omega arith) (omega arith) (ap (map (form_of v)) c.deref.ensures.value ∙ c.in_ok-inner-in-Variant.ensures v made.0) made.1,

@@ -1,4 +1,4 @@
-use Rattle.std.proofs.Common.{ℕ, ◌+◌, ◌*◌, length}
+use Rattle.std.proofs.Common.{◌+◌, ◌*◌, length}
 use Rattle.spec_cases.proofs.arena.Formulas.+evaluating.Given as goal
 
 abbrev pub decreases-evaluated : goal.decreases-evaluated

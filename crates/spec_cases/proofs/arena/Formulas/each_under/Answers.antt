@@ -1,4 +1,4 @@
-use Rattle.std.proofs.Common.{rules, refl, ap, arith}
+use Rattle.std.proofs.Common.{rules, ap}
 use Rattle.spec_cases.specs.Namings.{fact_of}
 use Rattle.spec_cases.proofs.CaseSteps.{under_more, under_done}
 use Rattle.spec_cases.proofs.arena.Formulas.each_under.Goals as goal

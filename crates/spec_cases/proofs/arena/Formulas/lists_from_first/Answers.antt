@@ -11,5 +11,5 @@ returns c = λ v names.
     let here = c.in_ok-here.ensures v joined.0 in (
       here.0,
       list_joined v c.in_ok-here.here c.args.later.now c.in_ok-joined_cases.field-0 joined.1
-      ∙ ap (λ l. MF.joined_cases l (list_cases_of v c.args.later.now)) (list_under v (fact_of v c.args.guard) c.args.first.now c.in_ok-here.here here.1),
+          ∙ ap (λ l. MF.joined_cases l (list_cases_of v c.args.later.now)) (list_under v (fact_of v c.args.guard) c.args.first.now c.in_ok-here.here here.1),
     )
