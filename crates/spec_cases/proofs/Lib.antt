@@ -1,12 +1,15 @@
+mod AlikeSpecs
 mod AnsweringSteps
 mod AppliedLiterals
 mod AppliedSteps
+mod AskingSteps
 mod CaseSteps
 mod CombiningSteps
 mod ComputingSteps
 mod EvaluatingSteps
 mod ExpressionSteps
 mod FittingSteps
+mod LearningSteps
 mod LiteralSteps
 mod OpeningSteps
 mod PairSteps
@@ -17,5 +20,6 @@ mod ShapedOperands
 mod SizedResults
 mod SortSteps
 mod Standing
+mod TrailSteps
 mod VariantSteps
 mod WordSteps

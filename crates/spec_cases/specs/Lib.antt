@@ -1,4 +1,5 @@
 pub mod Arenas
+pub mod Asking
 pub mod CaseViews
 pub mod Combining
 pub mod Computing
@@ -16,5 +17,7 @@ pub mod Sayings
 pub mod Shapes
 pub mod Sorts
 pub mod Standing
+pub mod Steps
 pub mod Tables
+pub mod Trails
 pub mod Variants

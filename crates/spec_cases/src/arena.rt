@@ -1,5 +1,5 @@
 //! The arena of the formulas of a question.
-ghost use Rattle.std.specs.Prelude.{◌≡◌, ℕ, [], IfOk};
+ghost use Rattle.std.specs.Prelude.{◌≡◌, ℕ, [], length, IfOk};
 ghost use Rattle.model.specs.sites.Sites.{SiteTerm};
 ghost use Rattle.spec_cases.specs.Namings.{fact_of, forms_of, integer_of, layer_of_fact, layer_of_integer, layer_of_place, layer_of_word, word_of, IsNamed, Makes, Names};
 ghost use Rattle.spec_cases.specs.Standing.{naming_of};
@@ -58,6 +58,13 @@ impl Formulas {
     /// Where memory is asked of.
     pub fn alloc(&self) -> Global {
         self.alloc
+    }
+
+    /// How many numbers are taken.
+    pub fn count(&self) -> usize
+        ensures { result ≡ length self.now }
+    {
+        self.nodes.len()
     }
 
     // The number of what is made of others.
@@ -140,6 +147,20 @@ impl Formulas {
     {
         match self.nodes.get(fields.0 as usize) {
             Some(Node::Fields(list)) => Ok(list),
+            _ => Err(Fault::Foreign),
+        }
+    }
+
+    /// What a truth is made of.
+    ///
+    /// # Errors
+    ///
+    /// `Foreign` where it isn't there.
+    pub fn fact_node(&self, fact: NodeId) -> Result<&FactNode, Fault>
+        ensures { IfOk result (λ x. (v : _) → Names v self.now → v.fact fact.0 ≡ layer_of_fact v x.now) }
+    {
+        match self.nodes.get(fact.0 as usize) {
+            Some(Node::Fact(node)) => Ok(node),
             _ => Err(Fault::Foreign),
         }
     }

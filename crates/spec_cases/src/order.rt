@@ -75,7 +75,7 @@ fn are_operands_within(operands: &[Operand], count: usize) -> bool
 }
 
 impl Form {
-    fn is_within(self, count: usize) -> bool
+    pub(crate) fn is_within(self, count: usize) -> bool
         ensures { result ≡ form_within count self }
     {
         match self {
