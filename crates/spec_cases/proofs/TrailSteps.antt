@@ -23,7 +23,7 @@ IsWithin count (Some x) = trail_within count x.before ≡ true
 module _ (v : Naming) (count : ℕ) (s t : ℕ → List M.Fact) (a : Agree count s t) where
   trail_same : (b : Trail) → trail_within count b ≡ true → trail_of s b ≡ trail_of t b
   trail_same T.Start h = refl
-  trail_same (T.After n) h = a.link n.0 (ltb-true n.0 count h)
+  trail_same (T.To n) h = a.link n.0 (ltb-true n.0 count h)
 
   link_same : (o : Option Link) → IsWithin count o → trail_by v s o ≡ trail_by v t o
   link_same None h = refl
@@ -47,14 +47,17 @@ module _ (v : Naming) (links : List Link) (earlier : AreEarlier links) where
       record { link = λ n h. link_same v n s t (less n h) (slice_get links n) (within n (slice_get links n) refl) }
 
   pub all_trails : AreTrails v (trails_of v links) links
-  all_trails = λ n x e.
-      let h = slice_get_within links n x e in
-      ap (trail_by v (trails_at v links (length links))) e
-      ∙ link_same v n (trails_at v links (length links)) (trails_of v links) (fewer (length links) n (trails_at v links (length links)) (trails_of v links) (omega arith) (agree (length links))) (Some x) (earlier n x e)
+  all_trails = record {
+    linked = λ n x e.
+        let h = slice_get_within links n x e in
+        let s = trails_at v links (length links) in
+        let less : Agree n s (trails_of v links) = fewer (length links) n s (trails_of v links) (omega arith) (agree (length links)) in
+        ap (trail_by v s) e ∙ link_same v n s (trails_of v links) less (Some x) (earlier n x e);
+  }
 
 -- 2. a link that is read, and facts by their numbers
 pub link_read : (v : Naming) (s : ℕ → List M.Fact) (l : List Link) (n : ℕ) (x : Link) → AreTrails v s l → n < length l → x ≡ get_or l n x → s n ≡ fact_of v x.fact ∷ trail_of s x.before
-link_read v s l n x all h e = all n x (slice_get_read l (length l) n x refl h e)
+link_read v s l n x all h e = all.linked n x (slice_get_read l (length l) n x refl h e)
 
 pub facts_pushed : (v : Naming) (out : List Fact) (f : Fact) → map (fact_of v) (out ++ f ∷ []) ≡ map (fact_of v) out ++ (fact_of v f ∷ [])
 facts_pushed v out f = map-append (fact_of v) out (f ∷ [])

@@ -1,5 +1,5 @@
 -- Facts as a tree: each link is a fact after others, and a trail is the facts of a link and of all before it, the last one first.
-use Rattle.std.specs.Prelude.{◌≡◌, ℕ, zero, suc, Bool, true, List, [], ◌∷◌, ◌++◌, map, Option, Some, None, length, nat_lt, slice_get}
+use Rattle.std.specs.Prelude.{◌≡◌, ℕ, zero, suc, Bool, true, List, [], ◌∷◌, map, Option, Some, None, length, nat_lt, slice_get}
 use Rattle.model_questions.specs.Formulas as M
 use Rattle.spec_cases.specs.declared.trails.Link.{Link}
 use Rattle.spec_cases.specs.declared.trails.Trail.{Trail}
@@ -9,14 +9,14 @@ use Rattle.spec_cases.specs.Namings.{Naming, fact_of}
 -- by what the facts are that each link ends
 abbrev pub trail_of : (ℕ → List M.Fact) → Trail → List M.Fact
 trail_of s T.Start = []
-trail_of s (T.After n) = s n.0
+trail_of s (T.To n) = s n.0
 
 abbrev pub trails_in : (ℕ → List M.Fact) → List Trail → List (List M.Fact)
 trails_in s ts = map (trail_of s) ts
 
 -- each link ends its fact after the others
-abbrev pub AreTrails : Naming → (ℕ → List M.Fact) → List Link → Type 0
-AreTrails v s links = (n : ℕ) (x : Link) → slice_get links n ≡ Some x → s n ≡ fact_of v x.fact ∷ trail_of s x.before
+pub record AreTrails (v : Naming) (s : ℕ → List M.Fact) (links : List Link) : Type 0 where
+  pub linked : (n : ℕ) (x : Link) → slice_get links n ≡ Some x → s n ≡ fact_of v x.fact ∷ trail_of s x.before
 
 -- a link is added, and what was there ends what it ended; whatever facts stand for, P is so
 abbrev pub Extends : List Link → List Link → (Naming → (ℕ → List M.Fact) → Type 0) → Type 0
@@ -25,7 +25,7 @@ Extends old new P = (v : Naming) (s : ℕ → List M.Fact) → AreTrails v s new
 -- each link is after earlier ones
 abbrev pub trail_within : ℕ → Trail → Bool
 trail_within count T.Start = true
-trail_within count (T.After n) = nat_lt n.0 count
+trail_within count (T.To n) = nat_lt n.0 count
 
 abbrev pub AreEarlier : List Link → Type 0
 AreEarlier links = (n : ℕ) (x : Link) → slice_get links n ≡ Some x → trail_within n x.before ≡ true

@@ -15,8 +15,6 @@ pub enum Fault {
     Foreign,
     /// It has a width past 2 to 32, or a number past 2 to 127.
     TooGreat,
-    /// There would be more questions, or more branches, than are made.
-    TooMany,
 }
 
 impl From<AllocError> for Fault {
@@ -42,7 +40,6 @@ impl Drop for Fault {
             Fault::Full => {}
             Fault::Foreign => {}
             Fault::TooGreat => {}
-            Fault::TooMany => {}
         }
     }
 }

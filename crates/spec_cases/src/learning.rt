@@ -14,6 +14,17 @@ use crate::shapes::{Shape, shape_of};
 use core_types::VariantId;
 use std::alloc::Global;
 
+/// Nothing is told of any place. Takes no memory.
+pub fn nothing_known(alloc: Global) -> Known
+    ensures { (v : _) → known_of v result ≡ Q.nothing_known }
+{
+    Known {
+        widths: Vec::new(alloc),
+        integers: Vec::new(alloc),
+        kinds: Vec::new(alloc),
+    }
+}
+
 // What is told of one more place.
 fn told_before<X: Copy>(
     alloc: Global,

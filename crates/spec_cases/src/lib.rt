@@ -20,6 +20,7 @@ pub mod forms;
 pub mod formulas;
 pub mod known;
 pub mod learning;
+pub mod limits;
 pub mod literals;
 pub mod merging;
 pub mod opening;

@@ -18,10 +18,11 @@ use crate::arena::Formulas;
 use crate::asking::Asking;
 use crate::faults::Fault;
 use crate::formulas::{Fact, PlaceId};
+use crate::limits::{AskingFault, add_question};
 use crate::sorts::{Sort, TypeSort};
 use crate::steps::{Said, Step, are_steps_within};
 use crate::tables::Tables;
-use crate::trails::{Trail, Trails, add_question};
+use crate::trails::{Trail, Trails};
 use core_types::{BuiltinType, Type, TypeId, Variant};
 use std::alloc::Global;
 
@@ -107,7 +108,7 @@ impl Formulas {
     ///
     /// # Errors
     ///
-    /// `TooMany` where there would be more questions or branches than are made, else as `fact_of`. What was added stays.
+    /// `TooMany` where there would be more questions or branches than are made, else as `fact_of`.
     #[cycle(asking)]
     pub fn paths(
         &mut self,
@@ -116,7 +117,7 @@ impl Formulas {
         trail: Trail,
         trails: &mut Trails,
         out: &mut Vec<Trail>,
-    ) -> Result<(), Fault>
+    ) -> Result<(), AskingFault>
         ensures { OnOk result (Asks self.old self.new trails.old trails.new asking.now.exprs.now (λ v w s. Adds s out.old.items out.new.items (asked_in v s asking.now (step_views v w steps.now) trail))) }
     {
         match steps {
@@ -135,7 +136,7 @@ impl Formulas {
         trail: Trail,
         trails: &mut Trails,
         out: &mut Vec<Trail>,
-    ) -> Result<(), Fault>
+    ) -> Result<(), AskingFault>
         ensures { OnOk result (Asks self.old self.new trails.old trails.new asking.now.exprs.now (λ v w s. Adds s out.old.items out.new.items (asked_in v s asking.now (step_view v w step.now ∷ step_views v w rest.now) trail))) }
     {
         match step {
@@ -164,7 +165,7 @@ impl Formulas {
         trail: Trail,
         trails: &mut Trails,
         out: &mut Vec<Trail>,
-    ) -> Result<(), Fault>
+    ) -> Result<(), AskingFault>
         ensures { OnOk result (Asks self.old self.new trails.old trails.new asking.now.exprs.now (λ v w s. Adds s out.old.items out.new.items (asked_in v s asking.now (S.split_at ty.0 (v.place place.0) ∷ step_views v w rest.now) trail))) }
     {
         match split_widths(self.alloc(), asking.tables, ty)? {
@@ -186,7 +187,7 @@ impl Formulas {
         trail: Trail,
         trails: &mut Trails,
         out: &mut Vec<Trail>,
-    ) -> Result<(), Fault>
+    ) -> Result<(), AskingFault>
         ensures { OnOk result (Asks self.old self.new trails.old trails.new asking.now.exprs.now (λ v w s. Adds s out.old.items out.new.items (Q.each_of (λ x. asked_after v w s asking.now (M.as_wide (v.place place.0) x) rest.now trail) widths.now))) }
     {
         match widths {
@@ -209,7 +210,7 @@ impl Formulas {
         trail: Trail,
         trails: &mut Trails,
         out: &mut Vec<Trail>,
-    ) -> Result<(), Fault>
+    ) -> Result<(), AskingFault>
         ensures { OnOk result (Asks self.old self.new trails.old trails.new asking.now.exprs.now (λ v w s. Adds s out.old.items out.new.items (Q.unless_false (fact_of v fact) (asked_after v w s asking.now (fact_of v fact) rest.now trail)))) }
     {
         match fact.known() {
@@ -228,7 +229,7 @@ impl Formulas {
         trail: Trail,
         trails: &mut Trails,
         out: &mut Vec<Trail>,
-    ) -> Result<(), Fault>
+    ) -> Result<(), AskingFault>
         ensures { OnOk result (Asks self.old self.new trails.old trails.new asking.now.exprs.now (λ v w s. Adds s out.old.items out.new.items (asked_in v s asking.now (S.shown (said_view v w said) ∷ step_views v w rest.now) trail))) }
     {
         let facts = self.shown_facts(asking, said)?;
@@ -247,7 +248,7 @@ impl Formulas {
         trail: Trail,
         trails: &mut Trails,
         out: &mut Vec<Trail>,
-    ) -> Result<(), Fault>
+    ) -> Result<(), AskingFault>
         ensures { OnOk result (Asks self.old self.new trails.old trails.new asking.now.exprs.now (λ v w s. Adds s out.old.items out.new.items (asked_after v w s asking.now (fact_of v fact) rest.now trail))) }
     {
         let known = self.learned(fact, asking.tables.known)?;
@@ -276,11 +277,11 @@ impl Formulas {
         asking: &Asking<'_>,
         steps: &[Step],
         trails: &mut Trails,
-    ) -> Result<Vec<Trail>, Fault>
+    ) -> Result<Vec<Trail>, AskingFault>
         ensures { IfOk result (λ qs. Asks self.old self.new trails.old trails.new asking.now.exprs.now (λ v w s. trails_in s qs.items ≡ asked_in v s asking.now (step_views v w steps.now) Trail.Start)) }
     {
         if !are_steps_within(steps, self.count(), asking.exprs.len()) {
-            return Err(Fault::Foreign);
+            return Err(AskingFault::Formula(Fault::Foreign));
         }
         let mut out = Vec::new(self.alloc());
         self.paths(asking, steps, Trail::Start, trails, &mut out)?;

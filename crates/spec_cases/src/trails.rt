@@ -6,6 +6,7 @@ ghost use Rattle.spec_cases.specs.Trails.{trail_of, trail_within, trails_of, Are
 
 use crate::faults::Fault;
 use crate::formulas::Fact;
+use crate::limits::{AskingFault, MOST_BRANCHES};
 use std::alloc::Global;
 use std::marker::Model;
 
@@ -18,8 +19,8 @@ pub struct LinkId(pub(crate) u32);
 pub enum Trail {
     /// None.
     Start,
-    /// The fact of this link, and those before it.
-    After(LinkId),
+    /// That of this link, and those before it.
+    To(LinkId),
 }
 
 /// A fact after others.
@@ -30,13 +31,6 @@ pub struct Link {
     /// The others.
     pub before: Trail,
 }
-
-/// The most branches that are followed: each width of each place that is split begins one. What ends in no question counts too, so that
-/// asking comes to an end where many places are split.
-pub const MOST_BRANCHES: usize = 2000;
-
-/// The most questions that are asked: a solver has to answer each.
-pub const MOST_QUESTIONS: usize = 2000;
 
 /// A tree of facts. A contract sees it as the list of its links, by their numbers; each is after earlier ones. What is called here adds to
 /// it: what has a number keeps what it stands for.
@@ -82,7 +76,7 @@ impl Trail {
     {
         match self {
             Trail::Start => true,
-            Trail::After(link) => (link.0 as usize) < count,
+            Trail::To(link) => (link.0 as usize) < count,
         }
     }
 }
@@ -97,11 +91,6 @@ impl Trails {
             links: Vec::new(alloc),
             branches: 0,
         }
-    }
-
-    /// Where memory is asked of.
-    pub fn alloc(&self) -> Global {
-        self.alloc
     }
 
     /// A fact after others.
@@ -120,7 +109,7 @@ impl Trails {
             return Err(Fault::Full);
         };
         self.links.push(Link { fact, before })?;
-        Ok(Trail::After(LinkId(number)))
+        Ok(Trail::To(LinkId(number)))
     }
 
     /// Counts one more branch.
@@ -128,11 +117,11 @@ impl Trails {
     /// # Errors
     ///
     /// `TooMany` where as many as are followed have begun.
-    pub fn count_branch(&mut self) -> Result<(), Fault>
+    pub fn count_branch(&mut self) -> Result<(), AskingFault>
         ensures { OnOk result (self.new ≡ self.old) }
     {
         if self.branches >= MOST_BRANCHES {
-            return Err(Fault::TooMany);
+            return Err(AskingFault::TooMany);
         }
         self.branches += 1;
         Ok(())
@@ -156,7 +145,7 @@ impl Trails {
     {
         match trail {
             Trail::Start => Ok(()),
-            Trail::After(link) => {
+            Trail::To(link) => {
                 if (link.0 as usize) < limit {
                     let last = self.link_at(link)?;
                     out.push(last.fact)?;
@@ -180,15 +169,4 @@ impl Trails {
         self.add_facts(self.links.len(), trail, &mut out)?;
         Ok(out)
     }
-}
-
-// Adds a question.
-pub(crate) fn add_question(out: &mut Vec<Trail>, end: Trail) -> Result<(), Fault>
-    ensures { OnOk result (out.new.items ≡ out.old.items ++ end ∷ []) }
-{
-    if out.len() >= MOST_QUESTIONS {
-        return Err(Fault::TooMany);
-    }
-    out.push(end)?;
-    Ok(())
 }
