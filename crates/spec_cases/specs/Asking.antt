@@ -63,11 +63,11 @@ abbrev pub listed : Option L.Sort → Option (List ℕ)
 listed (Some (L.words_among ws)) = Some ws
 listed _ = None
 
--- a type that has atoms alone, where it has a sort
 abbrev pub is_empty : List VariantEntry → Bool
 is_empty [] = true
 is_empty (v ∷ vs) = false
 
+-- a type that has atoms alone, where it has a sort
 abbrev pub has_atoms : TypeEntry → Bool
 has_atoms (builtin_type zero) = false
 has_atoms (builtin_type (suc n)) = true

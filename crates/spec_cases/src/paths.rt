@@ -202,6 +202,7 @@ impl Formulas {
 
     // Adds the questions of steps after one fact more, unless it is known to be false.
     #[cycle(asking)]
+    #[tactic(auto, using(crate::proofs::AskingSteps::unless_steps))]
     fn unless_false(
         &mut self,
         asking: &Asking<'_>,

@@ -1,13 +1,42 @@
-use Rattle.std.proofs.Common.{◌∙◌, ◌++◌, refl, sym, ap, subst}
+use Rattle.std.proofs.Common.{◌∙◌, ◌++◌, None, sym, ap, subst}
+use Rattle.std.specs.Option.{option_map}
 use Rattle.model_questions.specs.Formulas as M
-use Rattle.model_questions.specs.Questions as Q
 use Rattle.spec_cases.specs.Asking.{asked_after, asked_in}
 use Rattle.spec_cases.specs.Namings.{fact_of}
 use Rattle.spec_cases.specs.Places.{known_of}
-use Rattle.spec_cases.specs.Steps.{step_view, step_views}
+use Rattle.spec_cases.specs.Steps.{step_view}
 use Rattle.spec_cases.specs.Trails.{trails_in, AreTrails}
-use Rattle.spec_cases.proofs.AskingSteps.{first_step, not_split, shown_by, split_by, step_told, told_by, unless_open, unless_true_known, widths_by}
+use Rattle.spec_cases.proofs.AskingSteps.{first_step, not_split, shown_by, split_by, step_told, told_by, widths_by}
 use Rattle.spec_cases.proofs.arena.Formulas.+asking.Goals as goal
+
+-- a step, and those after it
+pub paths-returns-in_ok-first_path-in-len1-up : goal.paths-returns-in_ok-first_path-in-len1-up
+paths-returns-in_ok-first_path-in-len1-up t c = λ v w s names apart all links.
+    let last = c.in_ok-first_path-in-len1-up.ensures v w s names apart all links in (
+      last.0,
+      last.1,
+      last.2 ∙ ap (λ l. trails_in s c.args.out.now.items ++ asked_in v s c.args.asking.now l c.args.trail) (first_step v w c.args.steps.now c.step-item.result c.in-len1-up.len_at_least c.step-item.is),
+    )
+
+-- a place that isn't split, or is
+pub split-returns-in_ok-paths-in-None : goal.split-returns-in_ok-paths-in-None
+split-returns-in_ok-paths-in-None t c = λ v w s names apart all links.
+    let last = c.in_ok-paths-in-None.ensures v w s names apart all links in (
+      last.0,
+      last.1,
+      not_split v w s c.args.asking.now c.args.out.now.items c.paths-in-None.new.out.items c.args.ty.0 (v.place c.args.place.0) c.args.rest.now c.args.trail (search (c.in_ok-split_widths.ensures, c.in-None.is)) last.2,
+    )
+
+-- each width
+pub each_width-returns-in_ok-each_width-in-len1-up : goal.each_width-returns-in_ok-each_width-in-len1-up
+each_width-returns-in_ok-each_width-in-len1-up t c = λ v w s names apart all links.
+    let last = c.in_ok-each_width-in-len1-up.ensures v w s names apart all links in
+    let here = c.in_ok-told-in-len1-up.ensures v w s last.0 apart all last.1 in (
+      here.0,
+      subst (AreTrails v s) c.in_ok-count_branch-in-len1-up.ensures here.1,
+      widths_by s (λ x. asked_after v w s c.args.asking.now (M.as_wide (v.place c.args.place.0) x) c.args.rest.now c.args.trail) c.args.widths.now c.width-item.result c.args.out.now.items c.told-in-len1-up.new.out.items c.each_width-in-len1-up.new.out.items
+          c.in-len1-up.len_at_least c.width-item.is here.2 last.2,
+    )
 
 -- after one fact more
 pub told-returns : goal.told-returns
