@@ -25,6 +25,7 @@ use Rattle.spec_cases.specs.declared.sorts.TypeSort.{TypeSort}
 use Rattle.spec_cases.specs.declared.steps.Constant.{Constant}
 use Rattle.spec_cases.specs.declared.steps.Said.{Said}
 use Rattle.spec_cases.specs.declared.steps.Step.{Step}
+use Rattle.spec_cases.specs.declared.steps.Step.TheVariants as T
 use Rattle.spec_cases.specs.declared.trails.Trail.{Trail}
 use Rattle.spec_cases.specs.Arenas.{known_of}
 use Rattle.spec_cases.specs.Asking.{asked_specs, asked_in, asked_after, come_to_in, fact_in, has_atoms, listed, same_in, Adds}
@@ -32,7 +33,7 @@ use Rattle.spec_cases.specs.Combining.{rest_with}
 use Rattle.spec_cases.specs.Expressions.{Saying}
 use Rattle.spec_cases.specs.Namings.{Naming, fact_of, form_of, forms_of, is_plain_fact}
 use Rattle.spec_cases.specs.Sorts.{type_sort, type_sorts}
-use Rattle.spec_cases.specs.Steps.{constant_view, constant_views, said_view, step_view, step_views}
+use Rattle.spec_cases.specs.Steps.{constant_view, constant_views, is_told, said_view, step_view, step_views}
 use Rattle.spec_cases.specs.Tables.{known_in, specs_in, types_in}
 use Rattle.spec_cases.specs.Trails.{trail_of, trails_in}
 use Rattle.spec_cases.proofs.AlikeSpecs.{evaluated_alike, fitted_alike, opened_alike, then_alike}
@@ -179,31 +180,22 @@ first_step v w [] x h at = absurd (omega arith)
 first_step v w (y ∷ l) x h at =
     ap (λ r. step_view v w x ∷ step_views v w r) (take_all (length (y ∷ l) - 1) l (omega arith)) ∙ ap (λ z. step_view v w z ∷ step_views v w l) at
 
--- a step whose fact is told: it neither splits a place nor is to be shown
-abbrev pub is_told : S.Step → Bool
-is_told (S.split_at ty at) = false
-is_told (S.told_as f c) = true
-is_told (S.told_same f g) = true
-is_told (S.assumed s) = true
-is_told (S.assumed_under ss s) = true
-is_told (S.shown s) = false
-
 module _ (v : Naming) (w : Saying) (s : ℕ → List M.Fact) (a : Asking) where
   abbrev follow : List S.Step → Trail → M.Fact → List (List M.Fact)
   follow steps t f = Q.paths (types_in a.tables.now) (asked_specs a) steps (Q.learned f (known_in v a.tables.now)) (f ∷ trail_of s t)
 
-  told_first : (x : S.Step) (f : M.Fact) (steps : List S.Step) (t : Trail) → is_told x ≡ true → f ≡ fact_in v a x
-      → Q.unless_false f (follow steps t f) ≡ asked_in v s a (x ∷ steps) t
-  told_first (S.split_at ty at) f steps t h e = absurd (false≢true h)
-  told_first (S.told_as g c) f steps t h e = ap (λ y. Q.unless_false y (follow steps t y)) e
-  told_first (S.told_same g z) f steps t h e = ap (λ y. Q.unless_false y (follow steps t y)) e
-  told_first (S.assumed z) f steps t h e = ap (λ y. Q.unless_false y (follow steps t y)) e
-  told_first (S.assumed_under zs z) f steps t h e = ap (λ y. Q.unless_false y (follow steps t y)) e
-  told_first (S.shown z) f steps t h e = absurd (false≢true h)
+  told_first : (x : Step) (f : M.Fact) (steps : List S.Step) (t : Trail) → is_told x ≡ true → f ≡ fact_in v a (step_view v w x)
+      → Q.unless_false f (follow steps t f) ≡ asked_in v s a (step_view v w x ∷ steps) t
+  told_first (T.SplitAt ty p) f steps t h e = absurd (false≢true h)
+  told_first (T.ToldAs g c) f steps t h e = ap (λ y. Q.unless_false y (follow steps t y)) e
+  told_first (T.ToldSame g z) f steps t h e = ap (λ y. Q.unless_false y (follow steps t y)) e
+  told_first (T.Assumed z) f steps t h e = ap (λ y. Q.unless_false y (follow steps t y)) e
+  told_first (T.AssumedUnder zs z) f steps t h e = ap (λ y. Q.unless_false y (follow steps t y)) e
+  told_first (T.Shown z) f steps t h e = absurd (false≢true h)
 
   module _ (old new : List Trail) where
-    pub step_told : (x : S.Step) (f : M.Fact) (steps : List Step) (t : Trail) → is_told x ≡ true → f ≡ fact_in v a x
-        → Adds s old new (Q.unless_false f (asked_after v w s a f steps t)) → Adds s old new (asked_in v s a (x ∷ step_views v w steps) t)
+    pub step_told : (x : Step) (f : M.Fact) (steps : List Step) (t : Trail) → is_told x ≡ true → f ≡ fact_in v a (step_view v w x)
+        → Adds s old new (Q.unless_false f (asked_after v w s a f steps t)) → Adds s old new (asked_in v s a (step_view v w x ∷ step_views v w steps) t)
     step_told x f steps t h e made = made ∙ ap (λ l. trails_in s old ++ l) (told_first x f (step_views v w steps) t h e)
 
     -- after one fact more

@@ -1,5 +1,5 @@
 -- Steps, as the model has them, and those whose numbers an arena and a list of expressions have.
-use Rattle.std.specs.Prelude.{ℕ, Bool, true, ◌&&◌, List, map, option_map, Option, Some, None, nat_lt}
+use Rattle.std.specs.Prelude.{ℕ, Bool, true, false, ◌&&◌, List, map, option_map, Option, Some, None, nat_lt}
 use Rattle.std.specs.List.{list_all}
 use Rattle.model.specs.sites.Sites as Sites
 use Rattle.laws_specs.specs.Words as D
@@ -48,6 +48,15 @@ module _ (v : Naming) (w : Saying) where
 
   abbrev pub step_views : List Step → List S.Step
   step_views ss = map step_view ss
+
+-- its fact is told: it neither splits a place nor is to be shown
+abbrev pub is_told : Step → Bool
+is_told (T.SplitAt ty p) = false
+is_told (T.ToldAs f c) = true
+is_told (T.ToldSame f g) = true
+is_told (T.Assumed s) = true
+is_told (T.AssumedUnder under s) = true
+is_told (T.Shown s) = false
 
 -- its numbers are those of an arena and of a list of expressions, of so many each
 abbrev pub answer_within : ℕ → Option Form → Bool

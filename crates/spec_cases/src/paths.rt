@@ -1,5 +1,5 @@
 //! The questions of steps.
-ghost use Rattle.std.specs.Prelude.{◌≡◌, ◌∷◌, map, option_map, slice_get, IfOk, OnOk, Some};
+ghost use Rattle.std.specs.Prelude.{◌≡◌, ◌∷◌, true, map, option_map, slice_get, IfOk, OnOk, Some};
 ghost use Rattle.std.specs.Bool.{◌==◌};
 ghost use Rattle.laws_specs.specs.Specs as L;
 ghost use Rattle.model.specs.rules.Meaning.{look};
@@ -10,7 +10,7 @@ ghost use Rattle.core_types.specs.TypeViews.{type_view, variant_view};
 ghost use Rattle.spec_cases.specs.Asking.{asked_after, asked_in, has_atoms, is_empty, listed, Adds, Asks};
 ghost use Rattle.spec_cases.specs.Namings.{fact_of};
 ghost use Rattle.spec_cases.specs.Sorts.{sort_view, type_sorts};
-ghost use Rattle.spec_cases.specs.Steps.{said_view, step_view, step_views};
+ghost use Rattle.spec_cases.specs.Steps.{is_told, said_view, step_view, step_views};
 ghost use Rattle.spec_cases.specs.Tables.{specs_in, types_in};
 ghost use Rattle.spec_cases.specs.Trails.{trails_in};
 
@@ -148,10 +148,27 @@ impl Formulas {
             | Step::ToldSame { .. }
             | Step::Assumed(_)
             | Step::AssumedUnder { .. } => {
-                let fact = self.fact_of(asking, step)?;
-                Ok(self.unless_false(asking, fact, rest, trail, trails, out)?)
+                Ok(self.told_step(asking, step, rest, trail, trails, out)?)
             }
         }
+    }
+
+    // Adds the questions of a step whose fact is told and of those after it.
+    #[cycle(asking)]
+    fn told_step(
+        &mut self,
+        asking: &Asking<'_>,
+        step: &Step,
+        rest: &[Step],
+        trail: Trail,
+        trails: &mut Trails,
+        out: &mut Vec<Trail>,
+    ) -> Result<(), AskingFault>
+        requires { is_told step.now ≡ true }
+        ensures { OnOk result (Asks self.old self.new trails.old trails.new asking.now.exprs.now (λ v w s. Adds s out.old.items out.new.items (asked_in v s asking.now (step_view v w step.now ∷ step_views v w rest.now) trail))) }
+    {
+        let fact = self.fact_of(asking, step)?;
+        Ok(self.unless_false(asking, fact, rest, trail, trails, out)?)
     }
 
     // Adds the questions of steps after a place is split, by its type.

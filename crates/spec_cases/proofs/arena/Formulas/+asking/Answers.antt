@@ -18,6 +18,15 @@ paths-returns-in_ok-first_path-in-len1-up t c = λ v w s names apart all links.
       last.2 ∙ ap (λ l. trails_in s c.args.out.now.items ++ asked_in v s c.args.asking.now l c.args.trail) (first_step v w c.args.steps.now c.step-item.result c.in-len1-up.len_at_least c.step-item.is),
     )
 
+pub told_step-returns : goal.told_step-returns
+told_step-returns t c = λ v w s names apart all links.
+    let last = c.in_ok-unless_false.ensures v w s names apart all links in
+    let fact = c.in_ok-fact.ensures v w last.0 apart all in (
+      fact.0,
+      last.1,
+      step_told v w s c.args.asking.now c.args.out.now.items c.unless_false.new.out.items c.args.step.now (fact_of v c.in_ok-fact.fact) c.args.rest.now c.args.trail c.requires fact.1 last.2,
+    )
+
 -- a place that isn't split, or is
 pub split-returns-in_ok-paths-in-None : goal.split-returns-in_ok-paths-in-None
 split-returns-in_ok-paths-in-None t c = λ v w s names apart all links.

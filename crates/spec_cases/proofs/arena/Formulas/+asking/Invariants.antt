@@ -7,6 +7,9 @@ decreases-paths l = length l.steps.now * 147573952589676412928
 abbrev pub decreases-first_path : goal.decreases-first_path
 decreases-first_path l = length l.rest.now * 147573952589676412928 + 18446744073709551620
 
+abbrev pub decreases-told_step : goal.decreases-told_step
+decreases-told_step l = length l.rest.now * 147573952589676412928 + 18446744073709551619
+
 abbrev pub decreases-split : goal.decreases-split
 decreases-split l = length l.rest.now * 147573952589676412928 + 18446744073709551619
 
