@@ -28,12 +28,12 @@ use Rattle.spec_cases.specs.declared.steps.Step.{Step}
 use Rattle.spec_cases.specs.declared.steps.Step.TheVariants as T
 use Rattle.spec_cases.specs.declared.trails.Trail.{Trail}
 use Rattle.spec_cases.specs.Arenas.{known_of}
-use Rattle.spec_cases.specs.Asking.{asked_specs, asked_in, asked_after, come_to_in, fact_in, has_atoms, listed, same_in, Adds}
+use Rattle.spec_cases.specs.Asking.{all_surely_in, asked_specs, asked_in, asked_after, come_to_in, fact_in, has_atoms, listed, same_in, surely_in, Adds}
 use Rattle.spec_cases.specs.Combining.{rest_with}
 use Rattle.spec_cases.specs.Expressions.{Saying}
 use Rattle.spec_cases.specs.Namings.{Naming, fact_of, form_of, forms_of, is_plain_fact}
 use Rattle.spec_cases.specs.Sorts.{type_sort, type_sorts}
-use Rattle.spec_cases.specs.Steps.{constant_view, constant_views, is_told, said_view, step_view, step_views}
+use Rattle.spec_cases.specs.Steps.{constant_view, constant_views, is_told, said_view, said_views, step_view, step_views}
 use Rattle.spec_cases.specs.Tables.{known_in, specs_in, types_in}
 use Rattle.spec_cases.specs.Trails.{trail_of, trails_in}
 use Rattle.spec_cases.proofs.AlikeSpecs.{evaluated_alike, fitted_alike, opened_alike, then_alike}
@@ -133,6 +133,16 @@ same_by v a f g ws cs x e h made =
     made
     ∙ ap MF.perhaps
         (h ∙ ap (λ l. MF.then_cases (E.opened_each types few k both) (E.fitted l D.equals)) e ∙ fitted_alike types few (asked_specs a) refl refl k both D.equals)
+
+-- expressions that surely hold, one before others; d stands where there is none
+pub surely_first : (v : Naming) (w : Saying) (a : Asking) (l : List Said) (d : Said) (here later f : M.Fact)
+    → 1 ≤ length l → here ≡ surely_in v a (said_view v w (get_or l 0 d)) → later ≡ all_surely_in v a (said_views v w (take (length l - 1) (drop 1 l)))
+    → f ≡ M.both_of here later → f ≡ all_surely_in v a (said_views v w l)
+surely_first v w a [] d here later f h e m made = absurd (omega arith)
+surely_first v w a (x ∷ l) d here later f h e m made =
+    made
+    ∙ ap (λ y. M.both_of y later) e
+    ∙ ap (M.both_of (surely_in v a (said_view v w x))) (m ∙ ap (λ r. all_surely_in v a (said_views v w r)) (take_all (length (x ∷ l) - 1) l (omega arith)))
 
 -- 4. a fact that is known to be false leads to no questions
 made_kept : (f : M.Fact) (qs : List (List M.Fact)) → is_plain_fact f ≡ false → Q.unless_false f qs ≡ qs
@@ -239,12 +249,20 @@ module _ (v : Naming) (w : Saying) (s : ℕ → List M.Fact) (a : Asking) where
           ∙ ap (λ l. trails_in s old ++ l)
               (sym (at_listed sort_there ws (λ x. asked_after v w s a (M.as_wide at x) steps t) (asked_in v s a (step_views v w steps) t) h))
 
--- each width, one before others
-pub widths_by : (s : ℕ → List M.Fact) (f : ℕ → List (List M.Fact)) (l : List ℕ) (x : ℕ) (old mid new : List Trail) → 1 ≤ length l → x ≡ get_or l 0 x
-    → Adds s old mid (f x) → Adds s mid new (Q.each_of f (take (length l - 1) (drop 1 l))) → Adds s old new (Q.each_of f l)
-widths_by s f [] x old mid new h at here later = absurd (omega arith)
-widths_by s f (y ∷ l) x old mid new h at here later =
+-- each width, one before others; d stands where there is none
+pub widths_by : (s : ℕ → List M.Fact) (f : ℕ → List (List M.Fact)) (l : List ℕ) (d : ℕ) (old mid new : List Trail) → 1 ≤ length l
+    → Adds s old mid (f (get_or l 0 d)) → Adds s mid new (Q.each_of f (take (length l - 1) (drop 1 l))) → Adds s old new (Q.each_of f l)
+widths_by s f [] d old mid new h here later = absurd (omega arith)
+widths_by s f (y ∷ l) d old mid new h here later =
     later
     ∙ ap (λ r. trails_in s mid ++ Q.each_of f r) (take_all (length (y ∷ l) - 1) l (omega arith))
-    ∙ ap (λ r. r ++ Q.each_of f l) (here ∙ ap (λ z. trails_in s old ++ f z) at)
+    ∙ ap (λ r. r ++ Q.each_of f l) here
     ∙ append_assoc (trails_in s old) (f y) (Q.each_of f l)
+
+-- what an optional value says
+module _ {X : Type 0} where
+  pub from_none : (f : X → List ℕ) (o : Option X) (r : Option (List ℕ)) → option_map f o ≡ r → o ≡ None → r ≡ None
+  from_none f o r e is = sym e ∙ ap (option_map f) is
+
+  pub from_some : (f : X → List ℕ) (o : Option X) (r : Option (List ℕ)) (x : X) (ws : List ℕ) → option_map f o ≡ r → o ≡ Some x → ws ≡ f x → r ≡ Some ws
+  from_some f o r x ws e is m = sym e ∙ ap (option_map f) is ∙ ap Some (sym m)

@@ -1,12 +1,11 @@
-use Rattle.std.proofs.Common.{◌∙◌, ◌++◌, None, sym, ap, subst}
-use Rattle.std.specs.Option.{option_map}
+use Rattle.std.proofs.Common.{◌∙◌, ◌∷◌, ◌++◌, sym, ap, subst}
 use Rattle.model_questions.specs.Formulas as M
 use Rattle.spec_cases.specs.Asking.{asked_after, asked_in}
 use Rattle.spec_cases.specs.Namings.{fact_of}
 use Rattle.spec_cases.specs.Places.{known_of}
-use Rattle.spec_cases.specs.Steps.{step_view}
+use Rattle.spec_cases.specs.Steps.{step_view, step_views}
 use Rattle.spec_cases.specs.Trails.{trails_in, AreTrails}
-use Rattle.spec_cases.proofs.AskingSteps.{first_step, not_split, shown_by, split_by, step_told, told_by, widths_by}
+use Rattle.spec_cases.proofs.AskingSteps.{first_step, from_none, from_some, not_split, shown_by, split_by, step_told, told_by, widths_by}
 use Rattle.spec_cases.proofs.arena.Formulas.+asking.Goals as goal
 
 -- a step, and those after it
@@ -16,6 +15,22 @@ paths-returns-in_ok-first_path-in-len1-up t c = λ v w s names apart all links.
       last.0,
       last.1,
       last.2 ∙ ap (λ l. trails_in s c.args.out.now.items ++ asked_in v s c.args.asking.now l c.args.trail) (first_step v w c.args.steps.now c.step-item.result c.in-len1-up.len_at_least c.step-item.is),
+    )
+
+pub first_path-returns-in_ok-split-in-SplitAt : goal.first_path-returns-in_ok-split-in-SplitAt
+first_path-returns-in_ok-split-in-SplitAt t c = λ v w s names apart all links.
+    let made = c.in_ok-split-in-SplitAt.ensures v w s names apart all links in (
+      made.0,
+      made.1,
+      made.2 ∙ ap (λ x. trails_in s c.args.out.now.items ++ asked_in v s c.args.asking.now (step_view v w x ∷ step_views v w c.args.rest.now) c.args.trail) (sym c.in-SplitAt.is),
+    )
+
+pub first_path-returns-in_ok-shown-in-Shown : goal.first_path-returns-in_ok-shown-in-Shown
+first_path-returns-in_ok-shown-in-Shown t c = λ v w s names apart all links.
+    let made = c.in_ok-shown-in-Shown.ensures v w s names apart all links in (
+      made.0,
+      made.1,
+      made.2 ∙ ap (λ x. trails_in s c.args.out.now.items ++ asked_in v s c.args.asking.now (step_view v w x ∷ step_views v w c.args.rest.now) c.args.trail) (sym c.in-Shown.is),
     )
 
 pub told_step-returns : goal.told_step-returns
@@ -33,7 +48,16 @@ split-returns-in_ok-paths-in-None t c = λ v w s names apart all links.
     let last = c.in_ok-paths-in-None.ensures v w s names apart all links in (
       last.0,
       last.1,
-      not_split v w s c.args.asking.now c.args.out.now.items c.paths-in-None.new.out.items c.args.ty.0 (v.place c.args.place.0) c.args.rest.now c.args.trail (search (c.in_ok-split_widths.ensures, c.in-None.is)) last.2,
+      not_split v w s c.args.asking.now c.args.out.now.items c.paths.new.out.items c.args.ty.0 (v.place c.args.place.0) c.args.rest.now c.args.trail (from_none _ _ _ c.in_ok-split_widths.ensures c.in-None.is) last.2,
+    )
+
+pub split-returns-in_ok-each_width-in-Some : goal.split-returns-in_ok-each_width-in-Some
+split-returns-in_ok-each_width-in-Some t c = λ v w s names apart all links.
+    let last = c.in_ok-each_width-in-Some.ensures v w s names apart all links in (
+      last.0,
+      last.1,
+      split_by v w s c.args.asking.now c.args.out.now.items c.each_width.new.out.items c.args.ty.0 (v.place c.args.place.0) c.args.rest.now c.args.trail c.deref-in-Some.result.now
+          (from_some _ _ _ _ _ c.in_ok-split_widths.ensures c.in-Some.is c.deref-in-Some.ensures.value) last.2,
     )
 
 -- each width
@@ -43,8 +67,8 @@ each_width-returns-in_ok-each_width-in-len1-up t c = λ v w s names apart all li
     let here = c.in_ok-told-in-len1-up.ensures v w s last.0 apart all last.1 in (
       here.0,
       subst (AreTrails v s) c.in_ok-count_branch-in-len1-up.ensures here.1,
-      widths_by s (λ x. asked_after v w s c.args.asking.now (M.as_wide (v.place c.args.place.0) x) c.args.rest.now c.args.trail) c.args.widths.now c.width-item.result c.args.out.now.items c.told-in-len1-up.new.out.items c.each_width-in-len1-up.new.out.items
-          c.in-len1-up.len_at_least c.width-item.is here.2 last.2,
+      widths_by s (λ x. asked_after v w s c.args.asking.now (M.as_wide (v.place c.args.place.0) x) c.args.rest.now c.args.trail) c.args.widths.now 0 c.args.out.now.items c.told.new.out.items c.each_width.new.out.items
+          c.in-len1-up.len_at_least here.2 last.2,
     )
 
 -- after one fact more
