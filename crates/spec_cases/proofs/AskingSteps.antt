@@ -27,8 +27,7 @@ use Rattle.spec_cases.specs.declared.steps.Said.{Said}
 use Rattle.spec_cases.specs.declared.steps.Step.{Step}
 use Rattle.spec_cases.specs.declared.steps.Step.TheVariants as T
 use Rattle.spec_cases.specs.declared.trails.Trail.{Trail}
-use Rattle.spec_cases.specs.Arenas.{known_of}
-use Rattle.spec_cases.specs.Asking.{all_surely_in, asked_specs, asked_in, asked_after, come_to_in, fact_in, has_atoms, listed, same_in, surely_in, Adds}
+use Rattle.spec_cases.specs.Asking.{all_surely_in, asked_specs, asked_in, asked_after, come_to_in, fact_in, has_atoms, is_false, listed, same_in, surely_in, Adds}
 use Rattle.spec_cases.specs.Combining.{rest_with}
 use Rattle.spec_cases.specs.Expressions.{Saying}
 use Rattle.spec_cases.specs.Namings.{Naming, fact_of, form_of, forms_of, is_plain_fact}
@@ -158,30 +157,23 @@ made_kept (M.no_fact a) qs h = refl
 made_kept (M.same_facts a b) qs h = refl
 
 module _ (v : Naming) where
-  pub unless_false_known : (f : Fact) (qs : List (List M.Fact)) → known_of f ≡ Some false → Q.unless_false (fact_of v f) qs ≡ []
-  unless_false_known (F.Known true) qs h = cc
-  unless_false_known (F.Known false) qs h = refl
-  unless_false_known (F.At p) qs h = cc
-  unless_false_known (F.AsWide p w) qs h = cc
-  unless_false_known (F.IsKind p i) qs h = cc
-  unless_false_known (F.Made n) qs h = cc
+  pub false_skipped : (f : Fact) (qs : List (List M.Fact)) → is_false f ≡ true → Q.unless_false (fact_of v f) qs ≡ []
+  false_skipped (F.Known true) qs h = absurd (false≢true h)
+  false_skipped (F.Known false) qs h = refl
+  false_skipped (F.At p) qs h = absurd (false≢true h)
+  false_skipped (F.AsWide p w) qs h = absurd (false≢true h)
+  false_skipped (F.IsKind p i) qs h = absurd (false≢true h)
+  false_skipped (F.Made n) qs h = absurd (false≢true h)
 
-  pub unless_true_known : (f : Fact) (qs : List (List M.Fact)) → known_of f ≡ Some true → Q.unless_false (fact_of v f) qs ≡ qs
-  unless_true_known (F.Known true) qs h = refl
-  unless_true_known (F.Known false) qs h = cc
-  unless_true_known (F.At p) qs h = cc
-  unless_true_known (F.AsWide p w) qs h = cc
-  unless_true_known (F.IsKind p i) qs h = cc
-  unless_true_known (F.Made n) qs h = cc
+  pub others_kept : (f : Fact) (qs : List (List M.Fact)) → is_false f ≡ false → Q.unless_false (fact_of v f) qs ≡ qs
+  others_kept (F.Known true) qs h = refl
+  others_kept (F.Known false) qs h = absurd (false≢true (sym h))
+  others_kept (F.At p) qs h = refl
+  others_kept (F.AsWide p w) qs h = refl
+  others_kept (F.IsKind p i) qs h = refl
+  others_kept (F.Made n) qs h = made_kept (v.fact n.0) qs (v.made_facts n.0)
 
-  pub unless_open : (f : Fact) (qs : List (List M.Fact)) → known_of f ≡ None → Q.unless_false (fact_of v f) qs ≡ qs
-  unless_open (F.Known b) qs h = cc
-  unless_open (F.At p) qs h = refl
-  unless_open (F.AsWide p w) qs h = refl
-  unless_open (F.IsKind p i) qs h = refl
-  unless_open (F.Made n) qs h = made_kept (v.fact n.0) qs (v.made_facts n.0)
-
-pub ruleset unless_steps = (unless_false_known, unless_true_known, unless_open)
+pub ruleset unless_steps = (false_skipped, others_kept)
 
 -- 5. steps, one before others
 pub first_step : (v : Naming) (w : Saying) (l : List Step) (x : Step) → 1 ≤ length l → x ≡ get_or l 0 x

@@ -1,5 +1,5 @@
 -- What steps come to, and the questions that they ask, by what numbers stand for.
-use Rattle.std.specs.Prelude.{◌≡◌, ℕ, zero, suc, Bool, true, false, List, [], ◌∷◌, ◌++◌, Option, Some, None}
+use Rattle.std.specs.Prelude.{◌≡◌, ℕ, zero, suc, Bool, true, false, not, List, [], ◌∷◌, ◌++◌, Option, Some, None}
 use Rattle.laws_specs.specs.Specs as L
 use Rattle.laws_specs.specs.Words.{Denoted}
 use Rattle.model.specs.lists.Tables.{VariantEntry, TypeEntry, builtin_type, primitive_type, enum_type, struct_type}
@@ -11,6 +11,8 @@ use Rattle.model_questions.specs.Steps as S
 use Rattle.model_questions.specs.Questions as Q
 use Rattle.spec_cases.specs.declared.asking.Asking.{Asking}
 use Rattle.spec_cases.specs.declared.expressions.Expr.{Expr}
+use Rattle.spec_cases.specs.declared.formulas.Fact.{Fact}
+use Rattle.spec_cases.specs.declared.formulas.Fact.TheVariants as F
 use Rattle.spec_cases.specs.declared.formulas.Node.{Node}
 use Rattle.spec_cases.specs.declared.steps.Step.{Step}
 use Rattle.spec_cases.specs.declared.trails.Link.{Link}
@@ -57,6 +59,14 @@ module _ (v : Naming) (a : Asking) where
 
   abbrev pub fact_in : S.Step → M.Fact
   fact_in = Q.fact_of (types_in a.tables.now) (asked_specs a) (known_in v a.tables.now)
+
+-- a truth that is known not to be so
+abbrev pub is_false : Fact → Bool
+is_false (F.Known b) = not b
+is_false (F.At p) = false
+is_false (F.AsWide p w) = false
+is_false (F.IsKind p i) = false
+is_false (F.Made n) = false
 
 -- the widths of a sort that lists them
 abbrev pub listed : Option L.Sort → Option (List ℕ)

@@ -7,7 +7,7 @@ ghost use Rattle.model_questions.specs.Formulas as M;
 ghost use Rattle.model_questions.specs.Questions as Q;
 ghost use Rattle.model_questions.specs.Steps as S;
 ghost use Rattle.core_types.specs.TypeViews.{type_view, variant_view};
-ghost use Rattle.spec_cases.specs.Asking.{asked_after, asked_in, has_atoms, is_empty, listed, Adds, Asks};
+ghost use Rattle.spec_cases.specs.Asking.{asked_after, asked_in, has_atoms, is_empty, is_false, listed, Adds, Asks};
 ghost use Rattle.spec_cases.specs.Namings.{fact_of};
 ghost use Rattle.spec_cases.specs.Sorts.{sort_view, type_sorts};
 ghost use Rattle.spec_cases.specs.Steps.{is_told, said_view, step_view, step_views};
@@ -98,6 +98,18 @@ fn split_widths(
             } else {
                 Ok(None)
             }
+        }
+    }
+}
+
+impl Fact {
+    // Whether it is known not to be so.
+    fn is_false(self) -> bool
+        ensures { result ≡ is_false self }
+    {
+        match self {
+            Fact::Known(truth) => !truth,
+            Fact::At(_) | Fact::AsWide(_, _) | Fact::IsKind(_, _) | Fact::Made(_) => false,
         }
     }
 }
@@ -231,9 +243,10 @@ impl Formulas {
     ) -> Result<(), AskingFault>
         ensures { OnOk result (Asks self.old self.new trails.old trails.new asking.now.exprs.now (λ v w s. Adds s out.old.items out.new.items (Q.unless_false (fact_of v fact) (asked_after v w s asking.now (fact_of v fact) rest.now trail)))) }
     {
-        match fact.known() {
-            Some(false) => Ok(()),
-            Some(true) | None => Ok(self.told(asking, fact, rest, trail, trails, out)?),
+        if fact.is_false() {
+            Ok(())
+        } else {
+            Ok(self.told(asking, fact, rest, trail, trails, out)?)
         }
     }
 

@@ -1,11 +1,11 @@
-use Rattle.std.proofs.Common.{◌∙◌, ◌∷◌, ◌++◌, sym, ap, subst}
+use Rattle.std.proofs.Common.{◌≡◌, ◌∙◌, ◌∷◌, ◌++◌, false, sym, ap, subst}
 use Rattle.model_questions.specs.Formulas as M
-use Rattle.spec_cases.specs.Asking.{asked_after, asked_in}
+use Rattle.spec_cases.specs.Asking.{asked_after, asked_in, is_false}
 use Rattle.spec_cases.specs.Namings.{fact_of}
 use Rattle.spec_cases.specs.Places.{known_of}
 use Rattle.spec_cases.specs.Steps.{step_view, step_views}
 use Rattle.spec_cases.specs.Trails.{trails_in, AreTrails}
-use Rattle.spec_cases.proofs.AskingSteps.{first_step, from_none, from_some, not_split, shown_by, split_by, step_told, told_by, widths_by}
+use Rattle.spec_cases.proofs.AskingSteps.{first_step, from_none, from_some, not_split, others_kept, shown_by, split_by, step_told, told_by, widths_by}
 use Rattle.spec_cases.proofs.arena.Formulas.+asking.Goals as goal
 
 -- a step, and those after it
@@ -56,8 +56,8 @@ split-returns-in_ok-each_width-in-Some t c = λ v w s names apart all links.
     let last = c.in_ok-each_width-in-Some.ensures v w s names apart all links in (
       last.0,
       last.1,
-      split_by v w s c.args.asking.now c.args.out.now.items c.each_width.new.out.items c.args.ty.0 (v.place c.args.place.0) c.args.rest.now c.args.trail c.deref-in-Some.result.now
-          (from_some _ _ _ _ _ c.in_ok-split_widths.ensures c.in-Some.is c.deref-in-Some.ensures.value) last.2,
+      split_by v w s c.args.asking.now c.args.out.now.items c.each_width.new.out.items c.args.ty.0 (v.place c.args.place.0) c.args.rest.now c.args.trail c.deref.result.now
+          (from_some _ _ _ _ _ c.in_ok-split_widths.ensures c.in-Some.is c.deref.ensures.value) last.2,
     )
 
 -- each width
@@ -92,4 +92,16 @@ shown-returns t c = λ v w s names apart all links.
       end.0,
       shown_by v w s c.args.asking.now c.args.out.now.items c.told.new.out.items c.args.said (fact_of v c.in_ok-facts.facts.0) (fact_of v c.in_ok-facts.facts.1) c.args.rest.now c.args.trail c.in_ok-end.end
           c.add_question.new.out.items facts.1.0 facts.1.1 end.1 c.in_ok-add_question.ensures last.2,
+    )
+
+-- a fact that isn't known to be false
+pub unless_false-returns-in_ok-told : goal.unless_false-returns-in_ok-told
+unless_false-returns-in_ok-told t c = λ v w s names apart all links.
+    let made = c.in_ok-told.ensures v w s names apart all links in
+    let open_still : is_false c.args.fact ≡ false = cc in (
+      made.0,
+      made.1,
+      made.2
+          ∙ ap (λ l. trails_in s c.args.out.now.items ++ l)
+              (sym (others_kept v c.args.fact (asked_after v w s c.args.asking.now (fact_of v c.args.fact) c.args.rest.now c.args.trail) open_still)),
     )

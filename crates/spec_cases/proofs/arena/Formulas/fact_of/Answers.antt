@@ -12,7 +12,7 @@ returns-in_ok-perhaps_said-in-Assumed c = λ v w names apart all.
 pub returns-in_ok-under_fact-in-AssumedUnder : goal.returns-in_ok-under_fact-in-AssumedUnder
 returns-in_ok-under_fact-in-AssumedUnder c = λ v w names apart all.
     let made = c.in_ok-under_fact-in-AssumedUnder.ensures v w names apart all in
-    (made.0, made.1 ∙ ap (λ l. fact_in v c.args.asking.now (S.assumed_under (said_views v w l) (said_view v w c.in-AssumedUnder.said))) c.deref-in-AssumedUnder.ensures.value ∙ ap (λ x. fact_in v c.args.asking.now (step_view v w x)) (sym c.in-AssumedUnder.is))
+    (made.0, made.1 ∙ ap (λ l. fact_in v c.args.asking.now (S.assumed_under (said_views v w l) (said_view v w c.in-AssumedUnder.said))) c.deref.ensures.value ∙ ap (λ x. fact_in v c.args.asking.now (step_view v w x)) (sym c.in-AssumedUnder.is))
 
 pub returns-in_ok-surely_said-in-Shown : goal.returns-in_ok-surely_said-in-Shown
 returns-in_ok-surely_said-in-Shown c = λ v w names apart all.
