@@ -100,8 +100,8 @@ module _ (types : List TypeEntry) (a b : L.Specs) (models : a.models ≡ b.model
           (λ x. MF.then_cases (E.opened types b k x) (λ y. E.evaluated_arm types b k args result arms y bound))
           (evaluated_alike e bound)
           (λ x.
-              then_alike (E.opened types a k x) (E.opened types b k x) (λ y. E.evaluated_arm types a k args result arms y bound) (λ y. E.evaluated_arm types b k args result arms y bound)
-              (opened_alike x) (λ y. arm_alike arms y bound))
+          then_alike (E.opened types a k x) (E.opened types b k x) (λ y. E.evaluated_arm types a k args result arms y bound) (λ y. E.evaluated_arm types b k args result arms y bound)
+          (opened_alike x) (λ y. arm_alike arms y bound))
 
       evaluated_each_alike : (es : L.SpecExprs) (bound : List MF.Form) → E.evaluated_each types a k args result es bound ≡ E.evaluated_each types b k args result es bound
       evaluated_each_alike L.no_spec_expr bound = refl
@@ -116,18 +116,18 @@ module _ (types : List TypeEntry) (a b : L.Specs) (models : a.models ≡ b.model
       case_alike (L.case_and key e rest) x bound =
           then_alike (E.evaluated types a k args result key bound) (E.evaluated types b k args result key bound)
           (λ y. MF.merged (MF.then_cases (MF.then_cases (E.opened_each types a k (MF.form_and y (MF.form_and x MF.no_form))) (E.fitted (E.widths_of a) equals))
-              (E.by_fact (E.evaluated types a k args result e bound) (E.evaluated_case types a k args result rest x bound))))
+          (E.by_fact (E.evaluated types a k args result e bound) (E.evaluated_case types a k args result rest x bound))))
           (λ y. MF.merged (MF.then_cases (MF.then_cases (E.opened_each types b k (MF.form_and y (MF.form_and x MF.no_form))) (E.fitted (E.widths_of b) equals))
-              (E.by_fact (E.evaluated types b k args result e bound) (E.evaluated_case types b k args result rest x bound))))
+          (E.by_fact (E.evaluated types b k args result e bound) (E.evaluated_case types b k args result rest x bound))))
           (evaluated_alike key bound)
           (λ y.
-              ap MF.merged
-              (ap (λ l. MF.then_cases l (E.by_fact (E.evaluated types a k args result e bound) (E.evaluated_case types a k args result rest x bound)))
-                  (fitted_alike (MF.form_and y (MF.form_and x MF.no_form)) equals)
-              ∙ ap (λ r. MF.then_cases (MF.then_cases (E.opened_each types b k (MF.form_and y (MF.form_and x MF.no_form))) (E.fitted (E.widths_of b) equals))
-                  (E.by_fact r (E.evaluated_case types a k args result rest x bound))) (evaluated_alike e bound)
-              ∙ ap (λ r. MF.then_cases (MF.then_cases (E.opened_each types b k (MF.form_and y (MF.form_and x MF.no_form))) (E.fitted (E.widths_of b) equals))
-                  (E.by_fact (E.evaluated types b k args result e bound) r)) (case_alike rest x bound)))
+          ap MF.merged
+          (ap (λ l. MF.then_cases l (E.by_fact (E.evaluated types a k args result e bound) (E.evaluated_case types a k args result rest x bound)))
+          (fitted_alike (MF.form_and y (MF.form_and x MF.no_form)) equals)
+          ∙ ap (λ r. MF.then_cases (MF.then_cases (E.opened_each types b k (MF.form_and y (MF.form_and x MF.no_form))) (E.fitted (E.widths_of b) equals))
+          (E.by_fact r (E.evaluated_case types a k args result rest x bound))) (evaluated_alike e bound)
+          ∙ ap (λ r. MF.then_cases (MF.then_cases (E.opened_each types b k (MF.form_and y (MF.form_and x MF.no_form))) (E.fitted (E.widths_of b) equals))
+          (E.by_fact (E.evaluated types b k args result e bound) r)) (case_alike rest x bound)))
 
       arm_alike : (arms : L.SpecArms) (x : MF.Form) (bound : List MF.Form) → E.evaluated_arm types a k args result arms x bound ≡ E.evaluated_arm types b k args result arms x bound
       arm_alike (L.arm_else body) x bound = evaluated_alike body (x ∷ bound)

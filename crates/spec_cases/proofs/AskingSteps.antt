@@ -1,5 +1,5 @@
 -- The facts that steps add, and the questions that follow of them.
-use Rattle.std.proofs.Common.{◌≡◌, ◌≢◌, ℕ, zero, suc, ◌-◌, ◌≤◌, Bool, true, false, List, [], ◌∷◌, ◌++◌, drop, get_or, length, map, take, Option, Some, None, slice_get, if◌then◌else◌, refl, sym, ap, ◌∙◌, arith}
+use Rattle.std.proofs.Common.{◌≡◌, ◌≢◌, ℕ, zero, suc, ◌-◌, ◌≤◌, true, false, List, [], ◌∷◌, ◌++◌, drop, get_or, length, take, Option, Some, None, slice_get, if◌then◌else◌, refl, sym, ap, ◌∙◌, arith}
 use Rattle.std.specs.Bool.{◌==◌}
 use Rattle.std.specs.Option.{option_map}
 use Rattle.std.proofs.lemmas.Bool.{false≢true, ne_eqb}
@@ -118,7 +118,7 @@ come_to_by v w a s args values each cs is e h made =
     let expr = w.expr s.expr.0 in
     then_seen values (E.evaluated types few k of result expr []) each cs (E.opened types few k) (e ∙ ap (λ l. E.evaluated types few k l result expr []) (sym is)) h made
     ∙ then_alike (E.evaluated types few k of result expr []) (E.evaluated types specs k of result expr []) (E.opened types few k) (E.opened types specs k)
-        (evaluated_alike types few specs refl refl k of result expr []) (opened_alike types few specs refl refl k)
+    (evaluated_alike types few specs refl refl k of result expr []) (opened_alike types few specs refl refl k)
 
 pub same_by : (v : Naming) (a : Asking) (f g : MF.Form) (ws : List ℕ) (cs : MF.Cases MF.Form) (x : M.Fact)
     → ws ≡ E.widths_of (specs_in a.tables.now)
@@ -131,7 +131,7 @@ same_by v a f g ws cs x e h made =
     let both = MF.form_and f (MF.form_and g MF.no_form) in
     made
     ∙ ap MF.perhaps
-        (h ∙ ap (λ l. MF.then_cases (E.opened_each types few k both) (E.fitted l D.equals)) e ∙ fitted_alike types few (asked_specs a) refl refl k both D.equals)
+    (h ∙ ap (λ l. MF.then_cases (E.opened_each types few k both) (E.fitted l D.equals)) e ∙ fitted_alike types few (asked_specs a) refl refl k both D.equals)
 
 -- expressions that surely hold, one before others; d stands where there is none
 pub surely_first : (v : Naming) (w : Saying) (a : Asking) (l : List Said) (d : Said) (here later f : M.Fact)
@@ -232,14 +232,14 @@ module _ (v : Naming) (w : Saying) (s : ℕ → List M.Fact) (a : Asking) where
       not_split h made =
           made
           ∙ ap (λ l. trails_in s old ++ l)
-              (sym (at_unlisted sort_there (λ x. asked_after v w s a (M.as_wide at x) steps t) (asked_in v s a (step_views v w steps) t) h))
+          (sym (at_unlisted sort_there (λ x. asked_after v w s a (M.as_wide at x) steps t) (asked_in v s a (step_views v w steps) t) h))
 
       pub split_by : (ws : List ℕ) → listed sort_there ≡ Some ws → Adds s old new (Q.each_of (λ x. asked_after v w s a (M.as_wide at x) steps t) ws)
           → Adds s old new (asked_in v s a (S.split_at ty at ∷ step_views v w steps) t)
       split_by ws h made =
           made
           ∙ ap (λ l. trails_in s old ++ l)
-              (sym (at_listed sort_there ws (λ x. asked_after v w s a (M.as_wide at x) steps t) (asked_in v s a (step_views v w steps) t) h))
+          (sym (at_listed sort_there ws (λ x. asked_after v w s a (M.as_wide at x) steps t) (asked_in v s a (step_views v w steps) t) h))
 
 -- each width, one before others; d stands where there is none
 pub widths_by : (s : ℕ → List M.Fact) (f : ℕ → List (List M.Fact)) (l : List ℕ) (d : ℕ) (old mid new : List Trail) → 1 ≤ length l

@@ -6,7 +6,6 @@ use Rattle.model.specs.lists.Tables.{VariantEntry, TypeEntry, builtin_type, prim
 use Rattle.model.specs.sites.Sites as Sites
 use Rattle.model_questions.specs.Formulas as M
 use Rattle.model_questions.specs.Forms as MF
-use Rattle.model_questions.specs.Evaluated as E
 use Rattle.model_questions.specs.Steps as S
 use Rattle.model_questions.specs.Questions as Q
 use Rattle.spec_cases.specs.declared.asking.Asking.{Asking}

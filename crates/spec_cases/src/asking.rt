@@ -207,12 +207,7 @@ impl Formulas {
         ensures { IfOk result (λ f. MakesApart self.old self.new (λ v. fact_of v f ≡ same_in v asking.now (form_of v first) (form_of v second))) }
     {
         let widths = widths_of(self.alloc(), asking.tables.sorts)?;
-        let tests = self.operated(
-            asking.tables,
-            &widths,
-            Operator::Equals,
-            &[first, second],
-        )?;
+        let tests = self.operated(asking.tables, &widths, Operator::Equals, &[first, second])?;
         Ok(self.perhaps(&tests)?)
     }
 
@@ -250,12 +245,7 @@ impl Formulas {
     }
 
     // Where a value may be a named constant.
-    fn constant_fact(
-        &mut self,
-        asking: &Asking<'_>,
-        form: Form,
-        name: Sym,
-    ) -> Result<Fact, Fault>
+    fn constant_fact(&mut self, asking: &Asking<'_>, form: Form, name: Sym) -> Result<Fact, Fault>
         ensures { IfOk result (λ f. MakesApart self.old self.new (λ v. fact_of v f ≡ told_in v asking.now (form_of v form) (Sites.is_prim name.0))) }
     {
         let literal = constant_of(asking.constants, name);
@@ -319,12 +309,7 @@ impl Formulas {
     }
 
     // Where an expression may hold, or one of the others not.
-    fn under_fact(
-        &mut self,
-        asking: &Asking<'_>,
-        under: &[Said],
-        said: Said,
-    ) -> Result<Fact, Fault>
+    fn under_fact(&mut self, asking: &Asking<'_>, under: &[Said], said: Said) -> Result<Fact, Fault>
         ensures { IfOk result (λ f. Evaluates self.old self.new asking.now.exprs.now (λ v w. fact_of v f ≡ fact_in v asking.now (S.assumed_under (said_views v w under.now) (said_view v w said)))) }
     {
         let all = self.all_surely(asking, under)?;

@@ -83,12 +83,7 @@ impl Known {
     }
 
     // Which variant stands at a place.
-    fn with_kind(
-        &self,
-        alloc: Global,
-        place: PlaceId,
-        variant: VariantId,
-    ) -> Result<Known, Fault>
+    fn with_kind(&self, alloc: Global, place: PlaceId, variant: VariantId) -> Result<Known, Fault>
         ensures { IfOk result (λ k. (v : _) → known_of v k ≡ Q.with_kind (v.place place.0) variant.0 (known_of v self.now)) }
     {
         let told = Told {

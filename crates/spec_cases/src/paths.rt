@@ -40,11 +40,7 @@ impl Sort {
 
 // The widths that a type's sort lists.
 #[tactic(auto, using(crate::proofs::AskingSteps::look_steps))]
-fn sort_widths(
-    alloc: Global,
-    sorts: &[TypeSort],
-    ty: TypeId,
-) -> Result<Option<Vec<u32>>, Fault>
+fn sort_widths(alloc: Global, sorts: &[TypeSort], ty: TypeId) -> Result<Option<Vec<u32>>, Fault>
     ensures { IfOk result (λ o. option_map (λ ws. ws.items) o ≡ listed (look (λ k. k == ty.0) (type_sorts sorts.now))) }
 {
     match sorts {
@@ -83,11 +79,7 @@ fn has_atoms(entry: &Type) -> bool
 
 // The widths at which a place of a type is asked by itself.
 #[tactic(auto, using(crate::proofs::AskingSteps::split_steps))]
-fn split_widths(
-    alloc: Global,
-    tables: &Tables<'_>,
-    ty: TypeId,
-) -> Result<Option<Vec<u32>>, Fault>
+fn split_widths(alloc: Global, tables: &Tables<'_>, ty: TypeId) -> Result<Option<Vec<u32>>, Fault>
     ensures { IfOk result (λ o. option_map (λ ws. ws.items) o ≡ listed (Q.split_sort (slice_get (types_in tables.now) ty.0) (L.sort_of (specs_in tables.now) ty.0))) }
 {
     match tables.types.get(ty.0) {
@@ -223,7 +215,14 @@ impl Formulas {
             [] => Ok(()),
             [width, more @ ..] => {
                 trails.count_branch()?;
-                self.told(asking, Fact::AsWide(place, *width), rest, trail, trails, out)?;
+                self.told(
+                    asking,
+                    Fact::AsWide(place, *width),
+                    rest,
+                    trail,
+                    trails,
+                    out,
+                )?;
                 Ok(self.each_width(asking, more, place, rest, trail, trails, out)?)
             }
         }

@@ -103,5 +103,5 @@ unless_false-returns-in_ok-told t c = λ v w s names apart all links.
       made.1,
       made.2
           ∙ ap (λ l. trails_in s c.args.out.now.items ++ l)
-              (sym (others_kept v c.args.fact (asked_after v w s c.args.asking.now (fact_of v c.args.fact) c.args.rest.now c.args.trail) open_still)),
+          (sym (others_kept v c.args.fact (asked_after v w s c.args.asking.now (fact_of v c.args.fact) c.args.rest.now c.args.trail) open_still)),
     )
