@@ -33,9 +33,6 @@ module _ (w : ShownWorld) (most : Option ℕ) where
   shown_calls env calls v (variant_of ty variant us) = expr_calls (world_of_shown w) env calls v (variant_of ty variant us)
   shown_calls env calls v e = grind (arith, common_steps, called_calls, expr_calls)
 
-  abbrev ws : World
-  ws = world_of_shown w
-
   mutual
     block_grows : (b : Block) (env : Env) (t : Trace) → Grows t (run_shown b w most env t)
     block_grows no_statement env t = beginning_self t.calls

@@ -8,7 +8,7 @@ use Rattle.model.specs.lists.Syntax.{Definition}
 use Rattle.model.specs.lists.Elaborated.{TypedRules}
 use Rattle.model.specs.rules.Values.{Value}
 use Rattle.model.specs.rules.Meaning.{Content, Meaning}
-use Rattle.model.specs.rules.Outcome.{Ending, stuck, Outcome}
+use Rattle.model.specs.rules.Outcome.{stuck, Outcome}
 use Rattle.model.specs.rules.Program.{Program, flags_of, is_multi, kind, rules_of, arg_types, terms_with_rules}
 use Rattle.model.specs.rules.Typed.{TypedRule}
 use Rattle.model.specs.rules.Matching.{Vars}
@@ -44,10 +44,6 @@ use Rattle.laws_code.specs.CalledAlike.{AreCalledAlike, CodeCallsAlike}
 use Rattle.laws_code.specs.TextRuns.{ShownRunsAsChosen, ShownCollectsTheBag, kind_of_giving, kind_given, TextOfAcceptedSaysItsSource, EachTermHasItsText}
 
 -- 1. no choice gets stuck
-abbrev is_stuck : Ending → Bool
-is_stuck stuck = true
-is_stuck e = false
-
 abbrev GoesOn : Outcome → Type 0
 GoesOn o = o.ending ≢ stuck
 

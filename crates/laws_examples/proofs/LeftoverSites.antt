@@ -1,6 +1,6 @@
 -- The set with left-over sites: a meaning whose call answers what is no number serves its rules, so its world serves the set,
 -- and the run of its tree collects the bag.
-use Rattle.std.proofs.Common.{◌≡◌, ◌∷◌, [], ℕ, pos, zero, suc, Bool, true, false, Contains, IsTrue, is_some, refl, arith}
+use Rattle.std.proofs.Common.{◌≡◌, ◌∷◌, [], ℕ, pos, suc, true, Contains, IsTrue, is_some, refl, arith}
 use Rattle.std.proofs.lemmas.Grind.{common_steps}
 use Rattle.std.proofs.lemmas.List.Elements.{All-cons, All-nil}
 use Rattle.std.proofs.lemmas.List.Sorted.{IsPermutation-refl}
@@ -9,7 +9,7 @@ use Rattle.model.specs.rules.Matching.{matches}
 use Rattle.model.specs.rules.Typed.{TypedRule}
 use Rattle.model.specs.visits.Demands.{demands_of}
 use Rattle.model.specs.sites.Serves.{Serves, TellsConstantsApart}
-use Rattle.model.specs.sites.Sites.{SetRule, SiteTerm, SiteTerms, constructor_call, constructor_site, extractor_call, no_site_term, site_term_and}
+use Rattle.model.specs.sites.Sites.{SetRule, SiteTerms, constructor_call, constructor_site}
 use Rattle.model.specs.trees.Collects.{content_at}
 use Rattle.model.specs.claims.Layers.{own_program}
 use Rattle.laws_typing.proofs.WellTypedRules.{read_programs_are_well_typed}
@@ -29,14 +29,6 @@ pub left_over_judged : IsJudged left_over_set true left_over_tree
 left_over_judged = judged_multi left_over_set left_over_tree refl refl refl refl refl
 
 -- 1. the meaning serves the rules
--- the calls of im and of pu
-abbrev left_over_call : SiteTerm → Bool
-left_over_call (constructor_call zero ss (suc zero)) = true
-left_over_call (constructor_call (suc zero) (site_term_and (constructor_call zero ss (suc zero)) no_site_term) zero) = true
-left_over_call (constructor_call t ss i) = false
-left_over_call (extractor_call t s) = false
-left_over_call u = true
-
 -- the rule that calls im doesn't match, and the other one makes no impure call
 none_called : (r : TypedRule) (t before : ℕ) (ss : SiteTerms) → Contains left_over_rules.rules r → IsTrue (is_some (matches left_over_program left_over_meaning r (given (pos 7))))
     → Contains (demands_of left_over_program r).made (constructor_call t ss (suc before)) → ⊥

@@ -1,7 +1,6 @@
 -- A rule that goes over a call and constrains its answers: it is served, and its tree collects the bag.
-use Rattle.std.proofs.Common.{zero, Bool, true, false, refl, arith}
+use Rattle.std.proofs.Common.{refl, arith}
 use Rattle.std.proofs.lemmas.Grind.{common_steps}
-use Rattle.model.specs.sites.Sites.{SiteTerm, argument, constructor_call, extractor_call}
 use Rattle.model.specs.claims.Layers.{own_program}
 use Rattle.laws_typing.proofs.WellTypedRules.{read_programs_are_well_typed}
 use Rattle.laws_trees.proofs.BuiltMatches.{built_sets_match_by_demands_lem}
@@ -15,12 +14,6 @@ use Rattle.laws_examples.specs.Stages.{HasStages}
 
 pub picked_number_stages : HasStages picked_number_sample
 picked_number_stages = stages picked_number_sample refl refl refl refl refl refl refl refl refl refl
-
-abbrev call_of_me : SiteTerm → Bool
-call_of_me (extractor_call zero (argument zero)) = true
-call_of_me (extractor_call t s) = false
-call_of_me (constructor_call t ss i) = false
-call_of_me u = true
 
 pub picked_number_is_served : PickedNumberIsServed
 picked_number_is_served = grind (arith, common_steps, serves_from, literals_apart)

@@ -1,8 +1,6 @@
 -- A mask and a wrong overlap are each reported once, and multi calls are gone over.
-use Rattle.std.proofs.Common.{◌≡◌, ◌∷◌, [], Some, refl, arith}
+use Rattle.std.proofs.Common.{◌∷◌, [], refl, arith}
 use Rattle.std.proofs.lemmas.Grind.{common_steps}
-use Rattle.std.proofs.lemmas.Option.{same_Some}
-use Rattle.model.specs.lists.Syntax.{Position}
 use Rattle.model.specs.sites.DemandedGates.{HasNoPartialMulti}
 use Rattle.model.specs.sites.Limits.{sites_after_rules}
 use Rattle.model.specs.sites.Overlap.{BuiltRule, OverlapsWrongly, built_rule}
@@ -17,12 +15,8 @@ use Rattle.laws_examples.specs.Fall.{fall_any}
 use Rattle.laws_examples.specs.Multi.{each_m, multi_program}
 use Rattle.laws_examples.specs.Overlap.{built_alone, overlap_defs, overlap_one, overlap_program, overlap_rules}
 use Rattle.laws_examples.specs.ReportedOnce.{MultiGoesOverMultiCalls, OverlapIsListedOnce, ShadowIsReportedOnce}
-use Rattle.laws_examples.specs.Written.{at}
 
 -- 1. the mask
-not_both : (x : Position) → Some (at 1) ≡ Some x → Some (at 2) ≡ Some x → ⊥
-not_both x e f = grind (arith, common_steps, same_Some (at 1) x e, same_Some (at 2) x f, same_Some)
-
 pub shadow_is_reported_once : ShadowIsReportedOnce
 shadow_is_reported_once = grind (arith, common_steps)
 

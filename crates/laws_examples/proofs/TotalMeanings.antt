@@ -22,10 +22,6 @@ use Rattle.laws_examples.specs.MeaningForms.{given, v}
 use Rattle.laws_examples.specs.TotalMeanings.{echo, EchoIsTotal, MisfitIsNotTotal, EchoIsTotalWithAConstant, EchoServes, EchoGives}
 
 -- the rules use the extractor alone
-abbrev pub term_of : Use → ℕ
-term_of (a_term t) = t
-term_of (a_constant name) = 0
-
 abbrev is_a_term : Use → Type 0
 is_a_term (a_term t) = Unit {0}
 is_a_term (a_constant name) = ⊥

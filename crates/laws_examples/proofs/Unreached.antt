@@ -1,20 +1,13 @@
 -- Where the first of two impure calls answers nothing, the second one isn't asked; where it answers, it is.
-use Rattle.std.proofs.Common.{◌≡◌, ◌∷◌, [], ℕ, pos, zero, suc, Bool, true, false, take, All, Contains, IsSomeAnd, IsTrue, refl, sym, subst, arith}
+use Rattle.std.proofs.Common.{◌≡◌, [], ℕ, pos, zero, suc, Bool, true, false, All, refl, arith}
 use Rattle.std.proofs.lemmas.Grind.{common_steps}
-use Rattle.std.proofs.lemmas.Bool.{false≢true}
-use Rattle.std.proofs.lemmas.List.Elements.{All-cons, All-contains, All-nil}
-use Rattle.model.proofs.Members.{in_alone, in_head}
-use Rattle.model.specs.rules.Meaning.{impure_answer, nothing}
-use Rattle.model.specs.rules.Picks.{HasContent, Pick}
-use Rattle.model.specs.rules.Program.{kind}
-use Rattle.model.specs.rules.Typed.{TypedRule}
-use Rattle.model.specs.visits.Demands.{demands_of}
-use Rattle.model.specs.sites.Serves.{fits_constructor}
+use Rattle.std.proofs.lemmas.List.Elements.{All-cons, All-nil}
+use Rattle.model.specs.rules.Picks.{HasContent}
 use Rattle.model.specs.sites.Sites.{SiteTerm, SiteTerms, constructor_call, extractor_call, some_part}
 use Rattle.laws_examples.proofs.Served.{literals_apart, serves_from}
 use Rattle.laws_examples.specs.MeaningForms.{DoesNotServe, alone, given, just_number}
 use Rattle.laws_examples.specs.SetForms.{a0, one_source}
-use Rattle.laws_examples.specs.Unreached.{UnreachedCallsAreNotAsked, first_answers, first_im, unreached_program, unreached_rule, unreached_rules}
+use Rattle.laws_examples.specs.Unreached.{UnreachedCallsAreNotAsked, first_answers, first_im, unreached_program, unreached_rule}
 
 -- the two calls
 abbrev call_of_im : SiteTerm → Bool
@@ -26,16 +19,6 @@ call_of_im u = true
 
 pure_none : (t : ℕ) (ss : SiteTerms) → call_of_im (constructor_call t ss 0) ≡ true → ⊥
 pure_none t ss h = grind (arith, common_steps)
-
--- the first call's answer has no part
-answers : (k : Pick) (r : TypedRule) (t before : ℕ) (ss : SiteTerms) → Contains unreached_rules.rules r → call_of_im (constructor_call t ss (suc before)) ≡ true
-    → All (HasContent (first_answers nothing) (given (pos 1)) k) (take before (demands_of unreached_program r).impure)
-    → IsSomeAnd (impure_answer (first_answers nothing) t before) (λ c. IsTrue (fits_constructor unreached_program t (kind unreached_program t) c))
-answers k r zero zero ss i h gave = refl
-answers k r zero (suc zero) ss i h gave =
-    let of_rule = subst (λ q. All (HasContent (first_answers nothing) (given (pos 1)) k) (take 1 (demands_of unreached_program q).impure)) (sym (in_alone unreached_rule r i)) gave in
-    absurd (false≢true (All-contains (HasContent (first_answers nothing) (given (pos 1)) k) (some_part first_im ∷ []) (some_part first_im) of_rule (in_head (some_part first_im) [])))
-answers k r _ _ ss i h gave = absurd (false≢true h)
 
 pub unreached_calls_are_not_asked : UnreachedCallsAreNotAsked
 unreached_calls_are_not_asked = grind (arith, common_steps, serves_from, pure_none, literals_apart)

@@ -28,10 +28,6 @@ passes u = true
 all_pass : (u : SiteTerm) → Contains (asked wrapped_program wrapped_rules.rules) u → passes u ≡ true
 all_pass u c = each_passes passes (asked wrapped_program wrapped_rules.rules) refl u c
 
-abbrev makes_no_call : SiteTerm → Bool
-makes_no_call (constructor_call t ss i) = false
-makes_no_call u = true
-
 wrapped_serves : Serves wrapped_program wrapped_meaning (given (pos 2)) wrapped_rules.rules
 wrapped_serves = grind (arith, common_steps, all_pass, some_and_means, some_and_first, some_and_is, in_cases, in_alone, each_passes)
 

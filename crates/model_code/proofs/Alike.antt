@@ -2,10 +2,10 @@
 use Rattle.std.proofs.Common.{◌≡◌, ◌∷◌, [], ℕ, suc, Bool, true, false, List, Option, Some, None, refl, ap, ◌∙◌, sym, arith}
 use Rattle.std.proofs.lemmas.Grind.{common_steps}
 use Rattle.model.specs.sites.Sites.{Constraint, is_variant, is_struct, is_bool, is_int, is_prim, is_present}
-use Rattle.model_code.specs.Code.{Place, Pass, PlaceUse, Expr, truth_written, read, extraction, call, variant_of, struct_of, some_of, Block, no_statement, statement, Statement, bind, bind_some, no_way, match_on, if_equal, for_each_of, give, labelled, unless_let, unless_equal, CodeArms, no_code_arm, code_arm}
+use Rattle.model_code.specs.Code.{PlaceUse, Expr, truth_written, read, extraction, call, variant_of, struct_of, some_of, Block, no_statement, statement, Statement, bind, bind_some, no_way, match_on, if_equal, for_each_of, give, labelled, unless_let, unless_equal, CodeArms, no_code_arm, code_arm}
 use Rattle.model_code.specs.Tokens.{Word, opening, closing, opening_brace, closing_brace, comma, semicolon, break_word, arrow, unreachable_word, Owner, variant_owner, struct_owner, Token, word, owner_name, label_name}
 use Rattle.model_code.specs.Notation.{Notation, ReturnForm, Shape, Callee, extractor_of, constructor_of}
-use Rattle.model_code.specs.Pieces.{CodePiece, token, space, line_end, tokens_of, Margin, inside, in_braces_at, put, put_between, put_all, put_if, end_line, passed_before, use_before, args_before, named_values, unnamed_values, made_before, answer_before, expr_before, named_bindings, place_in_order, unnamed_bindings, constant_before, pattern_before, is_constant, comparison_before, condition_before, arm_pattern, label_number, break_before, open_body, close_body, one_line, call_lines, bind_lines, give_lines, equal_head, loop_head, unless_line, unless_equal_line, is_alone, match_head, arms_at, arm_head, match_end, label_before, is_left, leaves_at, leaves_arms, result_ends, is_end, unless_end, block_before, statement_before, arms_before}
+use Rattle.model_code.specs.Pieces.{CodePiece, token, space, line_end, tokens_of, Margin, inside, in_braces_at, put, put_between, put_all, put_if, end_line, use_before, args_before, named_values, unnamed_values, made_before, answer_before, expr_before, named_bindings, place_in_order, unnamed_bindings, constant_before, pattern_before, condition_before, arm_pattern, label_number, break_before, open_body, close_body, one_line, call_lines, bind_lines, give_lines, equal_head, loop_head, unless_line, unless_equal_line, is_alone, match_head, arms_at, arm_head, match_end, label_before, is_left, leaves_at, leaves_arms, result_ends, is_end, unless_end, block_before, statement_before, arms_before}
 use Rattle.model_code.specs.Shown.{shown_place, shown_use, shown_uses, shown_made, shown_expr, shown_constraint, test_at, equal_or_match, unless_either, shown, shown_at, shown_arms}
 use Rattle.model_code.specs.Written.{no_margin, written}
 use Rattle.model_code.proofs.Written.{either}
@@ -144,9 +144,6 @@ module _ (p : Notation) (many_of composed_of : ℕ → Bool) (list_of : ℕ → 
   unless_same false at u c fields r s e = grind (arith, common_steps, break_same, end_line_same, pattern_same, use_same)
 
   -- 5. a comparison with a constant, and a match with it, have the same tokens
-  abbrev TestSame : Word → (a : PlaceUse) → (place : Place) → (pass : Pass) → (List CodePiece) → (PlaceUse × Constraint) → Type 0
-  TestSame sign a place pass r test = (is_constant test.1 ≡ true) × Same (use_before q a (put_between sign (passed_before q place pass r))) (comparison_before q test.0 sign test.1 r)
-
   uses_same : (sign : Word) (a b : PlaceUse) (r s : List CodePiece) → Same r s → Same (use_before p a (put_between sign (use_before p b r))) (use_before q (shown_use p a) (put_between sign (use_before q (shown_use p b) s)))
   uses_same sign a b r s e = use_same a (put_between sign (use_before p b r)) (put_between sign (use_before q (shown_use p b) s)) (ap (λ tokens. word sign ∷ tokens) (use_same b r s e))
 

@@ -1,11 +1,8 @@
 -- Names are apart by their first letters, and by their numbers.
-use Rattle.std.proofs.Common.{◌≡◌, ℕ, List, get_or, codes, arith}
+use Rattle.std.proofs.Common.{◌≡◌, codes, arith}
 use Rattle.std.proofs.lemmas.Fmt.{decimal_injective}
 use Rattle.std.proofs.lemmas.Grind.{common_steps}
 use Rattle.model_code.specs.PrintedNames.{PrintedName, printed_name, NamesAreApart}
-
-abbrev first_letter : List ℕ → ℕ
-first_letter xs = get_or xs 0 0
 
 not_results : (a : PrintedName) → printed_name a ≡ codes "returns" → ⊥
 not_results a e = grind (arith, common_steps)

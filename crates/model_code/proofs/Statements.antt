@@ -7,11 +7,11 @@ use Rattle.model.specs.sites.Sites.{Constraint, is_bool, is_int, is_prim}
 use Rattle.model.specs.rules.Outcome.{then_option}
 use Rattle.model.proofs.SameSites.{number_same}
 use Rattle.model_code.specs.Code.{PlaceUse, Expr, truth_written, read, extraction, call, variant_of, struct_of, some_of, Block, Statement, bind, bind_some, match_on, if_equal, for_each_of, give, labelled, unless_let, unless_equal, CodeArms, no_code_arm, code_arm}
-use Rattle.model_code.specs.Tokens.{else_word, opening, closing, opening_brace, closing_brace, semicolon, dot, next_word, ctx_word, arrow, Token}
+use Rattle.model_code.specs.Tokens.{opening_brace, closing_brace, semicolon, Token}
 use Rattle.model_code.specs.Notation.{Notation, Callee, extractor_of, constructor_of}
 use Rattle.model_code.specs.Pieces.{CodePiece, line_end, set_in, tokens_of, Margin, inside, put, pattern_before, is_constant, open_body, close_body, one_line, call_lines, bind_lines, bind_some_line, result_lines, equal_head, loop_head, unless_line, unless_equal_line, arm_head, in_braces_at, label_before, match_head, arms_at, match_end, block_before, arms_before}
 use Rattle.model_code.specs.Shown.{nowhere, shown_use, shown_uses, shown_expr, shown_constraint, shown, shown_at}
-use Rattle.model_code.specs.Reading.{TokenReading, then_read, expect, expect_all, Pattern, Compared, equal_of, Inner, read_body, done, read_else, read_let, read_let_pattern, read_arms, read_statement, read_block}
+use Rattle.model_code.specs.Reading.{then_read, expect, Inner, read_body, done, read_let, read_let_pattern, read_arms, read_statement, read_block}
 use Rattle.model_code.specs.ReadsBack.{pattern_writable, match_writable, expr_writable, expr_size, ends_block}
 use Rattle.model_code.proofs.Uses.{after_use, that_variable}
 use Rattle.model_code.proofs.Values.{call_back, expr_back}
@@ -56,9 +56,6 @@ module _ (p : Notation) (n : ℕ) where
   bind_back at v (struct_of ty us) rest h w = one_back at v (struct_of ty us) rest h w
   bind_back at v (some_of u) rest h w = one_back at v (some_of u) rest h w
 
-  abbrev then_else : Option ℕ → Pattern → PlaceUse → List Token → TokenReading Statement
-  then_else label pattern u tokens = then_option (expect else_word tokens) (read_else p.kind label pattern u)
-
   pub bind_some_back : (at : Margin) (v : ℕ) (u : PlaceUse) (rest : List CodePiece) → IsBack at (bind_some_line p at v u rest) (bind_some v (shown_use p u)) rest
   bind_some_back at v u rest = grind (arith, common_steps, after_use)
 
@@ -67,12 +64,6 @@ module _ (p : Notation) (n : ℕ) where
   result_back at place u rest = grind arith
 
   -- 3. tests with a body
-  abbrev with_body : Option ℕ → (Block → Statement) → List Token → TokenReading Statement
-  with_body label s tokens = then_read (read_body inner label tokens) (λ body end. Some (s body, end))
-
-  abbrev with_compared : Option ℕ → PlaceUse → Compared → List Token → TokenReading Statement
-  with_compared label a b tokens = with_body label (equal_of p a b) tokens
-
   pub equal_back_at : (at : Margin) (a b : PlaceUse) (body : Block) (rest : List CodePiece) → BlockBack (inside at) body (close_body at rest)
       → IsBack at (equal_head p at a b (block_before p (inside at) body (close_body at rest))) (shown_at p (if_equal a b body)) rest
   equal_back_at at a b body rest h = grind (arith, common_steps, if_back, after_use, after_second, body_back)
@@ -116,9 +107,6 @@ module _ (p : Notation) (n : ℕ) where
   unless_equal_back at a b rest l = grind (arith, common_steps, if_back, after_use, after_second, break_back)
 
   -- 5. loops
-  abbrev loop_behind : Option ℕ → (v from : ℕ) → List Token → TokenReading Statement
-  loop_behind label v from tokens = then_option (expect_all (dot ∷ next_word ∷ opening ∷ ctx_word ∷ closing ∷ []) tokens) (λ body. with_body label (for_each_of v from) body)
-
   pub loop_back : (at : Margin) (v from : ℕ) (body : Block) (rest : List CodePiece) → BlockBack (inside at) body (close_body at rest)
       → IsBack at (loop_head at v from (block_before p (inside at) body (close_body at rest))) (for_each_of v from (shown p body)) rest
   loop_back at v from body rest h = grind (arith, common_steps, number_same, that_variable, body_back)
@@ -129,9 +117,6 @@ module _ (p : Notation) (n : ℕ) where
   labelled_back left at body rest h = grind (arith, common_steps, body_back)
 
   -- 7. matches
-  abbrev with_arm : Option ℕ → PlaceUse → ℕ → Pattern → List Token → TokenReading CodeArms
-  with_arm label u k pattern tokens = then_option (expect arrow tokens) (λ behind. then_read (read_body inner label behind) (λ body later. then_read (read_arms p inner label u k later) (λ arms end. Some (code_arm pattern.constraint pattern.fields body arms, end))))
-
   -- an arm, where the arms behind it are
   pub arm_then : (k : ℕ) (at : Margin) (u : PlaceUse) (c : Constraint) (fields : List (Option ℕ)) (body : Block) (more : CodeArms) (behind rest : List CodePiece) → pattern_writable p c fields ≡ true → match_writable p u c ≡ true
       → BlockBack (inside at) body (close_body at behind) → read_arms p inner at.label (shown_use p u) k (tokens_of behind) ≡ Some (more, tokens_of rest)

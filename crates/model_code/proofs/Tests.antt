@@ -4,12 +4,12 @@ use Rattle.std.proofs.lemmas.Bool.{and_from}
 use Rattle.std.proofs.lemmas.Grind.{common_steps}
 use Rattle.model.specs.sites.Sites.{Constraint, is_variant, is_struct, is_bool, is_int, is_prim, is_present}
 use Rattle.model.proofs.SameSites.{number_same}
-use Rattle.model_code.specs.Code.{Place, int_written, name_written, Pass, as_it_is, lent, seen_through, PlaceUse, Block, match_on, unless_let, no_code_arm, code_arm}
+use Rattle.model_code.specs.Code.{Place, name_written, Pass, as_it_is, lent, seen_through, PlaceUse}
 use Rattle.model_code.specs.Tokens.{star, equal_to, opening_brace, closing_brace, break_word, Token, word, label_name}
 use Rattle.model_code.specs.Notation.{Notation}
 use Rattle.model_code.specs.Pieces.{CodePiece, tokens_of, put_if, put_between, passed_before, use_before, constant_before, is_constant, is_seen_through, arm_pattern, label_number}
 use Rattle.model_code.specs.Shown.{shown_use, shown_constraint, test_at}
-use Rattle.model_code.specs.Reading.{TokenReading, then_read, read_use, Compared, a_truth, a_use, read_compared, equal_of, unless_of, same_pass, same_use, guard_of, guard_by, read_compared_guard, read_arm_pattern, read_break, Inner, read_sign, read_if}
+use Rattle.model_code.specs.Reading.{TokenReading, then_read, read_use, Compared, a_use, read_compared, same_pass, same_use, guard_of, guard_by, read_compared_guard, read_arm_pattern, read_break, Inner, read_sign, read_if}
 use Rattle.model_code.specs.ReadsBack.{pattern_writable, is_looked_at, match_writable}
 use Rattle.model_code.proofs.Uses.{follows, after_use}
 use Rattle.model_code.proofs.Patterns.{no_bindings, pattern_back}
@@ -50,28 +50,7 @@ pub after_second : {B : Type 0} (p : Notation) (u : PlaceUse) (rest : List CodeP
     → then_read (read_compared (tokens_of (use_before p u rest))) go ≡ go (a_use (shown_use p u)) (tokens_of rest)
 after_second p u rest go f = grind (arith, after_use)
 
-abbrev pub constant_use : Place → PlaceUse
-constant_use place = record { place = place; pass = as_it_is }
-
-abbrev pub constant_compared : Notation → Constraint → Compared
-constant_compared p (is_int z ty) = a_use (constant_use (int_written z (p.ending ty)))
-constant_compared p (is_prim name) = a_use (constant_use (name_written name))
-constant_compared p (is_bool b ty) = a_truth b
-constant_compared p c = a_truth true
-
-pub after_constant : {B : Type 0} (p : Notation) (c : Constraint) (rest : List CodePiece) (go : Compared → List Token → TokenReading B) → is_constant c ≡ true → follows (tokens_of rest) ≡ true
-    → then_read (read_compared (tokens_of (constant_before p c rest))) go ≡ go (constant_compared p c) (tokens_of rest)
-after_constant p c rest go h f = grind (arith, common_steps)
-
--- 3. so a comparison with a constant is read as a match
-pub equal_back : (p : Notation) (u : PlaceUse) (c : Constraint) (body : Block) → is_constant c ≡ true → match_plain p u c ≡ true
-    → equal_of p (seen (is_seen_through p c) (shown_use p u)) (constant_compared p c) body ≡ match_on (shown_use p u) (code_arm (shown_constraint p c) [] body no_code_arm)
-equal_back p u c body h m = grind (arith, common_steps, plain_where_seen)
-
-pub unless_back : (p : Notation) (u : PlaceUse) (c : Constraint) → is_constant c ≡ true → match_plain p u c ≡ true
-    → unless_of p (seen (is_seen_through p c) (shown_use p u)) (constant_compared p c) ≡ unless_let (shown_use p u) (shown_constraint p c) []
-unless_back p u c h m = grind (arith, common_steps, plain_where_seen)
-
+-- 3. a constant binds nothing, and how a test begins
 pub constants_bind_nothing : (p : Notation) (c : Constraint) (fields : List (Option ℕ)) → is_constant c ≡ true → pattern_writable p c fields ≡ true → fields ≡ []
 constants_bind_nothing p c fields h w = grind (arith, common_steps, no_bindings)
 
@@ -108,9 +87,6 @@ plain_arm p u name rest m f =
     compared_guard (p.is_constant_composed name) p u (put_between equal_to (constant_before p (is_prim name) rest)) (plain_where_seen p u (is_prim name) m)
     ∙ (after_compared p u (is_prim name) (put_between equal_to (constant_before p (is_prim name) rest)) (guard_by (shown_use p u) (test_at p)) m refl
     ∙ (grind (arith, common_steps, after_use, guard_back, plain_where_seen)))
-
-abbrev pub lent_use : Place → PlaceUse
-lent_use place = record { place = place; pass = lent }
 
 named_arm : (p : Notation) (u : PlaceUse) (name : ℕ) (rest : List CodePiece) → match_writable p u (is_prim name) ≡ true → follows (tokens_of rest) ≡ true
     → read_arm_pattern p (shown_use p u) (tokens_of (arm_pattern p u (is_prim name) [] rest)) ≡ Some (record { constraint = is_prim name; fields = [] }, tokens_of rest)

@@ -8,7 +8,7 @@ use Rattle.model_code.specs.Tokens.{dot, colon, Owner, Token, word, part_name, f
 use Rattle.model_code.specs.Notation.{Notation}
 use Rattle.model_code.specs.Pieces.{CodePiece, tokens_of, place_before, use_before, clone_call}
 use Rattle.model_code.specs.Shown.{shown_place, shown_use}
-use Rattle.model_code.specs.Reading.{TokenReading, then_read, expect_all, expect_variable, expect_field, same_owner, read_place, cloned_or_not, read_use}
+use Rattle.model_code.specs.Reading.{TokenReading, then_read, expect_all, expect_variable, expect_field, same_owner, read_place, read_use}
 
 abbrev not_part : List Token → Bool
 not_part (part_name i ∷ rest) = false
@@ -27,9 +27,6 @@ no_clone tokens h = grind (arith, common_steps)
 
 place_back : (p : Notation) (place : Place) (rest : List CodePiece) → not_part (tokens_of rest) ≡ true → read_place (tokens_of (place_before p place rest)) ≡ Some (shown_place p place, tokens_of rest)
 place_back p place rest h = grind (arith, common_steps)
-
-abbrev or_cloned : Place → List Token → TokenReading PlaceUse
-or_cloned place rest = cloned_or_not place rest (expect_all clone_call rest)
 
 pub after_use : {B : Type 0} (p : Notation) (u : PlaceUse) (rest : List CodePiece) (go : PlaceUse → List Token → TokenReading B) → follows (tokens_of rest) ≡ true
     → then_read (read_use (tokens_of (use_before p u rest))) go ≡ go (shown_use p u) (tokens_of rest)
