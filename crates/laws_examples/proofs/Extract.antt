@@ -1,27 +1,20 @@
 -- The sample with an extractor: a world where the extractor answers serves the tests of its rules; and near sets are not built.
-use Rattle.std.proofs.Common.{◌≡◌, ◌∷◌, [], ◌⊎◌, ◌∙◌, ℕ, pos, false, List, Some, length, slice_get, Contains, IsTrue, refl, sym, ap, arith, is_some}
+use Rattle.std.proofs.Common.{◌≡◌, ◌∷◌, [], ◌⊎◌, ◌∙◌, ℕ, pos, Contains, refl, sym, ap, arith}
 use Rattle.std.proofs.lemmas.Grind.{common_steps}
 use Rattle.std.proofs.lemmas.Bool.{false≢true}
-use Rattle.std.proofs.lemmas.Option.{none-some}
 use Rattle.model.proofs.Members.{in_alone, in_cases}
-use Rattle.model.specs.rules.Meaning.{Content, Meaning, one}
+use Rattle.model.specs.rules.Meaning.{Content}
 use Rattle.model.specs.sites.RuleSets.{IsBuilt}
 use Rattle.model.specs.sites.Sites.{Constraint, SetRule, is_int, is_present, unfold_site}
-use Rattle.model.specs.trees.Collects.{content_at}
-use Rattle.model.specs.trees.Places.{fields_of, joins_in, waits}
-use Rattle.model.specs.trees.Run.{content_fields}
-use Rattle.model.specs.trees.SetRuns.{IsTestedSet, ServesTests}
+use Rattle.model.specs.trees.Places.{joins_in}
+use Rattle.model.specs.trees.SetRuns.{ServesTests}
 use Rattle.laws_trees.proofs.runs.Fields.{present_met}
-use Rattle.laws_trees.proofs.taken.ServesRuns.{constant_count}
 use Rattle.laws_examples.proofs.SampleStages.{extract_stages}
 use Rattle.laws_examples.proofs.SetStages.{tested}
-use Rattle.laws_examples.specs.Extract.{ExtractIsServed, NearSetsAreNotBuilt, answer_itself, extract_defs, extract_meaning, extract_program, extract_rules, extract_set, extract_world, less_asked, ten_for_answer_one}
+use Rattle.laws_examples.specs.Extract.{ExtractIsServed, NearSetsAreNotBuilt, answer_itself, extract_defs, extract_program, extract_rules, extract_set, extract_world, less_asked, ten_for_answer_one}
 use Rattle.laws_examples.specs.SetForms.{is_byte}
 
 -- 1. the set goes over no calls, and its rules demand the gates below what they test
-set_tested : IsTestedSet extract_set
-set_tested = tested extract_defs extract_rules 1 extract_set extract_stages.accepted extract_stages.built refl refl
-
 -- 2. the world
 abbrev Asked : ℕ → Constraint → Type 0
 Asked s d = ((s ≡ 1) × (d ≡ is_present)) ⊎ ((s ≡ 2) × (d ≡ is_int (pos 1) 1))
@@ -32,29 +25,20 @@ asked r k s d c = grind (arith, common_steps, in_cases, in_alone)
 no_classes : (r : SetRule) → Contains extract_set.rules r → r.classes ≡ []
 no_classes r k = grind (arith, common_steps, in_cases ten_for_answer_one r (answer_itself ∷ []) k, in_alone answer_itself r, in_cases, in_alone)
 
-int_fields : (m : Meaning) (x : Content) (cs : List Content) → content_fields m (is_int (pos 1) 1) x ≡ Some cs → length cs ≡ 0
-int_fields m x cs e = grind (arith, common_steps, constant_count, none-some)
-
-field_count : (m : Meaning) (s : ℕ) (d : Constraint) (x : Content) (cs : List Content) → Asked s d → content_fields m d x ≡ Some cs → length cs ≡ length (fields_of extract_set.sites s d)
-field_count m s d x cs h e = grind (arith, common_steps, present_met, int_fields)
-
 one_constraint : (s : ℕ) (d f : Constraint) → Asked s d → Asked s f → d ≡ f
 one_constraint s d f h i = grind (arith, common_steps)
-
-has_content : (c : Content) (s : ℕ) → waits (slice_get extract_set.sites s) ≡ false → IsTrue (is_some (content_at (extract_world c) [] s))
-has_content c s n = grind (arith, common_steps)
 
 tests_served : (c : Content) → ServesTests extract_set (extract_world c)
 tests_served c = record {
   sites = refl;
-  found = λ s p n all. has_content c s n;
+  found = λ s p n all. grind (arith, common_steps);
   values = λ r a b x k j e. absurd (false≢true (sym (ap (λ l. joins_in l a b) (no_classes r k)) ∙ j));
-  fields = λ r s d x cs k m e f. field_count (extract_meaning c) s d x cs (asked r k s d m) f;
+  fields = λ r s d x cs k m e f. grind (arith, common_steps, present_met);
   apart = λ r q s d f k l m n h g. one_constraint s d f (asked r k s d m) (asked q l s f n);
 }
 
 pub extract_is_served_lem : ExtractIsServed
-extract_is_served_lem = (set_tested, tests_served)
+extract_is_served_lem = ((tested extract_defs extract_rules 1 extract_set extract_stages.accepted extract_stages.built refl refl), tests_served)
 
 -- 3. sets that aren't built
 -- whether a constraint asks for an answer

@@ -1,5 +1,5 @@
 -- The sites of a small set, place by place.
-use Rattle.std.proofs.Common.{◌≡◌, ℕ, pos, Some, None, slice_get, refl, ap, subst, arith}
+use Rattle.std.proofs.Common.{◌≡◌, ℕ, pos, Some, slice_get, refl, ap, subst, arith}
 use Rattle.std.proofs.lemmas.Grind.{common_steps}
 use Rattle.std.proofs.lemmas.Option.{none-some, same_Some}
 use Rattle.model.specs.sites.Sites.{Site, int_site}
@@ -12,16 +12,10 @@ abbrev number_in : Site → ℕ
 number_in (int_site (pos n) ty) = n
 number_in _ = 0
 
-ten_at_one : (s : ℕ) → slice_get fall_set.sites s ≡ Some (byte 10) → Some 1 ≡ Some s
-ten_at_one s h = grind (arith, common_steps, same_Some, none-some)
-
-nine_nowhere : (s : ℕ) → slice_get fall_set.sites s ≡ Some (byte 9) → None ≡ Some s
-nine_nowhere s h = grind (arith, common_steps, same_Some, none-some)
-
 pub sites_are_found : SitesAreFound
 sites_are_found = record {
-  ten = λ s. (λ e. subst (λ k. slice_get fall_set.sites k ≡ Some (byte 10)) (same_Some 1 s e) refl, ten_at_one s);
-  nine = λ s. (λ e. absurd (none-some s e), nine_nowhere s);
+  ten = λ s. (λ e. subst (λ k. slice_get fall_set.sites k ≡ Some (byte 10)) (same_Some 1 s e) refl, (λ h. grind (arith, common_steps, same_Some, none-some)));
+  nine = λ s. (λ e. absurd (none-some s e), (λ h. grind (arith, common_steps, same_Some, none-some)));
   ten_is_there = λ f. none-some 1 ((f 1).1 refl);
   ten_not_first = λ f. (let n = ap number_in (same_Some _ _ ((f 0).0 refl)) in omega (arith, n));
 }

@@ -1,20 +1,18 @@
 -- The sample with an impure call: wherever its rule is taken, the call isn't emitted, so it is made.
-use Rattle.std.proofs.Common.{◌≡◌, ◌∷◌, [], ◌++◌, if◌then◌else◌, ◌∙◌, ◌||◌, ℕ, Bool, false, List, Option, Some, slice_get, Contains, IsTrue, sym, ap, subst, inl, inr, not, filter, arith}
+use Rattle.std.proofs.Common.{◌≡◌, ◌∷◌, [], ◌++◌, if◌then◌else◌, ◌∙◌, ◌||◌, ℕ, Bool, false, List, Some, slice_get, IsTrue, sym, ap, subst, inl, inr, not, filter, arith}
 use Rattle.std.proofs.lemmas.Grind.{common_steps}
 use Rattle.std.proofs.lemmas.Bool.{cases_Bool, false≢true}
 use Rattle.std.proofs.lemmas.Option.{none-some, same_Some}
 use Rattle.std.proofs.lemmas.List.Elements.{All-contains}
 use Rattle.model.proofs.Members.{each_passes, in_head}
-use Rattle.model.specs.rules.Meaning.{Content, Meaning, impure_answer, one}
+use Rattle.model.specs.rules.Meaning.{Meaning, impure_answer}
 use Rattle.model.specs.rules.Outcome.{Outcome}
 use Rattle.model.specs.rules.Values.{Value}
 use Rattle.model.specs.sites.Sites.{constructor_site}
 use Rattle.model.specs.trees.Collects.{IsPureSite, IsPureAt}
 use Rattle.model.specs.trees.Places.{all_below, bind_order, is_in, is_in_place, nothing_around, return_uses, waits}
-use Rattle.model.specs.trees.Run.{Bound, Env, World, all_bound, at_start, now_bound, or_next, run_check, run_tree, then_bind, used, on_bound}
 use Rattle.model.specs.trees.SetRuns.{IsTaken}
-use Rattle.model.specs.trees.Trees.{no_step, return_at}
-use Rattle.laws_examples.specs.Impure.{ImpureIsCalled, after_call, call_on_argument, im_called, impure_set, the_call}
+use Rattle.laws_examples.specs.Impure.{ImpureIsCalled, after_call, call_on_argument, im_called, impure_set}
 
 -- what is bound, where the call and the argument are emitted or not
 abbrev order : Bool → Bool → List ℕ
@@ -22,34 +20,17 @@ order call arg =
     let first = if call || false then [] else (if arg || false then [] else [] ++ 0 ∷ []) ++ 1 ∷ [] in
     filter (λ s. not (is_in_place (slice_get impure_set.sites s))) (if call || is_in 1 first then first else (if arg || is_in 0 first then first else first ++ 0 ∷ []) ++ 1 ∷ [])
 
-order_is : (arg : Bool) → order false arg ≡ 1 ∷ []
-order_is arg = grind (arith, common_steps)
-
-module _ (m : Meaning) (v : Value) (env : Env) where
-  abbrev then_returns : Bound → Outcome
-  then_returns b = on_bound (then_bind b (λ e calls. all_bound e calls)) at_start (λ e t. or_next (run_check (return_at call_on_argument.at 1) (im_called m v) e t) (run_tree no_step (im_called m v) e))
-
-  answered : (a : Option Content) → then_returns (now_bound env (the_call v) 1 a) ≡ after_call v a
-  answered a = grind (arith, common_steps)
-
--- nothing that its result is made of waits
-waits_not : (s : ℕ) → Contains (all_below impure_set.sites (return_uses (Some call_on_argument))) s → waits (slice_get impure_set.sites s) ≡ false
-waits_not s c = grind (arith, common_steps, each_passes)
-
 taken_at_start : (m : Meaning) (v : Value) → IsTaken (im_called m v) call_on_argument (after_call v (impure_answer m 0 0))
 taken_at_start m v = record {
   around = nothing_around;
   env = [];
   reached = record { emitted = λ s i. absurd (false≢true i); pure = λ s i. absurd (false≢true i); bound = λ s c e. absurd (none-some c e) };
-  gates = λ s c. inl (waits_not s c);
-  demanded = λ s source e c g. absurd (false≢true (sym (waits_not s c) ∙ ap waits e));
-  outcome = sym (answered m v [] (impure_answer m 0 0));
+  gates = λ s c. inl (grind (arith, each_passes));
+  demanded = λ s source e c g. absurd (false≢true (sym (grind (arith, each_passes)) ∙ ap waits e));
+  outcome = sym (grind (arith, common_steps));
 }
 
 module _ (m : Meaning) (v : Value) (o : Outcome) (t : IsTaken (im_called m v) call_on_argument o) where
-  abbrev w : World
-  w = im_called m v
-
   call_impure : IsTrue (is_in 1 t.around.emitted) → ⊥
   call_impure i =
       let p = All-contains (IsPureAt impure_set.sites) (all_below impure_set.sites (1 ∷ [])) 1 (t.reached.pure 1 i) (in_head 1 (0 ∷ [])) in
@@ -59,13 +40,10 @@ module _ (m : Meaning) (v : Value) (o : Outcome) (t : IsTaken (im_called m v) ca
   not_emitted = elim (cases_Bool (is_in 1 t.around.emitted)) [ inl i ↦ absurd (call_impure i) | inr f ↦ f ]
 
   call_bound : bind_order impure_set.sites t.around (return_uses (Some call_on_argument)) ≡ 1 ∷ []
-  call_bound = ap (λ c. order c (is_in 0 t.around.emitted)) not_emitted ∙ order_is (is_in 0 t.around.emitted)
-
-  arg_read : used w t.env 0 ≡ Some (one v)
-  arg_read = grind (arith, common_steps)
+  call_bound = ap (λ c. order c (is_in 0 t.around.emitted)) not_emitted ∙ (grind (arith, common_steps))
 
   called : o ≡ after_call v (impure_answer m 0 0)
-  called = grind (arith, common_steps, call_bound, arg_read)
+  called = grind (arith, common_steps, call_bound)
 
 pub impure_is_called : ImpureIsCalled
 impure_is_called = record { can_be_taken = taken_at_start; makes_the_call = λ m v o t. called m v o t }

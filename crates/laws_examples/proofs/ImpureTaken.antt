@@ -1,29 +1,23 @@
 -- The sample with an impure call is served on 1, and taking its rule gives its right side's outcome.
-use Rattle.std.proofs.Common.{◌≡◌, [], ℕ, pos, suc, true, IsTrue, IsSomeAnd, refl, arith}
+use Rattle.std.proofs.Common.{[], pos, refl, arith}
 use Rattle.std.proofs.lemmas.Grind.{common_steps}
-use Rattle.model.specs.rules.Meaning.{impure_answer}
-use Rattle.model.specs.rules.Program.{kind, rules_of}
+use Rattle.model.specs.rules.Program.{rules_of}
 use Rattle.model.specs.sites.Overlap.{built_rule}
-use Rattle.model.specs.sites.Serves.{Serves, TellsConstantsApart, fits_constructor}
-use Rattle.model.specs.sites.Sites.{SiteTerms, constructor_call}
+use Rattle.model.specs.sites.Serves.{Serves, TellsConstantsApart}
 use Rattle.model.specs.claims.Layers.{own_program}
 use Rattle.laws_typing.proofs.WellTypedRules.{read_programs_are_well_typed}
 use Rattle.laws_trees.proofs.outcomes.Outcomes.{taken_lem}
 use Rattle.laws_trees.proofs.taken.ServesRuns.{served_sets_serve_tests_lem}
 use Rattle.laws_examples.proofs.Impure.{impure_is_called}
 use Rattle.laws_examples.proofs.SampleStages.{impure_stages}
-use Rattle.laws_examples.proofs.Served.{call_of_g, literals_apart, pure_none, serves_from}
+use Rattle.laws_examples.proofs.Served.{literals_apart, pure_none, serves_from}
 use Rattle.laws_examples.proofs.SetStages.{tested}
 use Rattle.laws_examples.specs.Impure.{call_on_argument, impure_defs, impure_rule, impure_rules, impure_set}
 use Rattle.laws_examples.specs.ImpureTaken.{ImpureIsServed, ImpureIsTaken, five_at_first, five_called, impure_program}
 use Rattle.laws_examples.specs.MeaningForms.{given, v}
 
-five_answered : (t before : ℕ) (ss : SiteTerms) → call_of_g (constructor_call t ss (suc before)) ≡ true
-    → IsSomeAnd (impure_answer five_at_first t before) (λ c. IsTrue (fits_constructor impure_program t (kind impure_program t) c))
-five_answered t before ss h = grind (arith, common_steps)
-
 serves : Serves impure_program five_at_first (given (pos 1)) (rules_of impure_program 1)
-serves = grind (arith, common_steps, serves_from, pure_none, five_answered)
+serves = grind (arith, common_steps, serves_from, pure_none)
 
 apart : TellsConstantsApart impure_program five_at_first (rules_of impure_program 1)
 apart = literals_apart impure_program five_at_first (rules_of impure_program 1) refl refl

@@ -1,15 +1,10 @@
 -- The set with left-over sites: a meaning whose call answers what is no number serves its rules, so its world serves the set,
 -- and the run of its tree collects the bag.
-use Rattle.std.proofs.Common.{◌≡◌, ◌∷◌, [], ℕ, pos, suc, true, Contains, IsTrue, is_some, refl, arith}
+use Rattle.std.proofs.Common.{◌≡◌, ◌∷◌, [], pos, true, IsTrue, is_some, refl, arith}
 use Rattle.std.proofs.lemmas.Grind.{common_steps}
 use Rattle.std.proofs.lemmas.List.Elements.{All-cons, All-nil}
 use Rattle.std.proofs.lemmas.List.Sorted.{IsPermutation-refl}
-use Rattle.model.proofs.Members.{in_alone, in_cases}
-use Rattle.model.specs.rules.Matching.{matches}
-use Rattle.model.specs.rules.Typed.{TypedRule}
-use Rattle.model.specs.visits.Demands.{demands_of}
-use Rattle.model.specs.sites.Serves.{Serves, TellsConstantsApart}
-use Rattle.model.specs.sites.Sites.{SetRule, SiteTerms, constructor_call, constructor_site}
+use Rattle.model.specs.sites.Sites.{SetRule, constructor_site}
 use Rattle.model.specs.trees.Collects.{content_at}
 use Rattle.model.specs.claims.Layers.{own_program}
 use Rattle.laws_typing.proofs.WellTypedRules.{read_programs_are_well_typed}
@@ -29,19 +24,8 @@ pub left_over_judged : IsJudged left_over_set true left_over_tree
 left_over_judged = judged_multi left_over_set left_over_tree refl refl refl refl refl
 
 -- 1. the meaning serves the rules
--- the rule that calls im doesn't match, and the other one makes no impure call
-none_called : (r : TypedRule) (t before : ℕ) (ss : SiteTerms) → Contains left_over_rules.rules r → IsTrue (is_some (matches left_over_program left_over_meaning r (given (pos 7))))
-    → Contains (demands_of left_over_program r).made (constructor_call t ss (suc before)) → ⊥
-none_called r t before ss i matched made = grind (arith, common_steps, in_cases, in_alone)
-
-serves : Serves left_over_program left_over_meaning (given (pos 7)) left_over_rules.rules
-serves = grind (arith, common_steps, serves_from, none_called)
-
-tells_apart : TellsConstantsApart left_over_program left_over_meaning left_over_rules.rules
-tells_apart = literals_apart left_over_program left_over_meaning left_over_rules.rules refl refl
-
 pub left_over_is_served : LeftOverIsServed
-left_over_is_served = (serves, tells_apart)
+left_over_is_served = ((grind (arith, common_steps, serves_from)), literals_apart left_over_program left_over_meaning left_over_rules.rules refl refl)
 
 -- 2. so its world serves the set, whose one rule makes no impure call
 pub left_over_is_collected : LeftOverIsCollected
@@ -49,7 +33,7 @@ left_over_is_collected = (
   collected left_over_set refl refl,
   served_multi_sets_serve_lem (own_program left_over_defs left_over_rules) 2 left_over_set (read_programs_are_well_typed left_over_read.0) left_over_built.0
       (All-cons (λ (r : SetRule). r.impure ≡ []) kept_rule [] refl (All-nil (λ (r : SetRule). r.impure ≡ [])))
-      left_over_meaning (given (pos 7)) refl serves tells_apart,
+      left_over_meaning (given (pos 7)) refl (grind (arith, common_steps, serves_from)) (literals_apart left_over_program left_over_meaning left_over_rules.rules refl refl),
 )
 
 pub left_over_lacks_a_call : LeftOverLacksACall

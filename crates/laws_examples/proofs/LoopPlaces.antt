@@ -1,13 +1,12 @@
 -- A place inside of a loop over a call: site 1 is the call, which was bound, and site 2 the answer that the loop brought.
 use Rattle.std.proofs.Common.{◌≡◌, ◌||◌, ◌==◌, ◌∷◌, [], ℕ, Bool, true, false, Some, All, IsTrue, is_some, refl, sym, subst, eqb-true, arith}
-use Rattle.std.proofs.lemmas.Grind.{common_steps}
 use Rattle.std.proofs.lemmas.Bool.{false≢true}
 use Rattle.std.proofs.lemmas.Option.{none-some}
 use Rattle.model.specs.rules.Meaning.{Content}
 use Rattle.model.specs.rules.Picks.{Pick}
 use Rattle.model.specs.trees.Collects.{IsPureAt, content_at}
 use Rattle.model.specs.trees.Places.{Around, all_below, is_in, nothing_around}
-use Rattle.model.specs.trees.Run.{Env, World, bound_to, used}
+use Rattle.model.specs.trees.Run.{Env, World, used}
 use Rattle.model.specs.trees.SetRuns.{IsReachedUnder}
 
 abbrev pub in_loop : Around
@@ -44,11 +43,5 @@ module _ (w : World) (k : Pick) (at : InLoop w k) where
       split false true e f t = subst Held (eqb-true 1 s f) ((subst (λ o. IsTrue (is_some o)) (sym at.call.content) refl, at.call.as_used), at.call.pure)
       split false false e f t = absurd (false≢true t)
 
-  abbrev BoundAsHeld : Content → ℕ → Type 0
-  BoundAsHeld c s = emitted_there s × (content_at w k s ≡ Some c)
-
-  bound_holds : (s : ℕ) (c : Content) → bound_to (loop_env at.answers at.first) s ≡ Some c → BoundAsHeld c s
-  bound_holds s c h = grind (arith, common_steps, eqb-true 2 s, eqb-true 1 s, none-some c, eqb-true, none-some)
-
   pub reached_in_loop : IsReachedUnder w k in_loop (loop_env at.answers at.first)
-  reached_in_loop = record { emitted = λ s h. (held s h).0; pure = λ s h. (held s h).1; bound = bound_holds }
+  reached_in_loop = record { emitted = λ s h. (held s h).0; pure = λ s h. (held s h).1; bound = grind (arith, eqb-true, none-some) }

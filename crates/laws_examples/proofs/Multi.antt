@@ -1,5 +1,5 @@
 -- The multi sample: its rules and its set are collected, the world serves it, and the run of its tree collects the bag.
-use Rattle.std.proofs.Common.{◌≡◌, ◌∷◌, [], ◌∙◌, ℕ, pos, true, false, List, Some, length, slice_get, All, Contains, IsTrue, refl, sym, ap, subst, inl, inr, arith, is_some, ◌⊎◌}
+use Rattle.std.proofs.Common.{◌≡◌, ◌∷◌, [], ◌∙◌, ℕ, pos, true, false, List, Some, length, slice_get, All, Contains, IsTrue, refl, sym, ap, subst, inl, inr, arith, is_some}
 use Rattle.std.proofs.lemmas.Grind.{common_steps}
 use Rattle.std.proofs.lemmas.Bool.{false≢true}
 use Rattle.std.proofs.lemmas.List.Elements.{All-nil, All-cons}
@@ -11,11 +11,11 @@ use Rattle.model.specs.claims.SetMeanings.{returning_once}
 use Rattle.model.specs.rules.Meaning.{Content, many, one}
 use Rattle.model.specs.rules.Picks.{Pick}
 use Rattle.model.specs.rules.Values.{atom}
-use Rattle.model.specs.sites.Sites.{Constraint, SetRule, argument_site, constructor_site, is_int, iterator_site, match_some_site}
-use Rattle.model.specs.trees.Collects.{HasCollectedResults, IsCollectedSet, IsPureAt, ServesSet, content_at}
+use Rattle.model.specs.sites.Sites.{Constraint, SetRule, argument_site, constructor_site, is_int, iterator_site}
+use Rattle.model.specs.trees.Collects.{IsPureAt, ServesSet, content_at}
 use Rattle.model.specs.trees.Places.{fields_of, joins_in, waits}
 use Rattle.model.specs.trees.Run.{World, content_fields}
-use Rattle.model.specs.trees.SetRuns.{IsReachedUnder, IsUnwrap}
+use Rattle.model.specs.trees.SetRuns.{IsReachedUnder}
 use Rattle.model.specs.claims.Layers.{own_program}
 use Rattle.laws_typing.proofs.WellTypedRules.{read_programs_are_well_typed}
 use Rattle.laws_trees.proofs.BuiltMatches.{built_sets_match_by_demands_lem}
@@ -28,22 +28,16 @@ use Rattle.laws_sites.proofs.built.Priorities.{one_priority_lem}
 use Rattle.laws_sites.proofs.built.WholeDemands.{built_demands_are_whole_lem}
 use Rattle.laws_trees.proofs.runs.Collection.{sound_trees_collect_lem}
 use Rattle.laws_trees.proofs.headline.Collecting.{CollectingLaws, best_trees_collect_the_bag_lem}
-use Rattle.laws_examples.proofs.LoopPlaces.{emitted_there, in_loop, loop_env, reached_in_loop}
+use Rattle.laws_examples.proofs.LoopPlaces.{in_loop, loop_env, reached_in_loop}
 use Rattle.laws_examples.proofs.Served.{multi_served}
 use Rattle.laws_examples.proofs.SampleStages.{multi_stages}
 use Rattle.laws_examples.proofs.SetStages.{collected}
-use Rattle.laws_examples.specs.MeaningForms.{all_of, answers, each, v}
+use Rattle.laws_examples.specs.MeaningForms.{all_of, each, v}
 use Rattle.laws_trees.proofs.binding.BindingJudge.{binding_judge_is_exact_lem}
 use Rattle.laws_examples.proofs.UsedCalls.{does_not_bind}
-use Rattle.laws_examples.specs.Multi.{looped_with, LoopsMayBindAgain, MultiCollects, MultiIsCollected, MultiIsNot, MultiResultsAreHeld, MultiIsTaken, MultiSetCollects, MultiTakenGives, MultiTreeCollects, each_of_m, first_answer, multi_defs, multi_meaning, multi_program, multi_rules, multi_set, multi_tree, multi_world, nine_for_one}
+use Rattle.laws_examples.specs.Multi.{looped_with, LoopsMayBindAgain, MultiCollects, MultiIsCollected, MultiIsNot, MultiResultsAreHeld, MultiIsTaken, MultiSetCollects, MultiTakenGives, MultiTreeCollects, each_of_m, first_answer, multi_defs, multi_meaning, multi_rules, multi_set, multi_tree, multi_world, nine_for_one}
 
 -- 1. collected
-rules_collected : All (HasCollectedResults multi_program) multi_rules.rules
-rules_collected = grind (arith, common_steps, All-cons, All-nil)
-
-set_collected : IsCollectedSet multi_set
-set_collected = collected multi_set refl refl
-
 -- 2. served
 found : (k : Pick) (s : ℕ) → waits (slice_get multi_set.sites s) ≡ false → IsTrue (is_some (content_at (multi_world (pos 1)) k s))
 found k s w = grind (arith, common_steps)
@@ -75,7 +69,7 @@ set_served = record {
 }
 
 pub multi_is_collected : MultiIsCollected
-multi_is_collected = (rules_collected, set_collected, set_served)
+multi_is_collected = ((grind (arith, common_steps, All-cons, All-nil)), collected multi_set refl refl, set_served)
 
 pub multi_set_collects : MultiSetCollects
 multi_set_collects = sound_trees_collect_lem multi_set multi_tree (multi_world (pos 1)) multi_is_collected.1 multi_is_collected.2 refl multi_stages.judged.sound
@@ -152,18 +146,8 @@ in_the_loop =
       answer = record { content = refl; as_used = refl; pure = All-cons (IsPureAt multi_set.sites) 2 (1 ∷ (0 ∷ [])) (iterator_site 1, refl, tt) below_call };
     }
 
--- what the return uses: the loop's site, which is emitted, and what never waits
-needed : (s : ℕ) → Contains (2 ∷ (1 ∷ (0 ∷ []))) s → (waits (slice_get multi_set.sites s) ≡ false) ⊎ IsUnwrap (slice_get multi_set.sites s) ⊎ emitted_there s
-needed s h = grind (arith, common_steps, in_cases, in_alone)
-
-unwraps_none : (s : ℕ) → IsUnwrap (slice_get multi_set.sites s) → ⊥
-unwraps_none s u = grind (arith, common_steps)
-
-no_unwraps : (s source : ℕ) → slice_get multi_set.sites s ≡ Some (match_some_site source) → ⊥
-no_unwraps s source e = unwraps_none s (subst IsUnwrap (sym e) tt)
-
 pub multi_is_taken : MultiIsTaken
-multi_is_taken = grind (arith, common_steps, in_the_loop, needed, no_unwraps)
+multi_is_taken = grind (arith, common_steps, in_the_loop)
 
 pub multi_taken_gives : MultiTakenGives
 multi_taken_gives e matched = grind (arith, common_steps, taken_under_picks_lem, read_programs_are_well_typed, multi_stages.accepted, multi_stages.built, multi_served, multi_is_taken)

@@ -53,12 +53,9 @@ calls_answered k (suc (suc zero)) (site_term_and (pick_of (constructor_call (suc
     pair_answered (place_of k call_of_m) vs e
 calls_answered k _ _ vs h e = absurd (false≢true h)
 
-none_impure : (t before : ℕ) (ss : SiteTerms) → twice_called (constructor_call t ss (suc before)) ≡ true → ⊥
-none_impure t before ss h = grind (arith, common_steps)
-
 pub one_call_is_served : OneCallIsServed
 one_call_is_served = (
   refl,
   serves_from calls_program calls_meaning twice_called (given (pos 1)) (pure_twice ∷ []) refl refl
-      (λ k t s w h holds. absurd (false≢true h)) calls_answered (λ k r t before ss i matched made h gave. absurd (none_impure t before ss h)),
+      (λ k t s w h holds. absurd (false≢true h)) calls_answered (λ k r t before ss i matched made h gave. absurd (grind arith)),
 )

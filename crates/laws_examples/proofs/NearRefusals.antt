@@ -42,12 +42,8 @@ unfolding is_nesting
 passed_nesting (nesting_passes id h) q = (id, h, refl)
 passed_nesting (expansions_pass id h) q = absurd (false≢true q)
 
--- the second rule has a typed rule, the first one stands elsewhere, and there is no third
-second_passes_not : (expand : Bool) → PassesNesting (types_read one_unbound) one_unbound expand 1 → ⊥
-second_passes_not expand h = grind (arith, common_steps, same_Some)
-
 none_at_two : (expand : Bool) (id : ℕ) (h : PassesNesting (types_read one_unbound) one_unbound expand id) → h.rule.at ≡ at 2 → ⊥
-none_at_two expand id h e = grind (arith, common_steps, same_Some, second_passes_not, none-some)
+none_at_two expand id h e = grind (arith, common_steps, same_Some, none-some)
 
 one_unbound_not_read : IsNotRead one_unbound
 one_unbound_not_read = not_read one_unbound refl refl

@@ -1,5 +1,5 @@
 -- Trees are best, and those near them are refused: by computing.
-use Rattle.std.proofs.Common.{◌≡◌, ◌||◌, true, subst, refl, not}
+use Rattle.std.proofs.Common.{◌≡◌, ◌||◌, true, refl, not, arith}
 use Rattle.std.specs.List.{list_all}
 use Rattle.model.specs.trees.Judge.{is_best_tree, returns_apart}
 use Rattle.laws_trees.proofs.WellBuilt.{set_passes}
@@ -15,14 +15,10 @@ use Rattle.laws_examples.specs.UntestedRules.{surplus_sample}
 use Rattle.laws_examples.specs.Ties.{ties_sample}
 use Rattle.laws_examples.specs.Stages.{OneIsBest, TreeSample}
 
--- rules of a multi term have no priorities
-plain_if_multi : (s : TreeSample) → not s.multi || has_no_priorities s.set.rules ≡ true → s.multi ≡ true → has_no_priorities s.set.rules ≡ true
-plain_if_multi s h e = subst (λ m. not m || has_no_priorities s.set.rules ≡ true) e h
-
 one_is_best : (s : TreeSample) → not s.multi || has_no_priorities s.set.rules ≡ true → is_best_tree s.set s.tree ≡ true → returns_apart s.set.rules ≡ true → set_passes s.set ≡ true
     → binds_as_marked s.set s.multi s.tree ≡ true → list_all (λ t. not (is_best_tree s.set t)) s.near_trees ≡ true → OneIsBest s
 one_is_best s plain best apart passes binds near =
-    (judged_with s.set s.multi s.tree (λ t. no_priorities s.set.rules (plain_if_multi s plain t)) best apart passes binds, refused s.set s.near_trees apart near)
+    (judged_with s.set s.multi s.tree (λ t. no_priorities s.set.rules (grind (arith, has_no_priorities))) best apart passes binds, refused s.set s.near_trees apart near)
 
 pub between_is_best : OneIsBest between_sample
 between_is_best = one_is_best between_sample refl refl refl refl refl refl

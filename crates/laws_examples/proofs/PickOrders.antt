@@ -1,12 +1,10 @@
 -- Two picks of the same places act alike, and a call that takes no answers can be gone over first.
-use Rattle.std.proofs.Common.{◌≡◌, ◌∷◌, [], pos, List, refl, sym, arith}
+use Rattle.std.proofs.Common.{◌≡◌, ◌∷◌, [], pos, refl, sym, arith}
 use Rattle.std.proofs.lemmas.Grind.{common_steps}
 use Rattle.model.proofs.Members.{in_alone, nothing_in}
 use Rattle.model.proofs.SameSites.{term_means}
-use Rattle.model.specs.sites.Sites.{SiteTerm}
 use Rattle.laws_trees.specs.PickLaws.{GiveSamePlaces}
 use Rattle.laws_trees.specs.Orders.{IsOfPlaces}
-use Rattle.laws_trees.proofs.picks.PickLists.{picks_are_exact_lem}
 use Rattle.laws_trees.proofs.picks.FirstCall.{calls_can_come_first_lem, results_are_of_places_lem}
 use Rattle.laws_trees.proofs.picks.SamePlaces.{only_places_matter_lem}
 use Rattle.laws_examples.specs.MeaningForms.{given}
@@ -19,14 +17,10 @@ two_calls e = cc
 same_places : GiveSamePlaces in_visit_order turned_round
 same_places c = grind (arith, common_steps, term_means first_of_w c, term_means second_of_w c, two_calls, term_means)
 
--- a pick of the rule has its calls in the order of the visit
-first_calls : (a b : SiteTerm) (xs ys : List SiteTerm) → a ∷ xs ≡ b ∷ ys → a ≡ b
-first_calls a b xs ys e = cc
-
 pub order_does_not_matter : OrderDoesNotMatter
 order_does_not_matter = (
   (1, omega arith, refl),
-  λ c. two_calls (sym (first_calls second_of_w first_of_w (first_of_w ∷ []) (second_of_w ∷ []) ((picks_are_exact_lem calls_program calls_meaning (given (pos 1)) impure_twice).only turned_round c).calls)),
+  λ c. two_calls (sym (grind arith)),
   same_places,
   only_places_matter_lem calls_program calls_meaning (given (pos 1)) impure_twice in_visit_order turned_round same_places,
 )

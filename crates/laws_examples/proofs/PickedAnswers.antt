@@ -1,31 +1,19 @@
 -- Demands on two outputs of one multi call are met by one answer.
-use Rattle.std.proofs.Common.{◌≡◌, ◌∷◌, [], ℕ, pos, Option, Some, slice_get, IsTrue, refl, subst, inl, inr, is_some, arith}
+use Rattle.std.proofs.Common.{◌∷◌, [], pos, refl, subst, inl, inr, arith}
 use Rattle.std.proofs.lemmas.Grind.{common_steps}
 use Rattle.model.proofs.Elements.{In, contains_from_in, in_from_contains, none_some, some_is}
-use Rattle.model.specs.rules.Meaning.{Content, one}
-use Rattle.model.specs.rules.Outcome.{then_option}
-use Rattle.model.specs.rules.Picks.{Pick, place_of}
+use Rattle.model.specs.rules.Meaning.{one}
+use Rattle.model.specs.rules.Picks.{Pick}
 use Rattle.model.specs.sites.Closure.{DemandsHold, IsMet}
 use Rattle.model.specs.sites.Sites.{Constraint, SiteTerm, is_int, pick_of, tuple_part}
-use Rattle.model.specs.trees.Run.{content_fields, part_at}
 use Rattle.laws_examples.specs.MeaningForms.{given, v}
 use Rattle.laws_examples.specs.PickedAnswers.{answering, call_me, one_and_two, pair}
-
--- an output of the answer at a place
-abbrev output : Option ℕ → ℕ → Option Content
-output o i = then_option (then_option o (slice_get (pair (pos 1) (pos 5) ∷ (pair (pos 6) (pos 2) ∷ [])))) (λ c. part_at c i)
-
-abbrev meets_number : ℕ → Content → Type 0
-meets_number n c = IsTrue (is_some (content_fields (answering (pair (pos 1) (pos 5)) (pair (pos 6) (pos 2))) (is_int (pos n) 1) c))
-
-at_no_place : (o : Option ℕ) (a b : Content) → output o 0 ≡ Some a → output o 1 ≡ Some b → meets_number 1 a → meets_number 2 b → ⊥
-at_no_place o a b e f g h = grind (arith, common_steps, none_some, some_is)
 
 pub hold_under_no_pick_lem : (k : Pick) → DemandsHold (answering (pair (pos 1) (pos 5)) (pair (pos 6) (pos 2))) (given (pos 0)) k one_and_two → ⊥
 hold_under_no_pick_lem k h =
     let first = h.constraints (tuple_part (pick_of call_me) 0) (is_int (pos 1) 1) (contains_from_in one_and_two.constraints (tuple_part (pick_of call_me) 0, is_int (pos 1) 1) (inl refl)) in
     let second = h.constraints (tuple_part (pick_of call_me) 1) (is_int (pos 2) 1) (contains_from_in one_and_two.constraints (tuple_part (pick_of call_me) 1, is_int (pos 2) 1) (inr (inl refl))) in
-    at_no_place (place_of k call_me) first.content second.content first.held second.held first.meets second.meets
+    grind (arith, common_steps, none_some, some_is)
 
 abbrev Met : SiteTerm × Constraint → Type 0
 Met x = IsMet (answering (pair (pos 1) (pos 5)) (pair (pos 1) (pos 2))) (given (pos 0)) ((call_me, 1) ∷ []) x.0 x.1

@@ -1,5 +1,5 @@
 -- Each sample has its stages, and the trees near its tree are refused: by computing.
-use Rattle.std.proofs.Common.{◌≡◌, [], ◌∙◌, ◌&&◌, ◌||◌, Bool, true, false, Some, map, length, refl, subst, inl, inr, not, nat_le}
+use Rattle.std.proofs.Common.{◌≡◌, [], ◌∙◌, ◌&&◌, ◌||◌, Bool, true, false, Some, map, length, refl, inl, inr, not, nat_le, arith}
 use Rattle.std.specs.List.{list_all}
 use Rattle.std.proofs.lemmas.Bool.{and_parts, cases_Bool}
 use Rattle.model.specs.claims.AcceptJudge.{accepted_list}
@@ -38,10 +38,6 @@ module _ (s : Sample) where
   abbrev tree_tests : Bool
   tree_tests = is_best_tree s.set s.tree && (returns_apart s.set.rules && (set_passes s.set && binds_as_marked s.set s.multi s.tree))
 
-  -- rules of a multi term have no priorities
-  plain_if_multi : not s.multi || has_no_priorities s.set.rules ≡ true → s.multi ≡ true → has_no_priorities s.set.rules ≡ true
-  plain_if_multi h e = subst (λ m. not m || has_no_priorities s.set.rules ≡ true) e h
-
   pub stages : accepted_list s.defs true ≡ Some s.rules → accepted_list s.defs false ≡ Some s.rules → check_reports p ≡ []
       → map (row_in s.set.sites) s.set.rules ≡ map (built_row p) (built_rules p s.term)
       → map (unfold_site s.set.sites) (numbers_from 0 s.set.sites) ≡ sites_after_rules p [] (rules_of p s.term)
@@ -62,11 +58,11 @@ module _ (s : Sample) where
         built = (
           is_built p s.term s.set rows a.0 sites b.0 c.0,
           elim (cases_Bool s.multi) [
-            | inl t ↦ multi_can_be_served p s.term s.set c.0 d.0 d.1 (plain_if_multi plain t)
+            | inl t ↦ multi_can_be_served p s.term s.set c.0 d.0 d.1 (grind (arith, has_no_priorities))
             | inr n ↦ can_be_served p s.term s.set (m ∙ n) c.0 d.0 d.1
           ],
         );
-        judged = judged_with s.set s.multi s.tree (λ t. no_priorities s.set.rules (plain_if_multi plain t)) e.0 f.0 g.0 g.1;
+        judged = judged_with s.set s.multi s.tree (λ t. no_priorities s.set.rules (grind (arith, has_no_priorities))) e.0 f.0 g.0 g.1;
         refused = refused s.set s.near_trees f.0 near;
       }
 

@@ -114,17 +114,13 @@ call_of_g (constructor_call t ss i) = false
 call_of_g (extractor_call t s) = false
 call_of_g u = true
 
-partial_answers : (t before : ℕ) (ss : SiteTerms) → call_of_g (constructor_call t ss (suc before)) ≡ true
-    → IsSomeAnd (impure_answer (partial_meaning nothing) t before) (λ c. IsTrue (fits_constructor partial_program t (kind partial_program t) c))
-partial_answers t before ss h = grind (arith, common_steps)
-
 pub pure_none : (t : ℕ) (ss : SiteTerms) → call_of_g (constructor_call t ss 0) ≡ true → ⊥
 pure_none t ss h = grind (arith, common_steps)
 
 pub partial_served : PartialIsServed
 partial_served = (
   serves_from partial_program (partial_meaning nothing) call_of_g (given (pos 1)) partial_rules.rules refl refl
-      (λ k t s w h holds. absurd (false≢true h)) (λ k t ss vs h holds. absurd (pure_none t ss h)) (λ k r t before ss i matched made h gave. partial_answers t before ss h),
+      (λ k t s w h holds. absurd (false≢true h)) (λ k t ss vs h holds. absurd (pure_none t ss h)) (λ k r t before ss i matched made h gave. grind (arith, common_steps)),
   literals_apart partial_program (partial_meaning nothing) partial_rules.rules refl refl,
 )
 
@@ -146,13 +142,10 @@ multi_answers : (k : Pick) (t : ℕ) (ss : SiteTerms) (vs : Values) → multi_ca
     → IsSomeAnd (pure_answer multi_meaning t vs) (λ c. IsTrue (fits_constructor multi_program t (kind multi_program t) c))
 multi_answers k t ss vs h e = grind (arith, common_steps, same_Some)
 
-impure_none : (t before : ℕ) (ss : SiteTerms) → multi_call (constructor_call t ss (suc before)) ≡ true → ⊥
-impure_none t before ss h = grind (arith, common_steps)
-
 pub multi_served : MultiIsServed
 multi_served = (
   serves_from multi_program multi_meaning multi_call (given (pos 1)) multi_rules.rules refl refl
-      (λ k t s w h holds. absurd (false≢true h)) multi_answers (λ k r t before ss i matched made h gave. absurd (impure_none t before ss h)),
+      (λ k t s w h holds. absurd (false≢true h)) multi_answers (λ k r t before ss i matched made h gave. absurd (grind arith)),
   literals_apart multi_program multi_meaning multi_rules.rules refl refl,
 )
 

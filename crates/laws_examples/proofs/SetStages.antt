@@ -1,8 +1,8 @@
 -- Sets are built of the rules of their terms: by computing.
-use Rattle.std.proofs.Common.{◌≡◌, ◌∷◌, [], ◌<◌, ◌≤◌, ◌∙◌, ◌&&◌, ℕ, ℤ, suc, Bool, true, false, List, Option, Some, None, map, length, slice_get, All, IsTrue, refl, sym, ap, not, nat_lt, nat_le, ltb-true, arith}
+use Rattle.std.proofs.Common.{◌≡◌, ◌∷◌, [], ◌<◌, ◌≤◌, ◌&&◌, ℕ, ℤ, suc, Bool, true, false, List, Option, Some, None, map, length, slice_get, All, IsTrue, refl, ap, not, nat_lt, nat_le, ltb-true, arith}
 use Rattle.std.proofs.lemmas.Grind.{common_steps}
 use Rattle.std.specs.List.{list_all, flat_map}
-use Rattle.std.proofs.lemmas.Bool.{and_parts, false≢true, leb-true}
+use Rattle.std.proofs.lemmas.Bool.{and_parts, leb-true}
 use Rattle.std.proofs.lemmas.Option.{none-some, same_Some}
 use Rattle.model.proofs.Members.{all_members, each_passes, member_from_get, member_is_in}
 use Rattle.model.specs.claims.Layers.{own_program}
@@ -28,13 +28,9 @@ use Rattle.laws_trees.proofs.WellBuilt.{passes_well_built, set_passes}
 use Rattle.laws_examples.proofs.TreeStages.{has_no_priorities}
 use Rattle.laws_examples.specs.Stages.{IsAcceptedBoth, IsBuiltOf}
 
--- no number stands twice
-stands_twice : (n : ℕ) (ns : List ℕ) → not (is_in n ns) ≡ true → (k : ℕ) (x : ℕ) → n ≡ x → slice_get ns k ≡ Some x → ⊥
-stands_twice n ns h k x e f = false≢true (sym ((not_exact (is_in n ns)).0 h) ∙ ap (λ m. is_in m ns) e ∙ member_is_in x ns (member_from_get ns k x f))
-
 distinct_numbers : (ns : List ℕ) → are_distinct ns ≡ true → IsDistinct ns
 distinct_numbers (n ∷ ns) h (suc j) (suc k) x e f = ap suc (distinct_numbers ns (and_parts (not (is_in n ns)) (are_distinct ns) h).1 j k x e f)
-distinct_numbers ns h j k x e f = grind (arith, common_steps, none-some, stands_twice, and_parts, same_Some)
+distinct_numbers ns h j k x e f = grind (arith, common_steps, none-some, and_parts, same_Some, not_exact, member_is_in, member_from_get)
 
 -- what a rule of a set says, its sites read back, and what a built rule says
 abbrev pub Row : Type 0
@@ -87,10 +83,6 @@ is_none_of (x ∷ xs) = false
 empty : (xs : List ℕ) → is_none_of xs ≡ true → xs ≡ []
 empty xs h = grind (arith, common_steps)
 
--- what a test says of each
-each_below : (n : ℕ) (ss : List ℕ) → are_below n ss ≡ true → All (λ s. s < n) ss
-each_below n ss h = all_members (λ s. s < n) ss (λ s c. ltb-true s n (each_passes (λ t. nat_lt t n) ss h s c))
-
 each_many : (cs : List (List ℕ)) → list_all (λ c. nat_le 2 (length c)) cs ≡ true → All (λ c. 2 ≤ length c) cs
 each_many cs h = all_members (λ c. 2 ≤ length c) cs (λ c i. leb-true 2 (length c) (each_passes (λ c. nat_le 2 (length c)) cs h c i))
 
@@ -113,25 +105,14 @@ rule_stands p sites b r e h =
       constraints = asks sites b.demands r.constraints cs.0 (ap (λ (x : Row). x.4) e) (distinct_numbers (map (λ (d : ℕ × Constraint). d.0) r.constraints) cs.1);
       classes = equates sites b.demands r.classes ks.0 (ap (λ (x : Row). x.5) e) (distinct_numbers (flat_map (λ c. c) r.classes) ms.0) (each_many r.classes ms.1);
       iterators = goes_over sites (demands_of p b.rule).iterators r.iterators its.0 (ap (λ (x : Row). x.6) e) (distinct_numbers r.iterators one.0);
-      impure = (each_below n r.impure last.0, ap (λ (x : Row). x.7) e);
+      impure = ((all_members (λ s. s < n) r.impure (λ s c. ltb-true s n (each_passes (λ t. nat_lt t n) r.impure last.0 s c))), ap (λ (x : Row). x.7) e);
       result = (ltb-true r.result n last.1, ap (λ (x : Row). x.8) e);
     }
 
--- the first of two lists, and the rest
-same_first : (x y : Row) (xs ys : List Row) → x ∷ xs ≡ y ∷ ys → x ≡ y
-same_first x y xs ys e = cc
-
-same_rest : (x y : Row) (xs ys : List Row) → x ∷ xs ≡ y ∷ ys → xs ≡ ys
-same_rest x y xs ys e = cc
-
--- rules in order
-no_row : (x : Row) (xs : List Row) → ◌≡◌ {A = List Row} (x ∷ xs) [] → ⊥
-no_row x xs e = cc
-
 rules_stand : (p : Program) (sites : List Site) (bs : List BuiltRule) (rs : List SetRule) → map (row_in sites) rs ≡ map (built_row p) bs → list_all (stands_once (length sites)) rs ≡ true
     → AreRulesOfSet p sites bs rs
-rules_stand p sites (b ∷ bs) (r ∷ rs) e h = grind (arith, common_steps, rules_stand p sites bs rs, rule_stands p sites b r, and_parts, rule_stands, same_first, same_rest)
-rules_stand p sites bs rs e h = grind (arith, common_steps, no_row)
+rules_stand p sites (b ∷ bs) (r ∷ rs) e h = grind (arith, common_steps, rules_stand p sites bs rs, rule_stands p sites b r, and_parts, rule_stands)
+rules_stand p sites bs rs e h = grind (arith, common_steps)
 
 -- a set stands so, by its rows, its sites, and the tests
 pub is_built : (p : Program) (t : ℕ) (set : SiteSet) → map (row_in set.sites) set.rules ≡ map (built_row p) (built_rules p t) → list_all (stands_once (length set.sites)) set.rules ≡ true
@@ -190,7 +171,7 @@ collected_rule sites r h =
     let b = and_parts (are_below (length sites) (sites_of_rule r)) (pure && gates) a.1 in
     let c = and_parts pure gates b.1 in
     record {
-      known = each_below (length sites) (sites_of_rule r) b.0;
+      known = grind (arith, common_steps, all_members, each_passes);
       no_calls = empty r.impure a.0;
       pure = all_members (IsPureAt sites) below (λ s i. pure_there sites s (slice_get sites s) refl (each_passes (λ s. is_pure_there (slice_get sites s)) below c.0 s i));
       gates = all_members (λ s. IsTrue (gate_demanded r (slice_get sites s))) below (each_passes (λ s. gate_demanded r (slice_get sites s)) below c.1);

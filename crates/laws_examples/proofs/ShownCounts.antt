@@ -1,14 +1,14 @@
 -- A visit counts what the patterns of its rule show.
-use Rattle.std.proofs.Common.{◌≡◌, ℕ, suc, Bool, List, [], ◌∷◌, ◌++◌, map, flat_map, refl, sym, ap, ◌∙◌, arith}
+use Rattle.std.proofs.Common.{◌≡◌, ℕ, suc, List, [], ◌∷◌, ◌++◌, map, flat_map, refl, sym, ap, ◌∙◌, arith}
 use Rattle.std.proofs.lemmas.Grind.{common_steps}
-use Rattle.std.proofs.lemmas.List.{append-nil, append_assoc, map-append}
-use Rattle.model.specs.rules.Program.{Program, Kind, kind, is_partial}
+use Rattle.std.proofs.lemmas.List.{append-nil, append_assoc}
+use Rattle.model.specs.rules.Program.{Program, Kind, kind}
 use Rattle.model.specs.rules.Typed.{TypedPattern, match_bind, match_term, match_and, TypedPatterns, no_typed_pattern, typed_pattern_and, TypedIfLet}
-use Rattle.model.specs.sites.Sites.{is_present, SiteTerm, SiteTerms}
-use Rattle.model.specs.visits.Demands.{Count, outputs_taken, Visit, visit_start, asking, pattern_count, open_call, open_term, visit_pattern, visit_each, visit_all, Valued, ValuedAll, visit_call, visit_term, visit_expr, asking_all, unwraps, visit_args, visit_iflets, finished, value_of_rule}
+use Rattle.model.specs.sites.Sites.{is_present, SiteTerm}
+use Rattle.model.specs.visits.Demands.{Count, Visit, visit_start, asking, pattern_count, open_term, visit_pattern, visit_each, visit_all, visit_expr, asking_all, unwraps, visit_args, visit_iflets}
 use Rattle.model.proofs.Either.{either}
-use Rattle.laws_sites.proofs.VisitInvariants.{KeptByValues, expr_kept}
-use Rattle.laws_sites.proofs.Patterns.{AsManySites, as_many_sites, output_count}
+use Rattle.laws_sites.proofs.VisitInvariants.{expr_kept}
+use Rattle.laws_sites.proofs.Patterns.{AsManySites, as_many_sites}
 use Rattle.laws_sites.proofs.AskedSites.{equated}
 use Rattle.laws_examples.specs.ShownCounts.{shown, shown_in, shown_of_args, term_shown, VisitsCountWhatIsShown}
 
@@ -17,21 +17,10 @@ abbrev counts : Visit → List Count
 counts v = map (λ c. c.0) v.demands.counted
 
 -- 1. terms
--- one count, and then those of the parts
-one_then : (c : Count) (n : ℕ) (v : Visit) (parts all : List Count) → all ≡ map (λ d. d.0) (v.demands.counted ++ (c, n) ∷ []) ++ parts → all ≡ counts v ++ c ∷ parts
-one_then c n v parts all e = e ∙ ap (λ l. l ++ parts) (map-append (λ d. d.0) v.demands.counted ((c, n) ∷ [])) ∙ append_assoc (counts v) (c ∷ []) parts
-
 module _ (p : Program) (args : TypedPatterns) (each : (ss : List SiteTerm) (v : Visit) → AsManySites ss args → counts (visit_each p args ss v) ≡ counts v ++ shown_in p args) where
-  call_shown : (pure multi partial rec infallible : Bool) (call : SiteTerm) (v : Visit)
-      → (let o = open_call (record { pure = pure; multi = multi; partial = partial; rec = rec }) infallible call args v in counts (visit_each p args o.inputs o.visit) ≡ counts v ++ outputs_taken (pattern_count args) ∷ shown_in p args)
-  call_shown pure multi partial rec infallible call v = grind (arith, common_steps, one_then, output_count)
-
-  nothing_visited : (qs : TypedPatterns) (v : Visit) → visit_each p qs [] v ≡ v
-  nothing_visited qs v = grind (arith, common_steps)
-
   term_counts : (k : Kind) (t : ℕ) (s : SiteTerm) (v : Visit)
       → (let o = open_term k t s args v in counts (visit_each p args o.inputs o.visit) ≡ counts v ++ term_shown k (pattern_count args) (shown_in p args))
-  term_counts k t s v = grind (arith, common_steps, one_then, as_many_sites, call_shown, nothing_visited, append-nil)
+  term_counts k t s v = grind (arith, common_steps, as_many_sites, append-nil)
 
 -- 2. patterns
 then_more : (a b c : List Count) (x y : List Count) → b ≡ a ++ x → c ≡ b ++ y → c ≡ a ++ (x ++ y)
@@ -54,26 +43,13 @@ module _ (p : Program) where
     all_count no_typed_pattern s v = sym (append-nil (counts v))
 
   -- 3. expressions count nothing
-  call_counts : (pure multi partial rec : Bool) (t : ℕ) (us : SiteTerms) (v : Visit) (cs : List Count) → counts v ≡ cs
-      → counts (visit_call (record { pure = pure; multi = multi; partial = partial; rec = rec }) t us v).visit ≡ cs
-  call_counts pure multi partial rec t us v cs e = grind (arith, common_steps, either)
-
-  made_counts : (k : Kind) (t : ℕ) (a : ValuedAll) (cs : List Count) → counts a.visit ≡ cs → counts (visit_term k t a).visit ≡ cs
-  made_counts k t a cs e = grind (arith, common_steps, call_counts)
-
-  values_count : (cs : List Count) → KeptByValues p (λ v. counts v ≡ cs)
-  values_count cs = record { bound = λ x s v e. e; made = λ ts v e. e; valued = λ t a e. made_counts (kind p t) t a cs e }
-
   asking_counts : (ss : List SiteTerm) (v : Visit) → counts (asking_all ss v) ≡ counts v
   asking_counts [] v = refl
   asking_counts (s ∷ ss) v = asking_counts ss (asking s is_present v)
 
-  finished_counts : (b : Bool) (a : Valued) → counts (finished b a).visit ≡ counts a.visit
-  finished_counts b a = grind (arith, common_steps)
-
   -- 4. arguments and if-lets
   args_count : (i : ℕ) (qs : List TypedPattern) (v : Visit) → counts (visit_args p i qs v) ≡ counts v ++ shown_of_args p i qs
-  args_count i (q ∷ qs) v = grind (arith, common_steps, args_count (suc i) qs, one_then, pattern_counts, then_more)
+  args_count i (q ∷ qs) v = grind (arith, common_steps, args_count (suc i) qs, pattern_counts, then_more)
   args_count i [] v = sym (append-nil (counts v))
 
   iflets_count : (is : List TypedIfLet) (v : Visit) → counts (visit_iflets p is v) ≡ counts v ++ flat_map (λ i. shown p i.lhs) is
@@ -82,7 +58,7 @@ module _ (p : Program) where
       let a = visit_expr p i.rhs v in
       let u = asking_all (unwraps a.site) a.visit in
       let w = visit_pattern p i.lhs a.site u in
-      let same : counts u ≡ counts v = asking_counts (unwraps a.site) a.visit ∙ expr_kept p (λ x. counts x ≡ counts v) (values_count (counts v)) i.rhs v refl in
+      let same : counts u ≡ counts v = asking_counts (unwraps a.site) a.visit ∙ expr_kept p (λ x. counts x ≡ counts v) (grind (arith, common_steps)) i.rhs v refl in
       let first : counts w ≡ counts v ++ shown p i.lhs = pattern_counts i.lhs a.site u ∙ ap (λ l. l ++ shown p i.lhs) same in
       then_more (counts v) (counts w) (counts (visit_iflets p is w)) (shown p i.lhs) (flat_map (λ j. shown p j.lhs) is) first (iflets_count is w)
 
@@ -90,6 +66,6 @@ pub visits_count_what_is_shown_lem : VisitsCountWhatIsShown
 visits_count_what_is_shown_lem p r =
     let u = visit_args p 0 r.args visit_start in
     let w = visit_iflets p r.iflets u in
-    finished_counts p (is_partial p r.root_term) (value_of_rule p r)
-    ∙ expr_kept p (λ x. counts x ≡ counts w) (values_count p (counts w)) r.rhs w refl
+    grind (arith, common_steps)
+    ∙ expr_kept p (λ x. counts x ≡ counts w) (grind (arith, common_steps)) r.rhs w refl
     ∙ iflets_count p r.iflets u ∙ ap (λ l. l ++ flat_map (λ i. shown p i.lhs) r.iflets) (args_count p 0 r.args visit_start)

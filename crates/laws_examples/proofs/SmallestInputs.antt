@@ -1,5 +1,5 @@
 -- The smallest inputs behind choices of statements do what is said of them.
-use Rattle.std.proofs.Common.{◌≡◌, ◌==◌, ℕ, zero, suc, true, false, List, [], ◌∷◌, Some, None, is_some, slice_get, Contains, All, IsTrue, refl, sym, ap, ◌∙◌, subst, arith, Bool, cond, codes}
+use Rattle.std.proofs.Common.{◌≡◌, ℕ, zero, suc, true, false, List, [], ◌∷◌, is_some, slice_get, Contains, All, IsTrue, refl, sym, ap, ◌∙◌, subst, arith, Bool, codes}
 use Rattle.std.proofs.lemmas.Grind.{common_steps}
 use Rattle.std.proofs.lemmas.Bool.{false≢true}
 use Rattle.std.proofs.lemmas.Option.{none-some, same_Some}
@@ -66,13 +66,6 @@ above_calls_nothing_is_asked_lem = (
 )
 
 -- 7. wrong overlaps
-zero_one : ◌≡◌ {A = ℕ} 0 1 → ⊥
-zero_one e = omega (arith, e)
-
--- a rule without constraints overlaps every other one
-any_overlaps : OverlapInSet at_one at_any
-any_overlaps s c d k l = absurd (nothing_in (s, d) l)
-
 apart_one_two : OverlapInSet at_one at_two → ⊥
 apart_one_two o = false≢true (ap (constraint_eq (is_byte 2)) (o 0 (is_byte 1) (is_byte 2) (in_head (0, is_byte 1) []) (in_head (0, is_byte 2) [])))
 
@@ -89,8 +82,8 @@ apart_here h j r q a b same o = refl
 
 pub overlaps_may_hold_twice_lem : OverlapsMayHoldTwice
 overlaps_may_hold_twice_lem = (
-  (λ none. zero_one (none 0 1 at_one at_any refl refl refl any_overlaps)),
-  (λ once. zero_one (once 0 1 at_one at_any refl refl refl refl refl)),
+  (λ none. omega (arith, none 0 1 at_one at_any refl refl refl (λ s c d k l. absurd (nothing_in (s, d) l)))),
+  (λ once. omega (arith, once 0 1 at_one at_any refl refl refl refl refl)),
   apart_here,
 )
 
@@ -104,11 +97,8 @@ unfolding is_nothing
 nameless_is_not_answered_lem types terms lowered none h = false≢true (sym (ap is_nothing (sym none ∙ h.environments.types.names)))
 
 -- 5. look-ups
-first_counts : (b : Bool) (x y : ℕ) → cond b (Some x) (cond b (Some y) None) ≡ cond b (Some x) None
-first_counts b x y = grind (arith, common_steps)
-
 pub look_ups_have_no_list_lem : LookUpsHaveNoList
-look_ups_have_no_list_lem k = first_counts (1 == k) 10 11
+look_ups_have_no_list_lem k = grind (arith, common_steps)
 
 -- 6. refusals
 not_valid : IsValidTypes two_of_one_name → ⊥

@@ -11,7 +11,6 @@ use Rattle.laws_trees.proofs.BuiltMatches.{built_demands_hold_alike_lem}
 use Rattle.laws_trees.proofs.NeverMatches.{unreachable_rules_never_match_lem}
 use Rattle.laws_trees.proofs.Visits.{visits_match_lem}
 use Rattle.laws_sites.proofs.built.WholeDemands.{built_demands_are_whole_lem}
-use Rattle.laws_sites.specs.BuiltLaws.{BuiltDemandsAreWhole}
 use Rattle.laws_examples.proofs.ReadLists.{const_eq_read, one_step_read}
 use Rattle.laws_examples.proofs.SampleStages.{variant_eq_stages}
 use Rattle.laws_examples.proofs.Served.{literals_apart, serves_without_calls}
@@ -19,9 +18,6 @@ use Rattle.laws_examples.specs.ConstEq.{const_eq_defs, const_eq_program, const_e
 use Rattle.laws_examples.specs.MeaningForms.{blank}
 use Rattle.laws_examples.specs.UnmatchedRules.{ConstEqHolds, ConstEqHoldsAlike, ConstEqIsTried, OneStepDoesNotMatch, OneStepIsTried, VariantEqHolds, VariantEqHoldsAlike, VariantEqIsTried, five_twice, just_this, two_and}
 use Rattle.laws_examples.specs.VariantEq.{variant_eq_defs, variant_eq_program, variant_eq_rule, variant_eq_rules}
-
-whole : BuiltDemandsAreWhole
-whole = built_demands_are_whole_lem
 
 -- 1. a literal that stands again
 pub two_is_tried : ConstEqIsTried (pos 2)
@@ -41,8 +37,8 @@ const_eq_alike : (z : ℤ) → ConstEqIsTried z → ConstEqHoldsAlike z
 const_eq_alike z tried =
     let b = built_rule const_eq_program [] const_eq_rule in
     let h = read_programs_are_well_typed const_eq_read.0 in (
-      whole (own_program const_eq_defs const_eq_rules) 0 h b (0, omega arith, refl),
-      built_demands_hold_alike_lem whole (own_program const_eq_defs const_eq_rules) 0 (just_this (pos 2)) (two_and z) b [] h (0, omega arith, refl) tried,
+      built_demands_are_whole_lem (own_program const_eq_defs const_eq_rules) 0 h b (0, omega arith, refl),
+      built_demands_hold_alike_lem built_demands_are_whole_lem (own_program const_eq_defs const_eq_rules) 0 (just_this (pos 2)) (two_and z) b [] h (0, omega arith, refl) tried,
     )
 
 pub two_holds_alike : ConstEqHoldsAlike (pos 2)
@@ -62,8 +58,8 @@ pub variant_holds_alike : VariantEqHoldsAlike
 variant_holds_alike =
     let b = built_rule variant_eq_program [] variant_eq_rule in
     let h = read_programs_are_well_typed variant_eq_stages.accepted.0.read in (
-      whole (own_program variant_eq_defs variant_eq_rules) 0 h b (0, omega arith, refl),
-      built_demands_hold_alike_lem whole (own_program variant_eq_defs variant_eq_rules) 0 blank five_twice b [] h (0, omega arith, refl) variant_is_tried,
+      built_demands_are_whole_lem (own_program variant_eq_defs variant_eq_rules) 0 h b (0, omega arith, refl),
+      built_demands_hold_alike_lem built_demands_are_whole_lem (own_program variant_eq_defs variant_eq_rules) 0 blank five_twice b [] h (0, omega arith, refl) variant_is_tried,
     )
 
 -- 3. a value that would be a part of itself
