@@ -9,7 +9,7 @@ use Rattle.model.specs.rules.Picks.{picked, call_answer}
 use Rattle.model.specs.rules.Typed.{TypedRule}
 use Rattle.model.specs.sites.Sites.{Constraint, SiteTerm, prim_term, extractor_call, constructor_call, pick_of, SiteTerms}
 use Rattle.model.specs.sites.Closure.{DemandsHold, IsMet, AreEqual}
-use Rattle.model.specs.sites.Serves.{term_args, term_results, typed_as, fits_one, fits_answer, fits_extractor, fits_constructor}
+use Rattle.model.specs.sites.Serves.{term_results, typed_as, fits_one, fits_answer, fits_extractor, fits_constructor}
 use Rattle.model.specs.trees.Run.{as_value}
 use Rattle.model.specs.visits.Demands.{Demands, demands_of}
 use Rattle.model.proofs.Elements.{In, in_slice, all_in, in_from_contains, contains_from_in, some_is, none_some}
@@ -52,11 +52,8 @@ module _ (k : Called) where
       → IsAnsweredAsSaid k.specs (sites_as k) (constructor_call t ss n) (constructor_call t ss n)
   constructed t n ss f xs h e q = grind (arith, common_steps, each_told k ss, moved t, values_there, each_told, told_there, moved)
 
-  extracted : (t : ℕ) (s : SiteTerm) → IsAnsweredAsSaid k.specs (sites_as k) (extractor_call t s) (extractor_call t s)
-  extracted t s x h e q = grind (arith, value_there, content, told_there)
-
   answered : (s : SiteTerm) → is_impure_call s ≡ false → IsAnsweredAsSaid k.specs (sites_as k) s s
-  answered (extractor_call t s) e = extracted t s
+  answered (extractor_call t s) e = grind (arith, value_there, content, told_there)
   answered (constructor_call t ss zero) e = constructed t 0 ss (λ vs c a b. own_constructed t (stand_for d vs) c (λ x i. k.meets.pures t vs c x b i))
   answered s e = grind (arith, common_steps)
 
@@ -91,16 +88,9 @@ module _ (k : Called) where
   answer_typed : (multi optional : Bool) (tys : List ℕ) (c : Content) (xs : DenotedList) → fits_answer k.program multi optional tys c ≡ true → answered_as (content_as d c) ≡ Some xs → are_of_entries k.program k.specs tys xs ≡ true
   answer_typed multi optional tys c xs f e = grind (arith, common_steps, none_some, outputs_typed)
 
-  extractor_typed : (t : ℕ) (c : Kind) (x : Content) (xs : DenotedList) → fits_extractor k.program t c x ≡ true → answered_as (content_as d x) ≡ Some xs
-      → are_of_entries k.program k.specs (term_args (slice_get k.program.terms t)) xs ≡ true
-  extractor_typed t c x xs f e = grind (arith, common_steps, answer_typed)
-
-  result_output : (h : ToldContent) (x : Denoted) → result_as h ≡ Some x → answered_as h ≡ Some (denoted_and x no_denoted)
-  result_output h x e = grind (arith, common_steps, none_some)
-
   constructor_typed : (t : ℕ) (c : Kind) (y : Content) (x : Denoted) → fits_constructor k.program t c y ≡ true → result_as (content_as d y) ≡ Some x
       → are_of_entries k.program k.specs (term_results (slice_get k.program.terms t)) (denoted_and x no_denoted) ≡ true
-  constructor_typed t (a_call flags infallible) y x f e = answer_typed flags.multi flags.partial (term_results (slice_get k.program.terms t)) y (denoted_and x no_denoted) f (result_output (content_as d y) x e)
+  constructor_typed t (a_call flags infallible) y x f e = answer_typed flags.multi flags.partial (term_results (slice_get k.program.terms t)) y (denoted_and x no_denoted) f (grind (arith, none_some))
   constructor_typed t c y x f e = grind (arith, common_steps)
 
   -- of a constructor's call, where its answer fits
@@ -116,7 +106,7 @@ module _ (k : Called) where
   extraction_typed t s fits h e xs q =
       let b = told_there d (content k (extractor_call t s)) h e in
       let a = then_some (then_option (content k s) as_value) (extractor_answer k.meaning t) b.0 b.1 in
-      extractor_typed t (kind k.program t) b.0 xs (fits a.0 b.0 (is_value (content k s) a.0 a.1) a.2) (ap answered_as b.2 ∙ q)
+      grind (arith, common_steps, answer_typed, fits a.0 b.0 (is_value (content k s) a.0 a.1) a.2, ap answered_as b.2 ∙ q, b.0)
 
   -- a named constant is of its type, and has no answers to pick
   constant_typed : (ds : Demands) → Served k.program k.meaning k.args k.pick ds.made → (name : ℕ) (h : ToldContent) → In ds.made (prim_term name) → sites_as k (prim_term name) ≡ Some h → IsTypedAs k.program k.specs (prim_term name) h
@@ -138,13 +128,9 @@ module _ (k : Called) where
   many_typed true optional tys cs c xs f i e = answer_typed false false tys c xs (all_in (fits_one k.program tys) (contents cs) c f (in_from_contains (contents cs) c i)) e
   many_typed multi optional tys cs c xs f i e = grind (arith, common_steps)
 
-  extractor_picks_typed : (t : ℕ) (a : Kind) (cs : Contents) (c : Content) (xs : DenotedList) → fits_extractor k.program t a (many cs) ≡ true → Contains (contents cs) c → answered_as (content_as d c) ≡ Some xs
-      → are_of_entries k.program k.specs (term_args (slice_get k.program.terms t)) xs ≡ true
-  extractor_picks_typed t a cs c xs f i e = grind (arith, common_steps, many_typed)
-
   constructor_picks_typed : (t : ℕ) (a : Kind) (cs : Contents) (c : Content) (x : Denoted) → fits_constructor k.program t a (many cs) ≡ true → Contains (contents cs) c → result_as (content_as d c) ≡ Some x
       → are_of_entries k.program k.specs (term_results (slice_get k.program.terms t)) (denoted_and x no_denoted) ≡ true
-  constructor_picks_typed t (a_call flags infallible) cs c x f i e = many_typed flags.multi flags.partial (term_results (slice_get k.program.terms t)) cs c (denoted_and x no_denoted) f i (result_output (content_as d c) x e)
+  constructor_picks_typed t (a_call flags infallible) cs c x f i e = many_typed flags.multi flags.partial (term_results (slice_get k.program.terms t)) cs c (denoted_and x no_denoted) f i (grind (arith, none_some))
   constructor_picks_typed t a cs c x f i e = grind (arith, common_steps)
 
   call_picks_typed : (t : ℕ) (ss : SiteTerms) → ((vs : Values) (c : Content) → values k ss ≡ Some vs → call_answer k.meaning t 0 vs ≡ Some c → fits_constructor k.program t (kind k.program t) c ≡ true)
@@ -161,7 +147,7 @@ module _ (k : Called) where
       let b = told_there d (content k (pick_of (extractor_call t s))) h e in
       let c = pick_there (content k (extractor_call t s)) (extractor_call t s) b.0 b.1 in
       let a = then_some (then_option (content k s) as_value) (extractor_answer k.meaning t) (many c.0) c.1 in
-      extractor_picks_typed t (kind k.program t) c.0 b.0 xs (fits a.0 (many c.0) (is_value (content k s) a.0 a.1) a.2) c.2 (ap answered_as b.2 ∙ q)
+      grind (arith, common_steps, many_typed, fits a.0 (many c.0) (is_value (content k s) a.0 a.1) a.2, ap answered_as b.2 ∙ q, c.0, b.0, c.2)
 
   picks_typed : (ds : Demands) → Served k.program k.meaning k.args k.pick ds.made → (s : SiteTerm) (h : ToldContent) → In ds.made s → is_impure_call s ≡ false → sites_as k (pick_of s) ≡ Some h → IsTypedAs k.program k.specs s h
   picks_typed ds a (extractor_call t s) h i e q = extraction_picks_typed t s (λ v c g o. a.extractors t s v c i g o) h q

@@ -1,5 +1,5 @@
 -- Each result that a term whose rules make no impure call collects is as its spec says, where its rules' conditions are valid.
-use Rattle.std.proofs.Common.{◌≡◌, ℕ, Bool, List, [], Option, Some, is_some, All, Contains, sym, ap, subst, ◌∙◌, arith}
+use Rattle.std.proofs.Common.{◌≡◌, ℕ, Bool, List, [], Some, is_some, All, Contains, sym, ap, subst, ◌∙◌, arith}
 use Rattle.std.proofs.lemmas.Grind.{common_steps}
 use Rattle.std.proofs.lemmas.List.Elements.{All-contains}
 use Rattle.std.proofs.lemmas.List.Sorted.{All-permutation}
@@ -7,9 +7,9 @@ use Rattle.model.specs.rules.Values.{Value}
 use Rattle.model.specs.rules.Meaning.{Content, Meaning}
 use Rattle.model.specs.rules.RightSide.{Eval, result_content, outcome_of}
 use Rattle.model.specs.rules.Program.{Program, is_partial, rules_of}
-use Rattle.model.specs.rules.Picks.{Pick, SitedVars, matches_under, eval_under, right_side_under, results_with, picks, site_content, bag}
+use Rattle.model.specs.rules.Picks.{Pick, SitedVars, matches_under, eval_under, right_side_under, picks, site_content, bag}
 use Rattle.model.specs.rules.Typed.{TypedRule}
-use Rattle.model.specs.trees.Collects.{as_list, HasCollectedResults}
+use Rattle.model.specs.trees.Collects.{HasCollectedResults}
 use Rattle.model.specs.trees.Run.{run, world_of}
 use Rattle.model.specs.visits.Demands.{demands_of, result_of}
 use Rattle.model.specs.claims.Environments.{types_read}
@@ -36,9 +36,6 @@ use Rattle.laws_specs.proofs.Answers.{result_is}
 given_value : (partial : Bool) (ev : Eval) (c : Content) → In (outcome_of partial ev).results c → (v : Value) × (c ≡ result_content partial v)
 given_value partial ev c i = grind (arith, common_steps)
 
-in_as_list : (o : Option Content) (c : Content) → In (as_list o) c → o ≡ Some c
-in_as_list o c i = grind (arith, common_steps)
-
 module _ (p : Program) (specs : Specs) (t : ℕ) (d : Atoms) (m : Meaning) (args : List Value) (h : IsWellTypedProgram p) (quiet : MakesNoImpureCall p t) (valid : AreValid p specs t) (c : IsCalled p specs t d m args []) where
   -- the sites of a rule under a pick
   abbrev under : Pick → Called
@@ -51,7 +48,7 @@ module _ (p : Program) (specs : Specs) (t : ℕ) (d : Atoms) (m : Meaning) (args
       let root = (of_term p t r listed).1 in
       let none = quiet r listed in
       let held = result_held (given p m args k) r e tr.rule.formed (pure_iflets tr.rule) tr.typed h tr.answered none matched in
-      let there : site_content m args k (result_of p r) ≡ Some x = in_as_list (site_content m args k (result_of p r)) x (subst (λ l. In l x) held i) in
+      let there : site_content m args k (result_of p r) ≡ Some x = grind (arith, common_steps) in
       let v = given_value (is_partial p r.root_term) (eval_under p m k r.rhs e []) x i in
       let holds = (visits_match_lem p t m args r k h a).matching.0 (ap is_some matched) in
       let all = assumed (under k) r (served p m args k (rules_of p t) r c.serves listed) tr.typed (subst (λ n. IsRequired specs n (args_as (under k))) (sym root) c.required) holds in
@@ -63,12 +60,9 @@ module _ (p : Program) (specs : Specs) (t : ℕ) (d : Atoms) (m : Meaning) (args
             (told_site (under k) (result_of p r) (result_content (is_partial p r.root_term) v.0) (there ∙ ap Some v.1)) (result_is d (is_partial p r.root_term) v.0)),
       )
 
-  of_pick : (r : TypedRule) (k : Pick) (x : Content) → Contains (rules_of p t) r → Contains (picks p m args r) k → (o : Option SitedVars) → matches_under p m k r args ≡ o → In (results_with p m k r o) x → IsResultAsSaid p specs t d args x
-  of_pick r k x listed pick h e i = grind (arith, common_steps, of_match)
-
   bag_as_said : All (IsResultAsSaid p specs t d args) (bag p m (rules_of p t) args)
   bag_as_said =
-      all_from_in (IsResultAsSaid p specs t d args) (bag p m (rules_of p t) args) (λ x i. grind (arith, common_steps, from_flat_map, of_pick, contains_from_in))
+      all_from_in (IsResultAsSaid p specs t d args) (bag p m (rules_of p t) args) (λ x i. grind (arith, common_steps, from_flat_map, contains_from_in, of_match))
 
 pub bags_are_as_said_lem : BagsAreAsSaid
 bags_are_as_said_lem p specs t d m args h quiet valid c = bag_as_said p specs t d m args h quiet valid c

@@ -1,5 +1,5 @@
 -- Functions that do and collect the same have the same runs, also of multi terms: by the depth to which calls nest.
-use Rattle.std.proofs.Common.{◌≡◌, ℕ, zero, suc, true, false, List, All, Contains, refl, sym, ap, ◌∙◌, inl, inr, arith}
+use Rattle.std.proofs.Common.{◌≡◌, ℕ, zero, suc, true, false, List, All, Contains, sym, ap, ◌∙◌, inl, inr, arith}
 use Rattle.std.proofs.lemmas.Grind.{common_steps}
 use Rattle.std.proofs.lemmas.List.Elements.{All-contains}
 use Rattle.std.proofs.lemmas.List.Sorted.{IsPermutation-sym, IsPermutation-trans}
@@ -46,13 +46,10 @@ like_functions_have_like_list_runs_lem p f g same lists o n call before c after 
     (same_list_runs p f g o same lists n call before c after, same_list_runs p g f o (turned p f g same) (lists_turned p f g lists) n call before c after)
 
 -- 2. a whole run is one
-does_itself : (p : Program) (f : Functions) → DoTheSame p f f
-does_itself p f t known single m args typed serves apart = refl
-
 pub whole_runs_are_list_runs_lem : WholeRunsAreListRuns
 whole_runs_are_list_runs_lem f p o zero call before c after r = r
 whole_runs_are_list_runs_lem f p o (suc n) call before c after r =
-    inl (within (WholeRun f p o n) (ListRun f p o n) p o (whole_runs_are_list_runs_lem f p o n) f f call before c after (does_itself p f) r)
+    inl (within (WholeRun f p o n) (ListRun f p o n) p o (whole_runs_are_list_runs_lem f p o n) f f call before c after (grind arith) r)
 
 -- 3. trees and code: of a term that isn't multi as before, of a multi one they collect the bag
 pub single_is : (p : Program) (t : ℕ) (m : Meaning) (args : List Value) → is_multi p t ≡ false → by_rules p t m args ≡ by_bags p t m args

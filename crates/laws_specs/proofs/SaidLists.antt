@@ -1,14 +1,15 @@
 -- Runs answer as specs say where multi terms with rules are called too: each element of a list is a result of the bag.
-use Rattle.std.proofs.Common.{◌≡◌, ℕ, zero, suc, true, List, [], All, Contains, sym, ap, subst, ◌∙◌, inl, inr}
+use Rattle.std.proofs.Common.{◌≡◌, ℕ, zero, suc, List, [], All, Contains, sym, ap, subst, ◌∙◌, inl, inr, arith}
 use Rattle.std.specs.Prelude.{IsPermutation}
 use Rattle.std.proofs.lemmas.List.{append-nil}
 use Rattle.std.proofs.lemmas.List.Elements.{All-contains}
 use Rattle.std.proofs.lemmas.List.Sorted.{IsPermutation-sym, All-permutation}
+use Rattle.std.proofs.lemmas.Grind.{common_steps}
 use Rattle.model.specs.rules.Values.{Value, listed}
-use Rattle.model.specs.rules.Meaning.{Content, contents, Meaning}
+use Rattle.model.specs.rules.Meaning.{Content, contents}
 use Rattle.model.specs.rules.Outcome.{Call}
 use Rattle.model.specs.rules.Picks.{bag}
-use Rattle.model.specs.rules.Program.{Program, is_multi, is_partial, rules_of}
+use Rattle.model.specs.rules.Program.{Program, is_partial, rules_of}
 use Rattle.model.specs.trees.Collects.{HasCollectedResults}
 use Rattle.model.specs.claims.Layers.{own_program}
 use Rattle.model.specs.claims.Environments.{types_read}
@@ -22,7 +23,7 @@ use Rattle.laws_specs.specs.ConditionLaws.{IsCalled, ChoosesAsSaid, ChoosesAsSai
 use Rattle.laws_specs.specs.CollectLaws.{MakesNoImpureCall, BagsAreAsSaid}
 use Rattle.laws_specs.specs.WholeRuns.{Outside, by_rules}
 use Rattle.laws_specs.specs.ProgramLaws.{MeetsSpecsOutside, DoTheSame, IsRunAsSaid, AllChooseAsSaid}
-use Rattle.laws_specs.specs.ListRuns.{bag_or_choice, by_bags, IsListRun, ListRun}
+use Rattle.laws_specs.specs.ListRuns.{by_bags, IsListRun, ListRun}
 use Rattle.laws_specs.specs.ListLaws.{AllListsAreValid, ListProgramsComputeAsSaid, LoweredListProgramsComputeAsSaid}
 use Rattle.laws_specs.proofs.LikeRuns.{within}
 use Rattle.laws_specs.proofs.ListRuns.{single_is, lowered_programs_collect_as_their_source_lem}
@@ -31,9 +32,6 @@ use Rattle.laws_specs.proofs.SaidRuns.{back, meets, one_run, all_choose}
 
 bags_choose : (p : Program) → DoTheSame p (by_bags p) (by_rules p)
 bags_choose p t known single m args typed serves apart = sym (single_is p t m args single)
-
-results_are : (p : Program) (t : ℕ) (m : Meaning) (args : List Value) → is_multi p t ≡ true → (by_bags p t m args).results ≡ bag p m (rules_of p t) args
-results_are p t m args e = ap (λ b. (bag_or_choice b p t m args).results) e
 
 module _ (p : Program) (specs : Specs) (d : Atoms) (well : IsWellTypedProgram p) (denotes : IsDenotation p specs d) (choose : AllChooseAsSaid p specs d) (valid : AllListsAreValid p specs) (bags : BagsAreAsSaid) (o : Outside) (outside : MeetsSpecsOutside p specs d o) where
   one_list_run : (N : Call → List Call → Content → List Call → Type 0)
@@ -51,7 +49,7 @@ module _ (p : Program) (specs : Specs) (d : Atoms) (well : IsWellTypedProgram p)
       } in
       let quiet : MakesNoImpureCall p call.term = λ q i. (All-contains (HasCollectedResults p) (rules_of p call.term) q r.collected i).no_calls in
       let said_all : All (IsResultAsSaid p specs call.term d args) results = bags p specs call.term d r.meaning args well quiet (valid call.term r.known r.multi) called in
-      let same : IsPermutation (contents (r.answer.0)) results = subst (IsPermutation (contents (r.answer.0))) (results_are p call.term r.meaning args r.multi) r.answer.2.same in
+      let same : IsPermutation (contents (r.answer.0)) results = subst (IsPermutation (contents (r.answer.0))) (grind (arith, common_steps)) r.answer.2.same in
       let each : All (IsResultAsSaid p specs call.term d args) (contents (r.answer.0)) =
       All-permutation (IsResultAsSaid p specs call.term d args) results (contents (r.answer.0)) (IsPermutation-sym (contents (r.answer.0)) results same) said_all in
       record {

@@ -3,23 +3,21 @@
 use Rattle.std.proofs.Common.{◌≡◌, ℕ, zero, suc, ◌+◌, Bool, true, false, Some, List, [], ◌∷◌, ◌++◌, slice_get, Contains, refl, sym, ap, subst, ◌∙◌, arith}
 use Rattle.std.proofs.lemmas.Grind.{common_steps}
 use Rattle.std.proofs.lemmas.List.{append_assoc, append-nil}
-use Rattle.model.specs.rules.Values.{Value, Values, no_value, value_and, listed, of_list}
-use Rattle.model.specs.rules.Meaning.{Content, nothing, Meaning, bool_literal, int_literal, impure_answer}
-use Rattle.model.specs.rules.Outcome.{Call, Outcome}
+use Rattle.model.specs.rules.Values.{Values, no_value, value_and, listed, of_list}
+use Rattle.model.specs.rules.Meaning.{Content, Meaning, bool_literal, int_literal, impure_answer}
+use Rattle.model.specs.rules.Outcome.{Call}
 use Rattle.model.specs.rules.Program.{Program, rules_of}
 use Rattle.model.specs.rules.Choice.{choice}
-use Rattle.model.specs.rules.RightSide.{result_content}
 use Rattle.model.specs.claims.Layers.{own_program}
 use Rattle.model.specs.claims.Environments.{types_read}
 use Rattle.model.proofs.Elements.{In, in_from_contains, contains_from_in, in_either}
 use Rattle.laws_typing.specs.WellTypedPrograms.{IsWellTypedProgram}
 use Rattle.laws_typing.proofs.WellTypedRules.{elaborated_programs_are_well_typed_lem}
-use Rattle.laws_specs.specs.Words.{Denoted}
 use Rattle.laws_specs.specs.Specs.{Specs, IsRequired}
-use Rattle.laws_specs.specs.Conditions.{result_as, IsConstructedAsSaid}
-use Rattle.laws_specs.specs.Meets.{Atoms, stands_for, stand_for, content_as, IsDenotation, answers_in, MeetsSpecs, AnswersAsSaid}
+use Rattle.laws_specs.specs.Conditions.{IsConstructedAsSaid}
+use Rattle.laws_specs.specs.Meets.{Atoms, stand_for, content_as, IsDenotation, answers_in, MeetsSpecs, AnswersAsSaid}
 use Rattle.laws_specs.specs.ConditionLaws.{IsCalled, ChoosesAsSaid, ChoosesAsSaidByPriority}
-use Rattle.laws_specs.specs.WholeRuns.{Outside, by_rules, has_rules, IsAnswer, Either, IsMadeCall, AreMadeCalls, IsAround, IsRun, WholeRun}
+use Rattle.laws_specs.specs.WholeRuns.{Outside, by_rules, has_rules, Either, AreMadeCalls, IsAround, IsRun, WholeRun}
 use Rattle.laws_specs.specs.ProgramLaws.{MeetsSpecsOutside, IsRunAsSaid, AllAreValid, AllRunsAreAsSaid, AllChooseAsSaid, ProgramsComputeAsSaid, LoweredProgramsComputeAsSaid}
 use Rattle.laws_specs.proofs.LikeRuns.{lowered_programs_run_as_their_source_lem}
 
@@ -28,12 +26,6 @@ back no_value = refl
 back (value_and v vs) = ap (value_and v) (back vs)
 
 -- 1. what an answer stands for
-result_stands : (d : Atoms) (partial : Bool) (v : Value) (c a : Content) → c ≡ result_content partial v → Contains (answers_in c) a → result_as (content_as d a) ≡ Some (stands_for d v)
-result_stands d partial v c a e i = grind (arith, common_steps)
-
-nothing_stands : (d : Atoms) (c a : Content) (x : Denoted) → c ≡ nothing → Contains (answers_in c) a → result_as (content_as d a) ≡ Some x → ⊥
-nothing_stands d c a x e i r = grind (arith, common_steps)
-
 -- 2. of two cases, one by whether a term has rules
 pick : (b : Bool) (A B : Type 0) (C : Type 0) → (b ≡ true → A → C) → (b ≡ false → B → C) → Either b A B → C
 pick b A B C f g x = grind (arith, common_steps)
@@ -48,9 +40,6 @@ module _ (p : Program) (specs : Specs) (d : Atoms) (o : Outside) (N : Call → L
   nested_said : (call : Call) (before : List Call) (c a : Content) (after : List Call) → N call before c after → Contains (answers_in c) a → IsConstructedAsSaid specs call.term (stand_for d call.args) (content_as d a)
   nested_said call before c a after n i required x r = (said call before c after n required).provides a x i r
 
-  made_follows : (call : Call) (before : List Call) (c : Content) (after : List Call) → IsMadeCall N p o call before c after → IsRequired specs call.term (stand_for d call.args) → Follow specs d before after
-  made_follows call before c after k required = grind (arith, common_steps, contains_from_in)
-
   -- a call of a list is one that was made
   made_at : (m : Meaning) (n k : ℕ) (calls before after : List Call) (call : Call) (c a : Content) → AreMadeCalls N p o m n calls before after → slice_get calls k ≡ Some call
       → impure_answer m call.term (k + n) ≡ Some c → Contains (answers_in c) a → IsConstructedAsSaid specs call.term (stand_for d call.args) (content_as d a)
@@ -59,7 +48,7 @@ module _ (p : Program) (specs : Specs) (d : Atoms) (o : Outside) (N : Call → L
   made_at m n (suc k) (first ∷ rest) before after call c a are e q i = grind (arith, common_steps, made_at m (suc n) k rest are.1 after call c a are.4 e)
 
   follow_all : (m : Meaning) (n : ℕ) (calls before after : List Call) → AreMadeCalls N p o m n calls before after → ((k : Call) → In calls k → IsRequired specs k.term (stand_for d k.args)) → Follow specs d before after
-  follow_all m n (call ∷ rest) before after are required = grind (arith, common_steps, follow_all m (suc n) rest are.1 after are.4, made_follows, append_assoc, in_either)
+  follow_all m n (call ∷ rest) before after are required = grind (arith, common_steps, follow_all m (suc n) rest are.1 after are.4, append_assoc, in_either, contains_from_in)
   follow_all m n [] before after same required = ([], sym same ∙ sym (append-nil before), λ k i. absurd i)
 
   -- a meaning of a whole run meets specs
@@ -74,10 +63,6 @@ module _ (p : Program) (specs : Specs) (d : Atoms) (o : Outside) (N : Call → L
   }
 
 -- 4. by the depth
--- an answer that stands for something is the result
-answered_by : (d : Atoms) (partial : Bool) (o : Outcome) (c a : Content) (x : Denoted) → IsAnswer partial o c → Contains (answers_in c) a → result_as (content_as d a) ≡ Some x → (v : Value) × (o.results ≡ result_content partial v ∷ []) × (stands_for d v ≡ x)
-answered_by d partial o c a x v i e = grind (arith, common_steps, result_stands, nothing_stands)
-
 module _ (p : Program) (specs : Specs) (d : Atoms) (denotes : IsDenotation p specs d) (choose : AllChooseAsSaid p specs d) (o : Outside) (outside : MeetsSpecsOutside p specs d o) where
   -- one function, where what it calls is as said
   pub one_run : (N : Call → List Call → Content → List Call → Type 0)
@@ -96,7 +81,7 @@ module _ (p : Program) (specs : Specs) (d : Atoms) (denotes : IsDenotation p spe
       let answers : AnswersAsSaid p specs call.term d args out = choose call.term r.known r.single r.meaning args called in
       let follows = follow_all p specs d o N said outside r.meaning 0 out.calls before after r.calls (λ k i. answers.calls k (contains_from_in out.calls k i)) in
       record {
-        provides = grind (arith, common_steps, answered_by, back);
+        provides = grind (arith, common_steps, back);
         made = follows.0;
         after_those = follows.1;
         required = λ k i. follows.2 k (in_from_contains follows.0 k i);

@@ -1,15 +1,14 @@
 -- The premises of the law hold together of an example, and near misses don't.
-use Rattle.std.proofs.Common.{◌≡◌, ℕ, ℤ, true, false, [], ◌∷◌, Some, None, slice_get, nat_lt, Contains, refl, subst, inl, inr, arith}
+use Rattle.std.proofs.Common.{◌≡◌, ℕ, ℤ, true, false, [], ◌∷◌, Some, None, nat_lt, refl, subst, inl, inr, arith}
 use Rattle.std.proofs.lemmas.Grind.{common_steps}
 use Rattle.std.proofs.lemmas.Bool.{false≢true}
 use Rattle.std.proofs.lemmas.List.Elements.{All-nil}
-use Rattle.model.specs.lists.Tables.{TermEntry, variant_term, struct_term}
 use Rattle.model.specs.rules.Values.{Values, no_value, value_and, of_list}
 use Rattle.model.specs.rules.Meaning.{one}
 use Rattle.model.specs.rules.Choice.{choice}
-use Rattle.model.specs.rules.Program.{is_multi, rules_of}
-use Rattle.model.specs.sites.Serves.{asked, Serves}
-use Rattle.model.specs.sites.Sites.{SiteTerm, int_term, prim_term, argument, extractor_call, constructor_call, SiteTerms}
+use Rattle.model.specs.rules.Program.{rules_of}
+use Rattle.model.specs.sites.Serves.{Serves}
+use Rattle.model.specs.sites.Sites.{argument, constructor_call, SiteTerms}
 use Rattle.model.proofs.Elements.{In, in_from_contains, some_is, none_some}
 use Rattle.model.proofs.Members.{in_head, in_alone}
 use Rattle.laws_typing.specs.WellTypedPrograms.{IsWellTypedProgram}
@@ -43,15 +42,6 @@ met : MeetsSpecs sum_specs bytes_as (adding_to 200) (choice sums (adding_to 200)
 met = grind (arith, common_steps, none_some, in_alone)
 
 -- 3. what is asked
-no_int : (z : ℤ) (ty : ℕ) → Contains (asked sums (rules_of sums 0)) (int_term z ty) → ⊥
-no_int z ty i = grind (arith, common_steps, in_from_contains (argument 0 ∷ (sum_call ∷ [])) (int_term z ty) i, in_from_contains)
-
-no_prim : (name : ℕ) → Contains (asked sums (rules_of sums 0)) (prim_term name) → ⊥
-no_prim name i = grind (arith, common_steps, in_from_contains (argument 0 ∷ (sum_call ∷ [])) (prim_term name) i, in_from_contains)
-
-no_extractor : (t : ℕ) (s : SiteTerm) → Contains (asked sums (rules_of sums 0)) (extractor_call t s) → ⊥
-no_extractor t s i = grind (arith, common_steps, in_from_contains (argument 0 ∷ (sum_call ∷ [])) (extractor_call t s) i, in_from_contains)
-
 one_call : (t n : ℕ) (ss : SiteTerms) → In (argument 0 ∷ (sum_call ∷ [])) (constructor_call t ss n) → sum_call ≡ constructor_call t ss n
 one_call t n ss h = grind (arith, common_steps)
 
@@ -59,17 +49,11 @@ call_term : (t n : ℕ) (ss : SiteTerms) → sum_call ≡ constructor_call t ss 
 call_term t n ss e = (cc, cc, cc)
 
 serves : Serves sums (adding_to 200) hundred (rules_of sums 0)
-serves = grind (arith, common_steps, no_int, no_prim, no_extractor, call_term, one_call, in_from_contains, sum_call, sum_args, some_is)
+serves = grind (arith, common_steps, call_term, one_call, in_from_contains, sum_call, sum_args, some_is)
 
 -- 4. the program
-declared : (t : ℕ) (e : TermEntry) → slice_get sums.terms t ≡ Some e → ((i : ℕ) → e.kind ≡ variant_term i → ⊥) × (e.kind ≡ struct_term → ⊥)
-declared t e h = grind (arith, common_steps, some_is, none_some)
-
-not_multi : (t : ℕ) → is_multi sums t ≡ false
-not_multi t = grind (arith, common_steps)
-
 well_typed : IsWellTypedProgram sums
-well_typed = grind (arith, common_steps, declared, not_multi, in_from_contains)
+well_typed = grind (arith, common_steps, in_from_contains)
 
 -- 5. the premises
 pub premises_hold_lem : PremisesHold

@@ -1,7 +1,6 @@
 -- The premises of the law by priority hold together of the letters and their codes.
-use Rattle.std.proofs.Common.{pos, List, [], ◌∷◌, subst, inl, inr, arith}
+use Rattle.std.proofs.Common.{[], ◌∷◌, subst, inl, inr, arith}
 use Rattle.std.proofs.lemmas.Grind.{common_steps}
-use Rattle.model.specs.sites.Sites.{SiteTerm, int_term, argument}
 use Rattle.model.proofs.Elements.{in_from_contains}
 use Rattle.laws_specs.specs.Conditions.{IsValidBelow}
 use Rattle.laws_specs.specs.ConditionLaws.{AreValidBelow, IsCalled}
@@ -19,14 +18,8 @@ valid r i =
       | inr j ↦ elim j [ inl e ↦ subst (IsValidBelow codes code_specs) e others_right | inr n ↦ absurd n ]
     ]
 
-abbrev asked_sites : List SiteTerm
-asked_sites = argument 0 ∷ (int_term (pos 10) 1 ∷ (argument 0 ∷ (int_term (pos 20) 1 ∷ [])))
-
-called_a : IsCalled codes code_specs 2 bytes_as written (one_of_letter 0) []
-called_a = grind (arith, common_steps)
-
 called_b : IsCalled codes code_specs 2 bytes_as written (one_of_letter 1) []
 called_b = grind (arith, common_steps)
 
 pub priority_premises_hold_lem : PriorityPremisesHold
-priority_premises_hold_lem = grind (arith, common_steps, valid, called_a, called_b)
+priority_premises_hold_lem = grind (arith, common_steps, valid, called_b)

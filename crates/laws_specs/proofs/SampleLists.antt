@@ -1,17 +1,15 @@
 -- A rule that gives the answers of a multi call is right where the call's spec says so of each, and the premises hold of an example.
-use Rattle.std.proofs.Common.{◌≡◌, ◌==◌, ℕ, ℤ, true, false, List, [], ◌∷◌, Some, None, slice_get, Contains, refl, ap, subst, ◌∙◌, inl, inr, arith}
+use Rattle.std.proofs.Common.{◌≡◌, ◌==◌, ℕ, true, false, List, [], ◌∷◌, Some, None, refl, ap, subst, ◌∙◌, inl, inr, arith}
 use Rattle.std.proofs.lemmas.Grind.{common_steps}
 use Rattle.std.proofs.lemmas.Bool.{and_parts, false≢true, eqb-true}
 use Rattle.std.proofs.lemmas.List.Elements.{All-nil}
 use Rattle.std.proofs.Math.Nat.{suc-ne-zero}
-use Rattle.model.specs.lists.Tables.{TypeEntry, TermEntry, variant_term, struct_term}
-use Rattle.model.specs.lists.KnownTypes.{entry_id}
 use Rattle.model.specs.rules.Values.{Values, no_value, value_and, of_list}
 use Rattle.model.specs.rules.Meaning.{Content, many, pure_answer}
 use Rattle.model.specs.rules.Outcome.{then_option}
 use Rattle.model.specs.rules.Program.{is_partial, rules_of}
-use Rattle.model.specs.sites.Serves.{asked, Serves}
-use Rattle.model.specs.sites.Sites.{SiteTerm, int_term, prim_term, argument, extractor_call, constructor_call, pick_of, SiteTerms, no_site_term, site_term_and}
+use Rattle.model.specs.sites.Serves.{Serves}
+use Rattle.model.specs.sites.Sites.{SiteTerm, argument, constructor_call, pick_of, SiteTerms, no_site_term, site_term_and}
 use Rattle.model.specs.visits.Demands.{demands_of}
 use Rattle.model.proofs.Elements.{In, in_from_contains, contains_from_in, some_is, none_some}
 use Rattle.model.proofs.Members.{in_alone}
@@ -21,9 +19,9 @@ use Rattle.laws_specs.specs.Words.{Denoted, no_denoted, denoted_and}
 use Rattle.laws_specs.specs.Specs.{IsSaid, IsProvided, no_unknown}
 use Rattle.laws_specs.specs.Conditions.{ToldContent, told, told_many, result_as, Valuation, denoted_at, denoted_at_each, condition, IsAssumed, IsValid}
 use Rattle.laws_specs.specs.Meets.{stand_for, IsDenotation, MeetsSpecs}
-use Rattle.laws_specs.specs.Samples.{byte, x, a_term, rule_of, doubled}
+use Rattle.laws_specs.specs.Samples.{byte, x, rule_of, doubled}
 use Rattle.laws_specs.specs.SampleCalls.{bytes_as, a_byte, hundred}
-use Rattle.laws_specs.specs.SampleLists.{answering_lists, lists_with, liking, list_specs, twice_200, liking_100, ListsAreSaid, BagPremisesHold}
+use Rattle.laws_specs.specs.SampleLists.{lists_with, liking, list_specs, twice_200, liking_100, ListsAreSaid, BagPremisesHold}
 use Rattle.laws_specs.proofs.SampleAnswers.{byte_formed, byte_sorted, byte_numbered}
 use Rattle.laws_specs.proofs.SampleConditions.{told_is, part_is, alone, one_argument, only_one, truths_same, none_first, none_made}
 
@@ -52,13 +50,10 @@ like_right (denoted_and b no_denoted) f a = grind (arith, common_steps, like_pro
 like_right h f a = grind (arith, common_steps, and_parts)
 
 -- 2. x alone
-alone_assumed : IsAssumed (lists_with x) list_specs (condition (lists_with x) (rule_of x)) one_argument alone
-alone_assumed = grind (arith, common_steps)
-
 alone_wrong : IsValid (lists_with x) list_specs (condition (lists_with x) (rule_of x)) → ⊥
 alone_wrong right =
     false≢true (truths_same false true (only_one (IsSaid no_unknown one_argument (Some (byte 1))) doubled
-    ((right one_argument alone alone_assumed).provides (told (byte 1)) (byte 1) (none_made (lists_with x) list_specs alone) refl refl)))
+    ((right one_argument alone (grind (arith, common_steps))).provides (told (byte 1)) (byte 1) (none_made (lists_with x) list_specs alone) refl refl)))
 
 pub lists_are_said_lem : ListsAreSaid
 lists_are_said_lem = (like_right, alone_wrong)
@@ -77,15 +72,6 @@ meets : MeetsSpecs list_specs bytes_as liking_100 []
 meets = grind (arith, common_steps, none_some, answered)
 
 -- 4. what is asked
-no_int : (z : ℤ) (ty : ℕ) → Contains (asked (lists_with liking) (rules_of (lists_with liking) 0)) (int_term z ty) → ⊥
-no_int z ty i = grind (arith, common_steps, in_from_contains)
-
-no_prim : (name : ℕ) → Contains (asked (lists_with liking) (rules_of (lists_with liking) 0)) (prim_term name) → ⊥
-no_prim name i = grind (arith, common_steps, in_from_contains)
-
-no_extractor : (t : ℕ) (s : SiteTerm) → Contains (asked (lists_with liking) (rules_of (lists_with liking) 0)) (extractor_call t s) → ⊥
-no_extractor t s i = grind (arith, common_steps, in_from_contains)
-
 one_call : (t n : ℕ) (ss : SiteTerms) → In made_sites (constructor_call t ss n) → like_call ≡ constructor_call t ss n
 one_call t n ss h = grind (arith, common_steps)
 
@@ -93,25 +79,16 @@ call_term : (t n : ℕ) (ss : SiteTerms) → like_call ≡ constructor_call t ss
 call_term t n ss e = (cc, cc, cc)
 
 pub serves : Serves (lists_with liking) liking_100 hundred (rules_of (lists_with liking) 0)
-serves = grind (arith, common_steps, no_int, no_prim, no_extractor, call_term, one_call, in_from_contains, some_is, in_alone, suc-ne-zero)
+serves = grind (arith, common_steps, call_term, one_call, in_from_contains, some_is, in_alone, suc-ne-zero)
 
 -- 5. the program
-ids : (i : ℕ) (t : TypeEntry) → slice_get (lists_with liking).types i ≡ Some t → entry_id t ≡ i
-ids i t e = grind (arith, common_steps, some_is, none_some)
-
-not_struct : (id : ℕ) → (answering_lists (a_term id (1 ∷ []))).kind ≡ struct_term → ⊥
-not_struct id q = cc
-
-declared : (t : ℕ) (e : TermEntry) → slice_get (lists_with liking).terms t ≡ Some e → ((i : ℕ) → e.kind ≡ variant_term i → ⊥) × (e.kind ≡ struct_term → ⊥)
-declared t e h = grind (arith, common_steps, some_is, not_struct, none_some)
-
 not_partial : (t : ℕ) → is_partial (lists_with liking) t ≡ false
 not_partial t = grind (arith, common_steps)
 
 -- 6. the premises
 pub bag_premises_hold_lem : BagPremisesHold
 bag_premises_hold_lem = record {
-  well_typed = grind (arith, common_steps, ids, declared, not_partial, in_alone);
+  well_typed = grind (arith, common_steps, not_partial, in_alone);
   multi = refl;
   quiet = λ r i. subst (λ q. (demands_of (lists_with liking) q).impure ≡ []) (in_alone (rule_of liking) r i) refl;
   valid = λ r i. subst (λ q. IsValid (lists_with liking) list_specs (condition (lists_with liking) q)) (in_alone (rule_of liking) r i) like_right;

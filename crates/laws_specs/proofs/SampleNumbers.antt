@@ -1,15 +1,14 @@
 -- A rule that is wrong of a number is refuted by a run on another value that stands for the number too.
-use Rattle.std.proofs.Common.{◌≡◌, ℕ, pos, true, false, List, [], ◌∷◌, Some, None, slice_get, Contains, refl, subst, inl, inr, arith}
+use Rattle.std.proofs.Common.{◌≡◌, pos, true, false, List, [], ◌∷◌, Some, None, Contains, refl, subst, inl, inr, arith}
 use Rattle.std.proofs.lemmas.Grind.{common_steps}
 use Rattle.std.specs.List.{AllByRecursion}
 use Rattle.std.proofs.lemmas.Bool.{and_parts, false≢true}
 use Rattle.std.proofs.lemmas.List.Elements.{All-nil}
-use Rattle.model.specs.lists.Tables.{TermEntry, TermKindEntry, variant_term, struct_term, declared_term, internal_constructor}
 use Rattle.model.specs.rules.Values.{Value, of_list}
 use Rattle.model.specs.rules.Choice.{choice}
-use Rattle.model.specs.rules.Program.{is_multi, rules_of}
+use Rattle.model.specs.rules.Program.{rules_of}
 use Rattle.model.specs.sites.Sites.{Constraint, is_int, SiteTerm, int_term, argument}
-use Rattle.model.proofs.Elements.{in_from_contains, contains_from_in, some_is, none_some}
+use Rattle.model.proofs.Elements.{in_from_contains, contains_from_in, none_some}
 use Rattle.laws_typing.specs.WellTypedPrograms.{IsWellTypedRule, IsWellTypedProgram}
 use Rattle.laws_specs.specs.Words.{Denoted, DenotedList, no_denoted, denoted_and}
 use Rattle.laws_specs.specs.Specs.{IsSaid, no_unknown}
@@ -62,26 +61,11 @@ denotes : IsDenotation numbers number_specs bytes_as
 denotes = grind (arith, common_steps, byte_formed, byte_sorted, byte_numbered, none_some)
 
 -- 3. the program
-abbrev code_kind : TermKindEntry
-code_kind = declared_term (record { pure = true; multi = false; partial = false; rec = false }) (Some internal_constructor) None
-
-not_struct : code_kind ≡ struct_term → ⊥
-not_struct q = cc
-
-declared : (t : ℕ) (e : TermEntry) → slice_get numbers.terms t ≡ Some e → ((i : ℕ) → e.kind ≡ variant_term i → ⊥) × (e.kind ≡ struct_term → ⊥)
-declared t e h = grind (arith, common_steps, some_is, not_struct, none_some)
-
-not_multi : (t : ℕ) → is_multi numbers t ≡ false
-not_multi t = grind (arith, common_steps)
-
-five_typed : IsWellTypedRule numbers for_five
-five_typed = record { formed = refl; patterns = λ e. (tt, tt); conditions = tt; right = tt; no_priority = λ e. absurd (false≢true e) }
-
 rest_typed : IsWellTypedRule numbers for_rest
 rest_typed = record { formed = refl; patterns = λ e. (tt, tt); conditions = tt; right = tt; no_priority = λ e. refl }
 
 well_typed_program : IsWellTypedProgram numbers
-well_typed_program = grind (arith, common_steps, in_from_contains (for_five ∷ (for_rest ∷ [])), declared, not_multi, in_from_contains, five_typed, rest_typed)
+well_typed_program = grind (arith, common_steps, in_from_contains, rest_typed)
 
 -- 4. so the lower rule is wrong
 rest_wrong : IsValidBelow numbers number_specs for_rest → ⊥

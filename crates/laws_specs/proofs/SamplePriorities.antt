@@ -23,12 +23,9 @@ wrong_sites = (argument 0, told (letter 0)) ∷ ((int_term (pos 20) 1, told (byt
 abbrev wrong : Valuation
 wrong = listed_as wrong_sites
 
-wrong_assumed : IsAssumed codes code_specs (condition codes for_others) argument_a wrong
-wrong_assumed = grind (arith, common_steps)
-
 alone_wrong : IsValid codes code_specs (condition codes for_others) → ⊥
 alone_wrong right =
-    let shown = right argument_a wrong wrong_assumed in
+    let shown = right argument_a wrong (grind (arith, common_steps)) in
     false≢true (truths_same false true (only_one (IsSaid no_unknown argument_a (Some (byte 20))) its_code (shown.provides (told (byte 20)) (byte 20) (none_made codes code_specs wrong) refl refl)))
 
 -- 2. an argument is A or B

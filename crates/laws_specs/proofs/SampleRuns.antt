@@ -1,17 +1,15 @@
 -- The sample's whole run.
-use Rattle.std.proofs.Common.{◌≡◌, ◌⊎◌, ◌&&◌, ℕ, suc, true, if◌then◌else◌, Option, List, [], ◌∷◌, Some, None, IsSomeAnd, IsTrue, Contains, refl, sym, inl, inr, arith}
+use Rattle.std.proofs.Common.{◌≡◌, ◌&&◌, ℕ, if◌then◌else◌, Option, List, [], ◌∷◌, Some, None, IsSomeAnd, IsTrue, Contains, refl, sym, inl, inr, arith}
 use Rattle.std.proofs.lemmas.Grind.{common_steps}
 use Rattle.std.specs.Bool.{◌==◌}
-use Rattle.std.specs.List.{AllByRecursion}
 use Rattle.std.proofs.lemmas.Bool.{and_parts, eqb-true}
-use Rattle.model.specs.rules.Values.{Value, Values, no_value, value_and, values_eq}
-use Rattle.model.specs.rules.Meaning.{Content, one, Meaning, pure_answer, impure_answer}
+use Rattle.model.specs.rules.Values.{Values, no_value, value_and, values_eq}
+use Rattle.model.specs.rules.Meaning.{Content, one, Meaning, pure_answer}
 use Rattle.model.specs.rules.Outcome.{Call}
-use Rattle.model.specs.rules.Picks.{Pick, site_values}
 use Rattle.model.specs.rules.Program.{Program, kind, rules_of, terms_with_rules}
 use Rattle.model.specs.rules.Typed.{TypedRule}
-use Rattle.model.specs.sites.Serves.{asked, tested_constants, fits_constructor, Serves, TellsConstantsApart}
-use Rattle.model.specs.sites.Sites.{SiteTerm, argument, constructor_call, SiteTerms, site_term_and, no_site_term}
+use Rattle.model.specs.sites.Serves.{asked, tested_constants, fits_constructor, TellsConstantsApart}
+use Rattle.model.specs.sites.Sites.{SiteTerm, argument, constructor_call, site_term_and, no_site_term}
 use Rattle.model.specs.visits.Demands.{demands_of}
 use Rattle.model.proofs.Elements.{in_from_contains, contains_from_in, some_is, none_some}
 use Rattle.model.proofs.ValuesEqual.{eq_all_means}
@@ -20,24 +18,7 @@ use Rattle.laws_specs.specs.SampleCalls.{a_byte, as_written}
 use Rattle.laws_specs.specs.WholeRuns.{by_rules, IsPureAnswer, a_result, WholeRun}
 use Rattle.laws_specs.specs.SampleRuns.{noted_rule, noting_program, hundreds, adds_and_notes, call_of, RunsAreWhole}
 
--- 1. a meaning serves rules that ask for their first argument and for calls that it answers
-abbrev IsPureSite : Meaning → List Value → SiteTerm → Type 0
-IsPureSite m args u =
-    (t : ℕ) × (ss : SiteTerms) × (vs : Values) × (c : Content) × (constructor_call t ss 0 ≡ u) × ((k : Pick) → site_values m args k ss ≡ Some vs) × (pure_answer m t vs ≡ Some c)
-    × (fits_constructor noting_program t (kind noting_program t) c ≡ true)
-
-abbrev IsImpureSite : Meaning → SiteTerm → Type 0
-IsImpureSite m u =
-    (t : ℕ) × (ss : SiteTerms) × (n : ℕ) × (c : Content) × (constructor_call t ss (suc n) ≡ u) × (impure_answer m t n ≡ Some c) × (fits_constructor noting_program t (kind noting_program t) c ≡ true)
-
-abbrev IsServed : Meaning → List Value → SiteTerm → Type 0
-IsServed m args u = (argument 0 ≡ u) ⊎ (IsPureSite m args u ⊎ IsImpureSite m u)
-
-module _ (m : Meaning) (args : List Value) where
-  serves_by : (t : ℕ) → AllByRecursion (IsServed m args) (asked noting_program (rules_of noting_program t)) → Serves noting_program m args (rules_of noting_program t)
-  serves_by t sites = grind (arith, common_steps)
-
--- rules that name no constant
+-- 1. rules that name no constant
 pub apart_of : (p : Program) (m : Meaning) (t : ℕ) → tested_constants p (rules_of p t) ≡ [] → ((r : TypedRule) → Contains (rules_of p t) r → (demands_of p r).constraints ≡ []) → TellsConstantsApart p m (rules_of p t)
 apart_of p m t none bare = grind (arith, common_steps, in_from_contains)
 
@@ -66,7 +47,7 @@ twice_run before = record {
     extractors = λ t v. refl;
     pures = λ t vs a e. added (WholeRun (by_rules noting_program) noting_program adds_and_notes 0) t vs a e;
     typed = refl;
-    serves = grind (arith, common_steps, serves_by);
+    serves = grind (arith, common_steps);
     apart = apart_of noting_program twice_meaning 0 refl (λ r i. only_rule 0 (rule_of (adding x x)) r refl refl i);
   };
   calls = refl;
@@ -93,7 +74,7 @@ noted_run = record {
     extractors = λ t v. refl;
     pures = doubled_within;
     typed = refl;
-    serves = grind (arith, common_steps, serves_by);
+    serves = grind (arith, common_steps);
     apart = apart_of noting_program noted_meaning 3 refl (λ r i. only_rule 3 noted_rule r refl refl i);
   };
   calls = (one (a_byte 7), call_of 2 200 ∷ [], refl, (refl, refl), refl);

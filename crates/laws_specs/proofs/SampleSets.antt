@@ -52,9 +52,6 @@ sum_in_set right args f a =
     let shown = right.0 args f (fewer_made p sum_specs (set_condition 0 sums_set (giving 1)) (condition p (rule_of (adding x x))) refl refl refl sum_made args f a) in
     record { provides = shown.provides; requires = shown.requires }
 
-alone_from_set : IsValid (program_with x) sum_specs (set_condition 0 sums_set (giving 0)) → IsValid (program_with x) sum_specs (condition (program_with x) (rule_of x))
-alone_from_set valid args f a = grind (arith, common_steps, fewer_made)
-
 -- 2. rules with priorities
 others_alone : IsValid codes code_specs (set_condition 2 codes_set others_in_set) → IsValid codes code_specs (condition codes for_others)
 others_alone valid args f a =
@@ -92,7 +89,7 @@ others_below right args f a n =
 pub sets_are_asked_lem : SumsAreRight → PrioritiesCount → SetsAreAsked
 sets_are_asked_lem right priorities = record {
   sum = sum_in_set right;
-  alone = λ valid. right.1 (alone_from_set valid);
+  alone = λ valid. right.1 (grind (arith, fewer_made));
   class = refl;
   lower_alone = λ valid. priorities.0 (others_alone valid);
   lower_below = others_below priorities;

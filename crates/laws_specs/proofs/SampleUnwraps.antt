@@ -1,13 +1,13 @@
 -- A valuation under which an unused call gives no value refutes a wrong rule.
-use Rattle.std.proofs.Common.{◌≡◌, true, false, List, [], ◌∷◌, Some, None, refl, ap, ◌∙◌, arith}
+use Rattle.std.proofs.Common.{◌≡◌, true, false, List, [], ◌∷◌, Some, None, refl, arith}
 use Rattle.std.proofs.lemmas.Bool.{false≢true}
 use Rattle.std.proofs.lemmas.List.Elements.{All-nil}
 use Rattle.std.proofs.lemmas.Grind.{common_steps}
 use Rattle.model.specs.sites.Sites.{SiteTerm, argument, constructor_call, no_site_term, site_term_and}
-use Rattle.model.proofs.Elements.{in_from_contains, some_is, none_some}
-use Rattle.laws_specs.specs.Words.{Denoted, no_denoted, denoted_and}
+use Rattle.model.proofs.Elements.{in_from_contains, none_some}
+use Rattle.laws_specs.specs.Words.{no_denoted, denoted_and}
 use Rattle.laws_specs.specs.Specs.{IsSaid, no_unknown}
-use Rattle.laws_specs.specs.Conditions.{ToldContent, told, told_nothing, result_as, Valuation, is_told_formed, IsHeldAs, condition, IsAssumed}
+use Rattle.laws_specs.specs.Conditions.{ToldContent, told, told_nothing, Valuation, is_told_formed, IsHeldAs, condition, IsAssumed}
 use Rattle.laws_specs.specs.Samples.{byte, doubled}
 use Rattle.laws_specs.specs.SampleUnwraps.{unused_rule, maybes, maybe_specs, UnusedCallsShowNothing}
 use Rattle.laws_specs.proofs.SampleConditions.{no_picks, listed_as, each_held, only_one, truths_same, none_made, one_argument}
@@ -21,9 +21,6 @@ sites = (argument 0, told (byte 1)) ∷ ((maybe_call, told_nothing) ∷ [])
 abbrev f : Valuation
 f = listed_as sites
 
-no_result : (h : ToldContent) (y : Denoted) → Some told_nothing ≡ Some h → result_as h ≡ Some y → ⊥
-no_result h y e q = none_some y (ap result_as (some_is told_nothing h e) ∙ q)
-
 unused_assumed : IsAssumed maybes maybe_specs (condition maybes unused_rule) one_argument f
 unused_assumed = record {
   arguments = refl;
@@ -34,8 +31,8 @@ unused_assumed = record {
   formed = each_held (λ s h. is_told_formed h ≡ true) sites (refl, (refl, tt));
   constraints = λ s k i. absurd (in_from_contains [] (s, k) i);
   equalities = λ a b i. absurd (in_from_contains [] (a, b) i);
-  calls = grind (arith, common_steps, in_from_contains, no_result);
-  typed = grind (arith, common_steps, in_from_contains, no_result);
+  calls = grind (arith, common_steps, in_from_contains);
+  typed = grind (arith, common_steps, in_from_contains);
   picks = λ s i e. no_picks maybe_specs f (λ u h there. none_some h there) s;
   typed_picks = λ s h i e there. absurd (none_some h there);
 }

@@ -1,6 +1,6 @@
 -- What is assumed of a source rule is assumed of the rule of the set, completed; and what is shown of the rule of the set is shown of the
 -- source rule.
-use Rattle.std.proofs.Common.{◌≡◌, ℕ, ◌≤◌, true, false, List, [], ◌∷◌, length, map, flat_map, Some, is_some, Contains, IsTrue, sym, subst, ◌∙◌, inl, inr, arith}
+use Rattle.std.proofs.Common.{◌≡◌, ℕ, ◌≤◌, true, false, List, [], ◌∷◌, length, map, flat_map, Some, is_some, IsTrue, sym, subst, ◌∙◌, inl, inr, arith}
 use Rattle.std.proofs.lemmas.Grind.{common_steps}
 use Rattle.model.specs.rules.Program.{Program, arg_types}
 use Rattle.model.specs.rules.Typed.{TypedRule}
@@ -31,17 +31,11 @@ module _ (p : Program) (specs : Specs) (c : Condition) (args : DenotedList) (f :
   abbrev Made : SiteTerm → Type 0
   Made u = In c.made u
 
-  answered : (s : SiteTerm) → CallsAre Made s → is_impure_call s ≡ false → IsAnsweredAsSaid specs f s s
-  answered s h e = grind (arith, common_steps, contains_from_in)
-
   pub call_answered : (s : SiteTerm) → CallsAre Made s → is_impure_call s ≡ false → IsAnsweredAsSaid specs g s s
-  call_answered s h e = calls_stay specs args f a.held s (answered s h e)
-
-  picked : (s : SiteTerm) → CallsAre Made s → is_impure_call s ≡ false → IsAnsweredAsSaid specs f s (pick_of s)
-  picked s h e = grind (arith, common_steps, contains_from_in)
+  call_answered s h e = calls_stay specs args f a.held s (grind (arith, contains_from_in))
 
   pub pick_answered : (s : SiteTerm) → CallsAre Made s → is_impure_call s ≡ false → IsAnsweredAsSaid specs g s (pick_of s)
-  pick_answered s h e = picks_stay specs args f a.held s (picked s h e)
+  pick_answered s h e = picks_stay specs args f a.held s (grind (arith, contains_from_in))
 
   pub call_typed : (s : SiteTerm) (h : ToldContent) → CallsAre Made s → is_impure_call s ≡ false → g s ≡ Some h → IsTypedAs p specs s h
   call_typed s h m e q = grind (arith, common_steps, contains_from_in)
@@ -54,7 +48,7 @@ module _ (p : Program) (specs : Specs) (c : Condition) (args : DenotedList) (f :
   still_there u e = grind (arith, common_steps, stays specs args f a.held u, stays)
 
   still_made : (us : List SiteTerm) → AreMade p specs f us → AreMade p specs g us
-  still_made us m u i = grind (arith, common_steps, still_there u, calls_stay specs args f a.held (call_of u), still_there, answered, calls_stay)
+  still_made us m u i = grind (arith, common_steps, still_there u, calls_stay specs args f a.held (call_of u), still_there, calls_stay)
 
   -- what is shown under the completed valuation of a condition with the same impure calls and the same result
   pub shown_back : (b : Condition) → b.term ≡ c.term → b.impure ≡ c.impure → b.result ≡ c.result → IsShown p specs b args g → IsShown p specs c args f
@@ -79,9 +73,6 @@ module _ (p : Program) (t : ℕ) (set : SiteSet) (built : IsBuilt p t set) (b : 
 
   abbrev c : Condition
   c = set_condition t set r
-
-  impure_same : c.impure ≡ (condition p q).impure
-  impure_same = is.impure.1
 
   result_same : c.result ≡ (condition p q).result
   result_same = is.result.1
@@ -119,9 +110,6 @@ module _ (p : Program) (t : ℕ) (set : SiteSet) (built : IsBuilt p t set) (b : 
     site_made : (s : SiteTerm) → In c.made s → AreMadeBelow d s
     site_made s i = grind (arith, common_steps, in_either (tested_sites r) (return_uses (Some r)), in_map, all_calls_below, in_either, tested_made, returned_made)
 
-    at_site : (s : SiteTerm) → Contains c.made s → AreMadeBelow d s
-    at_site s i = site_made s (in_from_contains c.made s i)
-
     set_assumed : IsAssumed p specs c args (completed f)
     set_assumed = record {
       arguments = subst (λ n. IsTrue (are_of_types p.types specs (Some (arg_types p n)) args)) root a.arguments;
@@ -132,17 +120,17 @@ module _ (p : Program) (t : ℕ) (set : SiteSet) (built : IsBuilt p t set) (b : 
       formed = completed_formed specs args f a.held a.formed;
       constraints = λ s k i. constraint_met s k (in_from_contains c.constraints (s, k) i);
       equalities = λ s u i. pair_equal s u (in_from_contains c.equalities (s, u) i);
-      calls = λ s i e. call_answered p specs (condition p q) args f a s (at_site s i) e;
-      typed = λ s h i e k. call_typed p specs (condition p q) args f a s h (at_site s i) e k;
-      picks = λ s i e. pick_answered p specs (condition p q) args f a s (at_site s i) e;
-      typed_picks = λ s h i e k. pick_typed p specs (condition p q) args f a s h (at_site s i) e k;
+      calls = λ s i e. call_answered p specs (condition p q) args f a s (grind (arith, site_made, in_from_contains)) e;
+      typed = λ s h i e k. call_typed p specs (condition p q) args f a s h (grind (arith, site_made, in_from_contains)) e k;
+      picks = λ s i e. pick_answered p specs (condition p q) args f a s (grind (arith, site_made, in_from_contains)) e;
+      typed_picks = λ s h i e k. pick_typed p specs (condition p q) args f a s h (grind (arith, site_made, in_from_contains)) e k;
     }
 
   pub asked_enough : (specs : Specs) → IsValid p specs c → IsValid p specs (condition p q)
   asked_enough specs valid args f a =
-      shown_back p specs (condition p q) args f a c (sym root) impure_same result_same (valid args (completed f) (set_assumed specs args f a))
+      shown_back p specs (condition p q) args f a c (sym root) is.impure.1 result_same (valid args (completed f) (set_assumed specs args f a))
 
   pub asked_enough_below : (specs : Specs) → IsValidBelowInSet p specs t set r → (args : DenotedList) (f : Valuation) → IsAssumed p specs (condition p q) args f → IsNoneAboveInSet specs t set r args f → IsShown p specs (condition p q) args f
   asked_enough_below specs valid args f a none =
-      shown_back p specs (condition p q) args f a c (sym root) impure_same result_same
+      shown_back p specs (condition p q) args f a c (sym root) is.impure.1 result_same
       (valid args (completed f) (set_assumed specs args f a) (subst (IsNoneAboveInSet specs t set r args) (sym (nothing_completed specs args f a.held none.there)) none))

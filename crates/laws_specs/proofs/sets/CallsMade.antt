@@ -4,11 +4,10 @@ use Rattle.std.proofs.lemmas.Grind.{common_steps}
 use Rattle.model.specs.rules.Program.{Program}
 use Rattle.model.specs.rules.Typed.{TypedRule}
 use Rattle.model.specs.sites.Sites.{Constraint, SiteTerm, bool_term, int_term, prim_term, argument, extractor_call, constructor_call, pick_of, variant_made, variant_field, struct_made, struct_field, some_made, some_part, tuple_part, no_site, SiteTerms, no_site_term, site_term_and}
-use Rattle.model.specs.visits.Demands.{Demands, demands_of, result_of, Visit, making, asking, iterating, calling, unwraps, unwraps_all, asking_all}
+use Rattle.model.specs.visits.Demands.{Demands, demands_of, result_of, Visit, asking, iterating, unwraps, unwraps_all, asking_all}
 use Rattle.model.specs.sites.DemandedGates.{GatesDemanded, AllGatesDemanded}
 use Rattle.model.proofs.Elements.{In, in_left, in_either}
 use Rattle.laws_sites.proofs.Patterns.{by_field}
-use Rattle.laws_sites.proofs.AskedSites.{equated}
 use Rattle.laws_sites.proofs.WithSites.{by_leaf, by_equating, Onward, AtEach, KeptWithSites, no_step, then_onward, rule_given}
 use Rattle.laws_specs.specs.Conditions.{is_impure_call}
 
@@ -94,21 +93,12 @@ pub record MakesCalls (d : Demands) : Type 0 where
 abbrev OnwardMade : Demands → Demands → Type 0
 OnwardMade = Onward MakesCalls AreMadeBelow
 
-making_on : (ts : List SiteTerm) (v : Visit) → MakesCalls v.demands → OnwardMade v.demands (making ts v).demands
-making_on ts v h = grind (arith, common_steps, calls_weaken, in_left)
-
 asking_on : (s : SiteTerm) (c : Constraint) (v : Visit) → AreMadeBelow v.demands s → MakesCalls v.demands → OnwardMade v.demands (asking s c v).demands
 asking_on s c v m h = grind (arith, common_steps, in_either)
 
 asking_all_on : (ss : List SiteTerm) (v : Visit) → ((s : SiteTerm) → In ss s → AreMadeBelow v.demands s) → MakesCalls v.demands → OnwardMade v.demands (asking_all ss v).demands
 asking_all_on [] v f h = no_step MakesCalls AreMadeBelow v.demands h
 asking_all_on (s ∷ ss) v f h = grind (arith, common_steps, asking_all_on ss, asking_on, then_onward)
-
-equated_on : (a b : SiteTerm) (v : Visit) → AreMadeBelow v.demands a → AreMadeBelow v.demands b → MakesCalls v.demands → OnwardMade v.demands (equated a b v).demands
-equated_on a b v m n h = grind (arith, common_steps, in_either)
-
-calling_on : (s : SiteTerm) (v : Visit) → AreMadeBelow v.demands s → MakesCalls v.demands → OnwardMade v.demands (calling s v).demands
-calling_on s v m h = grind (arith, common_steps, in_either)
 
 iterating_on : (s : SiteTerm) (v : Visit) → MakesCalls v.demands → OnwardMade v.demands (iterating s v).demands
 iterating_on s v h = record { holds = record { asked = h.asked; equal = h.equal; impure = h.impure }; stays = λ u k. k }
@@ -150,9 +140,9 @@ calls_kept p = record {
   pick = λ d t i ss c n m. (c, each_made d ss m);
   call = λ d t i ss flags b e f g n m. (n, each_made d ss m);
   counts = λ c v h. record { holds = record { asked = h.asked; equal = h.equal; impure = h.impure }; stays = λ s m. m };
-  makes = making_on;
-  calls = λ s v h m. calling_on s v m h;
-  equates = λ a b v h m n. by_equating (λ w. OnwardMade v.demands w.demands) a b v (no_step MakesCalls AreMadeBelow v.demands h) (equated_on a b v m n h);
+  makes = grind (arith, calls_weaken, in_left);
+  calls = λ s v h m. grind (arith, common_steps, in_either);
+  equates = λ a b v h m n. by_equating (λ w. OnwardMade v.demands w.demands) a b v (no_step MakesCalls AreMadeBelow v.demands h) (grind (arith, in_either));
   asks = λ s c v f h m. asking_on s c v m h;
   asks_all = λ s v h m. asking_all_on (unwraps s) v (unwrapped_made (IsMadeBy v.demands) s m) h;
   asks_call = grind (arith, common_steps, asking_on);

@@ -29,17 +29,14 @@ completed f (variant_field s variant i) = variant_part variant i (completed f s)
 completed f (struct_field s i) = struct_part i (completed f s)
 completed f s = f s
 
-part_held : (xs : DenotedList) (i : ℕ) (h : ToldContent) → part_told (slice_get (denoted_list xs) i) ≡ Some h → IsPartHeld xs i h
-part_held xs i h e = grind (arith, none_some, some_is)
-
 pub variant_there : (ty variant : ℕ) (xs : DenotedList) (i : ℕ) → variant_part variant i (Some (told (variant_of ty variant xs))) ≡ part_told (slice_get (denoted_list xs) i)
 variant_there ty variant xs i = cond-true (variant == variant) (part_told (slice_get (denoted_list xs) i)) None (eq-eqb variant variant refl)
 
 variant_back : (variant i : ℕ) (o : Option ToldContent) (h : ToldContent) → variant_part variant i o ≡ Some h → (ty : ℕ) × (xs : DenotedList) × (o ≡ Some (told (variant_of ty variant xs))) × IsPartHeld xs i h
-variant_back variant i o h e = grind (arith, common_steps, eqb-true, part_held, none_some)
+variant_back variant i o h e = grind (arith, common_steps, eqb-true, none_some)
 
 struct_back : (i : ℕ) (o : Option ToldContent) (h : ToldContent) → struct_part i o ≡ Some h → (ty : ℕ) × (xs : DenotedList) × (o ≡ Some (told (struct_of ty xs))) × IsPartHeld xs i h
-struct_back i o h e = grind (arith, common_steps, part_held, none_some)
+struct_back i o h e = grind (arith, common_steps, none_some)
 
 -- 2. where more is there, what was there is as it was
 module _ (f g : Valuation) (more : (s : SiteTerm) (h : ToldContent) → f s ≡ Some h → g s ≡ Some h) where
@@ -83,28 +80,22 @@ module _ (specs : Specs) (args : DenotedList) (f : Valuation) (held : (s : SiteT
     completed_formed s h e = grind (arith, common_steps)
 
   -- 4. calls are answered as they were
-  one_value : (s : SiteTerm) (x y : Denoted) → f s ≡ Some (told x) → completed f s ≡ Some (told y) → y ≡ x
-  one_value s x y e q = let same = some_is (told x) (told y) (sym (stays s (told x) e) ∙ q) in cc
-
-  one_list : (ss : SiteTerms) (xs ys : DenotedList) → denoted_at_each f ss ≡ Some xs → denoted_at_each (completed f) ss ≡ Some ys → ys ≡ xs
-  one_list ss xs ys e q = sym (some_is xs ys (sym (each_more f (completed f) stays ss xs e) ∙ q))
-
   pub calls_stay : (s : SiteTerm) → IsAnsweredAsSaid specs f s s → IsAnsweredAsSaid specs (completed f) s s
   calls_stay (extractor_call t s) said = λ x h e q.
       let a = held (extractor_call t s) h q in
-      said x h (subst (λ y. f s ≡ Some (told y)) (sym (one_value s a.0 x a.1 e)) a.1) q
+      said x h (subst (λ y. f s ≡ Some (told y)) (sym (grind (arith, common_steps, some_is, stays))) a.1) q
   calls_stay (constructor_call t ss n) said = λ xs h e q.
       let a = held (constructor_call t ss n) h q in
-      said xs h (subst (λ ys. denoted_at_each f ss ≡ Some ys) (sym (one_list ss a.0 xs a.1 e)) a.1) q
+      said xs h (subst (λ ys. denoted_at_each f ss ≡ Some ys) (sym (sym (some_is a.0 xs (sym (each_more f (completed f) stays ss a.0 a.1) ∙ e)))) a.1) q
   calls_stay s said = tt
 
   pub picks_stay : (s : SiteTerm) → IsAnsweredAsSaid specs f s (pick_of s) → IsAnsweredAsSaid specs (completed f) s (pick_of s)
   picks_stay (extractor_call t s) said = λ x h e q.
       let a = held (extractor_call t s) told_many (held (pick_of (extractor_call t s)) h q) in
-      said x h (subst (λ y. f s ≡ Some (told y)) (sym (one_value s a.0 x a.1 e)) a.1) q
+      said x h (subst (λ y. f s ≡ Some (told y)) (sym (grind (arith, common_steps, some_is, stays))) a.1) q
   picks_stay (constructor_call t ss n) said = λ xs h e q.
       let a = held (constructor_call t ss n) told_many (held (pick_of (constructor_call t ss n)) h q) in
-      said xs h (subst (λ ys. denoted_at_each f ss ≡ Some ys) (sym (one_list ss a.0 xs a.1 e)) a.1) q
+      said xs h (subst (λ ys. denoted_at_each f ss ≡ Some ys) (sym (sym (some_is a.0 xs (sym (each_more f (completed f) stays ss a.0 a.1) ∙ e)))) a.1) q
   picks_stay s said = tt
 
   -- 5. where parts are there that their sites have, nothing is added

@@ -33,10 +33,6 @@ there_within [] i n e l = absurd (omega (arith, e, l))
 there_within (x ∷ xs) zero n e l = (x, refl)
 there_within (x ∷ xs) (suc i) n e l = there_within xs i (length xs) refl (omega (arith, e, l))
 
--- what a constraint says of a site it says of what the site stands for
-moved_met : (specs : Specs) (f : Valuation) (a b : SiteTerm) (c : Constraint) → f a ≡ f b → IsMetAs specs f a c → IsMetAs specs f b c
-moved_met specs f a b c e h = grind (arith, common_steps)
-
 -- 2. the calls below sites that must be equal
 module _ (d : Demands) (made : MakesCalls d) where
   field_calls : (P : SiteTerm → Type 0) (k : Constraint) (a : SiteTerm) (i : ℕ) (x : SiteTerm) → slice_get (field_terms k a) i ≡ Some x → (CallsAre P a → CallsAre P x) × (CallsAre P x → CallsAre P a)
@@ -83,9 +79,6 @@ module _ (p : Program) (r : TypedRule) (specs : Specs) (args : DenotedList) (f :
   known : (s : SiteTerm) (c : Constraint) → Contains d.constraints (s, c) → CallsAre (IsKnown k) s
   known s c i = calls_pure (IsMadeBy d) d.constraints d.iterators s (gates.tested.asked s c i) (made.0.asked (s, c) (in_from_contains d.constraints (s, c) i))
 
-  met : (s : SiteTerm) (c : Constraint) → Contains d.constraints (s, c) → IsMetAs specs g s c
-  met s c i = met_more f g more specs s c (a.constraints s c i)
-
   pub joined_same : {s u : SiteTerm} → Joined d s u → g s ≡ g u
   joined_same (given {a = s} {b = u} c) = let e = a.equalities s u c in more s (told e.0) e.1 ∙ sym (more u (told e.0) e.2)
   joined_same itself = refl
@@ -118,7 +111,7 @@ module _ (p : Program) (r : TypedRule) (specs : Specs) (args : DenotedList) (f :
 
   -- so the closed demands are met
   pub closed_met : (s : SiteTerm) (c : Constraint) → HasConstraint d s c → IsMetAs specs g s c
-  closed_met s c h = moved_met specs g h.source s c (joined_same h.joined) (met h.source c h.asked)
+  closed_met s c h = grind (arith, common_steps, joined_same h.joined, met_more f g more specs h.source c (a.constraints h.source c h.asked))
 
   pub closed_equal : (s u : SiteTerm) → IsClosedEquality d s u → (y : Denoted) × (g s ≡ Some (told y)) × (g u ≡ Some (told y))
   closed_equal s u h = grind (arith, common_steps, joined_told h.joined, joined_same h.joined, joined_told, joined_same)

@@ -1,5 +1,5 @@
 -- In a run in which a rule is chosen, no rule of the set above its own one matches, by truths for what rules of the set ask.
-use Rattle.std.proofs.Common.{◌≡◌, ◌≢◌, ◌↔◌, ℕ, ℤ, ◌==◌, ◌<ℤ◌, ◌≤ℤ◌, ◌≤◌, length, Bool, true, false, List, [], flat_map, Some, is_some, slice_get, Contains, refl, sym, subst, ◌∙◌, inl, inr, arith, eqb-true, eq-eqb}
+use Rattle.std.proofs.Common.{◌≡◌, ◌≢◌, ◌↔◌, ℕ, ◌==◌, ◌≤◌, length, Bool, true, false, List, [], flat_map, Some, is_some, slice_get, Contains, refl, sym, subst, ◌∙◌, inl, inr, arith, eqb-true, eq-eqb}
 use Rattle.std.proofs.lemmas.Bool.{cases_Bool, false≢true}
 use Rattle.std.proofs.lemmas.Int.{ints}
 use Rattle.std.proofs.lemmas.Grind.{common_steps}
@@ -117,9 +117,6 @@ module _ (p : Program) (t : ℕ) (set : SiteSet) (well : IsWellTypedProgram p) (
       matched : is_some (matches p m b.rule args) ≡ true
       matched = holds_matches p t m args b.rule well c.typed c.serves listed (quiet p specs t d m args well single c b.rule listed) all_hold
 
-  not_both : (y z : ℤ) → y <ℤ z → z ≤ℤ y → ⊥
-  not_both y z a b = omega (arith, ints)
-
   module _ (sources : (place : ℕ) (r : SetRule) → slice_get set.rules place ≡ Some r → HasSourceRule p t set place r) (numbers : AreNumbers d) where
     -- of a rule of the set by itself
     place_of : (q : SetRule) → Contains set.rules q → (place : ℕ) × HasSourceRule p t set place q
@@ -150,5 +147,5 @@ module _ (p : Program) (t : ℕ) (set : SiteSet) (well : IsWellTypedProgram p) (
               (let o = place_of q a.0 in
               let matching = matched o.0 q o.1 (λ u k i. f u k (contains_from_in (set_condition t set q).constraints (u, k) i)) (λ u v i. g u v (contains_from_in (set_condition t set q).equalities (u, v) i)) in
               let lower = most p m args rs s.typed.rule x.is_chosen o.1.typed.rule (in_from_contains rs o.1.typed.rule (listed o.0 q o.1)) matching in
-              not_both s.typed.rule.prio o.1.typed.rule.prio (subst (λ z. z <ℤ o.1.typed.rule.prio) s.is.prio (subst (λ z. r.prio <ℤ z) o.1.is.prio a.1)) lower);
+              grind (arith, common_steps, ints));
         }

@@ -1,5 +1,5 @@
 -- The numbers of a rule of a set: what stands at and below a number is below its tree, and a class has two members at least.
-use Rattle.std.proofs.Common.{◌≡◌, ◌≢◌, ℕ, zero, suc, ◌==◌, ◌≤◌, not, Bool, true, List, [], ◌∷◌, ◌++◌, length, map, filter, flat_map, Option, Some, None, refl, sym, subst, ◌∙◌, inl, inr, arith, eqb-true, eq-eqb}
+use Rattle.std.proofs.Common.{◌≡◌, ◌≢◌, ℕ, zero, suc, ◌==◌, ◌≤◌, not, Bool, true, List, [], ◌∷◌, ◌++◌, length, map, filter, flat_map, refl, sym, subst, ◌∙◌, inl, inr, arith, eqb-true, eq-eqb}
 use Rattle.std.proofs.lemmas.Grind.{common_steps}
 use Rattle.std.proofs.lemmas.Bool.{cases_Bool, and_parts, and_from, false≢true}
 use Rattle.model.specs.lists.Names.{IsDistinct}
@@ -12,9 +12,6 @@ use Rattle.laws_specs.specs.SetConditions.{pairs_of}
 use Rattle.laws_specs.proofs.sets.CallsMade.{CallsAre, AllCallsAre}
 
 -- 1. sites at and below a number
-abbrev sources_in : Option Site → List ℕ
-sources_in o = elim o as (λ _. List ℕ) [ None ↦ [] | Some b ↦ sources_of b ]
-
 module _ (P : SiteTerm → Type 0) (sites : List Site) (first : SourcesFirst sites) where
   abbrev at : ℕ → SiteTerm
   at s = unfold_site sites s

@@ -6,9 +6,9 @@ use Rattle.model.specs.lists.Tables.{TypeEntry}
 use Rattle.model.specs.rules.Values.{variant_types, struct_types}
 use Rattle.model.specs.sites.Serves.{is_type_with_parts}
 use Rattle.model.proofs.Elements.{or_split, or_left, or_right, some_is, none_some}
-use Rattle.laws_specs.specs.Words.{Denoted, variant_of, struct_of, DenotedList, no_denoted, denoted_and, denoted_list, is_plain}
-use Rattle.laws_specs.specs.Specs.{Specs, sort_of}
-use Rattle.laws_specs.specs.Conditions.{is_modelled_as, is_of_atoms, is_of_type, are_of_types}
+use Rattle.laws_specs.specs.Words.{Denoted, variant_of, struct_of, DenotedList, no_denoted, denoted_and, denoted_list}
+use Rattle.laws_specs.specs.Specs.{Specs}
+use Rattle.laws_specs.specs.Conditions.{is_of_atoms, is_of_type, are_of_types}
 
 abbrev mutual
   pub is_shaped : List TypeEntry → ℕ → Denoted → Bool
@@ -29,30 +29,19 @@ variants_have_parts o i tys e = grind (arith, common_steps, none_some)
 pub plain_shaped : (types : List TypeEntry) (ty : ℕ) (x : Denoted) → is_type_with_parts (slice_get types ty) ≡ false → is_shaped types ty x ≡ true
 plain_shaped types ty x h = grind (arith, common_steps, or_left)
 
-no_atom : (parts plain : Bool) → plain ≡ false → (not parts || plain) ≡ true → parts ≡ false
-no_atom parts plain e h = grind (arith, common_steps)
-
--- an atom with parts is of a type without parts
-atoms_plain : (types : List TypeEntry) (specs : Specs) (ty : ℕ) (x : Denoted) → is_plain x ≡ false → is_of_atoms types specs ty x ≡ true → is_type_with_parts (slice_get types ty) ≡ false
-atoms_plain types specs ty x p h = grind (arith, common_steps, and_parts (is_modelled_as (sort_of specs ty) x), or_split, and_parts, no_atom)
-
 mutual
   pub of_type_shaped : (types : List TypeEntry) (specs : Specs) (ty : ℕ) (x : Denoted) → is_of_type types specs ty x ≡ true → is_shaped types ty x ≡ true
   of_type_shaped types specs ty (variant_of t i xs) h =
       let parts = variant_types (slice_get types ty) i in
       elim (or_split (is_of_atoms types specs ty (variant_of t i xs)) ((t == ty) && are_of_types types specs parts xs) h) [
-        | inl k ↦ plain_shaped types ty (variant_of t i xs) (atoms_plain types specs ty (variant_of t i xs) refl k)
-        | inr k ↦
-            let a = and_parts (t == ty) (are_of_types types specs parts xs) k in
-            or_right (not (is_type_with_parts (slice_get types ty))) ((t == ty) && are_shaped types parts xs) (and_from (t == ty) (are_shaped types parts xs) a.0 (of_types_shaped types specs parts xs a.1))
+        | inl k ↦ plain_shaped types ty (variant_of t i xs) (grind (arith, common_steps, and_parts, or_split))
+        | inr k ↦ grind (arith, common_steps, of_types_shaped types specs parts xs, and_parts, or_right, and_from)
       ]
   of_type_shaped types specs ty (struct_of t xs) h =
       let parts = struct_types (slice_get types ty) in
       elim (or_split (is_of_atoms types specs ty (struct_of t xs)) ((t == ty) && are_of_types types specs parts xs) h) [
-        | inl k ↦ plain_shaped types ty (struct_of t xs) (atoms_plain types specs ty (struct_of t xs) refl k)
-        | inr k ↦
-            let a = and_parts (t == ty) (are_of_types types specs parts xs) k in
-            or_right (not (is_type_with_parts (slice_get types ty))) ((t == ty) && are_shaped types parts xs) (and_from (t == ty) (are_shaped types parts xs) a.0 (of_types_shaped types specs parts xs a.1))
+        | inl k ↦ plain_shaped types ty (struct_of t xs) (grind (arith, common_steps, and_parts, or_split))
+        | inr k ↦ grind (arith, common_steps, of_types_shaped types specs parts xs, and_parts, or_right, and_from)
       ]
   of_type_shaped types specs ty _ h = refl
 
