@@ -1,22 +1,21 @@
 -- A pattern that hangs together asks variants and structs for all their fields.
-use Rattle.std.proofs.Common.{◌≡◌, ℕ, true, List, [], ◌∷◌, length, Some, slice_get, refl, subst, arith}
+use Rattle.std.proofs.Common.{◌≡◌, ℕ, true, List, [], ◌∷◌, length, Some, slice_get, subst, arith}
 use Rattle.std.proofs.lemmas.Grind.{common_steps}
-use Rattle.model.specs.lists.Tables.{TermEntry}
 use Rattle.model.specs.lists.Formed.{is_formed_rule}
 use Rattle.model.specs.rules.Values.{variant_types, struct_types}
-use Rattle.model.specs.rules.Program.{Program, Kind, kind, kind_of}
-use Rattle.model.specs.rules.Typed.{TypedPatterns, TypedRule}
+use Rattle.model.specs.rules.Program.{Program, kind}
+use Rattle.model.specs.rules.Typed.{TypedRule}
 use Rattle.model.specs.sites.Sites.{Constraint, is_variant, is_struct, is_bool, is_int, is_prim, is_present, SiteTerm}
-use Rattle.model.specs.visits.Demands.{Demands, demands_of, Visit, asking, open_term, asking_all}
+use Rattle.model.specs.visits.Demands.{Demands, demands_of, Visit, asking, asking_all}
 use Rattle.model.proofs.Elements.{In, in_either}
 use Rattle.laws_typing.specs.WellTypedPrograms.{HasTypedParts}
 use Rattle.laws_typing.proofs.WellTypedPrograms.{variant_takes, struct_takes}
-use Rattle.laws_sites.proofs.Patterns.{its_kind, term_known}
+use Rattle.laws_sites.proofs.Patterns.{term_known}
 use Rattle.laws_sites.proofs.GrowingVisits.{term_adds}
-use Rattle.laws_sites.proofs.PatternParts.{AsMany, as_many_types}
+use Rattle.laws_sites.proofs.PatternParts.{as_many_types}
 use Rattle.laws_sites.proofs.RuleParts.{rule_parts}
 use Rattle.laws_sites.proofs.WithSites.{by_equating}
-use Rattle.laws_sites.proofs.WithTypes.{Facts, AtEachTyped, KeptWithTypes, all_fields_each, outputs_each, rule_kept_typed}
+use Rattle.laws_sites.proofs.WithTypes.{Facts, KeptWithTypes, all_fields_each, outputs_each, rule_kept_typed}
 
 -- as many fields as the variant or the struct has
 abbrev pub HasAllFields : Program → Constraint → Type 0
@@ -40,17 +39,13 @@ module _ (p : Program) where
   asked = record { demands = AskAllFields p; site = λ s ty. Unit {0}; matched = λ t. Unit {0}; called = λ t. Unit {0} }
 
   module _ (fields : HasTypedParts p) where
-    term_opened : (t : ℕ) (e : TermEntry) → slice_get p.terms t ≡ Some e → (k : Kind) → kind p t ≡ k → kind_of e ≡ k → (s : SiteTerm) (args : TypedPatterns) → AsMany args e.arg_tys → (v : Visit) → AskAllFields p v.demands
-        → AskAllFields p (open_term k t s args v).visit.demands × AtEachTyped asked (open_term k t s args v).inputs e.arg_tys
-    term_opened t e there s w q h args n v i = grind (arith, asked_too, variant_takes, as_many_types, all_fields_each, struct_takes, term_known, outputs_each)
-
     kept : KeptWithTypes asked p
     kept = record {
       equates = λ a b ty v m n h. by_equating (λ w. AskAllFields p w.demands) a b v h h;
       asks_bool = λ s b ty v e h. asked_too s (is_bool b ty) v tt h;
       asks_int = λ s z ty v e h. asked_too s (is_int z ty) v tt h;
       asks_prim = λ s name ty v e u h. asked_too s (is_prim name) v tt h;
-      opens = λ t e there x m s i args n v h. term_opened t e there (kind p t) refl (its_kind p t e there) s args n v h;
+      opens = λ t e there x m s i args n v h. grind (arith, asked_too, variant_takes, as_many_types, all_fields_each, struct_takes, term_known, outputs_each);
       makes_bool = λ b ty v e h. (tt, h);
       makes_int = λ z ty v e h. (tt, h);
       makes_prim = λ name ty v e u h. (tt, h);

@@ -35,14 +35,11 @@ picks (Some (iterator_site source)) = true
 picks _ = false
 
 -- 1. the calls of a set
-called_from : (sites : List Site) (c : ℕ) → is_called sites c ≡ true → HasLoopOver sites c
-called_from sites c h = grind (arith, common_steps, one_passes (goes_over c) sites h, get_from_member sites, one_passes, get_from_member)
-
 called_is : (sites : List Site) (c : ℕ) → HasLoopOver sites c → is_called sites c ≡ true
 called_is sites c k = passes_any (goes_over c) sites (iterator_site c) (member_from_get sites k.0 (iterator_site c) k.1) (number_same c)
 
 free_is : (sites : List Site) (c : ℕ) → (HasLoopOver sites c → ⊥) → is_called sites c ≡ false
-free_is sites c n = elim (cases_Bool (is_called sites c)) [ inl t ↦ absurd (n (called_from sites c t)) | inr f ↦ f ]
+free_is sites c n = elim (cases_Bool (is_called sites c)) [ inl t ↦ absurd (n (grind (arith, one_passes, get_from_member))) | inr f ↦ f ]
 
 not_false : (b : Bool) → b ≡ false → not b ≡ true
 not_false b h = grind (arith, common_steps)
@@ -69,9 +66,6 @@ module _ (set : SiteSet) (p : Passes) (calls : CallsAreGoneOver set) (over : Loo
     pub emitted : (c : ℕ) → HasLoopOver sites c → Contains ar.emitted c → Contains ar.looped c
     pub brought : (c s m : ℕ) → HasLoopOver sites c → Contains ar.brought s → Contains (below m sites s) c → Contains ar.looped c
 
-  pick_waits : (s c : ℕ) → slice_get sites s ≡ Some (iterator_site c) → waits (slice_get sites s) ≡ true
-  pick_waits s c at = ap waits at
-
   waiting_free : (s : ℕ) → waits (slice_get sites s) ≡ true → HasLoopOver sites s → ⊥
   waiting_free s w k = true≢false (sym w ∙ calls.waits_not s k)
 
@@ -87,7 +81,7 @@ module _ (set : SiteSet) (p : Passes) (calls : CallsAreGoneOver set) (over : Loo
           | inr b ↦
               let hs = and_parts (not (waits (slice_get sites s))) (list_all (is_available n sites ar.brought) (sources_at sites s)) b in
               down n u c (each_passes (is_available n sites ar.brought) (sources_at sites s) hs.1 u source)
-              (λ q. false≢true (sym ((not_exact (waits (slice_get sites s))).0 hs.0) ∙ pick_waits s u (calls.made u s q source))) k i
+              (λ q. false≢true (sym ((not_exact (waits (slice_get sites s))).0 hs.0) ∙ (ap waits (calls.made u s q source)))) k i
         ]
 
     -- a call below what is available, and isn't it, is gone over around
@@ -98,9 +92,6 @@ module _ (set : SiteSet) (p : Passes) (calls : CallsAreGoneOver set) (over : Loo
           | inl e ↦ absurd (free (subst (HasLoopOver sites) (sym e) k))
           | inr d ↦ let u = from_flat_map (below m sites) (sources_at sites s) c d in beneath m (deep m) n s u.0 c a u.1 k u.2
         ]
-
-    under : (m n s u c : ℕ) → is_available n sites ar.brought s ≡ true → Contains (sources_at sites s) u → HasLoopOver sites c → Contains (below m sites u) c → Contains ar.looped c
-    under m = beneath m (deep m)
 
     -- what a test emits
     all_deep : (ss : List ℕ) (c : ℕ) → ((s : ℕ) → Contains ss s → (available sites ar s ≡ true) × (HasLoopOver sites s → ⊥)) → HasLoopOver sites c → Contains (all_below sites ss) c → Contains ar.looped c
@@ -160,9 +151,6 @@ module _ (set : SiteSet) (p : Passes) (calls : CallsAreGoneOver set) (over : Loo
       one : sources_at sites result ≡ source ∷ []
       one = ap made_of at
 
-      called : HasLoopOver sites source
-      called = (result, at)
-
       is_source : (x : ℕ) → Contains (sources_at sites result) x → source ≡ x
       is_source x c = in_alone source x (subst (λ l. Contains l x) one c)
 
@@ -171,7 +159,7 @@ module _ (set : SiteSet) (p : Passes) (calls : CallsAreGoneOver set) (over : Loo
       lower c k i =
           let x = from_flat_map (λ s. all_below sites (sources_at sites s)) (sources_at sites result) c i in
           let u = from_flat_map (λ y. below (suc y) sites y) (sources_at sites x.0) c x.2 in
-          under (suc u.0) (suc source) source u.0 c a (subst (λ y. Contains (sources_at sites y) u.0) (sym (is_source x.0 x.1)) u.1) k u.2
+          (beneath (suc u.0) (deep (suc u.0))) (suc source) source u.0 c a (subst (λ y. Contains (sources_at sites y) u.0) (sym (is_source x.0 x.1)) u.1) k u.2
 
       after_loop : (c : ℕ) → HasLoopOver sites c → Contains (flat_map (λ s. all_below sites (sources_at sites s)) (sources_at sites result) ++ ar.emitted) c → Contains ar.looped c
       after_loop c k i = elim (Contains-append_cases (flat_map (λ s. all_below sites (sources_at sites s)) (sources_at sites result)) ar.emitted c i) [ inl d ↦ lower c k d | inr d ↦ inv.emitted c k d ]
@@ -184,21 +172,21 @@ module _ (set : SiteSet) (p : Passes) (calls : CallsAreGoneOver set) (over : Loo
       below_call c (suc m) k i =
           elim (in_cases source c (flat_map (below m sites) (sources_at sites source)) i) [
             | inl e ↦ Contains-append_left (sources_at sites result) ar.looped c (subst (λ l. Contains l c) (sym one) (subst (Contains (source ∷ [])) e (in_head source [])))
-            | inr d ↦ let u = from_flat_map (below m sites) (sources_at sites source) c d in within c (under m (suc source) source u.0 c a u.1 k u.2)
+            | inr d ↦ let u = from_flat_map (below m sites) (sources_at sites source) c d in within c ((beneath m (deep m)) (suc source) source u.0 c a u.1 k u.2)
           ]
 
       below_pick : (c m : ℕ) → HasLoopOver sites c → Contains (below m sites result) c → Contains (in_loop set ar result).looped c
       below_pick c zero k i = absurd (nothing_in c i)
       below_pick c (suc m) k i =
           elim (in_cases result c (flat_map (below m sites) (sources_at sites result)) i) [
-            | inl e ↦ absurd (waiting_free c (subst (λ y. waits (slice_get sites y) ≡ true) e (pick_waits result source at)) k)
+            | inl e ↦ absurd (waiting_free c (subst (λ y. waits (slice_get sites y) ≡ true) e (ap waits at)) k)
             | inr d ↦ let u = from_flat_map (below m sites) (sources_at sites result) c d in below_call c m k (subst (λ y. Contains (below m sites y) c) (sym (is_source u.0 u.1)) u.2)
           ]
 
       loop_looped : Looped (in_loop set ar result)
       loop_looped = record {
         emitted = λ c k i. elim (in_cases result c (flat_map (λ s. all_below sites (sources_at sites s)) (sources_at sites result) ++ ar.emitted) i) [
-          | inl e ↦ absurd (waiting_free c (subst (λ y. waits (slice_get sites y) ≡ true) e (pick_waits result source at)) k)
+          | inl e ↦ absurd (waiting_free c (subst (λ y. waits (slice_get sites y) ≡ true) e (ap waits at)) k)
           | inr d ↦ within c (after_loop c k d)
         ];
         brought = λ c s m k b i. elim (in_cases result s ar.brought b) [
@@ -213,7 +201,7 @@ module _ (set : SiteSet) (p : Passes) (calls : CallsAreGoneOver set) (over : Loo
           (in_filter (λ s. not (is_in_place (slice_get sites s))) (listed_below (suc source) sites ar.emitted [] source) source listed (not_false (is_in_place (slice_get sites source)) (over result source at)))
         where
           not_emitted : is_in source ar.emitted ≡ false
-          not_emitted = grind (arith, common_steps, member_is_in source (sources_around ar), member_found source ar.emitted, inv.emitted source called)
+          not_emitted = grind (arith, common_steps, member_is_in source (sources_around ar), member_found source ar.emitted, inv.emitted source ((result, at)))
 
           listed : Contains (listed_below (suc source) sites ar.emitted [] source) source
           listed = list_it (is_in source ar.emitted) not_emitted
@@ -287,12 +275,9 @@ module _ (set : SiteSet) (p : Passes) (calls : CallsAreGoneOver set) (over : Loo
   return_takes : (o : Option SetRule) (r : SetRule) (fresh : List ℕ) → o ≡ Some r → taken r.result ≡ false → statement_takes taken fresh (check_code (return_of o) sites p) ≡ true
   return_takes o r fresh e f = subst (λ q. statement_takes taken fresh (check_code (return_of q) sites p) ≡ true) (sym e) (other_is r.result f)
 
-  return_fresh : (o : Option SetRule) (fresh : List ℕ) → fresh_after fresh (check_code (return_of o) sites p) ≡ []
-  return_fresh o fresh = grind (arith, common_steps)
-
   check_fresh : (check : MarkedCheck) (fresh : List ℕ) → fresh_after fresh (check_code (plain_check set.rules check) sites p) ≡ []
   check_fresh (m_match source arms) fresh = refl
-  check_fresh check fresh = grind (arith, common_steps, return_fresh)
+  check_fresh check fresh = grind (arith, common_steps)
 
   -- 5. by induction on the marked tree
   abbrev AreOfRules : List ℕ → Type 0

@@ -1,10 +1,9 @@
 -- Loops go over calls, and code is in scope.
-use Rattle.std.proofs.Common.{◌≡◌, ℕ, Bool, true, false, length, Option, slice_get, refl, subst, arith}
+use Rattle.std.proofs.Common.{ℕ, true, length, subst, arith}
 use Rattle.std.proofs.lemmas.Grind.{common_steps}
 use Rattle.std.proofs.lemmas.Option.{slice_get_within}
 use Rattle.model.specs.rules.Program.{Program, arg_types}
-use Rattle.model.specs.sites.Sites.{Site, iterator_site, SiteSet, unfold_site}
-use Rattle.model.specs.trees.Places.{is_in_place}
+use Rattle.model.specs.sites.Sites.{iterator_site, SiteSet}
 use Rattle.model.specs.claims.Layers.{own_program}
 use Rattle.laws_typing.specs.WellTypedPrograms.{IsWellTypedProgram}
 use Rattle.laws_typing.proofs.WellTypedRules.{read_programs_are_well_typed}
@@ -26,14 +25,11 @@ module _ (b : BuiltSet) (h : IsWellTypedProgram b.program) where
   abbrev n : ℕ
   n = length (arg_types p b.term)
 
-  called : (source : ℕ) (o : Option Site) (optional : Bool) (k : ℕ) → slice_get set.sites source ≡ o → IsOfForm p n (unfold_site set.sites source) (form true optional k) → is_in_place o ≡ false
-  called source o optional k at f = grind (arith, common_steps, form, unfolded_layer)
-
   pub loops_are_over_bound : LoopsAreOverBound set.sites
   loops_are_over_bound s source at =
       let g = (sites_stand b h s (slice_get_within set.sites s (iterator_site source) at)).form in
       let f = subst (λ u. IsOfForm p n u g.0) (unfolded_layer set.sites b.built.sources s (iterator_site source) at) g.1 in
-      called source (slice_get set.sites source) f.0 f.1 refl f.2
+      grind (arith, common_steps, form, unfolded_layer)
 
 pub built_sets_loop_over_bound_lem : BuiltSetsLoopOverBound
 built_sets_loop_over_bound_lem p t set h b = loops_are_over_bound (record { program = p; term = t; set = set; built = b }) h

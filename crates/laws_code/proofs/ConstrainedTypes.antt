@@ -1,22 +1,21 @@
 -- A rule that hangs together constrains sites by their types: to variants and structs of the site's type, and to constants of it. So
 -- built sets do.
-use Rattle.std.proofs.Common.{◌≡◌, ℕ, ℤ, suc, ◌+◌, ◌==◌, Bool, true, false, List, [], ◌∷◌, Option, Some, None, is_some, slice_get, Contains, refl, sym, ap, subst, ◌∙◌, eqb-true, eq-eqb, arith}
+use Rattle.std.proofs.Common.{◌≡◌, ℕ, suc, ◌+◌, ◌==◌, true, false, List, [], ◌∷◌, Some, None, is_some, slice_get, Contains, refl, sym, ap, subst, ◌∙◌, eqb-true, arith}
 use Rattle.std.proofs.lemmas.Grind.{common_steps}
-use Rattle.std.proofs.lemmas.Bool.{and_parts, cond-true}
-use Rattle.model.specs.lists.Tables.{TypeEntry, TermEntry}
+use Rattle.std.proofs.lemmas.Bool.{and_parts}
+use Rattle.model.specs.lists.Tables.{TermEntry}
 use Rattle.model.specs.lists.Ranges.{is_literal_of}
 use Rattle.model.specs.lists.Setting.{bool_type, expr_type}
 use Rattle.model.specs.lists.Formed.{pattern_type, var_type, is_type, formed_pattern, formed_parts, formed_each, is_formed_expr, formed_lets, formed_list, formed_iflets, is_formed_rule}
-use Rattle.model.specs.rules.Meaning.{look}
 use Rattle.model.specs.rules.Program.{Program, Kind, a_variant, a_struct, a_call, unknown, kind, kind_of, arg_types, rules_of}
 use Rattle.model.specs.rules.Typed.{TypedPattern, match_bind, match_var, match_bool, match_int, match_prim, match_term, match_any, match_and, TypedPatterns, no_typed_pattern, typed_pattern_and, TypedExpr, make_let, TypedLets, no_typed_let, typed_let_and, TypedIfLet, TypedRule}
 use Rattle.model.specs.rules.Values.{is_composed_type, variant_types, struct_types}
 use Rattle.model.specs.sites.Closure.{Joined, given, itself, turned, chained, at_field}
-use Rattle.model.specs.sites.Serves.{constant_type, term_args}
-use Rattle.model.specs.sites.Sites.{Constraint, is_variant, is_struct, is_bool, is_int, is_prim, is_present, SiteTerm, argument, extractor_call, variant_field, struct_field, fields_from, unfold_site}
+use Rattle.model.specs.sites.Serves.{constant_type}
+use Rattle.model.specs.sites.Sites.{Constraint, is_variant, is_struct, is_bool, is_int, is_prim, is_present, SiteTerm, argument, variant_field, struct_field, fields_from, unfold_site}
 use Rattle.model.specs.sites.Overlap.{BuiltRule, built_rule}
 use Rattle.model.specs.sites.RuleSets.{IsRuleOf}
-use Rattle.model.specs.visits.Demands.{Demands, demands_of, Visit, visit_start, asking, equating, binding, or_no_site, var_site, pattern_count, open_call, open_term, visit_pattern, visit_each, visit_all, visit_expr, visit_lets, unwraps, asking_all, taking_argument, visit_args, visit_iflets}
+use Rattle.model.specs.visits.Demands.{Demands, demands_of, Visit, visit_start, asking, equating, binding, var_site, pattern_count, open_term, visit_pattern, visit_each, visit_all, visit_expr, visit_lets, unwraps, asking_all, taking_argument, visit_args, visit_iflets}
 use Rattle.model.proofs.Elements.{In, in_either, in_from_contains, contains_from_in, some_is, none_some}
 use Rattle.laws_typing.specs.WellTypedPrograms.{IsWellTypedProgram}
 use Rattle.laws_typing.proofs.FormedParts.{from_if, type_is}
@@ -38,15 +37,6 @@ use Rattle.laws_code.specs.TypedTrees.{ConstrainsByTypes, BuiltSetsConstrainByTy
 use Rattle.laws_code.proofs.TypedSets.{field_of_type, shaped_types, uses_of, demands_shaped}
 
 -- 1. enums and structs
-has_variants : (o : Option TypeEntry) (i : ℕ) (tys : List ℕ) → variant_types o i ≡ Some tys → is_composed_type o ≡ true
-has_variants o i tys e = grind (arith, common_steps, none_some)
-
-has_fields : (o : Option TypeEntry) (tys : List ℕ) → struct_types o ≡ Some tys → is_composed_type o ≡ true
-has_fields o tys e = grind (arith, common_steps, none_some)
-
-literal_plain : (o : Option TypeEntry) (z : ℤ) → is_literal_of o z ≡ true → is_composed_type o ≡ false
-literal_plain o z h = grind (arith, and_parts)
-
 module _ (p : Program) (args : List ℕ) (well : IsWellTypedProgram p) where
   abbrev T : SiteTerm → List ℕ
   T s = types_at p args s
@@ -84,27 +74,22 @@ module _ (p : Program) (args : List ℕ) (well : IsWellTypedProgram p) where
   abbrev Opens : TermEntry → Kind → ℕ → SiteTerm → TypedPatterns → Visit → Type 0
   Opens e k t s qs v = Fit (open_term k t s qs v).visit.demands × AtEachTyped by_type (open_term k t s qs v).inputs e.arg_tys
 
-  call_typed_parts : (pure multi partial rec infallible : Bool) (call : SiteTerm) (qs : TypedPatterns) (tys : List ℕ) (v : Visit) → AsMany qs tys → T call ≡ tys → Fit v.demands
-      → Fit (open_call (record { pure = pure; multi = multi; partial = partial; rec = rec }) infallible call qs v).visit.demands
-      × AtEachTyped by_type (open_call (record { pure = pure; multi = multi; partial = partial; rec = rec }) infallible call qs v).inputs tys
-  call_typed_parts pure multi partial rec infallible call qs tys v n e g = grind (arith, common_steps, asked_fits, outputs_each)
-
   term_typed_parts : (t : ℕ) (e : TermEntry) → slice_get p.terms t ≡ Some e → (k : Kind) → kind p t ≡ k → kind_of e ≡ k → (s : SiteTerm) → OfType s e.ret_ty → (qs : TypedPatterns) → AsMany qs e.arg_tys
       → (v : Visit) → Fit v.demands → Opens e k t s qs v
   term_typed_parts t e there (a_variant ty i) w q s h qs n v g =
       let a = variant_takes p well.parts t e there ty i q in
       let own = of_same s e.ret_ty ty a.0 h in (
-        asked_fits s (is_variant ty i (pattern_count qs)) v (own, has_variants (slice_get p.types ty) i e.arg_tys a.1) g,
+        asked_fits s (is_variant ty i (pattern_count qs)) v (own, (grind (arith, common_steps, none_some))) g,
         all_fields_each by_type (variant_field s i) qs e.arg_tys n (λ j u x. field_of_type (λ y. variant_types (slice_get p.types y) i) (T s) ty j u e.arg_tys own a.1 x),
       )
   term_typed_parts t e there (a_struct ty) w q s h qs n v g =
       let a = struct_takes p well.parts t e there ty q in
       let own = of_same s e.ret_ty ty a.0 h in (
-        asked_fits s (is_struct ty (pattern_count qs)) v (own, has_fields (slice_get p.types ty) e.arg_tys a.1) g,
+        asked_fits s (is_struct ty (pattern_count qs)) v (own, (grind (arith, common_steps, none_some))) g,
         all_fields_each by_type (struct_field s) qs e.arg_tys n (λ j u x. field_of_type (λ y. struct_types (slice_get p.types y)) (T s) ty j u e.arg_tys own a.1 x),
       )
   term_typed_parts t e there (a_call flags infallible) w q s h qs n v g =
-      call_typed_parts flags.pure flags.multi flags.partial flags.rec infallible (extractor_call t s) qs e.arg_tys v n (ap term_args there) g
+      grind (arith, common_steps, asked_fits, outputs_each)
   term_typed_parts t e there unknown w q s h qs n v g = absurd (term_known p t e there w)
 
   -- 3. variables that can be used stand for sites of their types
@@ -116,9 +101,6 @@ module _ (p : Program) (args : List ℕ) (well : IsWellTypedProgram p) where
 
   one_more : (x ty : ℕ) (vars : List (ℕ × ℕ)) (v : Visit) → OfType (var_site v x) ty → OfTypes vars v → OfTypes ((x, ty) ∷ vars) v
   one_more x ty vars v h d y t i = grind (arith, common_steps, eqb-true x y, of_same (var_site v x) ty t, some_is ty t, eqb-true, of_same, some_is)
-
-  bound_typed : (x ty : ℕ) (s : SiteTerm) (v : Visit) → OfType s ty → OfType (var_site (binding x s v) x) ty
-  bound_typed x ty s v h = ap (λ o. T (or_no_site o)) (cond-true (x == x) (Some s) (look (λ z. z == x) v.vars) (eq-eqb x x refl)) ∙ h
 
   -- after a pattern; what a variable stands for that can't be used yet is of the types as before
   record After (more : List (ℕ × ℕ)) (v w : Visit) : Type 0 where
@@ -133,7 +115,7 @@ module _ (p : Program) (args : List ℕ) (well : IsWellTypedProgram p) where
   no_new_variable v w vars more e same g d = grind (arith, common_steps, some_is, alike_types)
 
   after_binding : (x ty : ℕ) (s : SiteTerm) (mid : List (ℕ × ℕ)) (v w : Visit) → is_some (var_type mid x) ≡ false → OfType s ty → After mid (binding x s v) w → After ((x, ty) ∷ mid) v w
-  after_binding x ty s mid v w new h b = grind (arith, common_steps, one_more, bound_typed)
+  after_binding x ty s mid v w new h b = grind (arith, common_steps, one_more)
 
   -- 4. patterns
   bool_plain : (ty : ℕ) → (ty == bool_type) ≡ true → is_composed p ty ≡ false
@@ -156,7 +138,7 @@ module _ (p : Program) (args : List ℕ) (well : IsWellTypedProgram p) where
         let a = from_if (ty == bool_type) (Some vars) more e in no_new_variable v (asking s (is_bool b ty) v) vars more a.1 refl (asked_fits s (is_bool b ty) v (h, bool_plain ty a.0) g) d
     pattern_after (match_int ty z) s v vars more e h g d =
         let a = from_if (is_literal_of (slice_get p.types ty) z) (Some vars) more e in
-        no_new_variable v (asking s (is_int z ty) v) vars more a.1 refl (asked_fits s (is_int z ty) v (h, literal_plain (slice_get p.types ty) z a.0) g) d
+        no_new_variable v (asking s (is_int z ty) v) vars more a.1 refl (asked_fits s (is_int z ty) v (h, (grind (arith, and_parts))) g) d
     pattern_after (match_prim ty name) s v vars more e h g d =
         let a = from_if (is_type (constant_type p name) ty) (Some vars) more e in
         no_new_variable v (asking s (is_prim name) v) vars more a.1 refl (asked_fits s (is_prim name) v (ty, h, type_is (constant_type p name) ty a.0) g) d
@@ -200,7 +182,7 @@ module _ (p : Program) (args : List ℕ) (well : IsWellTypedProgram p) where
         let a = from_let p x ty value rest vars more e in
         let b = visit_expr p value v in
         let w = binding x b.site b.visit in
-        let here : OfType (var_site w x) ty = bound_typed x ty b.site b.visit (of_same b.site (expr_type value) ty a.0 (expr_typed value v vars a.1 d)) in
+        let here : OfType (var_site w x) ty = grind (arith, common_steps, of_same b.site (expr_type value) ty a.0 (expr_typed value v vars a.1 d)) in
         lets_typed rest w ((x, ty) ∷ vars) more a.3
         (one_more x ty vars w here (alike_types vars b.visit w (same_binding vars x b.site b.visit a.2) (alike_types vars v b.visit (expr_keeps p value v vars a.1) d)))
 
@@ -251,10 +233,7 @@ module _ (p : Program) (args : List ℕ) (well : IsWellTypedProgram p) where
   joined_alike d h (turned j) = sym (joined_alike d h j)
   joined_alike d h (chained j k) = joined_alike d h j ∙ joined_alike d h k
   joined_alike d h (at_field {a = a} {b = b} {x = x} {y = y} {k = k} i j l n e f) = grind (arith, joined_alike d h j, fields_alike, none_some)
-
   -- 8. so a constraint that fits is one by types
-  fits_by_type : (s : SiteTerm) (c : Constraint) → Fits s c → pattern_typed c (are_copied p (T s)) ≡ true
-  fits_by_type s c f = grind (arith, common_steps)
 
 -- 9. sets
 module _ (b : BuiltSet) (h : IsWellTypedProgram b.program) where
@@ -277,7 +256,7 @@ module _ (b : BuiltSet) (h : IsWellTypedProgram b.program) where
       let fit = rule_fits q own_args h w.rule (h.rules w.rule of.0).formed (ap (arg_types q) of.1) (x.source, c) (in_from_contains d.constraints (x.source, c) x.asked) in
       let same = joined_alike q own_args h d equal_types x.joined in
       ap (λ l. pattern_typed c (are_copied q l)) (sym same)
-      ∙ fits_by_type q own_args h x.source c fit
+      ∙ (grind (arith, common_steps))
     where
       here : RuleOfSet b
       here = set_rule b r (in_from_contains b.set.rules r i)

@@ -8,7 +8,7 @@ use Rattle.model.specs.rules.Meaning.{Content}
 use Rattle.model.specs.rules.Outcome.{Call}
 use Rattle.model.specs.trees.Run.{World, Env, bound_to, now_bound, Trace, at_start}
 use Rattle.model_code.specs.Code.{Expr, variant_of, Block, no_statement, statement, Statement, match_on, if_equal, for_each_of, labelled, CodeArms, no_code_arm, code_arm}
-use Rattle.model_code.specs.CodeRuns.{held, held_value, Flow, goes_on, then_flow, in_braces, in_label, flow_of_bound, where_met, on_content, where_equal, each_flow, on_answers, outcome_of, code_run}
+use Rattle.model_code.specs.CodeRuns.{held, held_value, Flow, goes_on, then_flow, in_braces, in_label, where_met, on_content, where_equal, each_flow, on_answers, outcome_of, code_run}
 use Rattle.model_code.specs.CodeLaws.{IsBeginning}
 use Rattle.model_code.specs.Written.{shown_code}
 use Rattle.laws_code.specs.ShownRuns.{ShownExterns, ShownWorld, world_of_shown, answered, called, bind_shown, run_shown, run_shown_at, run_shown_arms, shown_run}
@@ -68,9 +68,6 @@ module _ (w : ShownWorld) (most : Option ℕ) (others : List Call → Call → O
   braces_within : (env : Env) (f : Flow) → Within (in_braces env f) → Within f
   braces_within env f k = subst (λ l. IsBeginning l all) (braces_calls env f) k
 
-  label_within : (env : Env) (f : Flow) → Within (in_label env f) → Within f
-  label_within env f k = grind (arith, common_steps)
-
   content_same : (o : Option Content) (t : Trace) (f f' : Content → Flow) → Within (on_content o t f) → ((c : Content) → Within (f c) → f' c ≡ f c) → on_content o t f' ≡ on_content o t f
   content_same o t f f' k h = grind (arith, common_steps)
 
@@ -94,9 +91,6 @@ module _ (w : ShownWorld) (most : Option ℕ) (others : List Call → Call → O
       → on_answers o go' env t ≡ on_answers o go env t
   answers_same o go go' env t grow h k = grind (arith, common_steps, each_same)
 
-  bind_same : (env : Env) (t : Trace) (v : ℕ) (e : Expr) → Within (flow_of_bound (bind_shown w env t.calls v e) t) → bind_shown v' env t.calls v e ≡ bind_shown w env t.calls v e
-  bind_same env t v e k = grind (arith, common_steps)
-
   mutual
     block_same : (b : Block) (env : Env) (t : Trace) → Within (run_shown b w most env t) → run_shown b v' most env t ≡ run_shown b w most env t
     block_same no_statement env t k = refl
@@ -114,8 +108,8 @@ module _ (w : ShownWorld) (most : Option ℕ) (others : List Call → Call → O
         (braces_within env (where_equal (held_value wm env a) (held_value wm env b) t (run_shown body w most env t) (goes_on env t)) k) (block_same body env t))
     statement_same (for_each_of v from body) env t k =
         answers_same (bound_to env from) (λ c t'. run_shown body w most ((v, c) ∷ env) t') (λ c t'. run_shown body v' most ((v, c) ∷ env) t') env t (λ c t'. block_grows w most body ((v, c) ∷ env) t') (λ c t'. block_same body ((v, c) ∷ env) t') k
-    statement_same (labelled body) env t k = ap (in_label env) (block_same body env t (label_within env (run_shown body w most env t) k))
-    statement_same s env t k = grind (arith, common_steps, bind_same)
+    statement_same (labelled body) env t k = ap (in_label env) (block_same body env t (grind (arith, common_steps)))
+    statement_same s env t k = grind (arith, common_steps)
 
     arms_same : (arms : CodeArms) (c : Content) (env : Env) (t : Trace) → Within (run_shown_arms arms w most c env t) → run_shown_arms arms v' most c env t ≡ run_shown_arms arms w most c env t
     arms_same (code_arm pattern fields body rest) c env t k = grind (arith, common_steps, block_same body, arms_same rest c env t, met_same)
@@ -126,16 +120,13 @@ at_place : (xs : List Call) (y : Call) (ys : List Call) → slice_get (xs ++ y �
 at_place [] y ys = refl
 at_place (x ∷ xs) y ys = at_place xs y ys
 
-by_place : (a : ShownExterns) (before after : List Call) (c : Call) → answer_behind a (before ++ c ∷ after) (length before) ≡ a.impures before c
-by_place a before after c = grind (arith, common_steps, at_place before c after, take_at before (c ∷ after) (length before) refl, at_place, take_at)
-
 pub shown_code_runs_under_its_meaning_lem : ShownCodeRunsAsCode → ShownCodeRunsUnderItsMeaning
 shown_code_runs_under_its_meaning_lem law p code w sites most wr ca kind unstuck =
     let shown : Block = shown_code p code in
     let all : List Call = (shown_run shown w most).calls in
     let others : List Call → Call → Option Content = λ before c. answer_behind w.around all (length before) in
     let agree : (before after : List Call) (c : Call) → all ≡ before ++ c ∷ after → others before c ≡ w.around.impures before c = λ before after c e.
-    ap (λ l. answer_behind w.around l (length before)) e ∙ by_place w.around before after c in
+    ap (λ l. answer_behind w.around l (length before)) e ∙ (grind (arith, common_steps, at_place, take_at)) in
     let here : IsBeginning (calls_in (run_shown shown w most [] at_start)) all = ([], calls_made (run_shown shown w most [] at_start) ∙ sym (append-nil (calls_in (run_shown shown w most [] at_start)))) in
     let around : ShownExterns = record w.around { impures = others } in
     let world : World = world_around p sites w all in

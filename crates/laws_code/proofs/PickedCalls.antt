@@ -1,7 +1,6 @@
 -- What a pick is made of is a multi call: picks alone are made of multi calls, and no rule constrains, equates or returns one.
-use Rattle.std.proofs.Common.{◌≡◌, ◌⊎◌, ◌<◌, ℕ, suc, Bool, true, false, List, [], ◌∷◌, length, Option, Some, None, slice_get, Contains, refl, sym, ap, subst, ◌∙◌, inl, inr, arith}
+use Rattle.std.proofs.Common.{◌≡◌, ◌⊎◌, ◌<◌, ℕ, true, false, List, [], ◌∷◌, length, Option, Some, None, slice_get, Contains, refl, sym, ap, subst, ◌∙◌, inl, inr, arith}
 use Rattle.std.proofs.lemmas.Grind.{common_steps}
-use Rattle.std.proofs.lemmas.Bool.{false≢true}
 use Rattle.std.proofs.lemmas.Option.{slice_get_within}
 use Rattle.model.specs.rules.Program.{Program, arg_types, rules_of}
 use Rattle.model.specs.rules.Typed.{TypedRule}
@@ -32,17 +31,8 @@ IsOther p u = IsMultiCall p u → ⊥
 
 -- 1. multi calls, and nothing else, have several answers
 module _ (p : Program) (n : ℕ) where
-  abbrev multi_of : Form → Bool
-  multi_of q = q.multi
-
-  one_answer : (q r : Form) → q ≡ r → multi_of r ≡ false → multi_of q ≡ true → ⊥
-  one_answer q r e f m = false≢true (sym f ∙ sym (ap multi_of e) ∙ m)
-
   multi_call : (u : SiteTerm) (q : Form) → IsOfForm p n u q → q.multi ≡ true → IsMultiCall p u
-  multi_call u q f m = grind (arith, common_steps, one_answer)
-
-  single : (u : SiteTerm) (q : Form) → IsOfForm p n u q → q.multi ≡ false → IsOther p u
-  single u q f e m = grind (arith, common_steps)
+  multi_call u q f m = grind (arith, common_steps)
 
   values_at : (f : ℕ → SiteTerm) (ss : List ℕ) (c : ℕ) → AreValues p n (each_term f ss) → Contains ss c → IsOfForm p n (f c) a_value
   values_at f [] c v i = absurd (nothing_in c i)
@@ -105,24 +95,20 @@ module _ (b : BuiltSet) (h : IsWellTypedProgram b.program) where
   waits_not : (c : ℕ) (o : Option Site) → slice_get sites c ≡ o → IsMultiCall p (U c) → waits o ≡ false
   waits_not c o at m = grind (arith, common_steps, unfolded_layer)
 
-  -- what a site is made of has one answer, but for a pick's
-  from_one : (c source : ℕ) (q : Form) → IsMultiCall p (U c) → Contains (source ∷ []) c → IsOfForm p n (U source) q → q.multi ≡ false → ⊥
-  from_one c source q m i g e = single p n (U c) q (subst (λ y. IsOfForm p n (U y) q) (in_alone source c i) g) e m
-
   from_values : (c : ℕ) (ss : List ℕ) → IsMultiCall p (U c) → Contains ss c → AreValues p n (each_term U ss) → ⊥
-  from_values c ss m i v = single p n (U c) a_value (values_at p n U ss c v i) refl m
+  from_values c ss m i v = grind (arith, common_steps, values_at p n U ss c v i)
 
   picked : (c t : ℕ) (o : Option Site) → slice_get sites t ≡ o → IsMultiCall p (U c) → Contains (made_of o) c → slice_get sites t ≡ Some (iterator_site c)
   picked c t (Some (iterator_site source)) at m i = at ∙ ap (λ y. Some (iterator_site y)) (in_alone source c i)
-  picked c t (Some (extractor_site term source)) at m i = absurd (let f = form_there t (extractor_site term source) at in from_one c source a_value m i f.1.1 refl)
+  picked c t (Some (extractor_site term source)) at m i = absurd (let f = form_there t (extractor_site term source) at in (grind (arith, common_steps)))
   picked c t (Some (constructor_site term sources instance)) at m i = absurd (let f = form_there t (constructor_site term sources instance) at in from_values c sources m i f.1.1)
   picked c t (Some (make_variant_site ty variant fields)) at m i = absurd (let f = form_there t (make_variant_site ty variant fields) at in from_values c fields m i f.1.3)
-  picked c t (Some (match_variant_site source variant field)) at m i = absurd (let f = form_there t (match_variant_site source variant field) at in from_one c source a_value m i f.1.0 refl)
+  picked c t (Some (match_variant_site source variant field)) at m i = absurd (let f = form_there t (match_variant_site source variant field) at in (grind (arith, common_steps)))
   picked c t (Some (make_struct_site ty fields)) at m i = absurd (let f = form_there t (make_struct_site ty fields) at in from_values c fields m i f.1.3)
-  picked c t (Some (extract_struct_site source field)) at m i = absurd (let f = form_there t (extract_struct_site source field) at in from_one c source a_value m i f.1.0 refl)
-  picked c t (Some (make_some_site source)) at m i = absurd (let f = form_there t (make_some_site source) at in from_one c source (form false false f.1.0) m i f.1.1 refl)
-  picked c t (Some (match_some_site source)) at m i = absurd (let f = form_there t (match_some_site source) at in from_one c source (form false true f.1.0) m i f.1.1 refl)
-  picked c t (Some (match_tuple_site source field)) at m i = absurd (let f = form_there t (match_tuple_site source field) at in from_one c source (form false false (suc (suc f.1.0))) m i f.1.1 refl)
+  picked c t (Some (extract_struct_site source field)) at m i = absurd (let f = form_there t (extract_struct_site source field) at in (grind (arith, common_steps)))
+  picked c t (Some (make_some_site source)) at m i = absurd (let f = form_there t (make_some_site source) at in (grind (arith, common_steps)))
+  picked c t (Some (match_some_site source)) at m i = absurd (let f = form_there t (match_some_site source) at in (grind (arith, common_steps)))
+  picked c t (Some (match_tuple_site source field)) at m i = absurd (let f = form_there t (match_tuple_site source field) at in (grind (arith, common_steps)))
   picked c t _ at m i = absurd (nothing_in c i)
 
   -- a rule of the set, with the rule that it stands for

@@ -1,27 +1,27 @@
 -- What a text shows of code runs as the code.
-use Rattle.std.proofs.Common.{◌≡◌, ◌≢◌, ◌&&◌, ℕ, Bool, true, false, not, if◌then◌else◌, List, [], ◌∷◌, ◌++◌, length, map, Option, Some, None, refl, sym, ap, ◌∙◌, subst, arith, eqb-true}
+use Rattle.std.proofs.Common.{◌≡◌, ◌&&◌, ℕ, Bool, true, false, not, if◌then◌else◌, List, [], ◌∷◌, length, map, Option, Some, None, refl, sym, ap, ◌∙◌, subst, arith, eqb-true}
 use Rattle.std.proofs.lemmas.Grind.{common_steps}
 use Rattle.std.proofs.lemmas.Bool.{and_parts, and_from, not-true}
-use Rattle.std.proofs.lemmas.List.{append_assoc, append-nil, map-append}
+use Rattle.std.proofs.lemmas.List.{append-nil}
 use Rattle.std.proofs.lemmas.Option.{same_Some, none-some}
-use Rattle.model.specs.rules.Values.{Value, of_variant, of_struct, Values, no_value, value_and, value_eq}
-use Rattle.model.specs.rules.Meaning.{Content, one, extractor_answer, impure_answer}
-use Rattle.model.specs.rules.Outcome.{Call, stuck, then_option}
+use Rattle.model.specs.rules.Values.{Value, of_struct, no_value, value_and, value_eq}
+use Rattle.model.specs.rules.Meaning.{Content, one, extractor_answer}
+use Rattle.model.specs.rules.Outcome.{Call, then_option}
 use Rattle.model.specs.sites.Sites.{Constraint}
-use Rattle.model.specs.trees.Run.{World, Env, as_value, from_value, Bound, all_bound, unwrap_failed, no_content_there, now_bound, constructed, Trace, where_constant, content_fields, at_start}
+use Rattle.model.specs.trees.Run.{World, Env, as_value, Bound, all_bound, unwrap_failed, no_content_there, now_bound, Trace, where_constant, content_fields, at_start}
 use Rattle.model.proofs.ValuesEqual.{eq_means, eq_same}
 use Rattle.model_code.specs.Code.{Place, Pass, PlaceUse, Expr, Block, no_statement, statement, Statement, bind, bind_some, no_way, match_on, if_equal, for_each_of, give, labelled, unless_let, unless_equal, CodeArms, no_code_arm, code_arm}
 use Rattle.model_code.specs.CodeRuns.{held, held_value, held_values, bind_expr, Flow, goes_on, leaves, returns, fails, sticks, then_flow, in_braces, in_label, flow_of_bound, give_content, where_met, on_content, where_equal, each_flow, run_block, run_statement, run_code_arms, outcome_of, code_run}
 use Rattle.model_code.specs.CodeLaws.{IsBeginning}
-use Rattle.model_code.specs.Tokens.{variant_owner, struct_owner}
-use Rattle.model_code.specs.Notation.{Notation, Shape, extractor_of, constructor_of}
+use Rattle.model_code.specs.Tokens.{struct_owner}
+use Rattle.model_code.specs.Notation.{Notation, Shape, extractor_of}
 use Rattle.model_code.specs.Pieces.{result_ends, is_end, unless_end}
-use Rattle.model_code.specs.Shown.{shown_place, shown_use, shown_uses, shown_made, shown_expr, shown_constraint, test_at, equal_or_match, unless_either, shown, shown_at, shown_arms}
+use Rattle.model_code.specs.Shown.{shown_place, shown_use, shown_uses, shown_made, shown_expr, test_at, equal_or_match, unless_either, shown, shown_at, shown_arms}
 use Rattle.model_code.specs.Written.{written, written_at, written_arms}
 use Rattle.model_code.specs.ReadsBack.{takes, expr_writable, pattern_writable, match_writable, writable, writable_at, writable_arms}
 use Rattle.model_code.proofs.Written.{written_writable}
-use Rattle.laws_code.specs.ShownRuns.{ShownExterns, ShownWorld, world_of_shown, answered, called, bind_shown, run_shown, run_shown_at, run_shown_arms}
-use Rattle.laws_code.specs.ShownLaws.{impure_call, expr_calls_as, calls_as, calls_as_at, arms_call_as, by_number, outcome_by_number, SaysWhatIsAround, shown_world, ShownCodeRunsAsCode}
+use Rattle.laws_code.specs.ShownRuns.{ShownExterns, ShownWorld, world_of_shown, called, bind_shown, run_shown, run_shown_at, run_shown_arms}
+use Rattle.laws_code.specs.ShownLaws.{expr_calls_as, calls_as, calls_as_at, arms_call_as, by_number, outcome_by_number, SaysWhatIsAround, shown_world, ShownCodeRunsAsCode}
 use Rattle.model_code.proofs.CodeCut.{beginning_over}
 use Rattle.model_code.proofs.Opening.{alone}
 use Rattle.laws_code.proofs.Growing.{calls_in, Grows, each_grows, block_grows}
@@ -48,9 +48,6 @@ module _ (p : Notation) (is_impure : ℕ → Bool) where
 abbrev is_stuck : Flow → Bool
 is_stuck (sticks t) = true
 is_stuck f = false
-
-value_back : (o : Option Value) → then_option (from_value o) as_value ≡ o
-value_back o = grind (arith, common_steps)
 
 turned : (u v : Value) → value_eq u v ≡ value_eq v u
 turned u v = grind (arith, common_steps, eq_means u v, eq_same v, eq_means v u, eq_same u)
@@ -84,14 +81,8 @@ module _ (p : Notation) (w : World) (around : ShownExterns) (most : Option ℕ) 
   braces_fine : (env : Env) (f : Flow) → Fine (in_braces env f) → Fine f
   braces_fine env f h = grind (arith, common_steps)
 
-  label_fine : (env : Env) (f : Flow) → Fine (in_label env f) → Fine f
-  label_fine env f h = grind (arith, common_steps)
-
   braces_numbered : (env : Env) (f : Flow) → in_braces env (numbered_flow f) ≡ numbered_flow (in_braces env f)
   braces_numbered env f = grind (arith, common_steps)
-
-  label_numbered : (env : Env) (f : Flow) → in_label env (numbered_flow f) ≡ numbered_flow (in_label env f)
-  label_numbered env f = grind (arith, common_steps)
 
   met_shown : (o : Option (List Content)) (fields : List (Option ℕ)) (env : Env) (t : Trace) (go go' : Env → Flow) (other other' : Flow) → Fine (where_met o fields env t go other)
       → ((env' : Env) → Fine (go env') → go' env' ≡ numbered_flow (go env')) → (Fine other → other' ≡ numbered_flow other) → where_met o fields env (numbered t) go' other' ≡ numbered_flow (where_met o fields env t go other)
@@ -101,9 +92,6 @@ module _ (p : Notation) (w : World) (around : ShownExterns) (most : Option ℕ) 
       → (t : Trace) → Fine (each_flow cs go env t) → each_flow cs go' env (numbered t) ≡ numbered_flow (each_flow cs go env t)
   each_shown [] go go' env grow h t fine = refl
   each_shown (c ∷ cs) go go' env grow h t fine = grind (arith, each_shown cs go go' env grow h, braces_fine, then_fine, each_grows, braces_numbered)
-
-  give_numbered : (o : Option Content) (multi : Bool) (env : Env) (t : Trace) → give_content o multi most env (numbered t) ≡ numbered_flow (give_content o multi most env t)
-  give_numbered o multi env t = grind (arith, common_steps)
 
   -- 3. what is read
   held_shown : (env : Env) (place : Place) → held ws env (shown_place p place) ≡ held w env place
@@ -121,52 +109,27 @@ module _ (p : Notation) (w : World) (around : ShownExterns) (most : Option ℕ) 
   numbered_bound (unwrap_failed calls) = unwrap_failed (map (by_number p) calls)
   numbered_bound (no_content_there calls) = no_content_there (map (by_number p) calls)
 
-  now_numbered : (env : Env) (calls : List Call) (v : ℕ) (o : Option Content) → now_bound env (map (by_number p) calls) v o ≡ numbered_bound (now_bound env calls v o)
-  now_numbered env calls v o = grind (arith, common_steps)
-
   -- 4. calls
-  -- the answer that surroundings give to a call which the whole run makes
-  answer_there : (calls : List Call) (c : Call) → IsBeginning (calls ++ c ∷ []) all → impure_answer w.meaning c.term (length calls) ≡ around.impures (map (by_number p) calls) (by_number p c)
-  answer_there calls c b = says.impures calls b.0 c (b.1 ∙ append_assoc calls (c ∷ []) b.0)
-
-  impure_shown : (env : Env) (t : Trace) (v : ℕ) (c : Call) → around.is_impure (by_number p c).term ≡ true → Fine (flow_of_bound (now_bound env (t.calls ++ c ∷ []) v (impure_answer w.meaning c.term (length t.calls))) t)
-      → answered (around.is_impure (by_number p c).term) around env (map (by_number p) t.calls) v (by_number p c) ≡ numbered_bound (now_bound env (t.calls ++ c ∷ []) v (impure_answer w.meaning c.term (length t.calls)))
-  impure_shown env t v c h fine = grind (arith, common_steps, answer_there, map-append, now_numbered)
-
-  constructed_shown : (env : Env) (t : Trace) (v term instance : ℕ) (o : Option Values) → impure_call instance (around.is_impure (p.function (constructor_of term))) ≡ true → Fine (flow_of_bound (constructed w env t.calls v term instance o) t)
-      → called around env (map (by_number p) t.calls) v (p.function (constructor_of term)) o ≡ numbered_bound (constructed w env t.calls v term instance o)
-  constructed_shown env t v term instance o h fine = grind (arith, common_steps, not-true, impure_shown)
-
   extracted_shown : (env : Env) (t : Trace) (v term : ℕ) (o : Option Value) → around.is_impure (p.function (extractor_of term)) ≡ false
       → called around env (map (by_number p) t.calls) v (p.function (extractor_of term)) (then_option o (λ x. Some (value_and x no_value))) ≡ numbered_bound (now_bound env t.calls v (then_option o (extractor_answer w.meaning term)))
   extracted_shown env t v term o h = grind (arith, common_steps)
 
   -- 5. what is bound
-  now_shown : (env : Env) (t : Trace) (v : ℕ) (o o' : Option Content) → o' ≡ o → now_bound env (map (by_number p) t.calls) v o' ≡ numbered_bound (now_bound env t.calls v o)
-  now_shown env t v o o' e = ap (now_bound env (map (by_number p) t.calls) v) e ∙ now_numbered env t.calls v o
-
-  variant_shown : (env : Env) (t : Trace) (v ty variant : ℕ) (shape : Shape) (us : List PlaceUse) → takes shape (length us) ≡ true
-      → bind_shown sw env (map (by_number p) t.calls) v (shown_made (variant_owner ty variant) shape (shown_uses p us)) ≡ numbered_bound (now_bound env t.calls v (then_option (held_values w env us) (λ vs. Some (one (of_variant ty variant vs)))))
-  variant_shown env t v ty variant shape us h = grind (arith, common_steps, eqb-true, now_shown, values_shown)
-
   struct_shown : (env : Env) (t : Trace) (v ty : ℕ) (shape : Shape) (us : List PlaceUse) → takes shape (length us) ≡ true
       → bind_shown sw env (map (by_number p) t.calls) v (shown_made (struct_owner ty) shape (shown_uses p us)) ≡ numbered_bound (now_bound env t.calls v (then_option (held_values w env us) (λ vs. Some (one (of_struct ty vs)))))
-  struct_shown env t v ty shape us h = grind (arith, common_steps, eqb-true, now_shown, values_shown)
+  struct_shown env t v ty shape us h = grind (arith, common_steps, eqb-true, values_shown)
 
   expr_shown : (env : Env) (t : Trace) (v : ℕ) (e : Expr) → expr_writable p e ≡ true → expr_calls_as p around.is_impure e ≡ true → Fine (flow_of_bound (bind_expr w env t.calls v e) t)
       → bind_shown sw env (map (by_number p) t.calls) v (shown_expr p e) ≡ numbered_bound (bind_expr w env t.calls v e)
-  expr_shown env t v e wr ca fine = grind (arith, common_steps, now_shown, held_shown, value_shown, extracted_shown, not-true, values_shown, constructed_shown, variant_shown, struct_shown)
+  expr_shown env t v e wr ca fine = grind (arith, common_steps, held_shown, value_shown, extracted_shown, not-true, values_shown, struct_shown)
 
   -- 6. patterns
-  fields_met : (c : Constraint) (x : Content) → content_fields ws.meaning (shown_constraint p c) x ≡ content_fields w.meaning c x
-  fields_met c x = grind (arith, common_steps)
-
   -- 7. a comparison that is shown as a match
   abbrev IsTest : Env → PlaceUse → Place → (PlaceUse × Constraint) → Type 0
   IsTest env a place test = (test.0.place ≡ a.place) × ((v : Value) → content_fields ws.meaning test.1 (one v) ≡ where_constant (then_option (held ws env place) as_value) v)
 
   test_is : (env : Env) (a : PlaceUse) (place : Place) (pass : Pass) (test : PlaceUse × Constraint) → test_at p a place pass ≡ Some test → IsTest env a place test
-  test_is env a place pass test e = grind (arith, common_steps, same_Some, value_back, none-some)
+  test_is env a place pass test e = grind (arith, common_steps, same_Some, none-some)
 
   compared : (x : Option Content) (y : Option Value) (env : Env) (t : Trace) (k : Constraint) (go : Env → Flow) (body other other' : Flow) → ((v : Value) → content_fields ws.meaning k (one v) ≡ where_constant y v)
       → Fine (where_equal (then_option x as_value) y t body other) → (Fine body → go env ≡ numbered_flow body) → (Fine other → other' ≡ numbered_flow other)
@@ -226,10 +189,10 @@ module _ (p : Notation) (w : World) (around : ShownExterns) (most : Option ℕ) 
     statement_shown (match_on u arms) label env t wr ca fine = grind (arith, arms_shown arms u label, held_shown, braces_fine, braces_numbered)
     statement_shown (if_equal a b body) label env t wr ca fine = grind (arith, common_steps, block_shown body label env t wr ca, if_equal_shown, braces_fine)
     statement_shown (for_each_of v from body) label env t wr ca fine = grind (arith, common_steps, block_shown body label, block_grows, each_shown)
-    statement_shown (give at u) label env t wr ca fine = ap (λ o. give_content o w.multi most env (numbered t)) (held_shown env u.place) ∙ give_numbered (held w env u.place) w.multi env t
+    statement_shown (give at u) label env t wr ca fine = ap (λ o. give_content o w.multi most env (numbered t)) (held_shown env u.place) ∙ (grind (arith, common_steps))
     statement_shown (labelled body) label env t wr ca fine =
-        ap (in_label env) (block_shown body _ env t wr ca (label_fine env (run_block body w most env t) fine)) ∙ label_numbered env (run_block body w most env t)
-    statement_shown (unless_let u pattern fields) label env t wr ca fine = grind (arith, common_steps, held_shown, fields_met, met_shown)
+        ap (in_label env) (block_shown body _ env t wr ca (grind (arith, common_steps))) ∙ (grind (arith, common_steps))
+    statement_shown (unless_let u pattern fields) label env t wr ca fine = grind (arith, common_steps, held_shown, met_shown)
     statement_shown (unless_equal a b) label env t wr ca fine = unless_equal_shown (test_at p (shown_use p a) (shown_place p b.place) b.pass) a b env t refl fine
 
     arms_shown : (arms : CodeArms) (u : PlaceUse) (label : Bool) (c : Content) (env : Env) (t : Trace) → writable_arms p label u arms ≡ true → arms_call_as p around.is_impure arms ≡ true → Fine (run_code_arms arms w most c env t)
@@ -239,18 +202,12 @@ module _ (p : Notation) (w : World) (around : ShownExterns) (most : Option ℕ) 
         let wrs = and_parts (pattern_writable p pattern fields && match_writable p u pattern) (writable p label body && writable_arms p label u rest) wr in
         let ws' = and_parts (writable p label body) (writable_arms p label u rest) wrs.1 in
         let cas = and_parts (calls_as p around.is_impure body) (arms_call_as p around.is_impure rest) ca in
-        ap (λ o. where_met o fields env (numbered t) (λ env'. run_shown (shown p body) sw most env' (numbered t)) (run_shown_arms (shown_arms p rest) sw most c env (numbered t))) (fields_met pattern c)
+        ap (λ o. where_met o fields env (numbered t) (λ env'. run_shown (shown p body) sw most env' (numbered t)) (run_shown_arms (shown_arms p rest) sw most c env (numbered t))) (grind arith)
         ∙ met_shown (content_fields w.meaning pattern c) fields env t (λ env'. run_block body w most env' t) (λ env'. run_shown (shown p body) sw most env' (numbered t)) (run_code_arms rest w most c env t) (run_shown_arms (shown_arms p rest) sw most c env (numbered t))
         fine (λ env'. block_shown body label env' t ws'.0 cas.0) (arms_shown rest u label c env t ws'.1 cas.1)
 
-  outcome_numbered : (f : Flow) → outcome_of (numbered_flow f) ≡ outcome_by_number p (outcome_of f)
-  outcome_numbered f = grind (arith, common_steps)
-
 pub calls_made : (f : Flow) → (outcome_of f).calls ≡ calls_in f
 calls_made f = grind (arith, common_steps)
-
-not_stuck : (f : Flow) → (outcome_of f).ending ≢ stuck → is_stuck f ≡ false
-not_stuck f h = grind (arith, common_steps)
 
 pub shown_code_runs_as_code_lem : ShownCodeRunsAsCode
 shown_code_runs_as_code_lem p code w around most wr ca kind says unstuck =
@@ -258,6 +215,6 @@ shown_code_runs_as_code_lem p code w around most wr ca kind says unstuck =
     let same = written_runs p w most kind code [] at_start in
     let there : IsBeginning (calls_in (run_block code w most [] at_start)) all = ([], calls_made (run_block code w most [] at_start) ∙ sym (append-nil (calls_in (run_block code w most [] at_start)))) in
     ap outcome_of (block_shown p w around most kind all says (written p code) false [] at_start (written_writable p code false wr) (written_call p around.is_impure code ca)
-    (subst (Fine p w around most kind all says) (sym same) (there, not_stuck (run_block code w most [] at_start) unstuck)))
-    ∙ outcome_numbered p w around most kind all says (run_block (written p code) w most [] at_start)
+    (subst (Fine p w around most kind all says) (sym same) (there, (grind (arith, common_steps)))))
+    ∙ (grind (arith, common_steps))
     ∙ ap (λ f. outcome_by_number p (outcome_of f)) same

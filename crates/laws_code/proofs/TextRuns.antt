@@ -1,20 +1,14 @@
 -- What is written of accepted definitions is read as code that does what the source rules mean.
-use Rattle.std.proofs.Common.{◌≡◌, ◌≢◌, ℕ, suc, Bool, true, false, not, if◌then◌else◌, List, [], map, Option, Some, None, Contains, sym, ap, ◌∙◌, subst, arith}
+use Rattle.std.proofs.Common.{◌≡◌, ◌≢◌, ℕ, suc, Bool, true, false, not, List, [], map, Option, Some, None, Contains, sym, ap, ◌∙◌, subst, arith}
 use Rattle.std.proofs.lemmas.Grind.{common_steps}
 use Rattle.std.proofs.lemmas.Bool.{cases_lt}
 use Rattle.std.proofs.lemmas.List.Elements.{All-contains}
-use Rattle.model.specs.lists.Signatures.{gives_one, gives_one_or_none, gives_any_number}
 use Rattle.model.specs.lists.Syntax.{Definition}
 use Rattle.model.specs.lists.Elaborated.{TypedRules}
-use Rattle.model.specs.rules.Values.{Value}
-use Rattle.model.specs.rules.Meaning.{Content, Meaning}
 use Rattle.model.specs.rules.Outcome.{stuck, Outcome}
 use Rattle.model.specs.rules.Program.{Program, flags_of, is_multi, kind, rules_of, arg_types, terms_with_rules}
-use Rattle.model.specs.rules.Typed.{TypedRule}
-use Rattle.model.specs.rules.Matching.{Vars}
-use Rattle.model.specs.rules.Choice.{chosen, with_vars, outcome_of_rule, choice}
+use Rattle.model.specs.rules.Choice.{choice}
 use Rattle.model.specs.rules.Picks.{bag}
-use Rattle.model.specs.rules.RightSide.{Eval, outcome_of}
 use Rattle.model.specs.trees.Run.{world_of, at_start}
 use Rattle.model.specs.trees.Collects.{Collects}
 use Rattle.model.specs.claims.Layers.{own_program, IsAccepted, LoweredTerm, IsLoweredTerm, AreLowered}
@@ -30,7 +24,7 @@ use Rattle.model_code.specs.SiteTypes.{types_of}
 use Rattle.model_code.specs.TreeCode.{tree_code}
 use Rattle.model_code.specs.Notation.{Notation}
 use Rattle.model_code.specs.ProgramNotation.{notation_of}
-use Rattle.model_code.specs.Pieces.{result_ends, ends_function}
+use Rattle.model_code.specs.Pieces.{result_ends}
 use Rattle.model_code.specs.Written.{shown_code}
 use Rattle.model_code.specs.ReadsBack.{writable}
 use Rattle.laws_code.specs.CodeChoices.{CollectsUpTo, MeansItsSource, CodeChoosesAsSource}
@@ -39,41 +33,15 @@ use Rattle.laws_code.proofs.WellMade.{means_same}
 use Rattle.laws_code.specs.WritableCode.{CodeOfAcceptedIsWritable, TextOfAcceptedIsReadBack}
 use Rattle.laws_code.specs.ShownRuns.{ShownWorld, shown_run}
 use Rattle.laws_code.specs.Meanings.{world_around, one_result, ShownCodeRunsUnderItsMeaning, TextRunsUnderItsMeaning}
-use Rattle.laws_code.specs.ShownLaws.{calls_as, by_number, outcome_by_number, SaysWhatIsAround, ShownCodeRunsAsCode}
+use Rattle.laws_code.specs.ShownLaws.{calls_as, outcome_by_number, SaysWhatIsAround, ShownCodeRunsAsCode}
 use Rattle.laws_code.specs.CalledAlike.{AreCalledAlike, CodeCallsAlike}
-use Rattle.laws_code.specs.TextRuns.{ShownRunsAsChosen, ShownCollectsTheBag, kind_of_giving, kind_given, TextOfAcceptedSaysItsSource, EachTermHasItsText}
+use Rattle.laws_code.specs.TextRuns.{ShownRunsAsChosen, ShownCollectsTheBag, kind_given, TextOfAcceptedSaysItsSource, EachTermHasItsText}
 
 -- 1. no choice gets stuck
 abbrev GoesOn : Outcome → Type 0
 GoesOn o = o.ending ≢ stuck
 
-evaluated : (partial : Bool) (e : Eval) → GoesOn (outcome_of partial e)
-evaluated partial e = grind (arith, common_steps)
-
-module _ (p : Program) (m : Meaning) (args : List Value) where
-  taken_goes_on : (r : TypedRule) (o : Option Vars) → GoesOn (with_vars p m r o)
-  taken_goes_on r o = grind (arith, common_steps, evaluated)
-
-  rule_goes_on : (o : Option TypedRule) → GoesOn (outcome_of_rule p m args o)
-  rule_goes_on o = grind (arith, common_steps, taken_goes_on)
-
-  choice_goes_on : (rs : List TypedRule) → GoesOn (choice p m rs args)
-  choice_goes_on rs = rule_goes_on (chosen p m rs args)
-
-collects_goes_on : (o : Outcome) (expected : List Content) → Collects o expected → GoesOn o
-collects_goes_on o expected c = grind arith
-
-part_goes_on : (most : ℕ) (o : Outcome) (expected : List Content) → CollectsUpTo most o expected → GoesOn o
-part_goes_on most o expected c = grind (arith, common_steps, cases_lt, collects_goes_on)
-
--- 2. calls by numbers
-collects_by_number : (n : Notation) (o : Outcome) (expected : List Content) → Collects o expected → Collects (outcome_by_number n o) expected
-collects_by_number n o expected c = record { calls = ap (map (by_number n)) c.calls; ending = c.ending; same = c.same }
-
-part_by_number : (n : Notation) (most : ℕ) (o : Outcome) (expected : List Content) → CollectsUpTo most o expected → CollectsUpTo most (outcome_by_number n o) expected
-part_by_number n most o expected c = grind (arith, common_steps, collects_by_number n o expected, collects_by_number)
-
--- 3. shown code of a term means what the code does
+-- 2. shown code of a term means what the code does
 module _ (law : ShownCodeRunsAsCode) (p : Program) (l : LoweredTerm) (n : Notation) (code : Block) (kind : is_multi p l.term ≡ not (result_ends n)) (wr : writable n false code ≡ true)
     (calls : (is_impure : ℕ → Bool) → AreCalledAlike p n is_impure → calls_as n is_impure code ≡ true) (means : MeansItsSource p l code) where
   shown_chooses : ShownRunsAsChosen p l.term n (shown_code n code)
@@ -82,7 +50,7 @@ module _ (law : ShownCodeRunsAsCode) (p : Program) (l : LoweredTerm) (n : Notati
       let o = choice p m (rules_of p l.term) args in
       let runs : code_run code w None ≡ o = (means.chooses single m args typed serves apart).0 in
       (λ i. shown_run (shown_code n code) (record { around = around; args = args; multi = sym single i }) None)
-      ∙ law n code w around None wr (calls around.is_impure alike) kind (subst (λ (x : Outcome). SaysWhatIsAround n m around x.calls) (sym runs) says) (subst GoesOn (sym runs) (choice_goes_on p m args (rules_of p l.term)))
+      ∙ law n code w around None wr (calls around.is_impure alike) kind (subst (λ (x : Outcome). SaysWhatIsAround n m around x.calls) (sym runs) says) (subst GoesOn (sym runs) (grind arith))
       ∙ ap (outcome_by_number n) runs
 
   shown_collects : ShownCollectsTheBag p l.term n (shown_code n code)
@@ -94,12 +62,12 @@ module _ (law : ShownCodeRunsAsCode) (p : Program) (l : LoweredTerm) (n : Notati
       = λ most none on.
       sym ((λ i. shown_run (shown_code n code) (record { around = around; args = args; multi = sym multi i }) most)
       ∙ law n code w around most wr (calls around.is_impure alike) kind (subst (SaysWhatIsAround n m around) (sym none) says) on) in (
-        subst (λ o. Collects o expected) (same None c.0.calls (collects_goes_on (code_run code w None) expected c.0)) (collects_by_number n (code_run code w None) expected c.0),
-        λ k. subst (λ o. CollectsUpTo (suc k) o expected) (same (Some (suc k)) (c.1 k).calls (part_goes_on (suc k) (code_run code w (Some (suc k))) expected (c.1 k)))
-            (part_by_number n (suc k) (code_run code w (Some (suc k))) expected (c.1 k)),
+        subst (λ o. Collects o expected) (same None c.0.calls (grind (arith, common_steps))) (grind (arith, common_steps)),
+        λ k. subst (λ o. CollectsUpTo (suc k) o expected) (same (Some (suc k)) (c.1 k).calls (grind (arith, common_steps, cases_lt)))
+            (grind (arith, common_steps, c.1 k)),
       )
 
--- 4. code by types means what its source does
+-- 3. code by types means what its source does
 pub record LawsOfText : Type 0 where
   pub chooses : CodeChoosesAsSource
   pub same : WithMovesSaysSame
@@ -138,10 +106,6 @@ lowered_there p terms t low known =
     let i = in_map (λ (l : LoweredTerm). l.term) terms t (in_from_contains (map (λ (l : LoweredTerm). l.term) terms) t (subst (λ ts. Contains ts t) (sym low.each) known)) in
     (i.0, contains_from_in terms i.0 i.1, i.2)
 
--- results end the function of a term exactly if it isn't multi
-giving_ends : (multi partial : Bool) → multi ≡ not (ends_function (kind_of_giving (if multi then gives_any_number else (if partial then gives_one_or_none else gives_one))))
-giving_ends multi partial = grind (arith, common_steps)
-
 pub each_term_has_its_text_lem : LawsOfText → EachTermHasItsText
 each_term_has_its_text_lem laws defs expand types terms rules lowered answers t known =
     let p = own_program defs rules in
@@ -153,11 +117,11 @@ each_term_has_its_text_lem laws defs expand types terms rules lowered answers t 
       l.2,
       λ names whole is_logged deep d. record {
         means = code_means laws defs expand rules l.0 answers.accepted it.built it.best deep d;
-        text = text_of_accepted_says_its_source_lem laws defs expand rules l.0 answers.accepted it.built it.best names whole (kind_given p l.0.term) is_logged (giving_ends flags.multi flags.partial) deep d;
+        text = text_of_accepted_says_its_source_lem laws defs expand rules l.0 answers.accepted it.built it.best names whole (kind_given p l.0.term) is_logged (grind (arith, common_steps)) deep d;
       },
     )
 
--- 5. under the meaning that the functions around it are
+-- 4. under the meaning that the functions around it are
 pub text_runs_under_its_meaning_lem : LawsOfText → ShownCodeRunsUnderItsMeaning → TextRunsUnderItsMeaning
 text_runs_under_its_meaning_lem laws law defs expand rules l accepted built best kind is_logged deep d of_kind single around args m alike is typed serves apart =
     let p = own_program defs rules in
@@ -170,5 +134,5 @@ text_runs_under_its_meaning_lem laws law defs expand rules l accepted built best
     = λ i. code_run code (record { sites = l.set.sites; args = args; meaning = is i; multi = single i }) None in
     let result = sym same ∙ runs in
     law n code w l.set.sites None (laws.can defs expand rules l accepted built best kind is_logged deep d) (laws.calls defs expand rules l accepted built best n around.is_impure alike deep d) (ap not (sym of_kind))
-    (subst GoesOn (sym result) (choice_goes_on p m args (rules_of p l.term)))
+    (subst GoesOn (sym result) (grind arith))
     ∙ ap (outcome_by_number n) result

@@ -5,12 +5,12 @@ use Rattle.std.proofs.lemmas.Bool.{and_from}
 use Rattle.std.proofs.lemmas.List.{length-map}
 use Rattle.std.proofs.lemmas.List.Elements.{All-contains, Contains-append_left, Contains-append_right}
 use Rattle.std.proofs.lemmas.Option.{slice_get_within}
-use Rattle.model.specs.rules.Program.{Program, arg_types, rules_of}
-use Rattle.model.specs.sites.Sites.{Site, Constraint, SetRule, SiteSet, SiteTerm, each_term, layer, unfold_site}
+use Rattle.model.specs.rules.Program.{Program, rules_of}
+use Rattle.model.specs.sites.Sites.{Site, Constraint, SetRule, SiteSet, SiteTerm, each_term, unfold_site}
 use Rattle.model.specs.sites.Overlap.{BuiltRule, built_rule}
 use Rattle.model.specs.sites.RuleSets.{IsRuleOf}
 use Rattle.model.specs.visits.Demands.{demands_of}
-use Rattle.model.specs.trees.Trees.{Tree, Marked, m_no_step, m_step, m_match, m_equal, m_loop, m_return, MarkedArms, m_no_arm, m_arm, plain, plain_check, plain_arms, return_of, marks, marks_arms}
+use Rattle.model.specs.trees.Trees.{Tree, Marked, m_no_step, m_step, m_match, m_equal, m_loop, m_return, MarkedArms, m_no_arm, m_arm, plain, plain_check, plain_arms, marks, marks_arms}
 use Rattle.model.specs.trees.Places.{Around, nothing_around, each_field, fields_of, in_arm, in_equal, in_loop, after_step}
 use Rattle.model.specs.trees.Best.{BestSteps, BestArms, IsBestTree}
 use Rattle.model.proofs.Elements.{in_from_contains, contains_from_in}
@@ -20,13 +20,13 @@ use Rattle.laws_sites.proofs.Closing.{closing_is_sound_lem}
 use Rattle.laws_sites.proofs.built.BuiltGates.{set_rule, WasBuilt, was_built}
 use Rattle.laws_sites.proofs.built.BuiltSets.{BuiltSet, RuleOfSet, of_term}
 use Rattle.laws_trees.proofs.runs.Contents.{unfolded_layer}
-use Rattle.laws_trees.proofs.taken.Forms.{Form, IsOfForm, term_count}
+use Rattle.laws_trees.proofs.taken.Forms.{term_count}
 use Rattle.laws_trees.proofs.taken.BuiltSites.{sites_stand}
 use Rattle.model_code.specs.Code.{Block, statement, Statement}
 use Rattle.model_code.specs.TreeCode.{Passes, to_match, use_at, bind_code, binds_code, loop_code, tree_code, check_code, arms_code}
 use Rattle.model_code.specs.Notation.{Notation, ReturnForm}
 use Rattle.model_code.specs.ProgramNotation.{notation_of}
-use Rattle.model_code.specs.ReadsBack.{pattern_writable, match_writable, writable, writable_at, writable_arms}
+use Rattle.model_code.specs.ReadsBack.{pattern_writable, writable, writable_at, writable_arms}
 use Rattle.laws_code.specs.WritableCode.{LooksAtMatched, CodeOfBuiltSetsIsWritable}
 use Rattle.laws_code.proofs.AskedFields.{HasAllFields, rule_asks_all_fields}
 use Rattle.laws_code.proofs.TypeShapes.{variant_taken, struct_taken}
@@ -56,18 +56,12 @@ module _ (b : BuiltSet) (h : IsWellTypedProgram b.program) (passes : Passes) (lo
   abbrev U : ℕ → SiteTerm
   U s = unfold_site sites s
 
-  match_written : (s : ℕ) (c : Constraint) → match_writable N (use_at sites passes to_match s) c ≡ true
-  match_written s c = grind (arith, common_steps)
-
   then_statement : (s : Statement) (rest : Block) → writable_at N false s ≡ true → writable N false rest ≡ true → writable N false (statement s rest) ≡ true
   then_statement s rest here later = grind (arith, and_from)
 
   -- 2. what is made has as many fields as its type
-  form_at : (s : ℕ) (x : Site) → slice_get sites s ≡ Some x → (q : Form) × IsOfForm p (length (arg_types p b.term)) (layer U x) q
-  form_at s x at = grind (arith, sites_stand b h s (slice_get_within sites s x at), slice_get_within sites s x at, unfolded_layer sites b.built.sources s x at)
-
   bind_written : (s : ℕ) (o : Option Site) → slice_get sites s ≡ o → writable_at N false (bind_code sites passes s o) ≡ true
-  bind_written s o at = grind (arith, common_steps, form_at, variant_taken, struct_taken, sources_counted, length-map)
+  bind_written s o at = grind (arith, common_steps, variant_taken, struct_taken, sources_counted, length-map, sites_stand, slice_get_within, unfolded_layer)
 
   binds_written : (ss : List ℕ) (rest : Block) → writable N false rest ≡ true → writable N false (binds_code sites passes ss rest) ≡ true
   binds_written [] rest w = w
@@ -75,9 +69,6 @@ module _ (b : BuiltSet) (h : IsWellTypedProgram b.program) (passes : Passes) (lo
 
   loop_written : (o : Option Site) (s : ℕ) (body : Block) → writable N false body ≡ true → writable_at N false (loop_code o s body) ≡ true
   loop_written o s body h = grind (arith, common_steps)
-
-  return_written : (o : Option SetRule) → writable_at N false (check_code (return_of o) sites passes) ≡ true
-  return_written o = grind (arith, common_steps)
 
   -- 3. a rule of the set asks for all fields
   asked_whole : (r : SetRule) (s : ℕ) (c : Constraint) → Contains set.rules r → Contains r.constraints (s, c) → HasAllFields p c
@@ -120,7 +111,7 @@ module _ (b : BuiltSet) (h : IsWellTypedProgram b.program) (passes : Passes) (lo
         (loop_written (slice_get sites result) result (tree_code (plain set.rules body) sites passes) (steps_written body (in_loop set ar result) false best.1.2 (λ i c. ks i (Contains-append_left (marks body) (marks rest) i c))))
         (steps_written rest (after_step set ar (m_loop result body)) false best.2 (λ i c. ks i (Contains-append_right (marks body) (marks rest) i c))))
     steps_written (m_step binds (m_return rule) rest) ar closing best ks =
-        binds_written binds _ (then_statement (check_code (plain_check set.rules (m_return rule)) sites passes) (tree_code (plain set.rules rest) sites passes) (return_written (slice_get set.rules rule))
+        binds_written binds _ (then_statement (check_code (plain_check set.rules (m_return rule)) sites passes) (tree_code (plain set.rules rest) sites passes) (grind (arith, common_steps))
         (steps_written rest (after_step set ar (m_return rule)) true best.2 (λ i c. ks i (in_tail rule i (marks rest) c))))
 
     arms_written : (arms : MarkedArms) (ar : Around) (source : ℕ) (prior : Option Constraint) → BestArms set ar source prior arms → AreOfRules (marks_arms arms)
@@ -133,7 +124,7 @@ module _ (b : BuiltSet) (h : IsWellTypedProgram b.program) (passes : Passes) (lo
         let member = member_from_get set.rules some_rule.0 r.0 r.1 in
         let asks = constraint_in r.0.constraints source constraint (best.2 some_rule.0 r.0 some_rule.1 r.1) in
         and_from _ _
-        (and_from _ _ (subst (λ fs. pattern_writable N constraint fs ≡ true) (sym best.3) (pattern_written source constraint (asked_whole r.0 source constraint member asks))) (match_written source constraint))
+        (and_from _ _ (subst (λ fs. pattern_writable N constraint fs ≡ true) (sym best.3) (pattern_written source constraint (asked_whole r.0 source constraint member asks))) (grind arith))
         (and_from _ _ (steps_written body (in_arm set ar source constraint fields) false best.4 of_body) (arms_written rest ar source (Some constraint) best.5 (λ i c. ks i (Contains-append_right (marks body) (marks_arms rest) i c))))
 
   pub tree_written : (tree : Tree) → IsBestTree set tree → writable N false (tree_code tree sites passes) ≡ true

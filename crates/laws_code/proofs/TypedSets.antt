@@ -1,5 +1,5 @@
 -- A set that is built of a well-typed program is typed, where its rules constrain by types.
-use Rattle.std.proofs.Common.{◌≡◌, ◌∷◌, ◌&&◌, ◌||◌, ◌+◌, [], ℕ, zero, suc, Bool, true, false, not, List, Option, Some, slice_get, Contains, flat_map, refl, sym, ap, ◌∙◌, inl, inr, arith}
+use Rattle.std.proofs.Common.{◌≡◌, ◌∷◌, ◌+◌, [], ℕ, zero, suc, Bool, true, false, List, Option, Some, slice_get, Contains, flat_map, refl, sym, ap, ◌∙◌, inl, inr, arith}
 use Rattle.std.proofs.lemmas.Grind.{common_steps}
 use Rattle.std.proofs.lemmas.Bool.{and_from}
 use Rattle.std.proofs.lemmas.Option.{slice_get_within}
@@ -19,8 +19,8 @@ use Rattle.laws_trees.proofs.total.Shaped.{Uses, Shaped, shaped_bool, shaped_int
 use Rattle.laws_trees.proofs.total.ShapedSites.{AreShaped, rule_shaped}
 use Rattle.laws_trees.proofs.taken.BuiltSites.{sites_stand}
 use Rattle.laws_trees.proofs.taken.Fits.{IsField}
-use Rattle.model_code.specs.Modes.{Types, is_value, copy_is_value, is_typed_at, argument_typed, arguments_typed, fields_typed, site_typed, pattern_typed, place_in, IsTypedSet}
-use Rattle.model_code.specs.SiteTypes.{one_type, or_no_types, field_type, types_at, is_composed, is_one_composed, are_copied, is_held_by_reference, mode_of, types_of}
+use Rattle.model_code.specs.Modes.{Types, is_typed_at, argument_typed, arguments_typed, fields_typed, site_typed, pattern_typed, place_in, IsTypedSet}
+use Rattle.model_code.specs.SiteTypes.{one_type, or_no_types, field_type, types_at, is_composed, is_one_composed, are_copied, types_of}
 use Rattle.laws_code.specs.TypedTrees.{ConstrainsByTypes, BuiltSetsAreTyped}
 use Rattle.laws_code.proofs.PickedCalls.{called_is_multi}
 
@@ -62,21 +62,7 @@ none_shaped h = elim h [ ]
 both_shaped : {p : Program} {uses : Uses} {s : SiteTerm} {ss : SiteTerms} {ty : ℕ} {tys : List ℕ} → ShapedAll p uses (site_term_and s ss) (ty ∷ tys) → Shaped p uses s false false (ty ∷ []) × ShapedAll p uses ss tys
 both_shaped (shaped_and h hs) = (h, hs)
 
--- 2. modes by types
-module _ (p : Program) (args : List ℕ) where
-  call_typed : (multi : Bool) (tys : List ℕ) → copy_is_value (mode_of (not multi && is_one_composed p tys)) (are_copied p tys) ≡ true
-  call_typed multi tys = grind (arith, common_steps)
-
-  part_typed : (c : Bool) → copy_is_value (mode_of (not c)) c ≡ true
-  part_typed c = grind (arith, common_steps)
-
-  held_typed : (u : SiteTerm) → copy_is_value (mode_of (is_held_by_reference p args u)) (are_copied p (types_at p args u)) ≡ true
-  held_typed u = grind (arith, common_steps, call_typed, part_typed)
-
-  field_seen : (fields : ℕ → Option (List ℕ)) (ts : List ℕ) (i : ℕ) → (not (is_value (mode_of (is_one_composed p (field_type fields ts i)))) || are_copied p (field_type fields ts i)) ≡ true
-  field_seen fields ts i = grind (arith, common_steps)
-
--- 3. the sites of a set
+-- 2. the sites of a set
 module _ (b : BuiltSet) (h : IsWellTypedProgram b.program) (by_types : ConstrainsByTypes b.program b.term b.set) where
   abbrev p : Program
   p = b.program
@@ -103,7 +89,7 @@ module _ (b : BuiltSet) (h : IsWellTypedProgram b.program) (by_types : Constrain
   is_copied s = grind (arith, unfolds)
 
   typed_at : (s : ℕ) → is_typed_at types (place_in sites s) ≡ true
-  typed_at s = grind (arith, held_typed)
+  typed_at s = grind arith
 
   -- what a call takes is of its parameter's type
   argument_is : (takes : Bool) (ty s : ℕ) → takes ≡ is_composed p ty → types_at p args (U s) ≡ ty ∷ [] → argument_typed types takes (place_in sites s) ≡ true
@@ -155,19 +141,16 @@ module _ (b : BuiltSet) (h : IsWellTypedProgram b.program) (by_types : Constrain
   fields_are [] = refl
   fields_are (s ∷ ss) = and_from _ _ (typed_at s) (fields_are ss)
 
-  value_is : (s : ℕ) (x : Site) → slice_get sites s ≡ Some x → is_held_by_reference p args (layer U x) ≡ false → is_value (types.variables s) ≡ true
-  value_is s x at e = ap (λ u. is_value (mode_of (is_held_by_reference p args u))) (unfolds s x at) ∙ ap (λ m. is_value (mode_of m)) e
-
   site_is : (s : ℕ) (o : Option Site) → slice_get sites s ≡ o → site_typed types sites s o ≡ true
-  site_is s (Some (bool_site v ty)) at = value_is s (bool_site v ty) at refl
+  site_is s (Some (bool_site v ty)) at = grind (arith, common_steps, unfolds)
   site_is s (Some (extractor_site term source)) at = extractor_is s term source at
   site_is s (Some (constructor_site term sources instance)) at = constructor_is s term instance sources at
-  site_is s (Some (make_variant_site ty variant fields)) at = and_from _ _ (value_is s (make_variant_site ty variant fields) at refl) (fields_are fields)
-  site_is s (Some (make_struct_site ty fields)) at = and_from _ _ (value_is s (make_struct_site ty fields) at refl) (fields_are fields)
-  site_is s (Some (make_some_site source)) at = and_from _ _ (value_is s (make_some_site source) at refl) (typed_at source)
-  site_is s (Some (iterator_site source)) at = grind (arith, and_from, value_is, called_is_multi)
-  site_is s (Some (match_variant_site source variant field)) at = grind (arith, common_steps, unfolds, field_seen)
-  site_is s (Some (extract_struct_site source field)) at = grind (arith, common_steps, unfolds, field_seen)
+  site_is s (Some (make_variant_site ty variant fields)) at = and_from _ _ (grind (arith, common_steps, unfolds)) (fields_are fields)
+  site_is s (Some (make_struct_site ty fields)) at = and_from _ _ (grind (arith, common_steps, unfolds)) (fields_are fields)
+  site_is s (Some (make_some_site source)) at = and_from _ _ (grind (arith, common_steps, unfolds)) (typed_at source)
+  site_is s (Some (iterator_site source)) at = grind (arith, and_from, called_is_multi)
+  site_is s (Some (match_variant_site source variant field)) at = grind (arith, common_steps, unfolds)
+  site_is s (Some (extract_struct_site source field)) at = grind (arith, common_steps, unfolds)
   site_is s (Some (match_some_site source)) at = grind (arith, common_steps, and_from, typed_at, unfolds, is_copied)
   site_is s o at = refl
 

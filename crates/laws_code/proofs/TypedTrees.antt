@@ -4,12 +4,12 @@ use Rattle.std.proofs.lemmas.Grind.{common_steps}
 use Rattle.std.proofs.lemmas.Bool.{and_parts, and_from}
 use Rattle.std.proofs.lemmas.List.Elements.{Contains-append_left, Contains-append_right}
 use Rattle.model.specs.sites.Sites.{Site, Constraint, SetRule, SiteSet}
-use Rattle.model.specs.trees.Trees.{Marked, m_no_step, m_step, m_match, m_equal, m_loop, m_return, MarkedArms, m_no_arm, m_arm, plain, plain_arms, return_of, marks, marks_arms}
+use Rattle.model.specs.trees.Trees.{Marked, m_no_step, m_step, m_match, m_equal, m_loop, m_return, MarkedArms, m_no_arm, m_arm, plain, plain_arms, marks, marks_arms}
 use Rattle.model.specs.trees.Places.{Around, nothing_around, field_sites, in_arm, in_equal, in_loop, after_step}
 use Rattle.model.specs.trees.Best.{BestSteps, BestArms}
 use Rattle.model.proofs.Members.{in_head, in_tail, some_member, member_from_get, get_within, constraint_in}
 use Rattle.std.proofs.lemmas.List.Elements.{All-contains}
-use Rattle.model_code.specs.Modes.{Types, field_typed, binds_typed, brought_typed, tree_typed, check_typed, arms_typed, place_in, IsTypedSet}
+use Rattle.model_code.specs.Modes.{Types, field_typed, binds_typed, brought_typed, tree_typed, arms_typed, place_in, IsTypedSet}
 use Rattle.laws_code.specs.TypedTrees.{TypedSetsHaveTypedTrees}
 use Rattle.laws_code.proofs.BroughtSites.{IsBrought, is_brought}
 
@@ -33,9 +33,6 @@ module _ (types : Types) (set : SiteSet) (typed : IsTypedSet types set) where
   fields_are c copy (None ∷ rest) h = fields_are c copy rest h
   fields_are c copy (Some x ∷ rest) h = and_from _ _ (h x (in_head x (field_sites rest))) (fields_are c copy rest (λ y i. h y (in_tail x y (field_sites rest) i)))
 
-  return_is : (o : Option SetRule) → check_typed types sites (return_of o) ≡ true
-  return_is o = grind (arith, common_steps)
-
   abbrev AreOfRules : List ℕ → Type 0
   AreOfRules ms = (i : ℕ) → Contains ms i → (r : SetRule) × (slice_get set.rules i ≡ Some r)
 
@@ -56,7 +53,7 @@ module _ (types : Types) (set : SiteSet) (typed : IsTypedSet types set) where
         (steps_are rest (after_step set ar (m_loop result body)) false best.2 (λ i c. ks i (Contains-append_right (marks body) (marks rest) i c))))
     steps_are (m_step binds (m_return rule) rest) ar closing best ks =
         and_from _ _ (binds_are binds) (and_from _ _
-        (return_is (slice_get set.rules rule))
+        (grind (arith, common_steps))
         (steps_are rest (after_step set ar (m_return rule)) true best.2 (λ i c. ks i (in_tail rule i (marks rest) c))))
 
     arms_are : (arms : MarkedArms) (ar : Around) (source : ℕ) (prior : Option Constraint) → BestArms set ar source prior arms → AreOfRules (marks_arms arms) → arms_typed types sites (copied source) (plain_arms set.rules arms) ≡ true

@@ -3,9 +3,9 @@ use Rattle.std.proofs.Common.{◌≡◌, ℕ, Bool, true, false, not, List, [], 
 use Rattle.std.proofs.lemmas.Grind.{common_steps}
 use Rattle.std.proofs.lemmas.Bool.{or_parts}
 use Rattle.model.specs.rules.Meaning.{Content}
-use Rattle.model.specs.trees.Run.{World, Env, Bound, Trace}
+use Rattle.model.specs.trees.Run.{World, Env, Trace}
 use Rattle.model_code.specs.Code.{Block, no_statement, statement, Statement, match_on, if_equal, for_each_of, labelled, CodeArms, no_code_arm, code_arm}
-use Rattle.model_code.specs.CodeRuns.{held, Flow, goes_on, leaves, then_flow, in_braces, in_label, flow_of_bound, give_content, where_met, each_flow, run_block, run_statement, run_code_arms}
+use Rattle.model_code.specs.CodeRuns.{held, Flow, goes_on, leaves, then_flow, in_braces, in_label, each_flow, run_block, run_statement, run_code_arms}
 use Rattle.model_code.specs.Notation.{Notation}
 use Rattle.model_code.specs.Pieces.{is_left, leaves_at, leaves_arms, result_ends, is_end, unless_end}
 use Rattle.model_code.specs.Written.{is_bare, unwrapped, written, written_at, written_arms}
@@ -20,12 +20,6 @@ stays f = true
 braces_stay : (env : Env) (f : Flow) → stays f ≡ true → stays (in_braces env f) ≡ true
 braces_stay env f h = grind (arith, common_steps)
 
-bound_stays : (b : Bound) (t : Trace) → stays (flow_of_bound b t) ≡ true
-bound_stays b t = grind (arith, common_steps)
-
-met_stays : (o : Option (List Content)) (fields : List (Option ℕ)) (env : Env) (t : Trace) (go : Env → Flow) (other : Flow) → ((env' : Env) → stays (go env') ≡ true) → stays other ≡ true → stays (where_met o fields env t go other) ≡ true
-met_stays o fields env t go other h k = grind (arith, common_steps)
-
 if_stays : (b : Bool) (f g : Flow) → stays f ≡ true → stays g ≡ true → stays (if b then f else g) ≡ true
 if_stays b f g h k = grind (arith, common_steps)
 
@@ -33,20 +27,13 @@ each_stays : (cs : List Content) (go : Content → Trace → Flow) (env : Env) �
 each_stays [] go env h t = refl
 each_stays (c ∷ cs) go env h t = grind (arith, each_stays cs go env h, braces_stay)
 
-give_stays : (o : Option Content) (multi : Bool) (most : Option ℕ) (env : Env) (t : Trace) → stays (give_content o multi most env t) ≡ true
-give_stays o multi most env t = grind (arith, common_steps, if_stays)
-
 -- 2. what stays needs no label
 label_off : (e env : Env) (f : Flow) → stays f ≡ true → in_braces e f ≡ in_braces e (then_flow (in_label env f) goes_on)
 label_off e env f h = grind (arith, common_steps)
 
 module _ (p : Notation) (w : World) (most : Option ℕ) (kind : w.multi ≡ not (result_ends p)) where
-  -- where results end the function, it isn't multi
-  single : result_ends p ≡ true → w.multi ≡ false
-  single e = kind ∙ ap not e
-
   pub ends_there : (s : Statement) (env : Env) (t : Trace) (go : Env → Trace → Flow) → is_end (result_ends p) s ≡ true → then_flow (run_statement s w most env t) go ≡ run_statement s w most env t
-  ends_there s env t go h = grind (arith, common_steps, single)
+  ends_there s env t go h = grind (arith, common_steps)
 
   later_stays : (ended : Bool) (s : Statement) (rest : Block) (env : Env) (t : Trace) → is_end (result_ends p) s ≡ ended → stays (run_statement s w most env t) ≡ true
       → unless_end ended false (is_left (result_ends p) rest) ≡ false → (is_left (result_ends p) rest ≡ false → (env' : Env) (t' : Trace) → stays (run_block rest w most env' t') ≡ true)
@@ -64,10 +51,10 @@ module _ (p : Notation) (w : World) (most : Option ℕ) (kind : w.multi ≡ not 
     statement_stays (match_on u arms) env t h = grind (arith, common_steps, arms_stay arms, braces_stay)
     statement_stays (if_equal a b body) env t h = grind (arith, common_steps, block_stays body env t h, braces_stay, if_stays)
     statement_stays (for_each_of v from body) env t h = grind (arith, block_stays body, each_stays)
-    statement_stays s env t h = grind (arith, common_steps, bound_stays, give_stays)
+    statement_stays s env t h = grind (arith, common_steps)
 
     arms_stay : (arms : CodeArms) (c : Content) (env : Env) (t : Trace) → leaves_arms (result_ends p) arms ≡ false → stays (run_code_arms arms w most c env t) ≡ true
-    arms_stay (code_arm pattern fields body rest) c env t h = grind (arith, common_steps, block_stays body, arms_stay rest c env t, or_parts, met_stays)
+    arms_stay (code_arm pattern fields body rest) c env t h = grind (arith, common_steps, block_stays body, arms_stay rest c env t, or_parts)
     arms_stay no_code_arm c env t h = refl
 
   -- 3. the run
