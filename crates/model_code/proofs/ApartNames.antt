@@ -13,8 +13,8 @@ use Rattle.model_code.specs.Tokens.{Word, let_word, mut_word, ref_word, if_word,
 use Rattle.model_code.specs.Notation.{Notation}
 use Rattle.model_code.specs.Spelling.{Names, word_text, token_text}
 use Rattle.model_code.specs.Lexing.{lexed}
-use Rattle.model_code.specs.Reading.{order_of, same_owner}
-use Rattle.model_code.specs.OneReading.{Sign, a_token, a_log, told, sign_words, signs_words, Next, anything, is_free, a_method, a_brace, a_field, an_opening, a_closing, is_method, is_word, is_name_of_method, is_field_or_end, may_be, behind_told, is_known_sign, stands, follow}
+use Rattle.model_code.specs.Reading.{order_of}
+use Rattle.model_code.specs.OneReading.{Sign, a_token, a_log, told, sign_words, signs_words, Next, anything, is_free, a_method, a_brace, a_field, an_opening, a_closing, is_method, is_word, is_field_or_end, may_be, behind_told, is_known_sign, stands, follow}
 use Rattle.model_code.specs.ApartNames.{OwnToken, an_own_word, a_variable, a_parameter, a_label, own_text, is_own_method, IsSmallToken, IsOfNames, is_named, AreNamesApart, NamesApartMakeTokensApart}
 use Rattle.model_code.proofs.Lexing.{own_tokens_are_words_lem}
 
@@ -39,9 +39,6 @@ found w = grind (arith, common_steps)
 only_word : (w : Word) (t : Token) → is_word w t ≡ true → t ≡ word w
 only_word w t e = grind (arith, common_steps)
 
-that_owner : (o q : Owner) → same_owner o q ≡ true → o ≡ q
-that_owner o q e = grind (arith, common_steps, and_parts)
-
 -- 2. the code's own tokens, told by their texts
 abbrev first_letter : List ℕ → ℕ
 first_letter xs = get_or xs 0 0
@@ -55,10 +52,6 @@ own_token (an_own_word w) = word w
 own_token (a_variable n) = variable_name n
 own_token (a_parameter n) = parameter_name n
 own_token (a_label n) = label_name n
-
--- only the dot has its text
-only_dot : (t : OwnToken) → own_text t ≡ codes "." → t ≡ an_own_word dot
-only_dot t e = grind (arith, common_steps)
 
 -- no digits are the name of a method
 no_digits : (n : ℕ) → n < 2 ^ 64 → (c : ℕ) (cs : List ℕ) → 57 < c → decimal n ≢ c ∷ cs
@@ -137,16 +130,13 @@ module _ (names : Names) (p : Notation) (known : Token → Bool) (a : AreNamesAp
   no_path s [] more f e = (cc)
   no_path s (x ∷ xs) more f e = grind (arith, common_steps, begun, and_parts, first_words)
 
-  method_word : (t : Token) → is_name_of_method t ≡ true → (w : Word) × (t ≡ word w) × (is_method w ≡ true)
-  method_word t h = grind (arith, common_steps)
-
   method_text : (w : Word) → is_method w ≡ true → lexed (word_text w) ≡ word_text w ∷ []
   method_text w h = grind (arith, common_steps)
 
   behind_dot : (inside : Option Owner) (i : ℕ) → i < 2 ^ 64 → (xs : List Sign) (more : List (List ℕ)) → follow p known (a_method inside) xs ≡ true → signs_words names xs ≡ decimal i ∷ more → ⊥
   behind_dot inside i h [] more f e = (cc)
   behind_dot inside i h (a_log at ∷ xs) more f e = false≢true f
-  behind_dot inside i h (a_token t ∷ xs) more f e = grind (arith, common_steps, method_word, and_parts, method_text, no_method, first_words)
+  behind_dot inside i h (a_token t ∷ xs) more f e = grind (arith, common_steps, and_parts, method_text, no_method, first_words)
 
   behind_opening : (w : List ℕ) → w ≢ codes ")" → (xs : List Sign) (more : List (List ℕ)) → follow p known a_closing xs ≡ true → signs_words names xs ≡ w ∷ more → ⊥
   behind_opening w n [] more f e = (cc)
@@ -176,7 +166,7 @@ module _ (names : Names) (p : Notation) (known : Token → Bool) (a : AreNamesAp
     pair (an_own t h m x f) (an_own u k r y g) = grind (arith, common_steps, on f g, same f g, found, decimal_injective)
     pair (an_own t h m x f) (a_break y g) = grind (arith, same, not_own)
     pair (an_own t h m x f) (a_part i k y g) =
-        inr (λ xs more w s. grind (arith, common_steps, behind_dot, only_dot, same, on))
+        inr (λ xs more w s. grind (arith, common_steps, behind_dot, same, on))
     pair (an_own t h m x f) (a_panic w us y k g n) = grind (arith, same, not_own)
     pair (an_own t h m x f) (a_name u w us y n k l g i) =
         let r = i.own t h m (same f g) in inr (λ xs more c s. no_path (behind_told p (anything inside) o) xs (r.0 ++ more) c (s ∙ ap (λ b. b ++ more) (sym (on f g) ∙ r.1)))
@@ -220,47 +210,22 @@ module _ (names : Names) (p : Notation) (known : Token → Bool) (a : AreNamesAp
   one_token : (s : Next) (t u v : Token) (rest : List (List ℕ)) → t ≡ v → u ≡ v → lexed (token_text names u) ≡ lexed (token_text names t) ++ rest → IsTold s (Some t) (Some u) rest
   one_token s t u v rest h k e = grind (arith, common_steps, same, nothing_more)
 
-  methods : (s : Next) (t u : Token) (rest : List (List ℕ)) → is_name_of_method t ≡ true → is_name_of_method u ≡ true → lexed (token_text names u) ≡ lexed (token_text names t) ++ rest → IsTold s (Some t) (Some u) rest
-  methods s t u rest h k e = grind (arith, common_steps, method_word, method_text, one_token)
-
   -- a field, or the end of fields
-  data FieldLook (o : Owner) (t : Token) : Type 0 where
-    dots : t ≡ word two_dots → FieldLook o t
-    end : t ≡ word closing_brace → FieldLook o t
-    that : (i : ℕ) → known (field_name o i) ≡ true → t ≡ field_name o i → FieldLook o t
-
-  field_look : (o : Owner) (t : Token) → known t ≡ true → is_field_or_end o t ≡ true → FieldLook o t
-  field_look o (word two_dots) k h = dots refl
-  field_look o (word closing_brace) k h = end refl
-  field_look o (field_name q i) k h = let s : o ≡ q = that_owner o q h in that i (ap (λ z. known (field_name z i)) s ∙ k) (ap (λ z. field_name z i) (sym s))
-  field_look o _ k h = absurd (false≢true h)
-
   module _ (o : Owner) (t u : Token) (rest : List (List ℕ)) (e : lexed (token_text names u) ≡ lexed (token_text names t) ++ rest) where
     first_same : {c d : List ℕ} (v w : Token) → t ≡ v → u ≡ w → lexed (token_text names v) ≡ c ∷ [] → lexed (token_text names w) ≡ d ∷ [] → c ≡ d
     first_same v w h k f g = grind (arith, first_words)
-
-    fields : FieldLook o t → FieldLook o u → IsTold (a_field o) (Some t) (Some u) rest
-    fields (dots h) (dots k) = one_token (a_field o) t u (word two_dots) rest h k e
-    fields (dots h) (end k) = absurd (other_letters 46 125 _ _ (λ z. omega (arith, z)) (first_same (word two_dots) (word closing_brace) h k refl refl))
-    fields (dots h) (that j l k) = let w = a.field o j l in absurd (w.2 (sym (first_same (word two_dots) (field_name o j) h k refl w.1)))
-    fields (end h) (dots k) = absurd (other_letters 125 46 _ _ (λ z. omega (arith, z)) (first_same (word closing_brace) (word two_dots) h k refl refl))
-    fields (end h) (end k) = one_token (a_field o) t u (word closing_brace) rest h k e
-    fields (end h) (that j l k) = let w = a.field o j l in absurd (w.3 (sym (first_same (word closing_brace) (field_name o j) h k refl w.1)))
-    fields (that i m h) (dots k) = let w = a.field o i m in absurd (w.2 (first_same (field_name o i) (word two_dots) h k w.1 refl))
-    fields (that i m h) (end k) = let w = a.field o i m in absurd (w.3 (first_same (field_name o i) (word closing_brace) h k w.1 refl))
-    fields (that i m h) (that j l k) = grind (arith, common_steps, first_same, one_token)
 
   -- 7. at whatever place
   by_place : (s : Next) (x y : Sign) (rest : List (List ℕ)) → stands known s x ≡ true → stands known s y ≡ true → sign_words names y ≡ sign_words names x ++ rest → IsTold s (told x) (told y) rest
   by_place (anything inside) x y rest h k e = pair inside (told x) (told y) (sign_words names x) (sign_words names y) rest e (sign_seen inside x h) (sign_seen inside y k)
   by_place (a_method inside) (a_token t) (a_token u) rest h k e =
-      methods (a_method inside) t u rest (and_parts (known t) (is_name_of_method t) h).1 (and_parts (known u) (is_name_of_method u) k).1 e
+      grind (arith, common_steps, method_text, one_token)
   by_place (a_brace o) (a_token t) (a_token u) rest h k e =
       one_token (a_brace o) t u (word opening_brace) rest (only_word opening_brace t (and_parts (known t) (is_word opening_brace t) h).1) (only_word opening_brace u (and_parts (known u) (is_word opening_brace u) k).1) e
   by_place (a_field o) (a_token t) (a_token u) rest h k e =
       let hs = and_parts (known t) (is_field_or_end o t) h in
       let ks = and_parts (known u) (is_field_or_end o u) k in
-      fields o t u rest e (field_look o t hs.0 hs.1) (field_look o u ks.0 ks.1)
+      grind (arith, common_steps, one_token, other_letters, first_same)
   by_place an_opening (a_token t) (a_token u) rest h k e =
       one_token an_opening t u (word opening) rest (only_word opening t (and_parts (known t) (is_word opening t) h).1) (only_word opening u (and_parts (known u) (is_word opening u) k).1) e
   by_place a_closing (a_token t) (a_token u) rest h k e =

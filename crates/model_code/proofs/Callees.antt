@@ -13,15 +13,9 @@ module _ {X : Type 0} (q : X → Bool) where
   abbrev pub First : List X → Type 0
   First xs = ((x : X) × (slice_get xs (position_or_len q xs) ≡ Some x) × (q x ≡ true)) ⊎ ((slice_get xs (position_or_len q xs) ≡ None) × ((i : ℕ) (x : X) → slice_get xs i ≡ Some x → q x ≡ false))
 
-  later : (x : X) (xs : List X) (n : ℕ) → slice_get (x ∷ xs) (1 + n) ≡ slice_get xs n
-  later x xs n = let e : 1 + n ≡ suc n = omega arith in ap (slice_get (x ∷ xs)) e
-
-  first_step : (x : X) (xs : List X) (b : Bool) → q x ≡ b → First xs → First (x ∷ xs)
-  first_step x xs b e f = grind (arith, common_steps, later)
-
   pub first : (xs : List X) → First xs
   first [] = inr (refl, λ i x e. absurd (cc))
-  first (x ∷ xs) = first_step x xs (q x) refl (first xs)
+  first (x ∷ xs) = grind (arith, common_steps, q x, first xs)
 
 -- each function of a term is listed
 pub listed : (t k : ℕ) (ts : List TermEntry) (e : TermEntry) (f : Callee) → slice_get ts k ≡ Some e → term_of f ≡ t + k → (i : ℕ) × (slice_get (callees_from t ts) i ≡ Some f)

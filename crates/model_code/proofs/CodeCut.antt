@@ -7,7 +7,7 @@ use Rattle.model.specs.rules.Meaning.{Content, many, contents, pure_answer, impu
 use Rattle.model.specs.rules.Outcome.{Call, ended}
 use Rattle.model.specs.trees.Run.{World, Env, bound_to, Bound, all_bound, unwrap_failed, no_content_there, now_bound, unwrapped, constructed, Trace, content_fields, bind_fields, at_start}
 use Rattle.model_code.specs.Code.{Expr, call, Block, no_statement, statement, Statement, bind, bind_some, no_way, match_on, if_equal, for_each_of, give, labelled, unless_let, unless_equal, CodeArms, no_code_arm, code_arm}
-use Rattle.model_code.specs.CodeRuns.{held, held_value, held_values, bind_expr, Flow, goes_on, leaves, returns, fails, sticks, then_flow, in_braces, in_label, flow_of_bound, at_least, with_result, after_result, give_content, with_bindings, where_met, on_content, where_equal, each_flow, on_answers, run_block, run_statement, run_code_arms, outcome_of}
+use Rattle.model_code.specs.CodeRuns.{held, held_value, held_values, bind_expr, Flow, goes_on, leaves, returns, fails, sticks, then_flow, in_braces, at_least, give_content, with_bindings, where_met, on_content, where_equal, each_flow, on_answers, run_block, run_statement, run_code_arms, outcome_of}
 use Rattle.model_code.specs.CodeLaws.{IsBeginning, IsCut, CodeStopsAtBound}
 
 -- 1. traces that go on
@@ -66,9 +66,6 @@ pub expr_calls : (w : World) (env : Env) (calls : List Call) (s : ℕ) (e : Expr
 expr_calls w env calls s (call term us instance) = constructed_calls w env calls s term instance (held_values w env us)
 expr_calls w env calls s _ = now_calls env calls s _
 
-bound_begins : (b : Bound) (t : Trace) → IsBeginning t.calls (calls_of b) → Begins t (trace_of (flow_of_bound b t))
-bound_begins b t h = grind (arith, common_steps, beginning_self)
-
 content_begins : (o : Option Content) (t : Trace) (go : Content → Flow) → ((c : Content) → Begins t (trace_of (go c))) → Begins t (trace_of (on_content o t go))
 content_begins None t go h = begins_self t
 content_begins (Some c) t go h = h c
@@ -113,8 +110,8 @@ module _ (w : World) where
         (statement_begins s env t) (then_begins (run_statement s w None env t) (run_block rest w None) (block_begins rest))
 
     statement_begins : (s : Statement) (env : Env) (t : Trace) → Begins t (trace_of (run_statement s w None env t))
-    statement_begins (bind v e) env t = bound_begins (bind_expr w env t.calls v e) t (expr_calls w env t.calls v e)
-    statement_begins (bind_some v u) env t = bound_begins (unwrapped env t.calls v (held w env u.place)) t (unwrapped_calls env t.calls v (held w env u.place))
+    statement_begins (bind v e) env t = grind (arith, common_steps, beginning_self, expr_calls w env t.calls v e)
+    statement_begins (bind_some v u) env t = grind (arith, common_steps, beginning_self)
     statement_begins no_way env t = begins_self t
     statement_begins (match_on u arms) env t =
         braces_begin t env (on_content (held w env u.place) t (λ c. run_code_arms arms w None c env t)) (content_begins (held w env u.place) t (λ c. run_code_arms arms w None c env t) (λ c. arms_begin arms c env t))
@@ -153,25 +150,16 @@ cut_then : (n : ℕ) (f g : Flow) (go ho : Env → Trace → Flow) → ((env : E
     → ((env : Env) (t : Trace) → Begins t (trace_of (go env t))) → Cut n f g → Cut n (then_flow f go) (then_flow g ho)
 cut_then n f g go ho h b k = grind (arith, common_steps, begins_over, then_begins f go b)
 
-cut_braces : (n : ℕ) (env : Env) (f g : Flow) → Cut n f g → Cut n (in_braces env f) (in_braces env g)
-cut_braces n env f g h = grind (arith, common_steps, braces_begin)
-
-cut_label : (n : ℕ) (env : Env) (f g : Flow) → Cut n f g → Cut n (in_label env f) (in_label env g)
-cut_label n env f g h = grind (arith, common_steps)
-
 cut_met : (n : ℕ) (o : Option (List Content)) (fields : List (Option ℕ)) (env : Env) (t : Trace) (go ho : Env → Flow) (f g : Flow)
     → length t.results < n → ((env' : Env) → Cut n (go env') (ho env')) → Cut n f g → Cut n (where_met o fields env t go f) (where_met o fields env t ho g)
 cut_met n o fields env t go ho f g u h k = grind (arith, common_steps)
-
-cut_if : (n : ℕ) (b : Bool) (f g x y : Flow) → Cut n f x → Cut n g y → Cut n (if b then f else g) (if b then x else y)
-cut_if n b f g x y h k = grind (arith, common_steps)
 
 cut_each : (n : ℕ) (cs : List Content) (go ho : Content → Trace → Flow) (env : Env) → ((c : Content) (t : Trace) → length t.results < n → Cut n (go c t) (ho c t))
     → ((c : Content) (t : Trace) → Begins t (trace_of (go c t))) → (t : Trace) → length t.results < n → Cut n (each_flow cs go env t) (each_flow cs ho env t)
 cut_each n [] go ho env h b t u = inl (refl, u)
 cut_each n (c ∷ cs) go ho env h b t u =
     cut_then n (in_braces env (go c t)) (in_braces env (ho c t)) (λ env' t'. each_flow cs go env t') (λ env' t'. each_flow cs ho env t') (λ env' t' v. cut_each n cs go ho env h b t' v)
-    (λ env' t'. each_begins cs go env b t') (cut_braces n env (go c t) (ho c t) (h c t u))
+    (λ env' t'. each_begins cs go env b t') (grind (arith, common_steps, braces_begin))
 
 cut_answers : (n : ℕ) (o : Option Content) (go ho : Content → Trace → Flow) (env : Env) (t : Trace) → length t.results < n → ((c : Content) (t : Trace) → length t.results < n → Cut n (go c t) (ho c t))
     → ((c : Content) (t : Trace) → Begins t (trace_of (go c t))) → Cut n (on_answers o go env t) (on_answers o ho env t)
@@ -187,9 +175,6 @@ not_reached : (m n : ℕ) → at_least m n ≡ false → n < m
 not_reached (suc m) (suc n) h = let k = not_reached m n h in omega (arith, k)
 not_reached m n h = grind arith
 
-cut_result : (n : ℕ) (multi : Bool) (env : Env) (t : Trace) (c : Content) → length t.results < n → Cut n (after_result multi None env (with_result t c)) (after_result multi (Some n) env (with_result t c))
-cut_result n multi env t c u = grind (arith, common_steps, length_push, reached, begins_self, not_reached)
-
 module _ (w : World) (n : ℕ) where
   mutual
     block_cut : (b : Block) (env : Env) (t : Trace) → length t.results < n → Cut n (run_block b w None env t) (run_block b w (Some n) env t)
@@ -201,26 +186,20 @@ module _ (w : World) (n : ℕ) where
     statement_cut (bind v e) env t u = grind arith
     statement_cut (bind_some v x) env t u = grind arith
     statement_cut no_way env t u = inl (refl, u)
-    statement_cut (match_on x arms) env t u = grind (arith, common_steps, arms_cut arms, cut_braces)
-    statement_cut (if_equal a b body) env t u = grind (arith, common_steps, block_cut body env t u, cut_braces)
+    statement_cut (match_on x arms) env t u = grind (arith, common_steps, arms_cut arms)
+    statement_cut (if_equal a b body) env t u = grind (arith, common_steps, block_cut body env t u)
     statement_cut (for_each_of v from body) env t u =
         cut_answers n (bound_to env from) (λ c t'. run_block body w None ((v, c) ∷ env) t') (λ c t'. run_block body w (Some n) ((v, c) ∷ env) t') env t u (λ c t' k. block_cut body ((v, c) ∷ env) t' k) (λ c t'. block_begins w body ((v, c) ∷ env) t')
-    statement_cut (give at x) env t u = grind (arith, cut_result)
-    statement_cut (labelled body) env t u = cut_label n env (run_block body w None env t) (run_block body w (Some n) env t) (block_cut body env t u)
+    statement_cut (give at x) env t u = grind (arith, common_steps, length_push, reached, begins_self, not_reached)
+    statement_cut (labelled body) env t u = grind (arith, common_steps, block_cut body env t u)
     statement_cut (unless_let x pattern fields) env t u = grind (arith, common_steps, cut_met)
-    statement_cut (unless_equal a b) env t u = grind (arith, cut_if)
+    statement_cut (unless_equal a b) env t u = grind arith
 
     arms_cut : (arms : CodeArms) (c : Content) (env : Env) (t : Trace) → length t.results < n → Cut n (run_code_arms arms w None c env t) (run_code_arms arms w (Some n) c env t)
     arms_cut no_code_arm c env t u = inl (refl, u)
     arms_cut (code_arm pattern fields body rest) c env t u = grind (arith, common_steps, block_cut body, arms_cut rest c env t u, cut_met)
 
 -- 3. outcomes
-calls_made : (f : Flow) → (outcome_of f).calls ≡ (trace_of f).calls
-calls_made f = grind (arith, common_steps)
-
-room : (n : ℕ) (f : Flow) → Under n f → length (trace_of f).results ≤ n
-room n f u = grind (arith, common_steps)
-
 -- what has no room left returned
 full_returns : (n : ℕ) (f : Flow) → Under n f → n ≤ length (outcome_of f).results → (outcome_of f).ending ≡ ended
 full_returns n f u h = grind (arith, common_steps)
@@ -230,7 +209,7 @@ all_taken (suc n) (x ∷ xs) h = ap (λ l. x ∷ l) (all_taken n xs (omega (arit
 all_taken n xs h = grind (arith, common_steps)
 
 outcomes_cut : (n : ℕ) (f g : Flow) → Cut n f g → IsCut n (outcome_of f) (outcome_of g)
-outcomes_cut n f g h = grind (arith, common_steps, all_taken, room, beginning_self, full_returns, take_at, calls_made, length-append)
+outcomes_cut n f g h = grind (arith, common_steps, all_taken, beginning_self, full_returns, take_at, length-append)
 
 pub code_stops_at_bound_lem : CodeStopsAtBound
 code_stops_at_bound_lem body w n = outcomes_cut (suc n) (run_block body w None [] at_start) (run_block body w (Some (suc n)) [] at_start) (block_cut w (suc n) body [] at_start (omega arith))

@@ -1,13 +1,13 @@
 -- The code of a tree runs as the tree, by induction on the tree.
 use Rattle.std.proofs.Common.{◌≡◌, ℕ, suc, ◌&&◌, Bool, true, false, if◌then◌else◌, List, [], ◌∷◌, Option, Some, None, slice_get, refl, sym, ap, ◌∙◌, arith}
 use Rattle.std.proofs.lemmas.Grind.{common_steps}
-use Rattle.model.specs.rules.Values.{Value, of_variant, of_struct}
-use Rattle.model.specs.rules.Meaning.{Content, one, just, many, contents, extractor_answer, bool_literal, literal_value}
+use Rattle.model.specs.rules.Values.{Value}
+use Rattle.model.specs.rules.Meaning.{Content, many, contents}
 use Rattle.model.specs.rules.Outcome.{Call, Outcome, then_option}
-use Rattle.model.specs.sites.Sites.{Site, bool_site, int_site, prim_site, argument_site, extractor_site, constructor_site, iterator_site, make_variant_site, make_struct_site, make_some_site, match_some_site, match_tuple_site}
+use Rattle.model.specs.sites.Sites.{Site, iterator_site}
 use Rattle.model.specs.trees.Trees.{Tree, no_step, step, Check, match_at, equal_at, loop_at, return_at, Arms, no_arm, arm}
 use Rattle.model.specs.trees.Places.{is_in_place}
-use Rattle.model.specs.trees.Run.{World, Env, bound_to, as_value, from_value, part_at, in_place, or_else, used, used_value, used_values, Bound, all_bound, unwrap_failed, no_content_there, now_bound, bind_site, then_bind, bind_all, Trace, with_calls, on_bound, or_next, content_fields, bind_fields, on_met, on_equal, for_each, on_many, iterated, run_tree, run_check, run_arms, at_start}
+use Rattle.model.specs.trees.Run.{World, Env, bound_to, as_value, used, used_value, used_values, Bound, all_bound, unwrap_failed, no_content_there, now_bound, bind_site, then_bind, bind_all, Trace, with_calls, on_bound, or_next, content_fields, bind_fields, on_met, on_equal, for_each, on_many, iterated, run_tree, run_check, run_arms, at_start}
 use Rattle.model_code.specs.Code.{Block, statement}
 use Rattle.model_code.specs.CodeRuns.{held, held_value, held_values, Flow, goes_on, then_flow, in_braces, flow_of_bound, where_met, where_equal, each_flow, on_answers, run_block, run_statement, run_code_arms, outcome_of}
 use Rattle.model_code.specs.TreeCode.{Taker, to_compare, Passes, place_of, use_at, arguments_from, fields_of, bind_code, binds_code, loop_code, tree_code, check_code, arms_code}
@@ -26,9 +26,6 @@ Clean sites env = (s : ℕ) → is_in_place (slice_get sites s) ≡ true → bou
 pub outside : (b : Bool) → (if b then false else true) ≡ true → b ≡ false
 outside b h = grind (arith, common_steps)
 
-clean_push : (sites : List Site) (env : Env) (s : ℕ) (c : Content) → Clean sites env → not_in_place sites s ≡ true → Clean sites ((s, c) ∷ env)
-clean_push sites env s c k h x i = grind (arith, common_steps, outside)
-
 module _ (w : World) (env : Env) (p : Passes) (clean : Clean w.sites env) where
   held_used : (s : ℕ) → held w env (place_of (slice_get w.sites s) s) ≡ used w env s
   held_used s = grind arith
@@ -38,16 +35,16 @@ module _ (w : World) (env : Env) (p : Passes) (clean : Clean w.sites env) where
 
   fields_used : (ss : List ℕ) → held_values w env (fields_of w.sites p ss) ≡ used_values w env ss
   fields_used [] = refl
-  fields_used (s ∷ ss) = grind (arith, common_steps, fields_used ss, value_used)
+  fields_used (s ∷ ss) = grind (arith, common_steps, fields_used ss)
 
   arguments_used : (term i : ℕ) (ss : List ℕ) → held_values w env (arguments_from w.sites p term i ss) ≡ used_values w env ss
   arguments_used term i [] = refl
-  arguments_used term i (s ∷ ss) = grind (arith, common_steps, arguments_used term (suc i) ss, value_used)
+  arguments_used term i (s ∷ ss) = grind (arith, common_steps, arguments_used term (suc i) ss)
 
   -- 2. a site is bound
   binds_site : (t : Trace) (s : ℕ) (o : Option Site) → is_in_place o ≡ false
       → run_statement (bind_code w.sites p s o) w None env t ≡ flow_of_bound (bind_site w env t.calls s o) t
-  binds_site t s o h = grind (arith, common_steps, value_used, arguments_used, fields_used, held_used)
+  binds_site t s o h = grind (arith, common_steps, arguments_used, fields_used, held_used)
 
   -- 3. what is bound stays clean
   abbrev CleanBound : Bound → Type 0
@@ -59,24 +56,7 @@ module _ (w : World) (env : Env) (p : Passes) (clean : Clean w.sites env) where
     now_clean : (calls : List Call) (o : Option Content) → CleanBound (now_bound env calls s o)
     now_clean calls o = grind (arith, common_steps)
 
-    bound_clean : (calls : List Call) (o : Option Site) → CleanBound (bind_site w env calls s o)
-    bound_clean calls (Some (bool_site b ty)) = now_clean calls (from_value (literal_value w.meaning (bool_literal b ty)))
-    bound_clean calls (Some (int_site z ty)) = now_clean calls (in_place w env (int_site z ty))
-    bound_clean calls (Some (prim_site name)) = now_clean calls (in_place w env (prim_site name))
-    bound_clean calls (Some (argument_site i)) = now_clean calls (in_place w env (argument_site i))
-    bound_clean calls (Some (extractor_site term source)) = now_clean calls (then_option (used_value w env source) (extractor_answer w.meaning term))
-    bound_clean calls (Some (constructor_site term sources instance)) = grind (arith, now_clean)
-    bound_clean calls (Some (make_variant_site ty variant fields)) = now_clean calls (then_option (used_values w env fields) (λ vs. Some (one (of_variant ty variant vs))))
-    bound_clean calls (Some (make_struct_site ty fields)) = now_clean calls (then_option (used_values w env fields) (λ vs. Some (one (of_struct ty vs))))
-    bound_clean calls (Some (make_some_site source)) = now_clean calls (then_option (used w env source) (λ c. Some (just c)))
-    bound_clean calls (Some (match_some_site source)) = grind arith
-    bound_clean calls (Some (match_tuple_site source field)) = now_clean calls (then_option (used w env source) (λ c. part_at c field))
-    bound_clean calls _ = tt
-
 -- 4. sites are bound in order, and what follows
-calls_over : (b : Bound) (t : Trace) (calls : List Call) (k : Env → Trace → Outcome) → on_bound b (with_calls t calls) k ≡ on_bound b t k
-calls_over b t calls k = grind (arith, common_steps)
-
 module _ (w : World) (p : Passes) where
   binds_run : (ss : List ℕ) (rest : Block) (k : Env → Trace → Outcome)
       → ((env : Env) (t : Trace) → Clean w.sites env → outcome_of (run_block rest w None env t) ≡ k env t)
@@ -85,17 +65,14 @@ module _ (w : World) (p : Passes) where
   binds_run [] rest k h n env t clean = h env t clean
   binds_run (s ∷ ss) rest k h n env t clean =
       ap (λ f. outcome_of (then_flow f (run_block (binds_code w.sites p ss rest) w None))) (binds_site w env p clean t s (slice_get w.sites s) (outside (is_in_place (slice_get w.sites s)) (left_of _ _ n)))
-      ∙ on (bind_site w env t.calls s (slice_get w.sites s)) (bound_clean w env p clean s (left_of _ _ n) t.calls (slice_get w.sites s)) (λ env' calls' c. binds_run ss rest k h (right_of _ _ n) env' (with_calls t calls') c)
+      ∙ on (bind_site w env t.calls s (slice_get w.sites s)) (grind (arith, common_steps, now_clean)) (λ env' calls' c. binds_run ss rest k h (right_of _ _ n) env' (with_calls t calls') c)
     where
       on : (b : Bound) → CleanBound w env p clean b
           → ((env' : Env) (calls' : List Call) → Clean w.sites env' → outcome_of (run_block (binds_code w.sites p ss rest) w None env' (with_calls t calls')) ≡ on_bound (bind_all w env' calls' ss) (with_calls t calls') k)
           → outcome_of (then_flow (flow_of_bound b t) (run_block (binds_code w.sites p ss rest) w None)) ≡ on_bound (then_bind b (λ env' calls'. bind_all w env' calls' ss)) t k
-      on b c below = grind (arith, calls_over)
+      on b c below = grind arith
 
 -- 5. flows
-braces_same : (env : Env) (f : Flow) → outcome_of (in_braces env f) ≡ outcome_of f
-braces_same env f = grind (arith, common_steps)
-
 next_step : (f : Flow) (env : Env) (go : Env → Trace → Flow) (ho : Trace → Outcome) → ((t : Trace) → outcome_of (go env t) ≡ ho t)
     → outcome_of (then_flow (in_braces env f) go) ≡ or_next (outcome_of f) ho
 next_step f env go ho h = grind (arith, common_steps)
@@ -117,10 +94,6 @@ answers_step : (o : Option Content) (go : Content → Trace → Flow) (ho : Cont
 answers_step (Some (many cs)) go ho env t h = each_step (contents cs) go ho env h t
 answers_step _ go ho env t h = refl
 
-bound_is_used : (b : Option Content) (w : World) (env : Env) (o : Option Site) (ho : Content → Trace → Outcome) (t : Trace)
-    → on_many b ho t ≡ on_many (or_else b (then_option o (in_place w env))) ho t
-bound_is_used b w env o ho t = grind (arith, common_steps)
-
 -- fields are bound
 abbrev CleanOption : List Site → Option Env → Type 0
 CleanOption sites None = Unit {0}
@@ -128,7 +101,7 @@ CleanOption sites (Some env) = Clean sites env
 
 fields_clean : (sites : List Site) (fields : List (Option ℕ)) (cs : List Content) (env : Env) → Clean sites env → no_field_in_place sites fields ≡ true → CleanOption sites (bind_fields fields cs env)
 fields_clean sites (None ∷ rest) (c ∷ cs) env clean h = fields_clean sites rest cs env clean h
-fields_clean sites (Some s ∷ rest) (c ∷ cs) env clean h = fields_clean sites rest cs ((s, c) ∷ env) (clean_push sites env s c clean (left_of _ _ h)) (right_of _ _ h)
+fields_clean sites (Some s ∷ rest) (c ∷ cs) env clean h = fields_clean sites rest cs ((s, c) ∷ env) (grind (arith, common_steps, outside)) (right_of _ _ h)
 fields_clean sites fields cs env clean h = grind (arith, common_steps)
 
 met_step : (sites : List Site) (o : Option (List Content)) (fields : List (Option ℕ)) (env : Env) (t : Trace) (go : Env → Flow) (ho : Env → Outcome) (other : Flow) (x : Outcome)
@@ -142,7 +115,7 @@ module _ (w : World) (p : Passes) where
       → ((c : Content) (t' : Trace) → outcome_of (run_block body w None ((s, c) ∷ env) t') ≡ ho c t')
       → outcome_of (run_statement (loop_code o s body) w None env t) ≡ on_many (then_option (then_option o iterated) (used w env)) ho t
   loop_step (Some (iterator_site source)) s body env t ho h =
-      answers_step (bound_to env source) (λ c t'. run_block body w None ((s, c) ∷ env) t') ho env t h ∙ bound_is_used (bound_to env source) w env (slice_get w.sites source) ho t
+      answers_step (bound_to env source) (λ c t'. run_block body w None ((s, c) ∷ env) t') ho env t h ∙ (grind arith)
   loop_step _ s body env t ho h = refl
 
   check_braced : (check : Check) (env : Env) (t : Trace)
@@ -165,15 +138,15 @@ module _ (w : World) (p : Passes) where
 
     check_runs : (check : Check) → check_binds_none check w.sites ≡ true → (env : Env) (t : Trace) → Clean w.sites env
         → outcome_of (run_statement (check_code check w.sites p) w None env t) ≡ run_check check w env t
-    check_runs (match_at source arms) h env t clean = grind (arith, common_steps, arms_run arms h, braces_same, held_used)
+    check_runs (match_at source arms) h env t clean = grind (arith, common_steps, arms_run arms h, held_used)
     check_runs (equal_at a b body) h env t clean =
-        braces_same env (where_equal (held_value w env (use_at w.sites p (to_compare b) a)) (held_value w env (use_at w.sites p (to_compare a) b)) t (run_block (tree_code body w.sites p) w None env t) (goes_on env t))
+        grind (arith, common_steps)
         ∙ equal_step (held_value w env (use_at w.sites p (to_compare b) a)) (held_value w env (use_at w.sites p (to_compare a) b)) env t (run_block (tree_code body w.sites p) w None env t) (run_tree body w env t) (tree_runs body h env t clean)
         ∙ ap (λ o. on_equal o (held_value w env (use_at w.sites p (to_compare a) b)) t (run_tree body w env t)) (value_used w env p clean (to_compare b) a)
         ∙ ap (λ o. on_equal (used_value w env a) o t (run_tree body w env t)) (value_used w env p clean (to_compare a) b)
     check_runs (loop_at result body) h env t clean =
         loop_step (slice_get w.sites result) result (tree_code body w.sites p) env t (λ c t'. run_tree body w ((result, c) ∷ env) t')
-        (λ c t'. tree_runs body (right_of _ _ h) ((result, c) ∷ env) t' (clean_push w.sites env result c clean (left_of _ _ h)))
+        (λ c t'. tree_runs body (right_of _ _ h) ((result, c) ∷ env) t' (grind (arith, common_steps, outside)))
     check_runs (return_at at result) h env t clean = grind (arith, common_steps, held_used)
 
     arms_run : (arms : Arms) → arms_bind_none arms w.sites ≡ true → (c : Content) (env : Env) (t : Trace) → Clean w.sites env

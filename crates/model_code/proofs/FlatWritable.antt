@@ -26,12 +26,8 @@ module _ (p : Notation) where
     without_label_arms no_code_arm u l h = refl
     without_label_arms (code_arm pattern fields body rest) u l h = grind (arith, without_label body, without_label_arms rest u, or_parts, and_parts, and_from)
 
-  label_writable : (left : Bool) (b : Block) → is_left (result_ends p) b ≡ left → writable p true b ≡ true → writable p left b ≡ true
-  label_writable true b l h = h
-  label_writable false b l h = without_label b l h
-
   within_writable : (deep label : Bool) (inner plain : Block) → writable p true inner ≡ true → writable p false plain ≡ true → writable p label (within deep inner plain) ≡ true
-  within_writable true label inner plain h k = and_from _ _ (label_writable (is_left (result_ends p) inner) inner refl h) refl
+  within_writable true label inner plain h k = and_from _ _ (grind (arith, without_label)) refl
   within_writable false label inner plain h k = with_label p plain label k
 
   unlabelled_end : (s : Statement) (deep : ℕ → Bool) (n : ℕ) → is_end (result_ends p) (flat_at s deep n) ≡ is_end (result_ends p) s

@@ -4,10 +4,10 @@ use Rattle.std.proofs.lemmas.Bool.{and_parts, and_from}
 use Rattle.std.proofs.lemmas.Grind.{common_steps}
 use Rattle.model.specs.sites.Sites.{Constraint, is_variant, is_struct, is_bool, is_int, is_prim, is_present}
 use Rattle.model_code.specs.Code.{PlaceUse, Expr, truth_written, read, extraction, call, variant_of, struct_of, some_of, Block, no_statement, statement, Statement, bind, bind_some, no_way, match_on, if_equal, for_each_of, give, labelled, unless_let, unless_equal, CodeArms, no_code_arm, code_arm}
-use Rattle.model_code.specs.Tokens.{star, comma, colon, arrow, equal_to, opening_brace, Owner, field_name}
-use Rattle.model_code.specs.Notation.{Notation, Callee}
-use Rattle.model_code.specs.Pieces.{CodePiece, token, space, line_end, Margin, inside, in_braces_at, put, put_first, put_first_if, put_between, put_if, use_before, truth_word, args_before, named_values, unnamed_values, answer_before, binding_before, named_bindings, unnamed_bindings, constant_before, pattern_before, arm_pattern, open_body, close_body, one_line, bind_lines, equal_head, arm_head, label_before, is_left, result_ends, block_before, statement_before, arms_before}
-use Rattle.model_code.specs.Written.{is_bare, unwrapped, written, written_at, written_arms}
+use Rattle.model_code.specs.Tokens.{comma, colon, arrow, Owner, field_name}
+use Rattle.model_code.specs.Notation.{Notation}
+use Rattle.model_code.specs.Pieces.{CodePiece, token, space, Margin, inside, in_braces_at, put, put_first, put_first_if, use_before, args_before, named_values, unnamed_values, binding_before, named_bindings, unnamed_bindings, pattern_before, arm_pattern, open_body, close_body, one_line, bind_lines, arm_head, is_left, result_ends, block_before, statement_before, arms_before}
+use Rattle.model_code.specs.Written.{written, written_at, written_arms}
 use Rattle.model_code.specs.Reading.{same_owner}
 use Rattle.model_code.specs.OneReading.{signs_of, Next, anything, a_field, in_order, use_unnamed, uses_unnamed, expr_unnamed, unnamed, unnamed_at, unnamed_arms, PrintedTokensAreInOrder}
 use Rattle.model_code.proofs.Uses.{same_owner-refl}
@@ -26,12 +26,6 @@ module _ (p : Notation) where
   args_fit : (us : List PlaceUse) (rest : List CodePiece) → uses_unnamed p us ≡ true → FitsAll rest → FitsAll (args_before p us rest)
   args_fit [] rest n h = h
   args_fit (u ∷ us) rest n h = let ns = and_parts (use_unnamed p u) (uses_unnamed p us) n in use_fits None u (args_before p us rest) ns.0 (args_fit us rest ns.1 h)
-
-  star_fits : (b : Bool) (rest : List CodePiece) → FitsAll rest → FitsAll (put_if b star rest)
-  star_fits b rest h = grind (arith, common_steps)
-
-  answer_fits : (f : Callee) (us : List PlaceUse) (rest : List CodePiece) → uses_unnamed p us ≡ true → FitsAll rest → FitsAll (answer_before p f us rest)
-  answer_fits f us rest n h = grind (arith, args_fit)
 
   -- where a field may stand: behind the brace, and behind a comma
   abbrev field_place : Owner → ℕ → Next
@@ -53,13 +47,7 @@ module _ (p : Notation) where
   unnamed_fit [] rest n h = h
   unnamed_fit (u ∷ us) rest n h = let ns = and_parts (use_unnamed p u) (uses_unnamed p us) n in use_fits None u (unnamed_values p 1 us rest) ns.0 (unnamed_behind 0 us rest ns.1 h)
 
-  truth_fits : (b : Bool) (rest : List CodePiece) → FitsAll rest → FitsAll (put (truth_word b) rest)
-  truth_fits b rest h = grind (arith, common_steps)
-
   -- 2. patterns
-  binding_fits : (inside : Option Owner) (o : Owner) (i v : ℕ) (rest : List CodePiece) → Fits (anything inside) rest → Fits (anything inside) (binding_before p o i v rest)
-  binding_fits inside o i v rest h = grind arith
-
   abbrev bound_place : Owner → Bool → Next
   bound_place o true = anything (Some o)
   bound_place o false = a_field o
@@ -73,25 +61,22 @@ module _ (p : Notation) where
   named_bindings_fit o i bound lacking (Some v ∷ fields) rest h =
       let later : List CodePiece = named_bindings p o (suc i) true lacking fields rest in
       let behind : List CodePiece = put_first colon (binding_before p o i v later) in
-      comma_if_fits o bound (token (field_name o i) ∷ behind) (field_fits o i behind (binding_fits (Some o) o i v later (named_bindings_fit o (suc i) true lacking fields rest h)))
+      comma_if_fits o bound (token (field_name o i) ∷ behind) (field_fits o i behind (grind (arith, common_steps, named_bindings_fit o (suc i) true lacking fields rest h)))
 
   bindings_behind : (o : Owner) (i : ℕ) (fields : List (Option ℕ)) (rest : List CodePiece) → FitsAll rest → FitsAll (unnamed_bindings p o (suc i) fields rest)
   bindings_behind o i [] rest h = h
-  bindings_behind o i (field ∷ fields) rest h = grind (arith, bindings_behind o (suc i) fields rest h, binding_fits)
+  bindings_behind o i (field ∷ fields) rest h = grind (arith, bindings_behind o (suc i) fields rest h)
 
   unnamed_bindings_fit : (o : Owner) (fields : List (Option ℕ)) (rest : List CodePiece) → FitsAll rest → FitsAll (unnamed_bindings p o 0 fields rest)
   unnamed_bindings_fit o [] rest h = h
-  unnamed_bindings_fit o (field ∷ fields) rest h = grind (arith, bindings_behind, binding_fits)
-
-  constant_fits : (c : Constraint) (rest : List CodePiece) → FitsAll rest → FitsAll (constant_before p c rest)
-  constant_fits c rest h = grind (arith, common_steps, truth_fits)
+  unnamed_bindings_fit o (field ∷ fields) rest h = grind (arith, bindings_behind)
 
   pattern_fits : (c : Constraint) (fields : List (Option ℕ)) (rest : List CodePiece) → FitsAll rest → FitsAll (pattern_before p c fields rest)
   pattern_fits c fields rest h = grind (arith, common_steps, named_bindings_fit, unnamed_bindings_fit)
 
   -- 3. tests
   arm_pattern_fits : (u : PlaceUse) (c : Constraint) (fields : List (Option ℕ)) (rest : List CodePiece) → use_unnamed p u ≡ true → FitsAll rest → FitsAll (arm_pattern p u c fields rest)
-  arm_pattern_fits u (is_prim name) fields rest n h = grind (arith, constant_fits, star_fits, use_fits)
+  arm_pattern_fits u (is_prim name) fields rest n h = grind (arith, use_fits)
   arm_pattern_fits u (is_variant ty variant k) fields rest n h = pattern_fits (is_variant ty variant k) fields rest h
   arm_pattern_fits u (is_struct ty k) fields rest n h = pattern_fits (is_struct ty k) fields rest h
   arm_pattern_fits u (is_bool b ty) fields rest n h = pattern_fits (is_bool b ty) fields rest h
@@ -100,7 +85,7 @@ module _ (p : Notation) where
 
   -- 4. lines
   one_fits : (at : Margin) (v : ℕ) (x : Expr) (rest : List CodePiece) → expr_unnamed p x ≡ true → FitsAll rest → FitsAll (one_line p at v x rest)
-  one_fits at v x rest n h = grind (arith, truth_fits, use_fits, answer_fits, and_from, named_fit, unnamed_fit)
+  one_fits at v x rest n h = grind (arith, use_fits, and_from, named_fit, unnamed_fit, args_fit)
 
   bind_fits : (at : Margin) (v : ℕ) (x : Expr) (rest : List CodePiece) → expr_unnamed p x ≡ true → FitsAll rest → FitsAll (bind_lines p at v x rest)
   bind_fits at v (extraction term u) rest n h = grind (arith, and_from, args_fit, one_fits)
@@ -111,15 +96,9 @@ module _ (p : Notation) where
   bind_fits at v (struct_of ty us) rest n h = one_fits at v (struct_of ty us) rest n h
   bind_fits at v (some_of u) rest n h = one_fits at v (some_of u) rest n h
 
-  equal_fits : (at : Margin) (a b : PlaceUse) (rest : List CodePiece) → use_unnamed p a ≡ true → use_unnamed p b ≡ true → FitsAll rest → FitsAll (equal_head p at a b rest)
-  equal_fits at a b rest m n h = use_fits None a (put_between equal_to (use_before p b (open_body rest))) m (use_fits None b (open_body rest) n h)
-
   arm_fits : (alone : Bool) (at : Margin) (u : PlaceUse) (c : Constraint) (fields : List (Option ℕ)) (rest : List CodePiece) → use_unnamed p u ≡ true → FitsAll rest → FitsAll (arm_head alone p at u c fields rest)
-  arm_fits true at u c fields rest n h = grind (arith, constant_fits, star_fits, use_fits, pattern_fits)
+  arm_fits true at u c fields rest n h = grind (arith, use_fits, pattern_fits)
   arm_fits false at u c fields rest n h = arm_pattern_fits u c fields (space ∷ put arrow (open_body rest)) n h
-
-  label_fits : (left : Bool) (at : Margin) (rest : List CodePiece) → FitsAll rest → FitsAll (label_before left at rest)
-  label_fits left at rest h = grind (arith, common_steps)
 
   -- 5. blocks
   mutual
@@ -135,12 +114,12 @@ module _ (p : Notation) where
     statement_fits (if_equal a b body) at rest n h =
         let ns = and_parts (use_unnamed p a) (use_unnamed p b && unnamed p body) n in
         let ms = and_parts (use_unnamed p b) (unnamed p body) ns.1 in
-        equal_fits at a b (block_before p (inside at) body (close_body at rest)) ns.0 ms.0 (block_fits body (inside at) (close_body at rest) ms.1 h)
+        grind (arith, common_steps, use_fits, block_fits body (inside at) (close_body at rest) ms.1 h, ns.0, ms.0)
     statement_fits (for_each_of v from body) at rest n h = block_fits body (inside at) (close_body at rest) n h
     statement_fits (give place u) at rest n h = grind (arith, use_fits)
     statement_fits (labelled body) at rest n h =
-        label_fits (is_left (result_ends p) body) at (put opening_brace (line_end ∷ block_before p (in_braces_at (is_left (result_ends p) body) at) body (close_body at rest))) (block_fits body (in_braces_at (is_left (result_ends p) body) at) (close_body at rest) n h)
-    statement_fits (unless_let u c fields) at rest n h = grind (arith, constant_fits, star_fits, use_fits, pattern_fits)
+        grind (arith, common_steps, block_fits body (in_braces_at (is_left (result_ends p) body) at) (close_body at rest) n h)
+    statement_fits (unless_let u c fields) at rest n h = grind (arith, use_fits, pattern_fits)
     statement_fits (unless_equal a b) at rest n h = grind (arith, and_parts, use_fits)
 
     arms_fit : (arms : CodeArms) (alone : Bool) (at : Margin) (u : PlaceUse) (rest : List CodePiece) → use_unnamed p u ≡ true → unnamed_arms p arms ≡ true → FitsAll rest → FitsAll (arms_before alone p at u arms rest)
@@ -148,9 +127,6 @@ module _ (p : Notation) where
     arms_fit (code_arm c fields body more) alone at u rest m n h = grind (arith, block_fits body (inside at), arms_fit more alone at u rest m, and_parts, arm_fits)
 
   -- 6. as code is written
-  unwrapped_unnamed : (b : Bool) (code : Block) → unnamed p code ≡ true → unnamed p (unwrapped b code) ≡ true
-  unwrapped_unnamed b code n = grind (arith, common_steps, and_parts)
-
   mutual
     written_unnamed : (b : Block) → unnamed p b ≡ true → unnamed p (written p b) ≡ true
     written_unnamed no_statement n = refl
@@ -161,8 +137,8 @@ module _ (p : Notation) where
     statement_unnamed (if_equal a b body) n =
         let ns = and_parts (use_unnamed p a) (use_unnamed p b && unnamed p body) n in
         let ms = and_parts (use_unnamed p b) (unnamed p body) ns.1 in
-        and_from _ _ ns.0 (and_from _ _ ms.0 (unwrapped_unnamed (is_bare p body) (written p body) (written_unnamed body ms.1)))
-    statement_unnamed (for_each_of v from body) n = unwrapped_unnamed (is_bare p body) (written p body) (written_unnamed body n)
+        and_from _ _ ns.0 (and_from _ _ ms.0 (grind (arith, common_steps, and_parts, written_unnamed body ms.1)))
+    statement_unnamed (for_each_of v from body) n = grind (arith, common_steps, and_parts, written_unnamed body n)
     statement_unnamed (labelled body) n = written_unnamed body n
     statement_unnamed _ n = n
 
@@ -170,7 +146,7 @@ module _ (p : Notation) where
     arms_unnamed no_code_arm n = refl
     arms_unnamed (code_arm pattern fields body rest) n =
         let ns = and_parts (unnamed p body) (unnamed_arms p rest) n in
-        and_from _ _ (unwrapped_unnamed (is_bare p body) (written p body) (written_unnamed body ns.0)) (arms_unnamed rest ns.1)
+        and_from _ _ (grind (arith, common_steps, and_parts, written_unnamed body ns.0)) (arms_unnamed rest ns.1)
 
 pub printed_tokens_are_in_order_lem : PrintedTokensAreInOrder
 printed_tokens_are_in_order_lem p code n = grind (arith, common_steps, block_fits, written_unnamed)

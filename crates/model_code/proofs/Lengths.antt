@@ -6,8 +6,8 @@ use Rattle.model.specs.lists.Syntax.{Position}
 use Rattle.model.specs.sites.Sites.{Constraint, is_variant, is_struct, is_bool, is_int, is_prim, is_present}
 use Rattle.model_code.specs.Code.{PlaceUse, Expr, truth_written, read, extraction, call, variant_of, struct_of, some_of, Block, no_statement, statement, Statement, bind, bind_some, no_way, match_on, if_equal, for_each_of, give, labelled, unless_let, unless_equal, CodeArms, no_code_arm, code_arm}
 use Rattle.model_code.specs.Tokens.{arrow, Owner}
-use Rattle.model_code.specs.Notation.{Notation, Callee}
-use Rattle.model_code.specs.Pieces.{CodePiece, space, tokens_of, Margin, inside, in_braces_at, put, use_before, args_before, named_values, unnamed_values, answer_before, named_bindings, unnamed_bindings, constant_before, pattern_before, is_constant, condition_before, arm_pattern, open_body, close_body, one_line, bind_lines, result_lines, unless_line, is_alone, arm_head, match_end, is_left, result_ends, block_before, statement_before, arms_before}
+use Rattle.model_code.specs.Notation.{Notation}
+use Rattle.model_code.specs.Pieces.{CodePiece, space, tokens_of, Margin, inside, in_braces_at, put, use_before, args_before, named_values, unnamed_values, named_bindings, unnamed_bindings, pattern_before, is_constant, condition_before, arm_pattern, open_body, close_body, one_line, bind_lines, result_lines, unless_line, is_alone, arm_head, match_end, is_left, result_ends, block_before, statement_before, arms_before}
 use Rattle.model_code.specs.ReadsBack.{expr_size, size, size_at, size_of_arms}
 
 abbrev long : List CodePiece → ℕ
@@ -21,9 +21,6 @@ module _ (p : Notation) where
   args_long : (us : List PlaceUse) (rest : List CodePiece) → length us + long rest ≤ long (args_before p us rest)
   args_long [] rest = omega arith
   args_long (u ∷ us) rest = omega (arith, use_long u (args_before p us rest), args_long us rest)
-
-  answer_long : (f : Callee) (us : List PlaceUse) (rest : List CodePiece) → suc (length us) + long rest ≤ long (answer_before p f us rest)
-  answer_long f us rest = grind (arith, args_long)
 
   named_long : (o : Owner) (i : ℕ) (us : List PlaceUse) (rest : List CodePiece) → long rest ≤ long (named_values p o i us rest)
   named_long o i [] rest = omega arith
@@ -43,19 +40,16 @@ module _ (p : Notation) where
   unnamed_fields_long o i [] rest = omega arith
   unnamed_fields_long o i (field ∷ fields) rest = grind (arith, common_steps, unnamed_fields_long o (suc i) fields rest)
 
-  constant_long : (c : Constraint) (rest : List CodePiece) → long rest ≤ long (constant_before p c rest)
-  constant_long c rest = grind (arith, common_steps)
-
   pattern_long : (c : Constraint) (fields : List (Option ℕ)) (rest : List CodePiece) → long rest ≤ long (pattern_before p c fields rest)
   pattern_long c fields rest = grind (arith, common_steps, named_fields_long, unnamed_fields_long)
 
   -- 3. tests
   condition_long : (constant : Bool) (u : PlaceUse) (c : Constraint) (fields : List (Option ℕ)) (rest : List CodePiece) → suc (long rest) ≤ long (condition_before constant p u c fields rest)
-  condition_long true u c fields rest = grind (arith, use_long, constant_long)
+  condition_long true u c fields rest = grind (arith, use_long)
   condition_long false u c fields rest = grind (arith, pattern_long, use_long)
 
   arm_pattern_long : (u : PlaceUse) (c : Constraint) (fields : List (Option ℕ)) (rest : List CodePiece) → long rest ≤ long (arm_pattern p u c fields rest)
-  arm_pattern_long u (is_prim name) fields rest = grind (arith, use_long, constant_long)
+  arm_pattern_long u (is_prim name) fields rest = grind (arith, use_long)
   arm_pattern_long u (is_variant ty variant n) fields rest = pattern_long (is_variant ty variant n) fields rest
   arm_pattern_long u (is_struct ty n) fields rest = pattern_long (is_struct ty n) fields rest
   arm_pattern_long u (is_bool b ty) fields rest = pattern_long (is_bool b ty) fields rest
@@ -64,7 +58,7 @@ module _ (p : Notation) where
 
   -- 4. lines
   one_long : (at : Margin) (v : ℕ) (x : Expr) (rest : List CodePiece) → suc (expr_size x) + long rest ≤ long (one_line p at v x rest)
-  one_long at v x rest = grind (arith, use_long, answer_long, named_long, unnamed_long)
+  one_long at v x rest = grind (arith, use_long, named_long, unnamed_long, args_long)
 
   bind_long : (at : Margin) (v : ℕ) (x : Expr) (rest : List CodePiece) → suc (expr_size x) + long rest ≤ long (bind_lines p at v x rest)
   bind_long at v (extraction term u) rest = grind (arith, args_long, one_long)

@@ -5,13 +5,13 @@ use Rattle.std.specs.Prelude.{min}
 use Rattle.std.specs.Fmt.{digits, digits_onto, digit_glyph}
 use Rattle.std.proofs.lemmas.Bool.{and_parts, and_from, false≢true, not-true, ne_eqb}
 use Rattle.std.proofs.lemmas.List.{append_assoc, append-nil}
-use Rattle.std.proofs.lemmas.List.Elements.{All-nil, All-cons, All-head, All-tail, All-append}
-use Rattle.model_code.specs.Tokens.{Word, Token, word, variable_name, parameter_name, part_name, number, constant_name, owner_name, field_name, function_name, list_name, label_name, no_match}
+use Rattle.std.proofs.lemmas.List.Elements.{All-head, All-tail}
+use Rattle.model_code.specs.Tokens.{Token, word, variable_name, parameter_name, part_name, number, constant_name, owner_name, field_name, function_name, list_name, label_name, no_match}
 use Rattle.model_code.specs.Pieces.{CodePiece, token, space, set_in, line_end, rule_comment, log_line}
 use Rattle.model_code.specs.Written.{function_body}
-use Rattle.model_code.specs.Spelling.{Names, word_text, token_text, spelled, deepest}
+use Rattle.model_code.specs.Spelling.{Names, token_text, spelled, deepest}
 use Rattle.model_code.specs.Parted.{Behind, nothing, a_name, a_field, an_open_mark, ends, parted}
-use Rattle.model_code.specs.Lexing.{is_letter, is_just_r, is_raw, in_word, behind_mark, in_comment, lexed_from, lexed, ends_word_before, starts_apart, IsWholeText, IsWholeWord, AreWhole, pieces_lexed, TextHasTokens, words_of_word, OwnTokensAreWords}
+use Rattle.model_code.specs.Lexing.{is_letter, is_just_r, is_raw, in_word, behind_mark, in_comment, lexed_from, lexed, ends_word_before, starts_apart, IsWholeText, IsWholeWord, AreWhole, pieces_lexed, TextHasTokens, OwnTokensAreWords}
 use Rattle.model_code.specs.Closed.{all_letters}
 use Rattle.model_code.proofs.Parted.{apart_behind, tokens_are_parted_lem}
 
@@ -104,9 +104,6 @@ goes_apart an_open_mark rest = ends_mark_before rest
 abbrev IsToken : Behind → List ℕ → Type 0
 IsToken behind text = (rest : List ℕ) → goes_apart behind rest ≡ true → lexed (text ++ rest) ≡ lexed text ++ lexed rest
 
-part_whole : (ds : List ℕ) → begins_letter ds ≡ true → all_letters ds ≡ true → IsWholeText (46 ∷ ds)
-part_whole ds b h rest r = grind (arith, common_steps, letters_whole, append-nil, mark_stops)
-
 -- 5. what may stand behind a token
 pub letters_before : (x y : List ℕ) → all_letters x ≡ true → all_letters y ≡ true → all_letters (x ++ y) ≡ true
 letters_before [] y h k = k
@@ -117,7 +114,7 @@ module _ (names : Names) (whole : AreWhole names) where
   token_read (word w) = grind (arith, letters_whole, mark_stops)
   token_read (variable_name v) = letters_whole (codes "v" ++ decimal v) (letters_before (codes "v") (decimal v) refl (decimal_letters v))
   token_read (parameter_name i) = letters_whole (codes "arg" ++ decimal i) (letters_before (codes "arg") (decimal i) refl (decimal_letters i))
-  token_read (part_name i) = part_whole (decimal i) (decimal_begins i) (decimal_letters i)
+  token_read (part_name i) = grind (arith, common_steps, letters_whole, append-nil, mark_stops, decimal_begins i, decimal_letters i)
   token_read (number z ending) = whole.number z ending
   token_read (constant_name name) = whole.constant name
   token_read (owner_name o) = whole.owner o
@@ -143,9 +140,6 @@ module _ (names : Names) (whole : AreWhole names) where
   comment_skipped [] rest h = refl
   comment_skipped (c ∷ text) rest h = grind (arith, common_steps, comment_skipped text rest (All-tail OnLine c text h), ne_eqb c 10 (All-head OnLine c text h))
 
-  ends_by_dot : (text : List ℕ) → All OnLine text → All OnLine (text ++ codes ".")
-  ends_by_dot text h = All-append OnLine text (codes ".") h (All-cons OnLine 46 [] (omega arith) (All-nil OnLine))
-
   -- 6. a text that may stand behind another
   text_apart : (behind : Behind) (ps : List CodePiece) → parted behind ps ≡ true → goes_apart behind (spelled names ps) ≡ true
   text_apart behind (set_in depth ∷ rest) h = white_apart behind (4 * min depth deepest) (spelled names rest) (text_apart behind rest h)
@@ -159,7 +153,7 @@ module _ (names : Names) (whole : AreWhole names) where
   pieces_read (set_in depth ∷ rest) h = white_skipped (4 * min depth deepest) (spelled names rest) ∙ pieces_read rest h
   pieces_read (line_end ∷ rest) h = pieces_read rest h
   pieces_read (rule_comment at ∷ (line_end ∷ rest)) h =
-      comment_skipped (names.place at ++ codes ".") (spelled names rest) (ends_by_dot (names.place at) (whole.place at)) ∙ pieces_read rest h
+      comment_skipped (names.place at ++ codes ".") (spelled names rest) (grind (arith, common_steps)) ∙ pieces_read rest h
   pieces_read (log_line at ∷ rest) h =
       whole.log at (spelled names rest) (text_apart a_name rest h) ∙ ap (λ xs. lexed (names.log at) ++ xs) (pieces_read rest (apart_behind a_name rest h))
   pieces_read ps h = grind arith
@@ -178,12 +172,9 @@ one_label ds h = ap (λ x. lexed (39 ∷ x)) (sym (append-nil ds)) ∙ label_rea
 dot_and_word : (ds : List ℕ) → begins_letter ds ≡ true → all_letters ds ≡ true → lexed (46 ∷ ds) ≡ (46 ∷ []) ∷ (ds ∷ [])
 dot_and_word ds b h = grind (arith, append-nil, one_word, mark_stops)
 
-own_word : (w : Word) → lexed (word_text w) ≡ words_of_word w
-own_word w = grind (arith, common_steps)
-
 pub own_tokens_are_words_lem : OwnTokensAreWords
 own_tokens_are_words_lem = record {
-  words = own_word;
+  words = grind arith;
   variables = λ names v. one_word (codes "v" ++ decimal v) refl (letters_before (codes "v") (decimal v) refl (decimal_letters v));
   parameters = λ names i. one_word (codes "arg" ++ decimal i) refl (letters_before (codes "arg") (decimal i) refl (decimal_letters i));
   parts = λ names i. dot_and_word (decimal i) (decimal_begins i) (decimal_letters i);

@@ -1,13 +1,13 @@
 -- Uses fit: in flat code as before, and in the code of a typed tree by its types.
-use Rattle.std.proofs.Common.{◌≡◌, ◌&&◌, ◌||◌, ◌∷◌, [], ℕ, suc, Bool, true, false, List, Option, Some, None, refl, ap, ◌∙◌, sym, arith}
+use Rattle.std.proofs.Common.{◌≡◌, ◌&&◌, ◌∷◌, [], ℕ, suc, Bool, true, false, List, Option, Some, None, refl, ap, ◌∙◌, sym, arith}
 use Rattle.std.proofs.lemmas.Bool.{and_parts, and_from, false≢true}
 use Rattle.std.proofs.lemmas.Grind.{common_steps}
 use Rattle.model.specs.sites.Sites.{Site, bool_site, extractor_site, constructor_site, make_variant_site, make_struct_site, make_some_site, match_some_site, Constraint}
 use Rattle.model.specs.trees.Trees.{Tree, no_step, step, Check, match_at, equal_at, loop_at, return_at, Arms, no_arm, arm}
-use Rattle.model_code.specs.Code.{Place, PlaceUse, Block, no_statement, statement, Statement, bind, bind_some, no_way, match_on, if_equal, for_each_of, give, CodeArms, no_code_arm, code_arm}
+use Rattle.model_code.specs.Code.{PlaceUse, Block, no_statement, statement, Statement, bind, bind_some, no_way, match_on, if_equal, for_each_of, give, CodeArms, no_code_arm, code_arm}
 use Rattle.model_code.specs.TreeCode.{Passes, use_at, arguments_from, fields_of, bind_code, binds_code, tree_code, check_code, arms_code, to_match}
 use Rattle.model_code.specs.Flat.{unlabelled, unlabelled_at, unlabelled_arms, within, flat, flat_at, flat_arms, leaving, leaving_last, leaving_match}
-use Rattle.model_code.specs.Modes.{BindingMode, Types, mode_at, is_new, is_value, is_owned, Given, gives_value, gives_reference, given_by, given, fits_value, fits_equal, fits_pattern, fits_inside, fits_fields, fits_parameters, fit_values, block_fits, statement_fits, arms_fit, keep_or_clone, look_at, place_in, passes_of, copy_is_value, is_typed_at, arguments_typed, fields_typed, inside_typed, site_typed, binds_typed, brought_typed, tree_typed, check_typed, arms_typed, FlatKeepsModes, PassesByTypesFit}
+use Rattle.model_code.specs.Modes.{BindingMode, Types, is_value, Given, gives_value, gives_reference, given_by, given, fits_equal, fits_pattern, fits_inside, fits_fields, fits_parameters, fit_values, block_fits, statement_fits, arms_fit, look_at, place_in, passes_of, is_typed_at, arguments_typed, fields_typed, inside_typed, site_typed, binds_typed, brought_typed, tree_typed, check_typed, arms_typed, FlatKeepsModes, PassesByTypesFit}
 use Rattle.model_code.proofs.PrintedCode.{tree_unlabelled}
 
 -- 1. labels
@@ -83,22 +83,13 @@ pub flat_keeps_modes_lem : FlatKeepsModes
 flat_keeps_modes_lem types multi away b deep n u h = flat_fits types multi away deep b n u h
 
 -- 2. each way to hand on gives what is wanted: by mode, whether it is Copy, and whether it is made on the spot
-kept_fits : (m : BindingMode) (copy new owned : Bool) → copy_is_value m copy ≡ true → (new ≡ true → is_value m ≡ true) → fits_value false (given_by m (new || copy) owned (keep_or_clone (new || copy))) ≡ true
-kept_fits m copy new owned h k = grind (arith, common_steps)
-
 seen_fits : (m q : BindingMode) (keep owned keep' owned' : Bool) → fits_equal (given_by m keep owned (look_at m q)) (given_by q keep' owned' (look_at q m)) ≡ true
 seen_fits m q keep owned keep' owned' = grind (arith, common_steps)
-
-new_is_value : (types : Types) (place : Place) → is_new place ≡ true → is_value (mode_at types place) ≡ true
-new_is_value types place h = grind (arith, common_steps)
 
 -- what is matched is a value where it is Copy, else a reference
 abbrev matched : Bool → Given
 matched true = gives_value
 matched false = gives_reference
-
-inside_fits : (types : Types) (copy : Bool) (v : ℕ) → inside_typed types copy v ≡ true → fits_inside types (matched copy) v ≡ true
-inside_fits types copy v h = grind (arith, common_steps)
 
 brought_fit : (types : Types) (c : Constraint) (copy : Bool) (fields : List (Option ℕ)) → brought_typed types c copy fields ≡ true → fits_fields types c (matched copy) fields ≡ true
 brought_fit types c copy [] h = refl
@@ -130,10 +121,10 @@ module _ (types : Types) (multi : Bool) (sites : List Site) where
   bind_fits s (Some (make_some_site source)) h =
       let place = place_in sites source in
       let hs = and_parts (is_value (types.variables s)) (is_typed_at types place) h in
-      and_from _ _ hs.0 (kept_fits (mode_at types place) (types.is_copy place) (is_new place) (is_owned types place) hs.1 (new_is_value types place))
+      and_from _ _ hs.0 (grind (arith, common_steps))
   bind_fits s (Some (match_some_site source)) h =
       let hs = and_parts (is_typed_at types (place_in sites source)) (inside_typed types (types.is_copy (place_in sites source)) s) h in
-      ap (λ g. fits_inside types g s) (sym (match_is source hs.0)) ∙ inside_fits types (types.is_copy (place_in sites source)) s hs.1
+      ap (λ g. fits_inside types g s) (sym (match_is source hs.0)) ∙ (grind (arith, common_steps))
   bind_fits s _ h = refl
 
   binds_fit : (ss : List ℕ) (rest : Block) → binds_typed types sites ss ≡ true → block_fits types multi false rest ≡ true → block_fits types multi false (binds_code sites p ss rest) ≡ true
@@ -149,7 +140,7 @@ module _ (types : Types) (multi : Bool) (sites : List Site) where
     check_fits (match_at source arms) h = grind (arith, common_steps, arms_are_fit arms (types.is_copy (place_in sites source)), and_parts, match_is)
     check_fits (equal_at a b body) h = grind (arith, common_steps, tree_fits body h, and_from, seen_fits)
     check_fits (loop_at result body) h = grind (arith, common_steps, tree_fits body, and_parts)
-    check_fits (return_at at result) h = grind (arith, common_steps, new_is_value)
+    check_fits (return_at at result) h = grind (arith, common_steps)
 
     arms_are_fit : (arms : Arms) (copy : Bool) → arms_typed types sites copy arms ≡ true → arms_fit types multi false (matched copy) (arms_code arms sites p) ≡ true
     arms_are_fit no_arm copy h = refl

@@ -2,7 +2,6 @@
 use Rattle.std.proofs.Common.{◌≡◌, ◌&&◌, ◌||◌, ◌++◌, ◌∷◌, ◌==◌, [], ℕ, suc, Bool, true, false, not, List, refl, ap, arith}
 use Rattle.std.proofs.lemmas.Grind.{common_steps}
 use Rattle.std.proofs.lemmas.Bool.{and_parts, and_from, false≢true, not-true}
-use Rattle.model.specs.sites.Sites.{Constraint}
 use Rattle.model.specs.trees.Places.{is_in, field_sites}
 use Rattle.model_code.specs.Code.{Place, variable, PlaceUse, Block, no_statement, statement, Statement, bind, bind_some, no_way, match_on, if_equal, for_each_of, give, labelled, unless_let, unless_equal, CodeArms, no_code_arm, code_arm}
 use Rattle.model_code.specs.Scopes.{unless_ended}
@@ -17,12 +16,6 @@ pub and_false : (a b : Bool) → b ≡ false → (a && b) ≡ false
 and_false a b h = grind (arith, common_steps)
 
 -- 1. what fits isn't given away
-parameter_stays : (takes : Bool) (g : Given) → fits_parameter takes g ≡ true → is_away g ≡ false
-parameter_stays takes g h = grind (arith, common_steps)
-
-pattern_stays : (c : Constraint) (g : Given) → fits_pattern c g ≡ true → is_away g ≡ false
-pattern_stays c g h = grind (arith, common_steps)
-
 module _ (types : Types) where
   stays_well : (inside : List ℕ) (later : Place → Bool) (u : PlaceUse) → is_away (given types u) ≡ false → moves_well types inside later u ≡ true
   stays_well inside later u h = ap (λ b. not b || may_move inside later u.place) h
@@ -31,7 +24,7 @@ module _ (types : Types) where
   parameters_well inside later term i before [] h = refl
   parameters_well inside later term i before (u ∷ us) h =
       let hs = and_parts (fits_parameter (types.takes_reference term i) (given types u)) (fits_parameters types term (suc i) us) h in
-      and_from _ _ (stays_well inside (beside before us later) u (parameter_stays (types.takes_reference term i) (given types u) hs.0)) (parameters_well inside later term (suc i) (u ∷ before) us hs.1)
+      and_from _ _ (stays_well inside (beside before us later) u (grind (arith, common_steps))) (parameters_well inside later term (suc i) (u ∷ before) us hs.1)
 
   values_well : (inside : List ℕ) (later : Place → Bool) (before us : List PlaceUse) → fit_values types false us ≡ true → all_move_well types inside later before us ≡ true
   values_well inside later before [] h = refl
@@ -81,13 +74,10 @@ module _ (types : Types) (multi : Bool) (taken : ℕ → Bool) where
   abbrev Within : List ℕ → List ℕ → Type 0
   Within fresh inside = (x : ℕ) → taken x ≡ true → is_in x fresh ≡ true → is_in x inside ≡ true
 
-  nothing_within : (inside : List ℕ) → Within [] inside
-  nothing_within inside x t h = absurd (false≢true h)
-
   -- behind a statement, where the rest moves well
   rest_well : (s : Statement) (rest : Block) (fresh inside : List ℕ) (after : Place → Bool) → ((next movable : List ℕ) → Within next movable → block_takes taken next rest ≡ true → block_moves types multi movable after rest ≡ true)
       → Within fresh inside → statement_takes taken fresh s ≡ true → unless_ended s (block_takes taken (fresh_after fresh s) rest) ≡ true → unless_ended s (block_moves types multi (movable_after inside s) after rest) ≡ true
-  rest_well s rest fresh inside after later w k h = grind (arith, common_steps, nothing_within, kept_without)
+  rest_well s rest fresh inside after later w k h = grind (arith, common_steps, kept_without)
 
   mutual
     block_well : (b : Block) (fresh inside : List ℕ) (after : Place → Bool) → Within fresh inside → Unread after → block_fits types multi false b ≡ true → block_takes taken fresh b ≡ true → block_moves types multi inside after b ≡ true
@@ -101,14 +91,14 @@ module _ (types : Types) (multi : Bool) (taken : ℕ → Bool) where
 
     statement_well : (s : Statement) (rest : Block) (fresh inside : List ℕ) (after : Place → Bool) → Within fresh inside → Unread after → statement_fits types multi false s ≡ true → statement_takes taken fresh s ≡ true
         → unless_ended s (block_takes taken (fresh_after fresh s) rest) ≡ true → statement_moves types multi inside (behind s rest after) s ≡ true
-    statement_well (bind v e) rest fresh inside after w n f h k = grind (arith, stays_well, and_parts, parameter_stays, parameters_well, values_well)
+    statement_well (bind v e) rest fresh inside after w n f h k = grind (arith, stays_well, and_parts, parameters_well, values_well)
     statement_well (bind_some v u) rest fresh inside after w n f h k = grind (arith, stays_well)
     statement_well (match_on u arms) rest fresh inside after w n f h k =
         arms_well arms (unlooked inside u.place) (behind (match_on u arms) rest after) (given types u) (moves_well types inside (around_arms arms (behind (match_on u arms) rest after)) u)
         (λ c t. or_false _ _ (quiet taken c t rest [] refl k) (n c t)) (stays_well types inside (around_arms arms (behind (match_on u arms) rest after)) u) f
         (and_parts (other taken u.place) (arms_take taken arms) h).1
     statement_well (if_equal a b body) rest fresh inside after w n f h k =
-        block_well body [] inside (behind (if_equal a b body) rest after) (nothing_within inside) (λ c t. or_false _ _ (quiet taken c t rest [] refl k) (n c t))
+        block_well body [] inside (behind (if_equal a b body) rest after) (grind arith) (λ c t. or_false _ _ (quiet taken c t rest [] refl k) (n c t))
         (and_parts (fits_equal (given types a) (given types b)) (block_fits types multi false body) f).1
         (and_parts (other taken a.place && other taken b.place) (block_takes taken [] body) h).1
     statement_well (for_each_of v from body) rest fresh inside after w n f h k =
@@ -117,11 +107,11 @@ module _ (types : Types) (multi : Bool) (taken : ℕ → Bool) where
         let unread_behind = or_false _ _ (and_false (not (is_of (v ∷ []) (variable from))) _ (quiet taken from os.0 body [] refl hs.1)) (or_false _ _ (quiet taken from os.0 rest [] refl k) (n from os.0)) in
         and_from _ _
         (and_from _ _ (w from os.0 os.1) (ap not unread_behind))
-        (block_well body [] (v ∷ []) read_no_more (nothing_within (v ∷ [])) (λ c t. refl) (and_parts (is_value (types.variables v) && is_value (types.variables from)) (block_fits types multi false body) f).1 hs.1)
+        (block_well body [] (v ∷ []) read_no_more (grind arith) (λ c t. refl) (and_parts (is_value (types.variables v) && is_value (types.variables from)) (block_fits types multi false body) f).1 hs.1)
     statement_well (give at u) rest fresh inside after w n f h k = grind (arith, common_steps, stays_well)
     statement_well (labelled body) rest fresh inside after w n f h k =
-        block_well body [] inside (behind (labelled body) rest after) (nothing_within inside) (λ c t. or_false _ _ (quiet taken c t rest [] refl k) (n c t)) f h
-    statement_well (unless_let u pattern fields) rest fresh inside after w n f h k = grind (arith, common_steps, stays_well, pattern_stays, and_parts)
+        block_well body [] inside (behind (labelled body) rest after) (grind arith) (λ c t. or_false _ _ (quiet taken c t rest [] refl k) (n c t)) f h
+    statement_well (unless_let u pattern fields) rest fresh inside after w n f h k = grind (arith, common_steps, stays_well, and_parts)
     statement_well s rest fresh inside after w n f h k = refl
 
     arms_well : (arms : CodeArms) (inside : List ℕ) (later : Place → Bool) (g : Given) (well : Bool) → Unread later → (is_away g ≡ false → well ≡ true) → arms_fit types multi false g arms ≡ true → arms_take taken arms ≡ true
@@ -132,9 +122,9 @@ module _ (types : Types) (multi : Bool) (taken : ℕ → Bool) where
         let ks = and_parts (block_fits types multi false body) (arms_fit types multi false g rest) fs.1 in
         let hs = and_parts (block_takes taken [] body) (arms_take taken rest) h in
         and_from _ _
-        (and_from _ _ (s (pattern_stays pattern g (and_parts (fits_pattern pattern g) (fits_fields types pattern g fields) fs.0).0))
-        (block_well body [] (field_sites fields ++ inside) later (nothing_within (field_sites fields ++ inside)) n ks.0 hs.0))
+        (and_from _ _ (s (grind (arith, common_steps)))
+        (block_well body [] (field_sites fields ++ inside) later (grind arith) n ks.0 hs.0))
         (arms_well rest inside later g well n s ks.1 hs.1)
 
 pub fitting_code_moves_once_lem : FittingCodeMovesOnce
-fitting_code_moves_once_lem types multi taken code f h = block_well types multi taken code [] [] read_no_more (nothing_within types multi taken []) (λ c t. refl) f h
+fitting_code_moves_once_lem types multi taken code f h = block_well types multi taken code [] [] read_no_more (grind arith) (λ c t. refl) f h

@@ -8,7 +8,7 @@ use Rattle.model_code.specs.Modes.{Types}
 use Rattle.model_code.specs.MovedOnce.{unlooked, movable_after, behind, read_no_more}
 use Rattle.model_code.specs.Saving.{all_saved, saved, saved_at, saved_arms}
 use Rattle.model_code.specs.Notation.{Notation}
-use Rattle.model_code.specs.Pieces.{is_left, leaves_at, leaves_arms, result_ends, is_end}
+use Rattle.model_code.specs.Pieces.{is_left, leaves_at, leaves_arms, result_ends}
 use Rattle.model_code.specs.ReadsBack.{pattern_writable, match_writable, writable, writable_at, writable_arms, MovesKeepWritable}
 use Rattle.model_code.proofs.Written.{either}
 
@@ -17,13 +17,10 @@ both e h = λ i. e i && h i
 
 module _ (types : Types) (p : Notation) where
   -- 1. statements end as before, and tests leave labels as before
-  ends_same : (s : Statement) (ends : Bool) (inside : List ℕ) (later : Place → Bool) → is_end ends (saved_at types inside later s) ≡ is_end ends s
-  ends_same s ends inside later = grind (arith, common_steps)
-
   mutual
     left_same : (b : Block) (ends : Bool) (inside : List ℕ) (after : Place → Bool) → is_left ends (saved types inside after b) ≡ is_left ends b
     left_same no_statement ends inside after = refl
-    left_same (statement s rest) ends inside after = grind (arith, leaves_same s ends inside, left_same rest ends (movable_after inside s) after, either, ends_same)
+    left_same (statement s rest) ends inside after = grind (arith, leaves_same s ends inside, left_same rest ends (movable_after inside s) after, either)
 
     leaves_same : (s : Statement) (ends : Bool) (inside : List ℕ) (later : Place → Bool) → leaves_at ends (saved_at types inside later s) ≡ leaves_at ends s
     leaves_same (match_on u arms) ends inside later = arms_same arms ends (unlooked inside u.place) later
@@ -47,7 +44,7 @@ module _ (types : Types) (p : Notation) where
     saved_writable (statement s rest) label inside after =
         let later = behind s rest after in
         both (saved_writable_at s label inside later)
-        (grind (arith, common_steps, saved_writable rest label (movable_after inside s) after, ends_same))
+        (grind (arith, common_steps, saved_writable rest label (movable_after inside s) after))
 
     saved_writable_at : (s : Statement) (label : Bool) (inside : List ℕ) (later : Place → Bool) → writable_at p label (saved_at types inside later s) ≡ writable_at p label s
     saved_writable_at (bind v e) label inside later = grind (arith, as_many)

@@ -6,7 +6,7 @@ use Rattle.std.proofs.lemmas.Option.{none-some, same_Some}
 use Rattle.std.proofs.lemmas.Grind.{common_steps}
 use Rattle.model.specs.sites.Sites.{Site, Constraint, SiteSet}
 use Rattle.model.specs.trees.Trees.{Marked, m_no_step, m_step, MarkedCheck, m_match, m_equal, m_loop, m_return, MarkedArms, m_no_arm, m_arm, plain, plain_check, plain_arms}
-use Rattle.model.specs.trees.Places.{Around, nothing_around, is_in_place, each_after, listed_below, uses, is_struct_field, is_part_of, site_from, each_field, fields_of, in_arm, in_equal, in_loop, after_step}
+use Rattle.model.specs.trees.Places.{Around, nothing_around, is_in_place, each_after, listed_below, uses, site_from, each_field, in_arm, in_equal, in_loop, after_step}
 use Rattle.model.specs.trees.Sound.{is_return}
 use Rattle.model.specs.trees.Best.{BestSteps, BestCheck, BestArms}
 use Rattle.model_code.specs.CodeLaws.{none_in_place, no_field_in_place, binds_none_in_place, check_binds_none, arms_bind_none, BestTreesBindNoneInPlace}
@@ -24,18 +24,9 @@ module _ (p : Site → Bool) (out : (b : Site) → p b ≡ true → is_in_place 
             (suc r.0, omega (arith, r.1), r.2)
       ]
 
-struct_outside : (s i : ℕ) (b : Site) → is_struct_field s i b ≡ true → is_in_place (Some b) ≡ false
-struct_outside s i b h = grind (arith, common_steps)
-
-part_outside : (s : ℕ) (b : Site) → is_part_of s b ≡ true → is_in_place (Some b) ≡ false
-part_outside s b h = grind (arith, common_steps)
-
 each_outside : (p : ℕ → Site → Bool) → ((i : ℕ) (b : Site) → p i b ≡ true → is_in_place (Some b) ≡ false) → (sites : List Site) (i n : ℕ) → no_field_in_place sites (each_field p sites i n) ≡ true
 each_outside p out sites i zero = refl
 each_outside p out sites i (suc n) = grind (arith, each_outside p out sites (suc i) n, first_outside)
-
-fields_outside : (sites : List Site) (s : ℕ) (c : Constraint) → no_field_in_place sites (fields_of sites s c) ≡ true
-fields_outside sites s c = grind (arith, common_steps, each_outside, struct_outside, part_outside, first_outside)
 
 -- 2. bind orders
 left_out : (sites : List Site) (xs : List ℕ) → none_in_place sites (filter (λ s. not (is_in_place (slice_get sites s))) xs) ≡ true
@@ -60,7 +51,7 @@ module _ (set : SiteSet) where
     arms_outside : (arms : MarkedArms) (ar : Around) (source : ℕ) (before : Option Constraint) → BestArms set ar source before arms → arms_bind_none (plain_arms set.rules arms) set.sites ≡ true
     arms_outside m_no_arm ar source before h = refl
     arms_outside (m_arm constraint fields body rest) ar source before h =
-        and_from _ _ (ap (no_field_in_place set.sites) h.3 ∙ fields_outside set.sites source constraint)
+        and_from _ _ (ap (no_field_in_place set.sites) h.3 ∙ (grind (arith, common_steps, each_outside, first_outside)))
         (and_from _ _ (steps_outside body (in_arm set ar source constraint fields) false h.4) (arms_outside rest ar source (Some constraint) h.5))
 
 pub best_trees_bind_none_in_place_lem : BestTreesBindNoneInPlace

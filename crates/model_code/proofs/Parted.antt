@@ -2,12 +2,11 @@
 use Rattle.std.proofs.Common.{◌≡◌, ◌∷◌, [], ℕ, suc, Bool, true, false, List, Option, Some, None, refl, arith}
 use Rattle.std.proofs.lemmas.Bool.{and_parts, false≢true}
 use Rattle.std.proofs.lemmas.Grind.{common_steps}
-use Rattle.model.specs.lists.Syntax.{Position}
-use Rattle.model.specs.sites.Sites.{Constraint, is_variant, is_struct, is_bool, is_int, is_prim, is_present}
+use Rattle.model.specs.sites.Sites.{Constraint}
 use Rattle.model_code.specs.Code.{Place, Pass, PlaceUse, Expr, truth_written, read, extraction, call, variant_of, struct_of, some_of, Block, no_statement, statement, Statement, bind, bind_some, no_way, match_on, if_equal, for_each_of, give, labelled, unless_let, unless_equal, CodeArms, no_code_arm, code_arm}
-use Rattle.model_code.specs.Tokens.{Word, comma, colon, else_word, arrow, Owner, field_name}
-use Rattle.model_code.specs.Notation.{Notation, Shape, no_fields, named_fields, unnamed_fields, Callee, extractor_of, constructor_of}
-use Rattle.model_code.specs.Pieces.{CodePiece, token, space, set_in, line_end, rule_comment, log_line, Margin, inside, in_braces_at, put, put_first, put_first_if, put_between, end_line, passed_before, use_before, truth_word, args_before, named_values, unnamed_values, made_before, answer_before, binding_before, named_bindings, unnamed_bindings, bindings_before, constant_before, is_constant, comparison_before, let_before, condition_before, arm_pattern, break_before, open_body, close_body, one_line, call_lines, bind_lines, bind_some_line, log_lines, unless_line, arm_head, match_end, is_left, result_ends, block_before, statement_before, arms_before}
+use Rattle.model_code.specs.Tokens.{comma, colon, Owner, field_name}
+use Rattle.model_code.specs.Notation.{Notation, Shape, no_fields, named_fields, unnamed_fields}
+use Rattle.model_code.specs.Pieces.{CodePiece, token, space, set_in, line_end, rule_comment, log_line, Margin, inside, in_braces_at, put, put_first, put_first_if, passed_before, use_before, truth_word, args_before, named_values, unnamed_values, binding_before, named_bindings, unnamed_bindings, bindings_before, let_before, close_body, one_line, bind_lines, arm_head, is_left, result_ends, block_before, statement_before, arms_before}
 use Rattle.model_code.specs.Parted.{begins, nothing, a_name, a_field, ends, may_follow, is_nothing, Behind, parted, TokensAreParted}
 
 -- behind a field that is bound, or behind the brace
@@ -42,9 +41,6 @@ module _ (p : Notation) where
   args_apart [] rest h = h
   args_apart (u ∷ us) rest h = use_apart u (args_before p us rest) (args_apart us rest h)
 
-  answer_apart : (f : Callee) (us : List PlaceUse) (rest : List CodePiece) → parted nothing rest ≡ true → parted nothing (answer_before p f us rest) ≡ true
-  answer_apart f us rest h = grind (arith, args_apart)
-
   named_apart : (o : Owner) (i : ℕ) (us : List PlaceUse) (rest : List CodePiece) → parted nothing rest ≡ true → parted a_name (named_values p o i us rest) ≡ true
   named_apart o i [] rest h = h
   named_apart o i (u ∷ us) rest h = grind (arith, named_apart o (suc i) us rest h, use_apart)
@@ -57,18 +53,10 @@ module _ (p : Notation) where
   unnamed_apart [] rest h = h
   unnamed_apart (u ∷ us) rest h = use_apart u (unnamed_values p 1 us rest) (unnamed_behind 0 us rest h)
 
-  made_apart : (o : Owner) (shape : Shape) (us : List PlaceUse) (rest : List CodePiece) → parted a_name rest ≡ true → parted a_name (made_before p o shape us rest) ≡ true
-  made_apart o no_fields us rest h = h
-  made_apart o (named_fields n) us rest h = apart (named_values p o 0 us rest) (named_apart o 0 us rest (apart rest h))
-  made_apart o (unnamed_fields n) us rest h = unnamed_apart us rest (apart rest h)
-
   truth_apart : (b : Bool) (rest : List CodePiece) → parted a_name rest ≡ true → parted nothing (put (truth_word b) rest) ≡ true
   truth_apart b rest h = grind (arith, common_steps)
 
   -- 2. patterns
-  binding_apart : (o : Owner) (i v : ℕ) (rest : List CodePiece) → parted a_name rest ≡ true → parted nothing (binding_before p o i v rest) ≡ true
-  binding_apart o i v rest h = grind arith
-
   comma_if_apart : (bound : Bool) (o : Owner) (i : ℕ) (rest : List CodePiece) → parted a_field rest ≡ true → parted (behind_field bound) (put_first_if bound comma (token (field_name o i) ∷ rest)) ≡ true
   comma_if_apart bound o i rest h = grind (arith, common_steps)
 
@@ -78,15 +66,15 @@ module _ (p : Notation) where
   named_fields_apart o i bound lacking (None ∷ fields) rest h = named_fields_apart o (suc i) bound true fields rest h
   named_fields_apart o i bound lacking (Some v ∷ fields) rest h =
       let behind : List CodePiece = named_bindings p o (suc i) true lacking fields rest in
-      comma_if_apart bound o i (put_first colon (binding_before p o i v behind)) (binding_apart o i v behind (named_fields_apart o (suc i) true lacking fields rest h))
+      comma_if_apart bound o i (put_first colon (binding_before p o i v behind)) (grind (arith, common_steps, named_fields_apart o (suc i) true lacking fields rest h))
 
   unnamed_fields_behind : (o : Owner) (i : ℕ) (fields : List (Option ℕ)) (rest : List CodePiece) → parted nothing rest ≡ true → parted a_name (unnamed_bindings p o (suc i) fields rest) ≡ true
   unnamed_fields_behind o i [] rest h = h
-  unnamed_fields_behind o i (field ∷ fields) rest h = grind (arith, unnamed_fields_behind o (suc i) fields rest h, binding_apart)
+  unnamed_fields_behind o i (field ∷ fields) rest h = grind (arith, unnamed_fields_behind o (suc i) fields rest h)
 
   unnamed_fields_apart : (o : Owner) (fields : List (Option ℕ)) (rest : List CodePiece) → parted nothing rest ≡ true → parted nothing (unnamed_bindings p o 0 fields rest) ≡ true
   unnamed_fields_apart o [] rest h = h
-  unnamed_fields_apart o (field ∷ fields) rest h = grind (arith, unnamed_fields_behind, binding_apart)
+  unnamed_fields_apart o (field ∷ fields) rest h = grind (arith, unnamed_fields_behind)
 
   bindings_apart : (o : Owner) (shape : Shape) (fields : List (Option ℕ)) (rest : List CodePiece) → parted a_name rest ≡ true → parted a_name (bindings_before p o shape fields rest) ≡ true
   bindings_apart o no_fields fields rest h = h
@@ -94,57 +82,25 @@ module _ (p : Notation) where
   bindings_apart o (unnamed_fields n) fields rest h = unnamed_fields_apart o fields rest (apart rest h)
 
   -- 3. tests. What follows them begins with a space
-  comparison_apart : (u : PlaceUse) (sign : Word) (c : Constraint) (rest : List CodePiece) → parted a_name (put_between sign (constant_before p c rest)) ≡ true → parted nothing (comparison_before p u sign c rest) ≡ true
-  comparison_apart u sign c rest h = grind (arith, use_apart)
-
   let_apart : (u : PlaceUse) (c : Constraint) (fields : List (Option ℕ)) (rest : List CodePiece) → parted a_name rest ≡ true → parted nothing (let_before p u c fields rest) ≡ true
   let_apart u c fields rest h = grind (arith, use_apart, bindings_apart, apart)
 
-  condition_apart : (constant : Bool) (u : PlaceUse) (c : Constraint) (fields : List (Option ℕ)) (rest : List CodePiece) → parted a_name rest ≡ true → parted nothing (condition_before constant p u c fields rest) ≡ true
-  condition_apart true u c fields rest h = grind (arith, comparison_apart, truth_apart, apart)
-  condition_apart false u c fields rest h = let_apart u c fields rest h
-
-  arm_pattern_apart : (u : PlaceUse) (c : Constraint) (fields : List (Option ℕ)) (rest : List CodePiece) → parted a_name rest ≡ true → parted nothing (arm_pattern p u c fields rest) ≡ true
-  arm_pattern_apart u (is_prim name) fields rest h = grind (arith, comparison_apart, truth_apart, apart)
-  arm_pattern_apart u (is_variant ty variant n) fields rest h = grind (arith, bindings_apart, apart)
-  arm_pattern_apart u (is_struct ty n) fields rest h = grind (arith, bindings_apart, apart)
-  arm_pattern_apart u (is_bool b ty) fields rest h = grind (arith, bindings_apart, apart)
-  arm_pattern_apart u (is_int z ty) fields rest h = h
-  arm_pattern_apart u is_present fields rest h = grind (arith, bindings_apart, apart)
-
   -- 4. lines: what follows a line may be anything
   one_apart : (at : Margin) (v : ℕ) (x : Expr) (rest : List CodePiece) → parted nothing rest ≡ true → parted nothing (one_line p at v x rest) ≡ true
-  one_apart at v x rest h = grind (arith, truth_apart, use_apart, answer_apart, apart, made_apart)
-
-  call_apart : (many : Bool) (at : Margin) (v : ℕ) (f : Callee) (us : List PlaceUse) (x : Expr) (rest : List CodePiece) → parted nothing rest ≡ true → parted nothing (call_lines many p at v f us x rest) ≡ true
-  call_apart true at v f us x rest h = grind (arith, args_apart)
-  call_apart false at v f us x rest h = one_apart at v x rest h
+  one_apart at v x rest h = grind (arith, truth_apart, use_apart, apart, named_apart, unnamed_apart, args_apart)
 
   bind_apart : (at : Margin) (v : ℕ) (x : Expr) (rest : List CodePiece) → parted nothing rest ≡ true → parted nothing (bind_lines p at v x rest) ≡ true
-  bind_apart at v (extraction term u) rest h = call_apart (p.has_many (extractor_of term)) at v (extractor_of term) (u ∷ []) (extraction term u) rest h
-  bind_apart at v (call term us instance) rest h = call_apart (p.has_many (constructor_of term)) at v (constructor_of term) us (call term us instance) rest h
+  bind_apart at v (extraction term u) rest h = grind (arith, common_steps, args_apart, one_apart)
+  bind_apart at v (call term us instance) rest h = grind (arith, common_steps, args_apart, one_apart)
   bind_apart at v (truth_written b ty) rest h = one_apart at v (truth_written b ty) rest h
   bind_apart at v (read u) rest h = one_apart at v (read u) rest h
   bind_apart at v (variant_of ty variant us) rest h = one_apart at v (variant_of ty variant us) rest h
   bind_apart at v (struct_of ty us) rest h = one_apart at v (struct_of ty us) rest h
   bind_apart at v (some_of u) rest h = one_apart at v (some_of u) rest h
 
-  bind_some_apart : (at : Margin) (v : ℕ) (u : PlaceUse) (rest : List CodePiece) → parted nothing rest ≡ true → parted nothing (bind_some_line p at v u rest) ≡ true
-  bind_some_apart at v u rest h = grind (arith, use_apart)
-
-  logged_apart : (logged : Bool) (at : Margin) (place : Position) (rest : List CodePiece) → parted nothing rest ≡ true → parted nothing (log_lines logged at place rest) ≡ true
-  logged_apart logged at place rest h = grind (arith, common_steps)
-
-  unless_apart : (constant : Bool) (at : Margin) (u : PlaceUse) (c : Constraint) (fields : List (Option ℕ)) (rest : List CodePiece) → parted nothing rest ≡ true → parted nothing (unless_line constant p at u c fields rest) ≡ true
-  unless_apart true at u c fields rest h = grind (arith, comparison_apart, truth_apart, apart)
-  unless_apart false at u c fields rest h = let_apart u c fields (space ∷ put else_word (break_before at (end_line rest))) h
-
   arm_apart : (alone : Bool) (at : Margin) (u : PlaceUse) (c : Constraint) (fields : List (Option ℕ)) (rest : List CodePiece) → parted nothing rest ≡ true → parted nothing (arm_head alone p at u c fields rest) ≡ true
-  arm_apart true at u c fields rest h = condition_apart (is_constant c) u c fields (open_body rest) h
-  arm_apart false at u c fields rest h = arm_pattern_apart u c fields (space ∷ put arrow (open_body rest)) h
-
-  match_end_apart : (alone : Bool) (at : Margin) (rest : List CodePiece) → parted nothing rest ≡ true → parted nothing (match_end alone at rest) ≡ true
-  match_end_apart alone at rest h = grind (arith, common_steps)
+  arm_apart true at u c fields rest h = grind (arith, truth_apart, apart, let_apart)
+  arm_apart false at u c fields rest h = grind (arith, truth_apart, apart, bindings_apart)
 
   -- 5. blocks
   mutual
@@ -154,14 +110,14 @@ module _ (p : Notation) where
 
     statement_apart : (s : Statement) (at : Margin) (rest : List CodePiece) → parted nothing rest ≡ true → parted nothing (statement_before p at s rest) ≡ true
     statement_apart (bind v x) at rest h = bind_apart at v x rest h
-    statement_apart (bind_some v u) at rest h = bind_some_apart at v u rest h
+    statement_apart (bind_some v u) at rest h = grind (arith, use_apart)
     statement_apart no_way at rest h = h
-    statement_apart (match_on u arms) at rest h = grind (arith, common_steps, arms_apart arms, match_end_apart)
+    statement_apart (match_on u arms) at rest h = grind (arith, common_steps, arms_apart arms)
     statement_apart (if_equal a b body) at rest h = grind (arith, block_apart body (inside at) (close_body at rest) h, use_apart)
     statement_apart (for_each_of v from body) at rest h = block_apart body (inside at) (close_body at rest) h
-    statement_apart (give place u) at rest h = grind (arith, logged_apart, use_apart)
+    statement_apart (give place u) at rest h = grind (arith, use_apart)
     statement_apart (labelled body) at rest h = grind (arith, block_apart body (in_braces_at (is_left (result_ends p) body) at) (close_body at rest) h)
-    statement_apart (unless_let u c fields) at rest h = unless_apart (is_constant c) at u c fields rest h
+    statement_apart (unless_let u c fields) at rest h = grind (arith, truth_apart, apart, let_apart)
     statement_apart (unless_equal a b) at rest h = grind (arith, use_apart)
 
     arms_apart : (arms : CodeArms) (alone : Bool) (at : Margin) (u : PlaceUse) (rest : List CodePiece) → parted nothing rest ≡ true → parted nothing (arms_before alone p at u arms rest) ≡ true

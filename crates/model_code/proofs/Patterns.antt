@@ -4,10 +4,10 @@ use Rattle.std.proofs.lemmas.Bool.{and_parts, false≢true, eqb-true}
 use Rattle.std.proofs.lemmas.Grind.{common_steps}
 use Rattle.model.specs.sites.Sites.{Constraint, is_variant, is_struct, is_bool, is_int, is_prim, is_present}
 use Rattle.model_code.specs.Tokens.{Owner, variant_owner, struct_owner, Token}
-use Rattle.model_code.specs.Notation.{Notation, Shape}
-use Rattle.model_code.specs.Pieces.{CodePiece, tokens_of, named_bindings, unnamed_bindings, bindings_before, pattern_before}
+use Rattle.model_code.specs.Notation.{Notation}
+use Rattle.model_code.specs.Pieces.{CodePiece, tokens_of, named_bindings, unnamed_bindings, pattern_before}
 use Rattle.model_code.specs.Shown.{shown_constraint}
-use Rattle.model_code.specs.Reading.{TokenReading, then_read, where_found, read_binding, next_field, read_named_bindings, read_unnamed_bindings, asked_of, read_bindings, read_pattern}
+use Rattle.model_code.specs.Reading.{TokenReading, then_read, where_found, read_binding, next_field, read_named_bindings, read_unnamed_bindings, read_pattern}
 use Rattle.model_code.specs.ReadsBack.{takes, pattern_writable}
 use Rattle.model_code.proofs.Values.{comma_skipped}
 
@@ -41,10 +41,6 @@ unnamed_back p o i (field ∷ fields) rest = grind (arith, common_steps, unnamed
 pub no_bindings : (fields : List (Option ℕ)) → (length fields == 0) ≡ true → fields ≡ []
 no_bindings fields h = grind (arith, common_steps, eqb-true)
 
-bindings_back : (p : Notation) (o : Owner) (shape : Shape) (n : ℕ) (fields : List (Option ℕ)) (rest : List CodePiece) → takes shape n ≡ true → (length fields == n) ≡ true
-    → read_bindings o shape (tokens_of (bindings_before p o shape fields rest)) ≡ Some (record { constraint = asked_of o n; fields = fields }, tokens_of rest)
-bindings_back p o shape n fields rest t h = grind (arith, common_steps, eqb-true, no_bindings, named_back, unnamed_back)
-
 -- a named constant is no pattern
 abbrev pub is_named : Constraint → Bool
 is_named (is_prim name) = true
@@ -54,10 +50,10 @@ pub pattern_back : (p : Notation) (c : Constraint) (fields : List (Option ℕ)) 
     → read_pattern p (tokens_of (pattern_before p c fields rest)) ≡ Some (record { constraint = shown_constraint p c; fields = fields }, tokens_of rest)
 pattern_back p (is_variant ty variant n) fields rest c h =
     let hs = and_parts (takes (p.shape (variant_owner ty variant)) n) (length fields == n) h in
-    bindings_back p (variant_owner ty variant) (p.shape (variant_owner ty variant)) n fields rest hs.0 hs.1
+    grind (arith, common_steps, eqb-true, no_bindings, named_back, unnamed_back)
 pattern_back p (is_struct ty n) fields rest c h =
     let hs = and_parts (takes (p.shape (struct_owner ty)) n) (length fields == n) h in
-    bindings_back p (struct_owner ty) (p.shape (struct_owner ty)) n fields rest hs.0 hs.1
+    grind (arith, common_steps, eqb-true, no_bindings, named_back, unnamed_back)
 pattern_back p (is_bool b ty) fields rest c h = grind (arith, no_bindings)
 pattern_back p (is_int z ty) fields rest c h = rw (no_bindings fields h)
 pattern_back p (is_prim name) fields rest c h = absurd (false≢true (sym c))

@@ -7,14 +7,13 @@ use Rattle.model.specs.rules.Meaning.{Content}
 use Rattle.model.specs.rules.Outcome.{then_option}
 use Rattle.model.specs.trees.Places.{is_in, field_sites}
 use Rattle.model.specs.trees.Run.{World, Env, bound_to, Trace, content_fields}
-use Rattle.model.proofs.Elements.{or_right}
-use Rattle.model_code.specs.Code.{Place, variable, PlaceUse, Expr, Block, no_statement, statement, Statement, bind, bind_some, match_on, if_equal, for_each_of, give, labelled, unless_let, CodeArms, no_code_arm, code_arm}
+use Rattle.model_code.specs.Code.{Place, variable, PlaceUse, Block, no_statement, statement, Statement, bind, bind_some, match_on, if_equal, for_each_of, give, labelled, unless_let, CodeArms, no_code_arm, code_arm}
 use Rattle.model_code.specs.CodeRuns.{held, held_value, held_values, goes_on, then_flow, in_braces, in_label, on_content, where_met, where_equal, on_answers, run_block, run_statement, run_code_arms}
 use Rattle.model_code.specs.Scopes.{knows, knows_all, scope_after, unless_ended, block_scoped, statement_scoped, arms_scoped}
-use Rattle.model_code.specs.Modes.{Types, is_value, Given, gives_value, gives_away, given, fits_value, fits_equal, fits_pattern, fits_fields, fit_values, expr_fits, block_fits, statement_fits, arms_fit}
+use Rattle.model_code.specs.Modes.{Types, is_value, Given, given, fits_value, fits_equal, fits_pattern, fits_fields, fit_values, block_fits, statement_fits, arms_fit}
 use Rattle.model_code.specs.Moves.{other, others, fresh_after, block_takes, statement_takes, arms_take}
 use Rattle.model_code.specs.MovedOnce.{touches, any_touch, is_of, read_behind, block_reads, statement_reads, arms_read, may_move, moves_well, beside, all_move_well, unlooked, movable_after, behind, around_loop, read_no_more, block_moves, statement_moves, arms_move}
-use Rattle.model_code.specs.Saving.{saved_use, all_saved, saved_expr, saved, saved_at, saved_arms, WithMovesSaysSame, WithMovesIsMadeWell}
+use Rattle.model_code.specs.Saving.{saved_use, all_saved, saved, saved_at, saved_arms, WithMovesSaysSame, WithMovesIsMadeWell}
 
 both : {a b x y : Bool} → a ≡ b → x ≡ y → (a && x) ≡ (b && y)
 both e f = λ i. e i && f i
@@ -24,9 +23,6 @@ one_of e f = λ i. e i || f i
 
 module _ (types : Types) where
   -- 1. statements bind and end as before
-  ended_same : (s : Statement) (inside : List ℕ) (later : Place → Bool) (x : Bool) → unless_ended (saved_at types inside later s) x ≡ unless_ended s x
-  ended_same s inside later x = grind (arith, common_steps)
-
   after_same : (s : Statement) (inside : List ℕ) (later : Place → Bool) (scope : List ℕ) → scope_after scope (saved_at types inside later s) ≡ scope_after scope s
   after_same s inside later scope = grind (arith, common_steps)
 
@@ -75,7 +71,7 @@ module _ (types : Types) where
         let later = behind s rest after in
         let more = saved types (movable_after inside s) after rest in
         both (statement_known s label scope inside later)
-        (grind (arith, common_steps, block_known rest label (scope_after scope s) (movable_after inside s) after, ended_same, after_same))
+        (grind (arith, common_steps, block_known rest label (scope_after scope s) (movable_after inside s) after, after_same))
 
     statement_known : (s : Statement) (label : Bool) (scope inside : List ℕ) (later : Place → Bool) → statement_scoped label scope (saved_at types inside later s) ≡ statement_scoped label scope s
     statement_known (match_on u arms) label scope inside later = ap (λ b. knows scope u.place && b) (arms_known arms label scope (unlooked inside u.place) later)
@@ -102,7 +98,7 @@ module _ (types : Types) where
           let later = behind s rest after in
           let more = saved types (movable_after inside s) after rest in
           both (statement_takes_same s fresh inside later)
-          (grind (arith, common_steps, block_takes_same rest (fresh_after fresh s) (movable_after inside s) after, ended_same, fresh_same))
+          (grind (arith, common_steps, block_takes_same rest (fresh_after fresh s) (movable_after inside s) after, fresh_same))
 
       statement_takes_same : (s : Statement) (fresh inside : List ℕ) (later : Place → Bool) → statement_takes taken fresh (saved_at types inside later s) ≡ statement_takes taken fresh s
       statement_takes_same (match_on u arms) fresh inside later = ap (λ b. other taken u.place && b) (arms_take_same arms (unlooked inside u.place) later)
@@ -141,16 +137,13 @@ module _ (types : Types) where
       arms_read_same (code_arm pattern fields body rest) inside later = λ i. (not (is_of (field_sites fields) q) && block_reads_same body (field_sites fields ++ inside) later i) || arms_read_same rest inside later i
 
   -- 6. moves stand
-  use_well : (inside : List ℕ) (later : Place → Bool) (u : PlaceUse) → moves_well types inside later u ≡ true → moves_well types inside later (saved_use types inside later u) ≡ true
-  use_well inside later u h = grind (arith, common_steps, or_right, and_parts)
-
   all_well : (inside : List ℕ) (later : Place → Bool) (before us : List PlaceUse) (made : List PlaceUse) → ((q : Place) → any_touch q made ≡ any_touch q before) → all_move_well types inside later before us ≡ true
       → all_move_well types inside later made (all_saved types inside later before us) ≡ true
   all_well inside later before [] made same h = refl
   all_well inside later before (u ∷ us) made same h =
       let hs = and_parts (moves_well types inside (beside before us later) u) (all_move_well types inside later (u ∷ before) us) h in
       and_from _ _
-      (grind (arith, common_steps, all_touch_same, use_well))
+      (grind (arith, common_steps, all_touch_same))
       (all_well inside later (u ∷ before) us (saved_use types inside (beside before us later) u ∷ made) (λ q. ap (λ b. touches q u.place || b) (same q)) hs.1)
 
   module _ (multi : Bool) where
@@ -169,10 +162,10 @@ module _ (types : Types) where
           (subst (λ (l : Place → Bool). statement_moves types multi inside l moved ≡ true)
           (λ i. λ q. sym (behind_same q s inside later (block_reads q more) ∙ ap (read_behind q s) (block_reads_same q rest (movable_after inside s) after)) i || after q)
           (statement_well s inside later hs.0))
-          (grind (arith, common_steps, block_well rest (movable_after inside s) after, ended_same, movable_same, ended_either))
+          (grind (arith, common_steps, block_well rest (movable_after inside s) after, movable_same, ended_either))
 
       statement_well : (s : Statement) (inside : List ℕ) (later : Place → Bool) → statement_moves types multi inside later s ≡ true → statement_moves types multi inside later (saved_at types inside later s) ≡ true
-      statement_well (bind v e) inside later h = grind (arith, all_well, use_well)
+      statement_well (bind v e) inside later h = grind (arith, all_well)
       statement_well (match_on u arms) inside later h = grind (arith, common_steps, arms_well arms, arms_read_same)
       statement_well (if_equal a b body) inside later h = block_well body inside later h
       statement_well (for_each_of v from body) inside later h =
@@ -180,7 +173,7 @@ module _ (types : Types) where
           and_from _ _
           (subst (λ (l : Place → Bool). may_move inside l (variable from) ≡ true) (λ i. λ q. (not (is_of (v ∷ []) q) && sym (block_reads_same q body (v ∷ []) read_no_more) i) || later q) hs.0)
           (block_well body (v ∷ []) read_no_more hs.1)
-      statement_well (give at u) inside later h = grind (arith, use_well)
+      statement_well (give at u) inside later h = grind arith
       statement_well (labelled body) inside later h = block_well body inside later h
       statement_well (bind_some v u) inside later h = h
       statement_well (unless_let u pattern fields) inside later h = h
@@ -195,19 +188,12 @@ module _ (types : Types) where
 
   -- 7. uses fit
   -- what may be saved gives a value, or is given away
-  module _ (Fits : Bool → Given → Bool) (either : (g : Given) → Fits false g ≡ true → Fits true g ≡ true) (kept : Fits true gives_value ≡ true) (away : Fits true gives_away ≡ true) where
-    saved_fits : (inside : List ℕ) (later : Place → Bool) (u : PlaceUse) → Fits false (given types u) ≡ true → Fits true (given types (saved_use types inside later u)) ≡ true
-    saved_fits inside later u h = grind (arith, common_steps)
-
   kept_saved : (inside : List ℕ) (later : Place → Bool) (u : PlaceUse) → fits_value false (given types u) ≡ true → fits_value true (given types (saved_use types inside later u)) ≡ true
-  kept_saved = grind (arith, saved_fits)
+  kept_saved = grind arith
 
   all_kept : (inside : List ℕ) (later : Place → Bool) (before us : List PlaceUse) → fit_values types false us ≡ true → fit_values types true (all_saved types inside later before us) ≡ true
   all_kept inside later before [] h = refl
   all_kept inside later before (u ∷ us) h = grind (arith, common_steps, all_kept inside later (u ∷ before) us, and_parts, and_from, kept_saved)
-
-  expr_kept : (inside : List ℕ) (later : Place → Bool) (v : ℕ) (e : Expr) → expr_fits types false v e ≡ true → expr_fits types true v (saved_expr types inside later e) ≡ true
-  expr_kept inside later v e h = grind (arith, common_steps, and_parts, and_from, all_kept, kept_saved)
 
   module _ (multi : Bool) where
     mutual
@@ -225,7 +211,7 @@ module _ (types : Types) where
           let hs = and_parts (is_value (types.variables v) && is_value (types.variables from)) (block_fits types multi false body) h in
           and_from _ _ hs.0 (block_kept body (v ∷ []) read_no_more hs.1)
       statement_kept (labelled body) inside later h = block_kept body inside later h
-      statement_kept s inside later h = grind (arith, common_steps, expr_kept)
+      statement_kept s inside later h = grind (arith, common_steps, and_parts, and_from, all_kept, kept_saved)
 
       arms_kept : (arms : CodeArms) (inside : List ℕ) (later : Place → Bool) (g : Given) → arms_fit types multi false g arms ≡ true → arms_fit types multi true g (saved_arms types inside later arms) ≡ true
       arms_kept no_code_arm inside later g h = refl

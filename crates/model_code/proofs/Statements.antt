@@ -68,24 +68,15 @@ module _ (p : Notation) (n : ℕ) where
       → IsBack at (equal_head p at a b (block_before p (inside at) body (close_body at rest))) (shown_at p (if_equal a b body)) rest
   equal_back_at at a b body rest h = grind (arith, common_steps, if_back, after_use, after_second, body_back)
 
-  head_at : (constant : Bool) (at : Margin) (u : PlaceUse) (c : Constraint) (fields : List (Option ℕ)) (body : Block) (rest : List CodePiece) → is_constant c ≡ constant → pattern_writable p c fields ≡ true → match_writable p u c ≡ true
-      → BlockBack (inside at) body (close_body at rest)
-      → IsBack at (arm_head true p at u c fields (block_before p (inside at) body (close_body at rest))) (match_on (shown_use p u) (code_arm (shown_constraint p c) fields (shown p body) no_code_arm)) rest
-  head_at constant at u c fields body rest k w m h = grind (arith, common_steps, pattern_back, after_use, body_back)
-
   pub alone_back : (at : Margin) (u : PlaceUse) (c : Constraint) (fields : List (Option ℕ)) (body : Block) (rest : List CodePiece) → pattern_writable p c fields ≡ true → match_writable p u c ≡ true
       → BlockBack (inside at) body (close_body at rest)
       → IsBack at (arm_head true p at u c fields (block_before p (inside at) body (close_body at rest))) (match_on (shown_use p u) (code_arm (shown_constraint p c) fields (shown p body) no_code_arm)) rest
-  alone_back at u c fields body rest w m h = head_at (is_constant c) at u c fields body rest refl w m h
+  alone_back at u c fields body rest w m h = grind (arith, common_steps, pattern_back, after_use, body_back)
 
   -- 4. tests that leave a label
-  unless_named : (at : Margin) (u : PlaceUse) (name : ℕ) (fields : List (Option ℕ)) (rest : List CodePiece) → is_some at.label ≡ true → pattern_writable p (is_prim name) fields ≡ true → match_writable p u (is_prim name) ≡ true
-      → IsBack at (unless_line true p at u (is_prim name) fields rest) (unless_let (shown_use p u) (is_prim name) fields) rest
-  unless_named at u name fields rest l w m = grind (arith, common_steps, plain_or_lent, constants_bind_nothing)
-
   unless_constant : (at : Margin) (u : PlaceUse) (c : Constraint) (fields : List (Option ℕ)) (rest : List CodePiece) → is_some at.label ≡ true → is_constant c ≡ true → pattern_writable p c fields ≡ true → match_writable p u c ≡ true
       → IsBack at (unless_line true p at u c fields rest) (unless_let (shown_use p u) (shown_constraint p c) fields) rest
-  unless_constant at u (is_prim name) fields rest l k w m = unless_named at u name fields rest l w m
+  unless_constant at u (is_prim name) fields rest l k w m = grind (arith, common_steps, plain_or_lent, constants_bind_nothing)
   unless_constant at u (is_bool b ty) fields rest l k w m = grind (arith, common_steps)
   unless_constant at u (is_int z ty) fields rest l k w m = grind (arith, common_steps)
   unless_constant at u _ fields rest l k w e = absurd (false≢true k)
@@ -95,13 +86,9 @@ module _ (p : Notation) (n : ℕ) where
       → read_let p n inner label (tokens_of (pattern_before p c fields rest)) ≡ read_let_pattern p label (tokens_of (pattern_before p c fields rest))
   bare_let label c fields rest k = grind (arith, common_steps)
 
-  unless_pattern : (at : Margin) (u : PlaceUse) (c : Constraint) (fields : List (Option ℕ)) (rest : List CodePiece) → is_some at.label ≡ true → is_constant c ≡ false → pattern_writable p c fields ≡ true
-      → IsBack at (unless_line false p at u c fields rest) (unless_let (shown_use p u) (shown_constraint p c) fields) rest
-  unless_pattern at u c fields rest l k w = grind (arith, common_steps, bare_let, pattern_back, after_use)
-
   pub unless_let_back : (at : Margin) (u : PlaceUse) (c : Constraint) (fields : List (Option ℕ)) (rest : List CodePiece) → is_some at.label ≡ true → pattern_writable p c fields ≡ true → match_writable p u c ≡ true
       → IsBack at (unless_line (is_constant c) p at u c fields rest) (unless_let (shown_use p u) (shown_constraint p c) fields) rest
-  unless_let_back at u c fields rest l w m = grind (arith, unless_constant, unless_pattern)
+  unless_let_back at u c fields rest l w m = grind (arith, unless_constant, bare_let, pattern_back, after_use)
 
   pub unless_equal_back : (at : Margin) (a b : PlaceUse) (rest : List CodePiece) → is_some at.label ≡ true → IsBack at (unless_equal_line p at a b rest) (shown_at p (unless_equal a b)) rest
   unless_equal_back at a b rest l = grind (arith, common_steps, if_back, after_use, after_second, break_back)

@@ -1,15 +1,14 @@
 -- Tests are read back: what is compared with what, and which label is left.
 use Rattle.std.proofs.Common.{◌≡◌, ◌⊎◌, ◌||◌, ◌∷◌, [], ℕ, Bool, true, false, not, List, Option, Some, is_some, refl, ◌∙◌, arith}
-use Rattle.std.proofs.lemmas.Bool.{and_from}
 use Rattle.std.proofs.lemmas.Grind.{common_steps}
 use Rattle.model.specs.sites.Sites.{Constraint, is_variant, is_struct, is_bool, is_int, is_prim, is_present}
 use Rattle.model.proofs.SameSites.{number_same}
-use Rattle.model_code.specs.Code.{Place, name_written, Pass, as_it_is, lent, seen_through, PlaceUse}
+use Rattle.model_code.specs.Code.{name_written, Pass, as_it_is, lent, seen_through, PlaceUse}
 use Rattle.model_code.specs.Tokens.{star, equal_to, opening_brace, closing_brace, break_word, Token, word, label_name}
 use Rattle.model_code.specs.Notation.{Notation}
-use Rattle.model_code.specs.Pieces.{CodePiece, tokens_of, put_if, put_between, passed_before, use_before, constant_before, is_constant, is_seen_through, arm_pattern, label_number}
+use Rattle.model_code.specs.Pieces.{CodePiece, tokens_of, put_if, put_between, use_before, constant_before, is_constant, is_seen_through, arm_pattern, label_number}
 use Rattle.model_code.specs.Shown.{shown_use, shown_constraint, test_at}
-use Rattle.model_code.specs.Reading.{TokenReading, then_read, read_use, Compared, a_use, read_compared, same_pass, same_use, guard_of, guard_by, read_compared_guard, read_arm_pattern, read_break, Inner, read_sign, read_if}
+use Rattle.model_code.specs.Reading.{TokenReading, then_read, read_use, Compared, a_use, read_compared, guard_of, guard_by, read_arm_pattern, read_break, Inner, read_sign, read_if}
 use Rattle.model_code.specs.ReadsBack.{pattern_writable, is_looked_at, match_writable}
 use Rattle.model_code.proofs.Uses.{follows, after_use}
 use Rattle.model_code.proofs.Patterns.{no_bindings, pattern_back}
@@ -54,47 +53,25 @@ after_second p u rest go f = grind (arith, after_use)
 pub constants_bind_nothing : (p : Notation) (c : Constraint) (fields : List (Option ℕ)) → is_constant c ≡ true → pattern_writable p c fields ≡ true → fields ≡ []
 constants_bind_nothing p c fields h w = grind (arith, common_steps, no_bindings)
 
-plain_if : (p : Notation) (inner : Inner) (label : Option ℕ) (place : Place) (pass : Pass) (rest : List CodePiece) → is_plain pass ≡ true
-    → read_if p inner label (word star ∷ tokens_of (passed_before p place pass rest)) ≡ then_read (read_use (word star ∷ tokens_of (passed_before p place pass rest))) (read_sign p inner label)
-plain_if p inner label place pass rest h = grind (arith, common_steps)
-
 pub if_back : (composed : Bool) (p : Notation) (inner : Inner) (label : Option ℕ) (u : PlaceUse) (rest : List CodePiece) → (composed ≡ true → is_plain u.pass ≡ true)
     → read_if p inner label (tokens_of (put_if composed star (use_before p u rest))) ≡ then_read (read_use (tokens_of (put_if composed star (use_before p u rest)))) (read_sign p inner label)
-if_back composed p inner label u rest h = grind (arith, common_steps, plain_if)
+if_back composed p inner label u rest h = grind (arith, common_steps)
 
 -- 4. patterns of arms
-same_pass-refl : (pass : Pass) → same_pass pass pass ≡ true
-same_pass-refl pass = grind (arith, common_steps)
-
-same_use-refl : (u : PlaceUse) → same_use u u ≡ true
-same_use-refl u = grind (arith, and_from, same_pass-refl, number_same)
-
 guard_back : (p : Notation) (u : PlaceUse) (name : ℕ) (rest : List Token) → (p.is_constant_composed name ≡ true → is_plain u.pass ≡ true)
     → guard_of u (test_at p (seen (p.is_constant_composed name) u) (name_written name) as_it_is) rest ≡ Some (record { constraint = is_prim name; fields = [] }, rest)
-guard_back p u name rest h = grind (arith, same_use-refl, plain_pass)
-
-plain_guard : (p : Notation) (u : PlaceUse) (place : Place) (pass : Pass) (rest : List CodePiece) → is_plain pass ≡ true
-    → read_compared_guard p u (word star ∷ tokens_of (passed_before p place pass rest)) ≡ then_read (read_use (word star ∷ tokens_of (passed_before p place pass rest))) (guard_by u (test_at p))
-plain_guard p u place pass rest h = grind (arith, common_steps)
-
-compared_guard : (composed : Bool) (p : Notation) (u : PlaceUse) (rest : List CodePiece) → (composed ≡ true → is_plain u.pass ≡ true)
-    → read_compared_guard p (shown_use p u) (tokens_of (put_if composed star (use_before p u rest))) ≡ then_read (read_use (tokens_of (put_if composed star (use_before p u rest)))) (guard_by (shown_use p u) (test_at p))
-compared_guard composed p u rest h = grind (arith, common_steps, plain_guard)
+guard_back p u name rest h = grind (arith, plain_pass)
 
 plain_arm : (p : Notation) (u : PlaceUse) (name : ℕ) (rest : List CodePiece) → match_plain p u (is_prim name) ≡ true → follows (tokens_of rest) ≡ true
     → read_arm_pattern p (shown_use p u) (tokens_of (arm_pattern p u (is_prim name) [] rest)) ≡ Some (record { constraint = is_prim name; fields = [] }, tokens_of rest)
 plain_arm p u name rest m f =
-    compared_guard (p.is_constant_composed name) p u (put_between equal_to (constant_before p (is_prim name) rest)) (plain_where_seen p u (is_prim name) m)
+    grind (arith, common_steps)
     ∙ (after_compared p u (is_prim name) (put_between equal_to (constant_before p (is_prim name) rest)) (guard_by (shown_use p u) (test_at p)) m refl
     ∙ (grind (arith, common_steps, after_use, guard_back, plain_where_seen)))
 
-named_arm : (p : Notation) (u : PlaceUse) (name : ℕ) (rest : List CodePiece) → match_writable p u (is_prim name) ≡ true → follows (tokens_of rest) ≡ true
-    → read_arm_pattern p (shown_use p u) (tokens_of (arm_pattern p u (is_prim name) [] rest)) ≡ Some (record { constraint = is_prim name; fields = [] }, tokens_of rest)
-named_arm p u name rest m f = grind (arith, common_steps, plain_or_lent, plain_arm)
-
 pub arm_back : (p : Notation) (u : PlaceUse) (c : Constraint) (fields : List (Option ℕ)) (rest : List CodePiece) → pattern_writable p c fields ≡ true → match_writable p u c ≡ true → follows (tokens_of rest) ≡ true
     → read_arm_pattern p (shown_use p u) (tokens_of (arm_pattern p u c fields rest)) ≡ Some (record { constraint = shown_constraint p c; fields = fields }, tokens_of rest)
-arm_back p u (is_prim name) fields rest w m f = rw (no_bindings fields w) (named_arm p u name rest m f)
+arm_back p u (is_prim name) fields rest w m f = rw (no_bindings fields w) (grind (arith, common_steps, plain_or_lent, plain_arm))
 arm_back p u (is_variant ty variant n) fields rest w m f = pattern_back p (is_variant ty variant n) fields rest refl w
 arm_back p u (is_struct ty n) fields rest w m f = pattern_back p (is_struct ty n) fields rest refl w
 arm_back p u (is_bool b ty) fields rest w m f = grind (arith, common_steps, pattern_back)

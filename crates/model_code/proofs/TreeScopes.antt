@@ -15,7 +15,7 @@ use Rattle.model.proofs.Members.{nothing_in, in_head, in_tail, in_cases, each_pa
 use Rattle.model_code.specs.Code.{Block, statement, Statement}
 use Rattle.model_code.specs.TreeCode.{Passes, place_of, arguments_from, fields_of, bind_code, binds_code, loop_code, tree_code, check_code, arms_code}
 use Rattle.model_code.specs.CodeLaws.{not_in_place, none_in_place, no_field_in_place, binds_none_in_place, check_binds_none, arms_bind_none}
-use Rattle.model_code.specs.Scopes.{knows, knows_all, scope_after, unless_ended, block_scoped, statement_scoped, arms_scoped, LoopsAreOverBound, PrintedCodeIsScoped}
+use Rattle.model_code.specs.Scopes.{knows, knows_all, unless_ended, block_scoped, statement_scoped, arms_scoped, LoopsAreOverBound, PrintedCodeIsScoped}
 use Rattle.model_code.proofs.CodeRunning.{outside}
 use Rattle.model_code.proofs.FlatScopes.{flat_keeps_scopes_lem}
 use Rattle.model_code.proofs.NothingInPlace.{best_trees_bind_none_in_place_lem}
@@ -102,11 +102,6 @@ module _ (set : SiteSet) (p : Passes) (over : LoopsAreOverBound set.sites) where
   abbrev AreOfRules : List ℕ → Type 0
   AreOfRules ms = (i : ℕ) → Contains ms i → i < length set.rules
 
-  check_after : (check : MarkedCheck) (cs : List ℕ) → scope_after cs (check_code (plain_check set.rules check) set.sites p) ≡ cs
-  check_after (m_loop result body) cs = grind arith
-  check_after (m_return rule) cs = grind arith
-  check_after check cs = refl
-
   mutual
     steps_scoped : (m : Marked) (again ts cs : List ℕ) → binds_before_use set true again ts m ≡ true → binds_none_in_place (plain set.rules m) set.sites ≡ true → AreOfRules (marks m) → Kept set.sites p ts cs
         → block_scoped false cs (tree_code (plain set.rules m) set.sites p) ≡ true
@@ -122,7 +117,7 @@ module _ (set : SiteSet) (p : Passes) (over : LoopsAreOverBound set.sites) where
         (λ cs' k'. and_from (statement_scoped false cs' (check_code (plain_check set.rules check) set.sites p)) _
         (check_scoped check again inner cs' (each_passes (can_be_used set.sites inner) (uses set check) bs.1) cs1.1 ms.0 (λ i c. ks i (Contains-append_left (marks_check check) (marks rest) i c)) k')
         (ended_or (check_code (plain_check set.rules check) set.sites p) _
-        (ap (λ sc. block_scoped false sc (tree_code (plain set.rules rest) set.sites p)) (check_after check cs')
+        (ap (λ sc. block_scoped false sc (tree_code (plain set.rules rest) set.sites p)) (grind arith)
         ∙ steps_scoped rest (gone_over set check ++ again) inner cs' (later_there check _ hs.1) ms.1 (λ i c. ks i (Contains-append_right (marks_check check) (marks rest) i c)) k')))
 
     check_scoped : (check : MarkedCheck) (again ts cs : List ℕ) → ((x : ℕ) → Contains (uses set check) x → can_be_used set.sites ts x ≡ true)

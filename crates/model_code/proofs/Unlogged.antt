@@ -3,9 +3,9 @@ use Rattle.std.proofs.Common.{◌≡◌, ◌++◌, ◌∷◌, [], ℕ, suc, Bool
 use Rattle.std.proofs.lemmas.Grind.{common_steps}
 use Rattle.model.specs.sites.Sites.{Constraint, is_variant, is_struct, is_prim, is_present}
 use Rattle.model_code.specs.Code.{PlaceUse, Expr, truth_written, read, extraction, call, variant_of, struct_of, some_of, Block, no_statement, statement, Statement, bind, bind_some, no_way, match_on, if_equal, for_each_of, give, labelled, unless_let, unless_equal, CodeArms, no_code_arm, code_arm}
-use Rattle.model_code.specs.Tokens.{Word, ref_word, closing, comma, colon, arrow, ampersand, Owner, variable_name, field_name}
-use Rattle.model_code.specs.Notation.{Notation, Callee}
-use Rattle.model_code.specs.Pieces.{CodePiece, token, space, set_in, line_end, rule_comment, log_line, tokens_of, Margin, inside, put, put_first, put_first_if, put_if, use_before, args_before, called_before, named_values, unnamed_values, answer_before, binding_before, named_bindings, unnamed_bindings, constant_before, pattern_before, arm_pattern, open_body, close_body, one_line, bind_lines, is_alone, match_head, arms_at, arm_head, match_end, block_before, statement_before, arms_before}
+use Rattle.model_code.specs.Tokens.{Word, arrow, Owner}
+use Rattle.model_code.specs.Notation.{Notation}
+use Rattle.model_code.specs.Pieces.{CodePiece, token, space, set_in, line_end, rule_comment, log_line, tokens_of, Margin, inside, put, put_if, use_before, args_before, named_values, unnamed_values, binding_before, named_bindings, unnamed_bindings, arm_pattern, open_body, close_body, one_line, bind_lines, is_alone, arms_at, arm_head, match_end, block_before, statement_before, arms_before}
 use Rattle.model_code.specs.Spelling.{Names, token_text}
 use Rattle.model_code.specs.Lexing.{lexed, pieces_lexed}
 use Rattle.model_code.specs.ReadTexts.{words_of, UnloggedTextIsItsTokens}
@@ -28,9 +28,6 @@ AsQuiet pieces rest = is_quiet pieces ≡ is_quiet rest
 put_if_quiet : (b : Bool) (w : Word) (rest : List CodePiece) → AsQuiet (put_if b w rest) rest
 put_if_quiet b w rest = grind (arith, common_steps)
 
-put_first_if_quiet : (b : Bool) (w : Word) (rest : List CodePiece) → AsQuiet (put_first_if b w rest) rest
-put_first_if_quiet b w rest = grind (arith, common_steps)
-
 module _ (p : Notation) where
   -- 1. places, uses, and what is bound
   use_quiet : (u : PlaceUse) (rest : List CodePiece) → AsQuiet (use_before p u rest) rest
@@ -39,9 +36,6 @@ module _ (p : Notation) where
   args_quiet : (us : List PlaceUse) (rest : List CodePiece) → AsQuiet (args_before p us rest) rest
   args_quiet [] rest = refl
   args_quiet (u ∷ us) rest = use_quiet u (args_before p us rest) ∙ args_quiet us rest
-
-  answer_quiet : (f : Callee) (us : List PlaceUse) (rest : List CodePiece) → AsQuiet (answer_before p f us rest) rest
-  answer_quiet f us rest = put_if_quiet (p.gives_composed f) ampersand (called_before p f us (put closing rest)) ∙ args_quiet us (put closing rest)
 
   named_quiet : (o : Owner) (i : ℕ) (us : List PlaceUse) (rest : List CodePiece) → AsQuiet (named_values p o i us rest) rest
   named_quiet o i [] rest = refl
@@ -53,36 +47,30 @@ module _ (p : Notation) where
 
   -- 2. patterns
   binding_quiet : (o : Owner) (i v : ℕ) (rest : List CodePiece) → AsQuiet (binding_before p o i v rest) rest
-  binding_quiet o i v rest = put_first_if_quiet (p.is_field_composed o i) ref_word (token (variable_name v) ∷ rest)
+  binding_quiet o i v rest = grind (arith, common_steps)
 
   named_fields_quiet : (o : Owner) (i : ℕ) (bound lacking : Bool) (fields : List (Option ℕ)) (rest : List CodePiece) → AsQuiet (named_bindings p o i bound lacking fields rest) rest
   named_fields_quiet o i bound lacking [] rest = grind arith
   named_fields_quiet o i bound lacking (None ∷ fields) rest = named_fields_quiet o (suc i) bound true fields rest
   named_fields_quiet o i bound lacking (Some v ∷ fields) rest =
       let behind : List CodePiece = named_bindings p o (suc i) true lacking fields rest in
-      put_first_if_quiet bound comma (token (field_name o i) ∷ put_first colon (binding_before p o i v behind)) ∙ (binding_quiet o i v behind ∙ named_fields_quiet o (suc i) true lacking fields rest)
+      (grind (arith, common_steps)) ∙ (binding_quiet o i v behind ∙ named_fields_quiet o (suc i) true lacking fields rest)
 
   unnamed_fields_quiet : (o : Owner) (i : ℕ) (fields : List (Option ℕ)) (rest : List CodePiece) → AsQuiet (unnamed_bindings p o i fields rest) rest
   unnamed_fields_quiet o i [] rest = refl
   unnamed_fields_quiet o i (field ∷ fields) rest = grind (arith, common_steps, unnamed_fields_quiet o (suc i) fields rest)
 
-  constant_quiet : (c : Constraint) (rest : List CodePiece) → AsQuiet (constant_before p c rest) rest
-  constant_quiet c rest = grind (arith, common_steps)
-
-  pattern_quiet : (c : Constraint) (fields : List (Option ℕ)) (rest : List CodePiece) → AsQuiet (pattern_before p c fields rest) rest
-  pattern_quiet c fields rest = grind (arith, common_steps, named_fields_quiet, unnamed_fields_quiet)
-
   -- 3. tests
   arm_pattern_quiet : (u : PlaceUse) (c : Constraint) (fields : List (Option ℕ)) (rest : List CodePiece) → AsQuiet (arm_pattern p u c fields rest) rest
-  arm_pattern_quiet u (is_prim name) fields rest = grind (arith, put_if_quiet, use_quiet, constant_quiet)
-  arm_pattern_quiet u (is_variant ty variant n) fields rest = pattern_quiet (is_variant ty variant n) fields rest
-  arm_pattern_quiet u (is_struct ty n) fields rest = pattern_quiet (is_struct ty n) fields rest
-  arm_pattern_quiet u is_present fields rest = pattern_quiet is_present fields rest
+  arm_pattern_quiet u (is_prim name) fields rest = grind (arith, put_if_quiet, use_quiet)
+  arm_pattern_quiet u (is_variant ty variant n) fields rest = grind (arith, named_fields_quiet, unnamed_fields_quiet)
+  arm_pattern_quiet u (is_struct ty n) fields rest = grind (arith, named_fields_quiet, unnamed_fields_quiet)
+  arm_pattern_quiet u is_present fields rest = grind (arith, named_fields_quiet, unnamed_fields_quiet)
   arm_pattern_quiet u _ fields rest = refl
 
   -- 4. lines
   one_quiet : (at : Margin) (v : ℕ) (x : Expr) (rest : List CodePiece) → AsQuiet (one_line p at v x rest) rest
-  one_quiet at v x rest = grind (arith, use_quiet, answer_quiet, named_quiet, unnamed_quiet)
+  one_quiet at v x rest = grind (arith, use_quiet, named_quiet, unnamed_quiet, put_if_quiet, args_quiet)
 
   bind_quiet : (at : Margin) (v : ℕ) (x : Expr) (rest : List CodePiece) → AsQuiet (bind_lines p at v x rest) rest
   bind_quiet at v (extraction term u) rest = grind (arith, args_quiet, one_quiet)
@@ -93,14 +81,8 @@ module _ (p : Notation) where
   bind_quiet at v (struct_of ty us) rest = one_quiet at v (struct_of ty us) rest
   bind_quiet at v (some_of u) rest = one_quiet at v (some_of u) rest
 
-  head_quiet : (alone : Bool) (at : Margin) (u : PlaceUse) (rest : List CodePiece) → AsQuiet (match_head alone p at u rest) rest
-  head_quiet alone at u rest = grind (arith, common_steps)
-
-  last_quiet : (alone : Bool) (at : Margin) (rest : List CodePiece) → AsQuiet (match_end alone at rest) rest
-  last_quiet alone at rest = grind (arith, common_steps)
-
   arm_quiet : (alone : Bool) (at : Margin) (u : PlaceUse) (c : Constraint) (fields : List (Option ℕ)) (rest : List CodePiece) → AsQuiet (arm_head alone p at u c fields rest) rest
-  arm_quiet true at u c fields rest = grind (arith, put_if_quiet, use_quiet, constant_quiet, pattern_quiet)
+  arm_quiet true at u c fields rest = grind (arith, put_if_quiet, use_quiet, named_fields_quiet, unnamed_fields_quiet)
   arm_quiet false at u c fields rest = arm_pattern_quiet u c fields (space ∷ put arrow (open_body rest))
 
   -- 5. blocks, where the log is told nothing
@@ -115,13 +97,13 @@ module _ (p : Notation) where
       statement_quiet (bind_some v u) at rest = grind (arith, use_quiet)
       statement_quiet no_way at rest = refl
       statement_quiet (match_on u arms) at rest =
-          head_quiet (is_alone arms) at u (arms_before (is_alone arms) p (arms_at (is_alone arms) at) u arms (match_end (is_alone arms) at rest))
-          ∙ (arms_quiet arms (is_alone arms) (arms_at (is_alone arms) at) u (match_end (is_alone arms) at rest) ∙ last_quiet (is_alone arms) at rest)
+          grind arith
+          ∙ (arms_quiet arms (is_alone arms) (arms_at (is_alone arms) at) u (match_end (is_alone arms) at rest) ∙ (grind arith))
       statement_quiet (if_equal a b body) at rest = grind (arith, block_quiet body (inside at) (close_body at rest), use_quiet)
       statement_quiet (for_each_of v from body) at rest = block_quiet body (inside at) (close_body at rest)
       statement_quiet (give place u) at rest = grind (arith, use_quiet)
       statement_quiet (labelled body) at rest = grind (arith, common_steps, block_quiet body)
-      statement_quiet (unless_let u c fields) at rest = grind (arith, put_if_quiet, use_quiet, constant_quiet, pattern_quiet)
+      statement_quiet (unless_let u c fields) at rest = grind (arith, put_if_quiet, use_quiet, named_fields_quiet, unnamed_fields_quiet)
       statement_quiet (unless_equal a b) at rest = grind (arith, use_quiet)
 
       arms_quiet : (arms : CodeArms) (alone : Bool) (at : Margin) (u : PlaceUse) (rest : List CodePiece) → AsQuiet (arms_before alone p at u arms rest) rest

@@ -1,14 +1,14 @@
 -- Places and uses are read back, where what follows is no part of them.
-use Rattle.std.proofs.Common.{◌≡◌, ◌&&◌, ◌==◌, ◌∷◌, ℕ, Bool, true, false, List, Some, None, arith}
+use Rattle.std.proofs.Common.{◌≡◌, ◌&&◌, ◌==◌, ◌∷◌, ℕ, Bool, true, false, List, Some, arith}
 use Rattle.std.proofs.lemmas.Bool.{and_parts, and_from}
 use Rattle.std.proofs.lemmas.Grind.{common_steps}
 use Rattle.model.proofs.SameSites.{number_same}
-use Rattle.model_code.specs.Code.{Place, PlaceUse}
+use Rattle.model_code.specs.Code.{PlaceUse}
 use Rattle.model_code.specs.Tokens.{dot, colon, Owner, Token, word, part_name, field_name, variable_name}
 use Rattle.model_code.specs.Notation.{Notation}
-use Rattle.model_code.specs.Pieces.{CodePiece, tokens_of, place_before, use_before, clone_call}
-use Rattle.model_code.specs.Shown.{shown_place, shown_use}
-use Rattle.model_code.specs.Reading.{TokenReading, then_read, expect_all, expect_variable, expect_field, same_owner, read_place, read_use}
+use Rattle.model_code.specs.Pieces.{CodePiece, tokens_of, use_before}
+use Rattle.model_code.specs.Shown.{shown_use}
+use Rattle.model_code.specs.Reading.{TokenReading, then_read, expect_variable, expect_field, same_owner, read_use}
 
 abbrev not_part : List Token → Bool
 not_part (part_name i ∷ rest) = false
@@ -22,15 +22,9 @@ not_dot tokens = true
 abbrev pub follows : List Token → Bool
 follows tokens = not_part tokens && not_dot tokens
 
-no_clone : (tokens : List Token) → not_dot tokens ≡ true → expect_all clone_call tokens ≡ None
-no_clone tokens h = grind (arith, common_steps)
-
-place_back : (p : Notation) (place : Place) (rest : List CodePiece) → not_part (tokens_of rest) ≡ true → read_place (tokens_of (place_before p place rest)) ≡ Some (shown_place p place, tokens_of rest)
-place_back p place rest h = grind (arith, common_steps)
-
 pub after_use : {B : Type 0} (p : Notation) (u : PlaceUse) (rest : List CodePiece) (go : PlaceUse → List Token → TokenReading B) → follows (tokens_of rest) ≡ true
     → then_read (read_use (tokens_of (use_before p u rest))) go ≡ go (shown_use p u) (tokens_of rest)
-after_use p u rest go h = grind (arith, and_parts, place_back, no_clone)
+after_use p u rest go h = grind (arith, and_parts)
 
 -- single tokens
 pub that_variable : (v : ℕ) (rest : List Token) → expect_variable v (variable_name v ∷ rest) ≡ Some rest

@@ -41,9 +41,6 @@ module _ (p : Notation) where
   InnerLeft (statement (labelled body) no_statement) = is_left (result_ends p) (written p body) ≡ is_left (result_ends p) body
   InnerLeft code = Unit {0}
 
-  body_left : (body : Block) → is_left (result_ends p) (written p body) ≡ is_left (result_ends p) body → InnerLeft body → is_left (result_ends p) (unwrapped (is_bare p body) (written p body)) ≡ is_left (result_ends p) body
-  body_left body h i = grind (arith, common_steps)
-
   mutual
     pub left_written : (b : Block) → is_left (result_ends p) (written p b) ≡ is_left (result_ends p) b
     left_written no_statement = refl
@@ -51,13 +48,13 @@ module _ (p : Notation) where
 
     leaves_written : (s : Statement) → leaves_at (result_ends p) (written_at p s) ≡ leaves_at (result_ends p) s
     leaves_written (match_on u arms) = arms_left arms
-    leaves_written (if_equal a b body) = body_left body (left_written body) (inner_left body)
-    leaves_written (for_each_of v from body) = body_left body (left_written body) (inner_left body)
+    leaves_written (if_equal a b body) = grind (arith, common_steps, left_written body, inner_left body)
+    leaves_written (for_each_of v from body) = grind (arith, common_steps, left_written body, inner_left body)
     leaves_written s = refl
 
     arms_left : (arms : CodeArms) → leaves_arms (result_ends p) (written_arms p arms) ≡ leaves_arms (result_ends p) arms
     arms_left no_code_arm = refl
-    arms_left (code_arm pattern fields body rest) = either (body_left body (left_written body) (inner_left body)) (arms_left rest)
+    arms_left (code_arm pattern fields body rest) = either (grind (arith, common_steps, left_written body, inner_left body)) (arms_left rest)
 
     inner_left : (b : Block) → InnerLeft b
     inner_left (statement (labelled body) no_statement) = left_written body
