@@ -23,7 +23,7 @@ use Rattle.laws_trees.proofs.total.Shaped.{Uses, HasShape}
 use Rattle.laws_trees.proofs.total.ShapedSites.{AreShaped, rule_shaped}
 use Rattle.model_code.specs.Code.{Place, PlaceUse, Block, no_statement, statement, Statement, match_on, if_equal, for_each_of, labelled, CodeArms, no_code_arm, code_arm}
 use Rattle.model_code.specs.TreeCode.{Passes, bind_code, binds_code, tree_code, check_code, arms_code}
-use Rattle.model_code.specs.Flat.{flat, flat_at, flat_arms, leaving, leaving_last, leaving_match}
+use Rattle.model_code.specs.Flat.{within, flat, flat_at, flat_arms, leaving, leaving_last, leaving_match}
 use Rattle.model_code.specs.Modes.{Types, passes_of}
 use Rattle.model_code.specs.MovedOnce.{behind, movable_after, read_no_more, unlooked}
 use Rattle.model_code.specs.Saving.{saved, saved_at, saved_arms}
@@ -34,6 +34,9 @@ use Rattle.laws_code.specs.CalledAlike.{AreCalledAlike, TreesCallAlike, CodeCall
 
 -- 1. labels and moves keep the calls
 module _ (p : Notation) (is_impure : ℕ → Bool) where
+  within_calls : (x : Bool) (a b : Block) → calls_as p is_impure a ≡ true → calls_as p is_impure b ≡ true → calls_as p is_impure (within x a b) ≡ true
+  within_calls x a b h k = grind (arith, common_steps, and_from)
+
   module _ (deep : ℕ → Bool) where
     mutual
       flat_calls : (b : Block) (n : ℕ) → calls_as p is_impure b ≡ true → calls_as p is_impure (flat b deep n) ≡ true
@@ -42,15 +45,15 @@ module _ (p : Notation) (is_impure : ℕ → Bool) where
 
       flat_calls_at : (s : Statement) (n : ℕ) → calls_as_at p is_impure s ≡ true → calls_as_at p is_impure (flat_at s deep n) ≡ true
       flat_calls_at (match_on u arms) n h = flat_calls_arms arms n h
-      flat_calls_at (if_equal a b body) n h = grind (arith, common_steps, and_from, deep n, leaving_calls body (suc n) h, flat_calls body (suc n) h)
-      flat_calls_at (for_each_of v from body) n h = grind (arith, common_steps, and_from, deep n, leaving_calls body (suc n) h, flat_calls body (suc n) h)
+      flat_calls_at (if_equal a b body) n h = within_calls (deep n) (leaving body deep (suc n)) (flat body deep (suc n)) (leaving_calls body (suc n) h) (flat_calls body (suc n) h)
+      flat_calls_at (for_each_of v from body) n h = within_calls (deep n) (leaving body deep (suc n)) (flat body deep (suc n)) (leaving_calls body (suc n) h) (flat_calls body (suc n) h)
       flat_calls_at s n h = grind (arith, common_steps)
 
       flat_calls_arms : (arms : CodeArms) (n : ℕ) → arms_call_as p is_impure arms ≡ true → arms_call_as p is_impure (flat_arms arms deep n) ≡ true
       flat_calls_arms no_code_arm n h = refl
       flat_calls_arms (code_arm pattern fields body rest) n h =
           let hs = and_parts (calls_as p is_impure body) (arms_call_as p is_impure rest) h in
-          and_from _ _ (grind (arith, common_steps, and_from, deep n, leaving_calls body (suc n) hs.0, flat_calls body (suc n) hs.0)) (flat_calls_arms rest n hs.1)
+          and_from _ _ (within_calls (deep n) (leaving body deep (suc n)) (flat body deep (suc n)) (leaving_calls body (suc n) hs.0) (flat_calls body (suc n) hs.0)) (flat_calls_arms rest n hs.1)
 
       leaving_calls : (b : Block) (n : ℕ) → calls_as p is_impure b ≡ true → calls_as p is_impure (leaving b deep n) ≡ true
       leaving_calls no_statement n h = refl
@@ -62,7 +65,7 @@ module _ (p : Notation) (is_impure : ℕ → Bool) where
       leaving_last_calls : (s : Statement) (n : ℕ) → calls_as_at p is_impure s ≡ true → calls_as p is_impure (leaving_last s deep n) ≡ true
       leaving_last_calls (match_on u arms) n h = leaving_match_calls u arms n h
       leaving_last_calls (if_equal a b body) n h = leaving_calls body n h
-      leaving_last_calls (for_each_of v from body) n h = and_from _ _ (grind (arith, common_steps, and_from, deep n, leaving_calls body (suc n) h, flat_calls body (suc n) h)) refl
+      leaving_last_calls (for_each_of v from body) n h = and_from _ _ (within_calls (deep n) (leaving body deep (suc n)) (flat body deep (suc n)) (leaving_calls body (suc n) h) (flat_calls body (suc n) h)) refl
       leaving_last_calls s n h = grind (arith, common_steps, and_from)
 
       leaving_match_calls : (u : PlaceUse) (arms : CodeArms) (n : ℕ) → arms_call_as p is_impure arms ≡ true → calls_as p is_impure (leaving_match u arms deep n) ≡ true
@@ -72,8 +75,8 @@ module _ (p : Notation) (is_impure : ℕ → Bool) where
           let hs = and_parts (calls_as p is_impure body) (calls_as p is_impure b2 && arms_call_as p is_impure rest) h in
           let ks = and_parts (calls_as p is_impure b2) (arms_call_as p is_impure rest) hs.1 in
           and_from _ _
-          (and_from _ _ (grind (arith, common_steps, and_from, deep n, leaving_calls body (suc n) hs.0, flat_calls body (suc n) hs.0))
-          (and_from _ _ (grind (arith, common_steps, and_from, deep n, leaving_calls b2 (suc n) ks.0, flat_calls b2 (suc n) ks.0)) (flat_calls_arms rest n ks.1))) refl
+          (and_from _ _ (within_calls (deep n) (leaving body deep (suc n)) (flat body deep (suc n)) (leaving_calls body (suc n) hs.0) (flat_calls body (suc n) hs.0))
+          (and_from _ _ (within_calls (deep n) (leaving b2 deep (suc n)) (flat b2 deep (suc n)) (leaving_calls b2 (suc n) ks.0) (flat_calls b2 (suc n) ks.0)) (flat_calls_arms rest n ks.1))) refl
 
   module _ (types : Types) where
     mutual
@@ -99,6 +102,9 @@ module _ (p : Program) (n : Notation) (is_impure : ℕ → Bool) (alike : AreCal
   IsAlike (constructor_call t ss i) = impure_call i (is_impure (n.function (constructor_of t))) ≡ true
   IsAlike s = Unit {0}
 
+  shape_alike : (uses : Uses) (u : SiteTerm) → HasShape p uses u → IsAlike u
+  shape_alike uses u found = grind arith
+
 module _ (b : BuiltSet) (h : IsWellTypedProgram b.program) (n : Notation) (is_impure : ℕ → Bool) (alike : AreCalledAlike b.program n is_impure) (passes : Passes) where
   abbrev p : Program
   p = b.program
@@ -119,7 +125,7 @@ module _ (b : BuiltSet) (h : IsWellTypedProgram b.program) (n : Notation) (is_im
       let uses : Uses = record { args = arg_types p r.0.root_term; matched = matched_in r.0; called = called_in r.0 } in
       let shaped : AreShaped p uses (demands_of p r.0) = rule_shaped p uses h r.0 (h.rules r.0 o.0).formed (λ t i. contains_from_in (matched_in r.0) t i) (λ t i. contains_from_in (called_in r.0) t i) refl in
       let found : HasShape p uses u = grind (arith, common_steps, in_either, from_flat_map) in
-      grind arith
+      shape_alike p n is_impure alike uses u found
 
   site_alike : (s : ℕ) (x : Site) → slice_get sites s ≡ Some x → (IsField (layer (unfold_site sites) x) → ⊥) → Alike (layer (unfold_site sites) x)
   site_alike s x at no_field = grind (arith, common_steps, sites_stand b h s, unfolded_layer, sites_stand, slice_get_within, asked_alike)
