@@ -14,7 +14,7 @@ use Rattle.model.proofs.Options.{then_some}
 use Rattle.model.proofs.SameSites.{term_means}
 use Rattle.laws_specs.specs.Words.{Denoted, a_truth, a_word, DenotedList, no_denoted, denoted_and, equals}
 use Rattle.laws_specs.specs.Specs.{SpecExpr, its_argument, its_result, the_same, operation, Specs, IsSaid, IsRequired, IsProvided, no_unknown}
-use Rattle.laws_specs.specs.Conditions.{ToldContent, told, as_denoted, result_as, IsAnsweredAsSaid, Valuation, denoted_at, denoted_at_each, is_told_formed, IsHeldAs, IsAssumed, AreMade, condition}
+use Rattle.laws_specs.specs.Conditions.{ToldContent, told, told_just, as_denoted, result_as, are_of_entries, IsAnsweredAsSaid, IsTypedAs, Valuation, denoted_at, denoted_at_each, is_told_formed, IsHeldAs, IsAssumed, AreMade, condition}
 use Rattle.laws_specs.specs.Samples.{of_two, two, byte, is_sum, x, adding, noting, rule_of, program_with, specs_with, doubled, below_itself, IsRight, SumsAreRight, CallsAreRequired}
 
 -- 1. valuations that are listed
@@ -102,13 +102,19 @@ alone_formed = each_held (λ s h. is_told_formed h ≡ true) argument_alone (ref
 pub truths_same : (a b : Bool) → Some (a_truth a) ≡ Some (a_truth b) → a ≡ b
 truths_same a b e = cc
 
+argument_assumed : (provided : List SpecExpr) → Assumed x (specs_with provided [] []) one_argument alone
+argument_assumed provided = grind (arith, common_steps, none_some, alone_held, alone_formed, in_from_contains, no_picks)
+
 pub none_made : (p : Program) (specs : Specs) (f : Valuation) → AreMade p specs f []
 none_made p specs f u i = absurd (in_from_contains [] u i)
 
 argument_provided : (e : SpecExpr) → IsRight (e ∷ []) [] [] x → IsSaid no_unknown one_argument (Some (byte 1)) e
 argument_provided e right =
-    let shown = right one_argument alone (grind (arith, common_steps, none_some, alone_held, alone_formed, in_from_contains, no_picks)) in
+    let shown = right one_argument alone (argument_assumed (e ∷ [])) in
     only_one (IsSaid no_unknown one_argument (Some (byte 1))) e (shown.provides (told (byte 1)) (byte 1) (none_made (program_with x) (specs_with (e ∷ []) [] []) alone) refl refl)
+
+argument_wrong : IsRight (doubled ∷ []) [] [] x → ⊥
+argument_wrong right = false≢true (truths_same false true (argument_provided doubled right))
 
 abbrev another_width : SpecExpr
 another_width = operation equals (of_two its_result (the_same (a_word 16 1)))
@@ -129,6 +135,12 @@ called = listed_as with_call
 never_below : (xs : DenotedList) → Some (two (byte 1) (byte 1)) ≡ Some xs → IsRequired failing 1 xs → ⊥
 never_below xs e r = false≢true (truths_same false true (only_one (IsSaid no_unknown (two (byte 1) (byte 1)) None) below_itself (subst (IsRequired failing 1) (sym (some_is (two (byte 1) (byte 1)) xs e)) r)))
 
+not_wrapped : (y : Denoted) (g : ToldContent) → told y ≡ told_just g → (z : Denoted) × (as_denoted g ≡ Some z)
+not_wrapped y g w = cc
+
+call_typed : (h : ToldContent) → Some (told (byte 7)) ≡ Some h → IsTypedAs (program_with (adding x x)) failing sum_call h
+call_typed h e = subst (IsTypedAs (program_with (adding x x)) failing sum_call) (some_is (told (byte 7)) h e) (λ y q. subst (λ z. are_of_entries (program_with (adding x x)) failing (1 ∷ []) (denoted_and z no_denoted) ≡ true) (some_is (byte 7) y q) refl, λ g w. not_wrapped (byte 7) g w)
+
 call_assumed : Assumed (adding x x) failing one_argument called
 call_assumed = record {
   arguments = refl;
@@ -143,7 +155,7 @@ call_assumed = record {
     | inl q ↦ subst (λ z. IsAnsweredAsSaid failing called z z) q tt
     | inr j ↦ elim j [ inl q ↦ subst (λ z. IsAnsweredAsSaid failing called z z) q (λ xs h there answer required. absurd (never_below xs there required)) | inr n ↦ absurd n ]
   ];
-  typed = grind (arith, common_steps, in_from_contains);
+  typed = grind (arith, common_steps, in_from_contains, call_typed);
   picks = λ s i e. no_picks failing called (λ u h there. none_some h there) s;
   typed_picks = λ s h i e there. absurd (none_some h there);
 }
@@ -154,17 +166,23 @@ failing_wrong right =
     false≢true (truths_same false true (only_one (IsSaid no_unknown one_argument (Some (byte 7))) doubled (shown.provides (told (byte 7)) (byte 7) (none_made (program_with (adding x x)) failing called) refl refl)))
 
 pub sums_are_right_lem : SumsAreRight
-sums_are_right_lem = (sum_right, (λ right. false≢true (truths_same false true (argument_provided doubled right))), failing_wrong)
+sums_are_right_lem = (sum_right, argument_wrong, failing_wrong)
 
 -- 6. an impure call
+note_right : IsRight [] [] [] (noting x)
+note_right args f a = grind (arith, none_first)
+
 abbrev noted : Specs
 noted = specs_with [] [] (below_itself ∷ [])
 
+note_assumed : Assumed (noting x) noted one_argument alone
+note_assumed = grind (arith, common_steps, none_some, alone_held, alone_formed, in_from_contains, no_picks)
+
 note_wrong : IsRight [] [] (below_itself ∷ []) (noting x) → ⊥
 note_wrong right =
-    let shown = right one_argument alone (grind (arith, common_steps, none_some, alone_held, alone_formed, in_from_contains, no_picks)) in
+    let shown = right one_argument alone note_assumed in
     false≢true (truths_same false true (only_one (IsSaid no_unknown one_argument None) below_itself
     (shown.requires [] [] note_call 2 1 (site_term_and (argument 0) no_site_term) one_argument refl (none_made (program_with (noting x)) noted alone) refl refl)))
 
 pub calls_are_required_lem : CallsAreRequired
-calls_are_required_lem = grind (arith, note_wrong, width_wrong, none_first)
+calls_are_required_lem = (note_right, note_wrong, width_wrong)

@@ -1,21 +1,21 @@
 -- What the sites of a run stand for: values, fields, answers and results, by their parts.
-use Rattle.std.proofs.Common.{◌≡◌, ℕ, suc, ◌&&◌, true, List, ◌∷◌, Option, Some, slice_get, refl, sym, ap, subst, ◌∙◌, arith}
+use Rattle.std.proofs.Common.{Bool, false, ◌≡◌, ℕ, ℤ, suc, ◌&&◌, true, List, ◌∷◌, Option, Some, slice_get, refl, sym, ap, subst, ◌∙◌, arith}
 use Rattle.std.proofs.lemmas.Grind.{common_steps}
 use Rattle.std.proofs.lemmas.Bool.{and_parts, and_from, eqb-true}
 use Rattle.model.specs.lists.Tables.{TypeEntry}
-use Rattle.model.specs.rules.Values.{Value, of_variant, of_struct, Values, no_value, value_and, listed, of_list, well_typed, all_well_typed, variant_types, struct_types}
+use Rattle.model.specs.rules.Values.{Value, truth, atom, of_variant, of_struct, Values, no_value, value_and, listed, of_list, well_typed, all_well_typed, is_truth_type, has_atoms, variant_types, struct_types}
 use Rattle.model.specs.rules.Meaning.{Content, one, parts, just, Meaning, constant_value, extractor_answer}
 use Rattle.model.specs.rules.Outcome.{Call, then_option}
 use Rattle.model.specs.rules.Program.{Program}
 use Rattle.model.specs.rules.Picks.{Pick, part_of_some, field_of_variant, field_of_struct, call_answer, site_content, site_values}
-use Rattle.model.specs.sites.Sites.{SiteTerm, prim_term, argument, extractor_call, constructor_call, pick_of, variant_made, variant_field, struct_made, struct_field, some_made, some_part, tuple_part, no_site, SiteTerms, no_site_term, site_term_and}
+use Rattle.model.specs.sites.Sites.{SiteTerm, bool_term, int_term, prim_term, argument, extractor_call, constructor_call, pick_of, variant_made, variant_field, struct_made, struct_field, some_made, some_part, tuple_part, no_site, SiteTerms, no_site_term, site_term_and}
 use Rattle.model.specs.trees.Run.{as_value, from_value, part_at}
 use Rattle.model.proofs.Elements.{or_left, or_right, some_is, none_some}
 use Rattle.model.proofs.Options.{then_some}
 use Rattle.laws_trees.proofs.picks.HeldContents.{is_just}
 use Rattle.laws_specs.specs.Words.{Denoted, DenotedList, denoted_list, is_formed, are_formed}
-use Rattle.laws_specs.specs.Specs.{Specs}
-use Rattle.laws_specs.specs.Conditions.{ToldContent, told, is_told_formed, denoted_at_each, IsPartHeld, IsHeldAs, is_of_type, are_of_types}
+use Rattle.laws_specs.specs.Specs.{Specs, sort_of}
+use Rattle.laws_specs.specs.Conditions.{ToldContent, told, is_told_formed, as_denoted, denoted_at_each, IsPartHeld, IsHeldAs, is_atom_as, is_of_type, are_of_types, is_without_atoms}
 use Rattle.laws_specs.specs.Meets.{Atoms, stands_for, stand_for, content_as, IsDenotation, MeetsSpecs}
 
 -- 1. optional contents
@@ -25,8 +25,14 @@ is_value o v e = grind (arith, common_steps, none_some, some_is)
 abbrev pub told_of : Atoms → Option Content → Option ToldContent
 told_of d o = then_option o (λ c. Some (content_as d c))
 
+abbrev pub denoted_of : Atoms → Option Value → Option Denoted
+denoted_of d o = then_option o (λ v. Some (stands_for d v))
+
 abbrev pub all_denoted_of : Atoms → Option Values → Option DenotedList
 all_denoted_of d o = then_option o (λ vs. Some (stand_for d vs))
+
+value_told : (d : Atoms) (o : Option Content) → then_option (told_of d o) as_denoted ≡ denoted_of d (then_option o as_value)
+value_told d o = grind (arith, common_steps)
 
 pub told_same : (x y : Denoted) → told x ≡ told y → x ≡ y
 told_same x y e = cc
@@ -115,7 +121,7 @@ module _ (k : Called) where
   args_as = stand_for k.atoms (of_list k.args)
 
   pub each_told : (ss : SiteTerms) → denoted_at_each sites_as ss ≡ all_denoted_of d (values ss)
-  each_told (site_term_and s ss) = grind (arith, common_steps, each_told ss)
+  each_told (site_term_and s ss) = grind (arith, common_steps, each_told ss, value_told)
   each_told no_site_term = refl
 
   pub told_values : (ss : SiteTerms) (vs : Values) → values ss ≡ Some vs → denoted_at_each sites_as ss ≡ Some (stand_for d vs)
@@ -125,6 +131,8 @@ module _ (k : Called) where
   told_site s c e = ap (told_of d) e
 
   content_held : (s : SiteTerm) (c : Content) → content s ≡ Some c → IsHeldAs k.specs args_as sites_as s (content_as d c)
+  content_held (bool_term b ty) c e = grind (arith, common_steps, value_held)
+  content_held (int_term z ty) c e = grind (arith, common_steps, value_held)
   content_held (prim_term name) c e = λ x l. let a = value_held d (constant_value m name) c e in a.2 ∙ ap told (k.meets.constants name a.0 x a.1 l)
   content_held (argument i) c e = grind (arith, common_steps, value_held, argument_there)
   content_held (extractor_call t s) c e =
@@ -153,7 +161,6 @@ module _ (k : Called) where
       let b = parts_there i a.0 c a.2 in
       (stand_for d b.0, told_site s a.0 a.1 ∙ ap (λ x. Some (content_as d x)) b.1, part_held d b.0 i c b.2)
   content_held no_site c e = none_some c e
-  content_held _ c e = grind (arith, common_steps, value_held)
 
   pub site_held : (s : SiteTerm) (h : ToldContent) → sites_as s ≡ Some h → IsHeldAs k.specs args_as sites_as s h
   site_held s h e = let a = told_there d (content s) h e in subst (IsHeldAs k.specs args_as sites_as s) a.2 (content_held s a.0 a.1)
@@ -180,11 +187,26 @@ module _ (k : Called) where
   abbrev types : List TypeEntry
   types = k.program.types
 
+  atom_as : (ty : ℕ) (z : ℤ) → is_without_atoms types k.specs ty ≡ false → is_atom_as (slice_get types ty) (sort_of k.specs ty) (d ty z) ≡ true
+  atom_as ty z e = grind (arith, common_steps, and_from, or_right, or_left)
+
+  -- an atom of a type that has none stands for one of its variants
+  atom_typed : (ty : ℕ) (z : ℤ) → has_atoms (slice_get types ty) ≡ true → is_of_type types k.specs ty (d ty z) ≡ true
+  atom_typed ty z h = by (is_without_atoms types k.specs ty) refl
+    where
+      of_atoms : (x : Denoted) → is_atom_as (slice_get types ty) (sort_of k.specs ty) x ≡ true → is_of_type types k.specs ty x ≡ true
+      of_atoms x a = grind (arith, common_steps, or_left, or_right, and_from)
+
+      by : (b : Bool) → is_without_atoms types k.specs ty ≡ b → is_of_type types k.specs ty (d ty z) ≡ true
+      by true e = k.denotes.made ty z e
+      by false e = of_atoms (d ty z) (atom_as ty z e)
+
   mutual
     pub value_typed : (ty : ℕ) (v : Value) → well_typed types ty v ≡ true → is_of_type types k.specs ty (stands_for d v) ≡ true
+    value_typed ty (truth b) h = or_left (is_truth_type (slice_get types ty) && true) _ (and_from (is_truth_type (slice_get types ty)) true h refl)
+    value_typed ty (atom s z) h = grind (arith, common_steps, and_parts, eqb-true, atom_typed)
     value_typed ty (of_variant s i vs) h = grind (arith, common_steps, values_typed (variant_types (slice_get types ty) i) vs, and_parts, or_right, and_from)
     value_typed ty (of_struct s vs) h = grind (arith, common_steps, values_typed (struct_types (slice_get types ty)) vs, and_parts, or_right, and_from)
-    value_typed ty v h = grind (arith, or_left, and_from, and_parts, eqb-true, or_right)
 
     pub values_typed : (tys : Option (List ℕ)) (vs : Values) → all_well_typed types tys vs ≡ true → are_of_types types k.specs tys (stand_for d vs) ≡ true
     values_typed (Some (ty ∷ tys)) (value_and v vs) h = grind (arith, common_steps, value_typed ty v, values_typed (Some tys) vs, and_parts, and_from)

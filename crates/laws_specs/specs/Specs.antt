@@ -21,6 +21,11 @@ is_of_sort (words width) (a_word w n) = w == width
 is_of_sort (words_among widths) (a_word w n) = list_any (λ v. w == v) widths
 is_of_sort _ _ = false
 
+-- no word is of it
+abbrev pub is_closed : Option Sort → Bool
+is_closed (Some (words_among [])) = true
+is_closed _ = false
+
 -- whether it is that variant: of another type nothing is said
 abbrev pub on_variant : ℕ → ℕ → Denoted → (DenotedList → Option Denoted) → Option Denoted → Option Denoted
 on_variant ty variant (variant_of t i fields) go other = if t == ty then (if i == variant then go fields else other) else None
@@ -48,6 +53,9 @@ mutual
     the_same : (x : Denoted) → SpecExpr
     operation : (o : Operator) (of : SpecExprs) → SpecExpr
     unknown : (f : ℕ) (of : SpecExprs) → SpecExpr
+    -- a variant or a struct, made of its fields
+    variant_said : (ty variant : ℕ) (of : SpecExprs) → SpecExpr
+    struct_said : (ty : ℕ) (of : SpecExprs) → SpecExpr
     -- the expression is bound in the body
     let_in : (e body : SpecExpr) → SpecExpr
     -- the first case of an equal value
@@ -85,6 +93,8 @@ module _ (unknowns : Unknowns) (args : DenotedList) (result : Option Denoted) wh
     says (the_same x) bound = Some x
     says (operation o of) bound = then_option (says_each of bound) (applied_to o)
     says (unknown f of) bound = then_option (says_each of bound) (λ xs. Some (unknowns f xs))
+    says (variant_said ty variant of) bound = then_option (says_each of bound) (λ xs. Some (variant_of ty variant xs))
+    says (struct_said ty of) bound = then_option (says_each of bound) (λ xs. Some (struct_of ty xs))
     says (let_in e body) bound = then_option (says e bound) (λ x. says body (x ∷ bound))
     says (switch_on e cases) bound = then_option (says e bound) (λ x. says_case cases x bound)
     says (match_on e arms) bound = then_option (says e bound) (λ x. says_arm arms x bound)

@@ -23,10 +23,13 @@ use Rattle.laws_sites.proofs.WithTypes.{Facts, AtEachTyped, ValuesAtEach, IsGive
 use Rattle.laws_trees.proofs.Shapes.{literal_without_parts}
 use Rattle.laws_specs.specs.Words.{Denoted, a_truth, variant_of, struct_of, DenotedList, no_denoted, denoted_and, denoted_list}
 use Rattle.laws_specs.specs.Specs.{Specs}
-use Rattle.laws_specs.specs.Conditions.{ToldContent, told, told_parts, told_just, Valuation, as_denoted, denoted_at, denoted_at_each, told_outputs, IsPartHeld, are_of_entries, Condition, is_impure_call, IsAssumed}
+use Rattle.laws_specs.specs.Conditions.{ToldContent, told, told_parts, told_just, Valuation, as_denoted, denoted_at, denoted_at_each, told_outputs, answered_as, IsPartHeld, are_of_entries, Condition, is_impure_call, IsAssumed}
 use Rattle.laws_specs.proofs.Valuations.{told_same}
 use Rattle.laws_specs.proofs.sets.CallsMade.{CallsAre, AllCallsAre}
 use Rattle.laws_specs.proofs.sets.Shapes.{is_shaped, are_shaped, plain_shaped, of_type_shaped, of_types_shaped, variant_fields, struct_fields, field_shaped, as_many_fields}
+
+outputs_answered : (h : ToldContent) (xs : DenotedList) → told_outputs h ≡ Some xs → answered_as h ≡ Some xs
+outputs_answered h xs e = grind (arith, common_steps)
 
 -- what is assumed of a condition
 pub record Assuming : Type 0 where
@@ -102,17 +105,17 @@ module _ (k : Assuming) where
   extracted_outputs : (t : ℕ) (u : SiteTerm) → GivesOutputs (extractor_call t u) (term_args (slice_get p.terms t))
   extracted_outputs t u calls h xs e q =
       let call = extractor_call t u in
-      of_types_shaped p.types k.specs (Some (term_args (slice_get p.terms t))) xs (a.typed call h (contains_from_in k.condition.made call calls.0.0) calls.0.1 e xs (grind arith))
+      of_types_shaped p.types k.specs (Some (term_args (slice_get p.terms t))) xs ((a.typed call h (contains_from_in k.condition.made call calls.0.0) calls.0.1 e).0 xs (outputs_answered h xs q))
 
   unwrapped_outputs : (t : ℕ) (u : SiteTerm) → GivesOutputs (some_part (extractor_call t u)) (term_args (slice_get p.terms t))
   unwrapped_outputs t u calls h xs e q =
       let call = extractor_call t u in
-      of_types_shaped p.types k.specs (Some (term_args (slice_get p.terms t))) xs (a.typed call (told_just h) (contains_from_in k.condition.made call calls.0.0) calls.0.1 (a.held (some_part call) h e) xs q)
+      of_types_shaped p.types k.specs (Some (term_args (slice_get p.terms t))) xs ((a.typed call (told_just h) (contains_from_in k.condition.made call calls.0.0) calls.0.1 (a.held (some_part call) h e)).0 xs q)
 
   picked_outputs : (t : ℕ) (u : SiteTerm) → GivesOutputs (pick_of (extractor_call t u)) (term_args (slice_get p.terms t))
   picked_outputs t u calls h xs e q =
       let call = extractor_call t u in
-      of_types_shaped p.types k.specs (Some (term_args (slice_get p.terms t))) xs (a.typed_picks call h (contains_from_in k.condition.made call calls.0.0) calls.0.1 e xs (grind arith))
+      of_types_shaped p.types k.specs (Some (term_args (slice_get p.terms t))) xs ((a.typed_picks call h (contains_from_in k.condition.made call calls.0.0) calls.0.1 e).0 xs (outputs_answered h xs q))
 
   output_shaped : (s : SiteTerm) (tys : List ℕ) (ty : ℕ) → GivesOutputs s tys → tys ≡ ty ∷ [] → IsShapedAt s ty
   output_shaped s tys ty g e calls x q =
@@ -133,6 +136,10 @@ module _ (k : Assuming) where
   call_inputs pure false partial rec true t u args v n = outputs_shaped (extractor_call t u) args (term_args (slice_get p.terms t)) n (extracted_outputs t u)
   call_inputs pure false partial rec false t u args v n = outputs_shaped (some_part (extractor_call t u)) args (term_args (slice_get p.terms t)) n (unwrapped_outputs t u)
 
+  call_asked : (pure multi partial rec infallible : Bool) (call : SiteTerm) (args : TypedPatterns) (v : Visit) → AreAsked v.demands
+      → AreAsked (open_call (record { pure = pure; multi = multi; partial = partial; rec = rec }) infallible call args v).visit.demands
+  call_asked pure multi partial rec infallible call h v i = grind (arith, common_steps, asked_of)
+
   term_opened : (t : ℕ) (e : TermEntry) → slice_get p.terms t ≡ Some e → (n : Kind) → kind p t ≡ n → kind_of e ≡ n → (s : SiteTerm) → IsShapedAt s e.ret_ty → (args : TypedPatterns) → AsMany args e.arg_tys
       → (v : Visit) → AreAsked v.demands → AreAsked (open_term n t s args v).visit.demands × AtEachTyped facts (open_term n t s args v).inputs e.arg_tys
   term_opened t e there (a_variant ty i) q w s h args n v g =
@@ -149,7 +156,7 @@ module _ (k : Assuming) where
       )
   term_opened t e there (a_call flags infallible) q w s h args n v g =
       let own : term_args (slice_get p.terms t) ≡ e.arg_tys = ap term_args there in (
-        (grind (arith, common_steps, asked_of)),
+        call_asked flags.pure flags.multi flags.partial flags.rec infallible (extractor_call t s) args v g,
         subst (AtEachTyped facts (open_call flags infallible (extractor_call t s) args v).inputs) own (call_inputs flags.pure flags.multi flags.partial flags.rec infallible t s args v (subst (AsMany args) (sym own) n)),
       )
   term_opened t e there unknown q w s h args n v g = absurd (term_known p t e there q)
@@ -193,17 +200,17 @@ module _ (k : Assuming) where
   call_shaped : (t n ty : ℕ) (ss : SiteTerms) → term_results (slice_get p.terms t) ≡ ty ∷ [] → IsShapedAt (constructor_call t ss n) ty
   call_shaped t n ty ss e calls x q =
       let call = constructor_call t ss n in
-      result_shaped t ty x e (a.typed call (told x) (contains_from_in k.condition.made call calls.0.0) calls.0.1 q x refl)
+      result_shaped t ty x e ((a.typed call (told x) (contains_from_in k.condition.made call calls.0.0) calls.0.1 q).0 x refl)
 
   answer_shaped : (t n ty : ℕ) (ss : SiteTerms) → term_results (slice_get p.terms t) ≡ ty ∷ [] → IsShapedAt (some_part (constructor_call t ss n)) ty
   answer_shaped t n ty ss e calls x q =
       let call = constructor_call t ss n in
-      result_shaped t ty x e (a.typed call (told_just (told x)) (contains_from_in k.condition.made call calls.0.0) calls.0.1 (a.held (some_part call) (told x) q) x refl)
+      result_shaped t ty x e ((a.typed call (told_just (told x)) (contains_from_in k.condition.made call calls.0.0) calls.0.1 (a.held (some_part call) (told x) q)).0 x refl)
 
   pick_shaped : (t n ty : ℕ) (ss : SiteTerms) → term_results (slice_get p.terms t) ≡ ty ∷ [] → IsShapedAt (pick_of (constructor_call t ss n)) ty
   pick_shaped t n ty ss e calls x q =
       let call = constructor_call t ss n in
-      result_shaped t ty x e (a.typed_picks call (told x) (contains_from_in k.condition.made call calls.0.0) calls.0.1 q x refl)
+      result_shaped t ty x e ((a.typed_picks call (told x) (contains_from_in k.condition.made call calls.0.0) calls.0.1 q).0 x refl)
 
   call_given : (pure multi partial rec : Bool) (t ty : ℕ) (ss : SiteTerms) (v : Visit) → term_results (slice_get p.terms t) ≡ ty ∷ [] → AreAsked v.demands
       → IsGiven facts (visit_call (record { pure = pure; multi = multi; partial = partial; rec = rec }) t ss v) ty
@@ -219,6 +226,9 @@ module _ (k : Assuming) where
   constant_shaped name ty e calls x q =
       of_type_shaped p.types k.specs ty x (a.typed (prim_term name) (told x) (contains_from_in k.condition.made (prim_term name) calls.0) calls.1 q ty x e refl)
 
+  truth_shaped : (b : Bool) (ty : ℕ) → IsShapedAt (bool_term b ty) ty
+  truth_shaped b ty calls x q = ap (is_shaped p.types ty) (told_same x (a_truth b) (a.held (bool_term b ty) (told x) q))
+
   -- 4. rules
   shapes_kept : KeptWithTypes facts p
   shapes_kept = record {
@@ -227,7 +237,7 @@ module _ (k : Assuming) where
     asks_int = λ s z ty v e h. asked_of s (is_int z ty) v tt h;
     asks_prim = λ s name ty v e u h. asked_of s (is_prim name) v tt h;
     opens = λ t e there x m s i args n v h. term_opened t e there (kind p t) refl (its_kind p t e there) s i args n v h;
-    makes_bool = λ b ty v e h. ((λ calls x q. ap (is_shaped p.types ty) (told_same x (a_truth b) (a.held (bool_term b ty) (told x) q))), h);
+    makes_bool = λ b ty v e h. (truth_shaped b ty, h);
     makes_int = λ z ty v e h. ((λ calls x q. plain_shaped p.types ty x (literal_without_parts (slice_get p.types ty) z e)), h);
     makes_prim = λ name ty v e u h. (constant_shaped name ty e, h);
     values = λ t e there x m w g h. term_given t e there (kind p t) refl (its_kind p t e there) w g h;
