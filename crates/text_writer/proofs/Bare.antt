@@ -3,17 +3,17 @@
 use Rattle.std.proofs.Common.{◌≡◌, ℕ, suc, refl, ap, ◌∙◌, List, [], ◌∷◌, map, arith}
 use Rattle.std.specs.Prelude.{ℤ, Bool, codes, Option, Some, None, option_map, Result, Ok, Err, if◌then◌else◌}
 use Rattle.std.proofs.lemmas.Grind.{common_steps}
-use Rattle.model.specs.lists.Syntax.{Position, Name, PatternTree, wildcard_pattern, PatternTrees, ExprTree, extern_extractor, Definition, type_definition, rule_definition, extern_definition}
+use Rattle.model.specs.lists.Syntax.{Position, Name, PatternTree, wildcard_pattern, ExprTree, extern_extractor, Definition, type_definition, rule_definition, extern_definition}
 use Rattle.text_reader.specs.declared.errors.Mistake.{Mistake}
 use Rattle.text_reader.specs.declared.errors.Mistake.TheVariants as M
 use Rattle.text_reader.specs.Lexemes.{Complaint, expected, unclosed, unknown, Wrong, ◌>>=◌}
 use Rattle.text_reader.specs.FormTrees.{FormTree, a_word, a_number, a_constant, a_binding, a_list, FormTrees, no_form, form_and}
 use Rattle.text_reader.specs.Solid.{nowhere, placeless_name}
-use Rattle.text_reader.specs.Grammar.{Listed, listed, reads, place_of, name_of, names_of, each_of, list_of, next_of, next_name_of, head_of, word_at, headed_of, word_first, behind_first, next_if_of, ended, count}
-use Rattle.text_reader.specs.PatternGrammar.{word_pattern_of, numbered, macro_arg_of, term_pattern_of, list_pattern_of, pattern_of, arguments_of, patterns_of}
-use Rattle.text_reader.specs.ExprGrammar.{word_expr_of, expr_of, expr_arguments_of, exprs_of, let_of, lets_of, lets_in, let_definition_of, defined_in}
-use Rattle.text_reader.specs.TypeGrammar.{named_field_of, named_fields_of, numbered_from, with_names_of, with_numbers_of, fields_of, with_fields_of, variant_of, variants_of, primitive_of, enumeration_of, structure_of, type_value_of, type_definition_of}
-use Rattle.text_reader.specs.TermGrammar.{FlagSet, no_flags, once_of, with_word, with_flag_of, flags_of, last_three, declared_of, declaration_of, extractor_of, conversion_of, external_constructor_of, infallible_of, external_extractor_of, constant_of, external_constant_of, external_by, external_of}
+use Rattle.text_reader.specs.Grammar.{Listed, listed, reads, place_of, name_of, names_of, each_of, list_of, next_of, next_name_of, head_of, headed_of, next_if_of, ended, count}
+use Rattle.text_reader.specs.PatternGrammar.{pattern_of, arguments_of, patterns_of}
+use Rattle.text_reader.specs.ExprGrammar.{expr_of, expr_arguments_of, exprs_of, let_of, lets_of, lets_in, let_definition_of, defined_in}
+use Rattle.text_reader.specs.TypeGrammar.{named_field_of, named_fields_of, numbered_from, with_names_of, fields_of, variant_of, variants_of, enumeration_of, type_value_of, type_definition_of}
+use Rattle.text_reader.specs.TermGrammar.{FlagSet, no_flags, with_flag_of, flags_of, last_three, declared_of, extractor_of, infallible_of, external_extractor_of, external_by}
 use Rattle.text_reader.specs.RuleGrammar.{condition_of, if_let_of, statement_of, statements_of, rule_name_of, priority_of, parted_of, rule_of}
 use Rattle.text_reader.specs.Definitions.{defined_by, definition_of}
 use Rattle.text_writer.specs.Placeless.{placeless_pattern, placeless_patterns, placeless_expr, placeless_exprs, placeless_lets, placeless_field, placeless_tuple_field, placeless_fields, placeless_variant, placeless_value, placeless_if_let, placeless_definition}
@@ -85,26 +85,14 @@ bare_named s = (placeless_name s.0, bare_list s.1)
 pub next_name_bare : (l : Listed) → bared bare_named (next_name_of l) ≡ next_name_of (bare_list l)
 next_name_bare l = grind (arith, common_steps, both, next_bare, name_bare)
 
-pub head_bare : (fs : FormTrees) (ends : Position) → bared placeless_name (head_of fs ends) ≡ head_of (all_bare fs) nowhere
-head_bare fs ends = grind (arith, common_steps)
-
-word_bare : (m : Mistake) (at : Position) (f : FormTree) → bared placeless_name (word_at m at f) ≡ word_at m nowhere (bare f)
-word_bare m at f = grind (arith, common_steps)
-
 pub headed_bare : (m : Mistake) (f : FormTree) → bared bare_named (headed_of m f) ≡ headed_of m (bare f)
-headed_bare m f = grind (arith, common_steps, both, list_bare, word_bare)
-
-word_first_bare : (text : List ℕ) (fs : FormTrees) → word_first text (all_bare fs) ≡ word_first text fs
-word_first_bare text fs = grind (arith, common_steps)
+headed_bare m f = grind (arith, common_steps, both, list_bare)
 
 abbrev pub bare_flagged : Bool × Listed → Bool × Listed
 bare_flagged s = (s.0, bare_list s.1)
 
-behind_first_bare : (fs : FormTrees) → all_bare (behind_first fs) ≡ behind_first (all_bare fs)
-behind_first_bare fs = grind (arith, common_steps)
-
 pub next_if_bare : (text : List ℕ) (l : Listed) → bare_flagged (next_if_of text l) ≡ next_if_of text (bare_list l)
-next_if_bare text l = grind (arith, common_steps, apply_if, word_first_bare, behind_first_bare)
+next_if_bare text l = grind (arith, common_steps, apply_if)
 
 pub place_bare : (f : FormTree) → place_of (bare f) ≡ nowhere
 place_bare (a_word n) = refl
@@ -119,33 +107,16 @@ count_bare (form_and f fs) = ap suc (count_bare fs)
 
 -- ---- patterns
 
-word_pattern_bare : (n : Name) → placeless_pattern (word_pattern_of n) ≡ word_pattern_of (placeless_name n)
-word_pattern_bare n = grind (arith, common_steps, apply_if)
-
-numbered_bare : (f : FormTree) (at : Position) → bared placeless_pattern (numbered f at) ≡ numbered (bare f) nowhere
-numbered_bare f at = grind (arith, common_steps)
-
-macro_arg_bare : (l : Listed) → bared placeless_pattern (macro_arg_of l) ≡ macro_arg_of (bare_list l)
-macro_arg_bare l = grind (arith, common_steps, both, next_bare, ended_bare, numbered_bare)
-
-term_pattern_bare : (head : Name) (args : PatternTrees) (at : Position)
-    → placeless_pattern (term_pattern_of head args at) ≡ term_pattern_of (placeless_name head) (placeless_patterns args) nowhere
-term_pattern_bare head args at = apply_if placeless_pattern (reads head (codes "and")) _ _
-
-list_pattern_bare : (head : Name) (args : PatternTrees) (l : Listed)
-    → bared placeless_pattern (list_pattern_of head args l) ≡ list_pattern_of (placeless_name head) (placeless_patterns args) (bare_list l)
-list_pattern_bare head args l = either placeless_pattern (reads head (codes "macro-arg")) _ _ _ _ (macro_arg_bare l) (ap Ok (term_pattern_bare head args l.at))
-
 mutual
   pattern_bare : (f : FormTree) → bared placeless_pattern (pattern_of f) ≡ pattern_of (bare f)
-  pattern_bare (a_word n) = ap Ok (word_pattern_bare n)
+  pattern_bare (a_word n) = ap Ok (grind (arith, apply_if))
   pattern_bare (a_number z p) = refl
   pattern_bare (a_constant n p) = refl
   pattern_bare (a_binding n f) = both placeless_pattern placeless_pattern (pattern_of f) (pattern_of (bare f)) _ _ (pattern_bare f) (λ q. refl)
   pattern_bare (a_list fs p e) =
-      both placeless_name placeless_pattern (head_of fs e) (head_of (all_bare fs) nowhere) _ _ (head_bare fs e) (λ head.
+      both placeless_name placeless_pattern (head_of fs e) (head_of (all_bare fs) nowhere) _ _ (grind arith) (λ head.
       both placeless_patterns placeless_pattern (arguments_of fs) (arguments_of (all_bare fs)) _ _ (arguments_bare fs) (λ args.
-      list_pattern_bare head args (listed fs p e)))
+      grind (arith, either, apply_if)))
 
   arguments_bare : (fs : FormTrees) → bared placeless_patterns (arguments_of fs) ≡ arguments_of (all_bare fs)
   arguments_bare no_form = refl
@@ -157,19 +128,16 @@ mutual
 
 -- ---- expressions
 
-word_expr_bare : (n : Name) → placeless_expr (word_expr_of n) ≡ word_expr_of (placeless_name n)
-word_expr_bare n = grind (arith, common_steps, apply_if)
-
 abbrev bare_let : Name × Name × ExprTree × Position → Name × Name × ExprTree × Position
 bare_let d = (placeless_name d.0, placeless_name d.1, placeless_expr d.2, nowhere)
 
 mutual
   expr_bare : (f : FormTree) → bared placeless_expr (expr_of f) ≡ expr_of (bare f)
   expr_bare (a_list fs p e) =
-      both placeless_name placeless_expr (head_of fs e) (head_of (all_bare fs) nowhere) _ _ (head_bare fs e) (λ head.
+      both placeless_name placeless_expr (head_of fs e) (head_of (all_bare fs) nowhere) _ _ (grind arith) (λ head.
       either placeless_expr (reads head (codes "let")) _ _ _ _ (let_bare fs p e)
       (both placeless_exprs placeless_expr (expr_arguments_of fs) (expr_arguments_of (all_bare fs)) _ _ (expr_arguments_bare fs) (λ args. refl)))
-  expr_bare f = grind (arith, common_steps, word_expr_bare)
+  expr_bare f = grind (arith, common_steps)
 
   expr_arguments_bare : (fs : FormTrees) → bared placeless_exprs (expr_arguments_of fs) ≡ expr_arguments_of (all_bare fs)
   expr_arguments_bare no_form = refl
@@ -181,8 +149,7 @@ mutual
 
   let_bare : (fs : FormTrees) (p e : Position) → bared placeless_expr (let_of fs p e) ≡ let_of (all_bare fs) nowhere nowhere
   let_bare (form_and h (form_and ds (form_and body no_form))) p e =
-      both placeless_lets placeless_expr (lets_of ds) (lets_of (bare ds)) _ _ (lets_bare ds) (λ defs.
-      both placeless_expr placeless_expr (expr_of body) (expr_of (bare body)) _ _ (expr_bare body) (λ x. refl))
+      both placeless_lets placeless_expr (lets_of ds) (lets_of (bare ds)) _ _ (lets_bare ds) (λ defs. grind (arith, common_steps, expr_bare body, both))
   let_bare fs p e = grind (arith, common_steps, place_bare)
 
   lets_bare : (f : FormTree) → bared placeless_lets (lets_of f) ≡ lets_of (bare f)
@@ -199,9 +166,7 @@ mutual
 
   defined_bare : (fs : FormTrees) (p : Position) → bared bare_let (defined_in fs p) ≡ defined_in (all_bare fs) nowhere
   defined_bare (form_and v (form_and t (form_and x no_form))) p =
-      both placeless_name bare_let (name_of v) (name_of (bare v)) _ _ (name_bare v) (λ var.
-      both placeless_name bare_let (name_of t) (name_of (bare t)) _ _ (name_bare t) (λ ty.
-      both placeless_expr bare_let (expr_of x) (expr_of (bare x)) _ _ (expr_bare x) (λ val. refl)))
+      both placeless_name bare_let (name_of v) (name_of (bare v)) _ _ (name_bare v) (λ var. grind (arith, common_steps, expr_bare x, both, name_bare))
   defined_bare _ p = refl
 
 -- ---- types
@@ -218,53 +183,30 @@ numbered_from_bare : (i : ℕ) (tys : List Name) → map placeless_tuple_field (
 numbered_from_bare i [] = refl
 numbered_from_bare i (ty ∷ tys) = ap (λ l. record { index = i; ty = placeless_name ty; at = nowhere } ∷ l) (numbered_from_bare (suc i) tys)
 
-with_numbers_bare : (fs : FormTrees) → bared placeless_fields (with_numbers_of fs) ≡ with_numbers_of (all_bare fs)
-with_numbers_bare fs = grind (arith, common_steps, both, names_bare, numbered_from_bare)
-
 fields_bare : (fs : FormTrees) → bared placeless_fields (fields_of fs) ≡ fields_of (all_bare fs)
 fields_bare no_form = refl
 fields_bare (form_and (a_list fs p e) rest) = with_names_bare (form_and (a_list fs p e) rest)
-fields_bare (form_and (a_word n) rest) = with_numbers_bare (form_and (a_word n) rest)
-fields_bare (form_and (a_number z p) rest) = with_numbers_bare (form_and (a_number z p) rest)
-fields_bare (form_and (a_constant n p) rest) = with_numbers_bare (form_and (a_constant n p) rest)
-fields_bare (form_and (a_binding n f) rest) = with_numbers_bare (form_and (a_binding n f) rest)
-
-with_fields_bare : (f : FormTree) → bared placeless_variant (with_fields_of f) ≡ with_fields_of (bare f)
-with_fields_bare f = grind (arith, common_steps, both, list_bare, next_name_bare, fields_bare)
+fields_bare (form_and f rest) = grind (arith, both, names_bare, numbered_from_bare)
 
 variant_bare : (f : FormTree) → bared placeless_variant (variant_of f) ≡ variant_of (bare f)
-variant_bare (a_word n) = refl
-variant_bare (a_number z p) = with_fields_bare (a_number z p)
-variant_bare (a_constant n p) = with_fields_bare (a_constant n p)
-variant_bare (a_binding n f) = with_fields_bare (a_binding n f)
-variant_bare (a_list fs p e) = with_fields_bare (a_list fs p e)
-
-primitive_bare : (l : Listed) → bared placeless_value (primitive_of l) ≡ primitive_of (bare_list l)
-primitive_bare l = grind (arith, common_steps, both, next_name_bare, ended_bare)
+variant_bare f = grind (arith, common_steps, both, list_bare, next_name_bare, fields_bare)
 
 enumeration_bare : (l : Listed) → bared placeless_value (enumeration_of l) ≡ enumeration_of (bare_list l)
 enumeration_bare l =
     both (map placeless_variant) placeless_value (variants_of l.parts) (variants_of (all_bare l.parts)) _ _
     (each_bare placeless_variant variant_of variant_of variant_bare l.parts) (λ vs. refl)
 
-structure_bare : (l : Listed) → bared placeless_value (structure_of l) ≡ structure_of (bare_list l)
-structure_bare l = both placeless_fields placeless_value (fields_of l.parts) (fields_of (all_bare l.parts)) _ _ (fields_bare l.parts) (λ fields. refl)
-
 value_bare : (f : FormTree) → bared placeless_value (type_value_of f) ≡ type_value_of (bare f)
 value_bare f =
     both bare_named placeless_value (headed_of M.TypeValue f) (headed_of M.TypeValue (bare f)) _ _ (headed_bare M.TypeValue f) (λ h.
-    either placeless_value (reads h.0 (codes "primitive")) _ _ _ _ (primitive_bare h.1)
-    (grind (arith, common_steps, either placeless_value, enumeration_bare, structure_bare)))
+    either placeless_value (reads h.0 (codes "primitive")) _ _ _ _ (grind (arith, common_steps, both, next_name_bare, ended_bare))
+    (grind (arith, common_steps, either placeless_value, enumeration_bare, both, fields_bare)))
 
 -- the rest of a type's definition, behind its name and its words
 abbrev type_by : Name → Position → Bool × Listed → Bool × Listed → Result Definition Wrong
 type_by name at outside silent =
     next_of M.TypeValue silent.1 >>= (λ value. type_value_of value.0 >>= (λ v. ended value.1.parts >>= (λ _.
     Ok (type_definition (record { name = name; is_extern = outside.0; is_nodebug = silent.0; value = v; at = at })))))
-
-type_by_bare : (name : Name) (at : Position) (outside silent : Bool × Listed)
-    → bared placeless_definition (type_by name at outside silent) ≡ type_by (placeless_name name) nowhere (bare_flagged outside) (bare_flagged silent)
-type_by_bare name at outside silent = grind (arith, common_steps, both, next_bare, value_bare, ended_bare)
 
 type_bare : (l : Listed) → bared placeless_definition (type_definition_of l) ≡ type_definition_of (bare_list l)
 type_bare l =
@@ -273,7 +215,7 @@ type_bare l =
     let silent = next_if_of (codes "nodebug") outside.1 in
     let outside_bare = next_if_bare (codes "extern") name.1 in
     let silent_bare = next_if_bare (codes "nodebug") outside.1 ∙ ap (λ s. next_if_of (codes "nodebug") s.1) outside_bare in
-    type_by_bare name.0 l.at outside silent
+    grind (arith, common_steps, both, next_bare, value_bare, ended_bare)
     ∙ ap (λ s. type_by (placeless_name name.0) nowhere s (bare_flagged silent)) outside_bare
     ∙ ap (λ s. type_by (placeless_name name.0) nowhere (next_if_of (codes "extern") (bare_list name.1)) s) silent_bare)
 
@@ -282,19 +224,10 @@ type_bare l =
 abbrev same_flags : FlagSet → FlagSet
 same_flags flags = flags
 
-once_bare : (was : Bool) (at : Position) (flags : FlagSet) → bared same_flags (once_of was at flags) ≡ once_of was nowhere flags
-once_bare was at flags = either same_flags was _ _ _ _ refl refl
-
-with_word_bare : (flags : FlagSet) (n : Name) → bared same_flags (with_word flags n) ≡ with_word flags (placeless_name n)
-with_word_bare flags n = grind (arith, common_steps, either, once_bare)
-
-with_flag_bare : (flags : FlagSet) (f : FormTree) → bared same_flags (with_flag_of flags f) ≡ with_flag_of flags (bare f)
-with_flag_bare flags f = grind (arith, common_steps, with_word_bare)
-
 flags_bare : (flags : FlagSet) (fs : FormTrees) → bared same_flags (flags_of flags fs) ≡ flags_of flags (all_bare fs)
 flags_bare flags no_form = refl
 flags_bare flags (form_and f fs) =
-    both same_flags same_flags (with_flag_of flags f) (with_flag_of flags (bare f)) _ _ (with_flag_bare flags f) (λ more. flags_bare more fs)
+    both same_flags same_flags (with_flag_of flags f) (with_flag_of flags (bare f)) _ _ (grind (arith, either)) (λ more. flags_bare more fs)
 
 abbrev Four : Type 0
 Four = FormTrees × FormTree × FormTree × FormTree
@@ -302,14 +235,8 @@ Four = FormTrees × FormTree × FormTree × FormTree
 abbrev bare_four : Four → Four
 bare_four s = (all_bare s.0, bare s.1, bare s.2, bare s.3)
 
-with_first : (a : FormTree) (o : Option Four) → option_map bare_four (option_map (λ s. (form_and a s.0, s.1, s.2, s.3)) o)
-    ≡ option_map (λ s. (form_and (bare a) s.0, s.1, s.2, s.3)) (option_map bare_four o)
-with_first a o = grind (arith, common_steps)
-
 last_three_bare : (fs : FormTrees) → option_map bare_four (last_three fs) ≡ last_three (all_bare fs)
-last_three_bare (form_and a (form_and b (form_and c (form_and d ds)))) =
-    with_first a (last_three (form_and b (form_and c (form_and d ds))))
-    ∙ ap (option_map (λ s. (form_and (bare a) s.0, s.1, s.2, s.3))) (last_three_bare (form_and b (form_and c (form_and d ds))))
+last_three_bare (form_and a (form_and b (form_and c (form_and d ds)))) = grind (arith, common_steps, last_three_bare (form_and b (form_and c (form_and d ds))))
 last_three_bare _ = refl
 
 declared_bare : (at : Position) (o : Option Four) → bared placeless_definition (declared_of at o) ≡ declared_of nowhere (option_map bare_four o)
@@ -318,9 +245,6 @@ declared_bare at (Some s) =
     both same_flags placeless_definition (flags_of no_flags s.0) (flags_of no_flags (all_bare s.0)) _ _ (flags_bare no_flags s.0) (λ flags.
     both bare_list placeless_definition (list_of M.Names s.2) (list_of M.Names (bare s.2)) _ _ (list_bare M.Names s.2) (λ args.
     both placeless_name placeless_definition (name_of s.1) (name_of (bare s.1)) _ _ (name_bare s.1) (λ term. grind (arith, both, names_bare, name_bare))))
-
-declaration_bare : (l : Listed) → bared placeless_definition (declaration_of l) ≡ declaration_of (bare_list l)
-declaration_bare l = declared_bare l.at (last_three l.parts) ∙ ap (declared_of nowhere) (last_three_bare l.parts)
 
 extractor_bare : (l : Listed) → bared placeless_definition (extractor_of l) ≡ extractor_of (bare_list l)
 extractor_bare l =
@@ -332,12 +256,6 @@ extractor_bare l =
     both placeless_pattern placeless_definition (pattern_of template.0) (pattern_of (bare template.0)) _ _ (pattern_bare template.0) (λ pattern.
     both (λ _. tt) placeless_definition (ended template.1.parts) (ended (all_bare template.1.parts)) _ _ (ended_bare template.1.parts) (λ _. refl)))))))
 
-conversion_bare : (l : Listed) → bared placeless_definition (conversion_of l) ≡ conversion_of (bare_list l)
-conversion_bare l = grind (arith, common_steps, both, next_name_bare, ended_bare)
-
-external_constructor_bare : (l : Listed) → bared placeless_definition (external_constructor_of l) ≡ external_constructor_of (bare_list l)
-external_constructor_bare l = grind (arith, common_steps, both, next_name_bare, ended_bare)
-
 infallible_bare : (l : Listed) → bare_flagged (infallible_of l) ≡ infallible_of (bare_list l)
 infallible_bare l = grind (arith, common_steps, apply_if, count_bare, next_if_bare)
 
@@ -346,23 +264,11 @@ extractor_by at sure =
     next_name_of sure.1 >>= (λ term. next_name_of term.1 >>= (λ func. ended func.1.parts >>= (λ _.
     Ok (extern_definition (extern_extractor term.0 func.0 at sure.0)))))
 
-extractor_by_bare : (at : Position) (sure : Bool × Listed) → bared placeless_definition (extractor_by at sure) ≡ extractor_by nowhere (bare_flagged sure)
-extractor_by_bare at sure = grind (arith, common_steps, both, next_name_bare, ended_bare)
-
 external_extractor_bare : (l : Listed) → bared placeless_definition (external_extractor_of l) ≡ external_extractor_of (bare_list l)
-external_extractor_bare l = extractor_by_bare l.at (infallible_of l) ∙ ap (extractor_by nowhere) (infallible_bare l)
-
-constant_bare : (f : FormTree) → bared placeless_name (constant_of f) ≡ constant_of (bare f)
-constant_bare f = grind (arith, common_steps)
-
-external_constant_bare : (l : Listed) → bared placeless_definition (external_constant_of l) ≡ external_constant_of (bare_list l)
-external_constant_bare l = grind (arith, common_steps, both, next_bare, constant_bare, next_name_bare, ended_bare)
+external_extractor_bare l = (grind (arith, common_steps, both, next_name_bare, ended_bare)) ∙ ap (extractor_by nowhere) (infallible_bare l)
 
 external_by_bare : (f : FormTree) (l : Listed) → bared placeless_definition (external_by f l) ≡ external_by (bare f) (bare_list l)
-external_by_bare f l = grind (arith, common_steps, either, external_constructor_bare, external_extractor_bare, external_constant_bare)
-
-external_bare : (l : Listed) → bared placeless_definition (external_of l) ≡ external_of (bare_list l)
-external_bare l = grind (arith, common_steps, both, next_bare, external_by_bare)
+external_by_bare f l = grind (arith, common_steps, either, external_extractor_bare)
 
 -- ---- rules
 
@@ -389,9 +295,6 @@ rule_name_bare l = grind (arith, common_steps)
 abbrev bare_priority : Option ℤ × Listed → Option ℤ × Listed
 bare_priority s = (s.0, bare_list s.1)
 
-priority_bare : (l : Listed) → bared bare_priority (priority_of l) ≡ priority_of (bare_list l)
-priority_bare l = grind (arith, common_steps, either)
-
 abbrev bare_body : FormTrees × FormTree → FormTrees × FormTree
 bare_body s = (all_bare s.0, bare s.1)
 
@@ -409,7 +312,7 @@ rule_by at ends name =
 
 rule_by_bare : (at ends : Position) (name : Option Name × Listed) → bared placeless_definition (rule_by at ends name) ≡ rule_by nowhere nowhere (bare_maybe name)
 rule_by_bare at ends name =
-    both bare_priority placeless_definition (priority_of name.1) (priority_of (bare_list name.1)) _ _ (priority_bare name.1) (λ prio.
+    both bare_priority placeless_definition (priority_of name.1) (priority_of (bare_list name.1)) _ _ (grind (arith, common_steps, either)) (λ prio.
     both bare_next placeless_definition (next_of M.Pattern prio.1) (next_of M.Pattern (bare_list prio.1)) _ _ (next_bare M.Pattern prio.1) (λ root.
     both bare_body placeless_definition (parted_of ends root.1.parts) (parted_of nowhere (all_bare root.1.parts)) _ _ (parted_bare ends root.1.parts) (λ body.
     both placeless_pattern placeless_definition (pattern_of root.0) (pattern_of (bare root.0)) _ _ (pattern_bare root.0) (λ pattern.
@@ -423,8 +326,7 @@ rule_bare l = rule_by_bare l.at l.ends (rule_name_of l) ∙ ap (rule_by nowhere 
 -- ---- definitions
 
 defined_by_bare : (head : Name) (l : Listed) → bared placeless_definition (defined_by head l) ≡ defined_by (placeless_name head) (bare_list l)
-defined_by_bare head l = grind (arith, common_steps, either, type_bare, declaration_bare, rule_bare, extractor_bare, external_bare, conversion_bare)
+defined_by_bare head l = grind (arith, common_steps, either, type_bare, rule_bare, extractor_bare, declared_bare, last_three_bare, both, next_bare, external_by_bare)
 
 pub definition_bare : (f : FormTree) → bared placeless_definition (definition_of f) ≡ definition_of (bare f)
-definition_bare f =
-    both bare_named placeless_definition (headed_of M.Definition f) (headed_of M.Definition (bare f)) _ _ (headed_bare M.Definition f) (λ h. defined_by_bare h.0 h.1)
+definition_bare f = grind (arith, common_steps, both bare_named placeless_definition (headed_of M.Definition f), headed_bare M.Definition f, defined_by_bare)

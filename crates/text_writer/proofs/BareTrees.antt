@@ -10,13 +10,13 @@ use Rattle.text_reader.specs.declared.errors.Mistake.TheVariants as M
 use Rattle.text_reader.specs.Lexemes.{Wrong, ◌>>=◌}
 use Rattle.text_reader.specs.FormTrees.{FormTree, a_word, a_number, a_constant, a_binding, a_list, FormTrees, no_form, form_and}
 use Rattle.text_reader.specs.Solid.{nowhere, placeless_name}
-use Rattle.text_reader.specs.Grammar.{Listed, no, reads, list_of, head_of, headed_of, next_of, next_name_of, next_if_of}
-use Rattle.text_writer.proofs.Bare.{bare, all_bare, bare_list, bared, both, either, apply_if, each_bare, names_bare, list_bare, bare_next, next_bare, bare_named, next_name_bare, head_bare, headed_bare, bare_flagged, next_if_bare, place_bare, ended_bare}
+use Rattle.text_reader.specs.Grammar.{Listed, no, reads, list_of, head_of, headed_of, next_of, next_name_of}
+use Rattle.text_writer.proofs.Bare.{bare, all_bare, bare_list, bared, both, either, each_bare, names_bare, list_bare, bare_next, next_bare, bare_named, next_name_bare, headed_bare, next_if_bare, place_bare, ended_bare}
 use Rattle.text_reader.specs.SpecTrees.{SpecExprTree, SpecExprTrees, ModelTypeTree, SpecTree, AttrTree}
-use Rattle.text_reader.specs.SpecGrammar.{is_empty, section_of, last_of, use_of, bits_model_in, bits_model_of, named_model_of, word_model_of, list_model_of, model_type_of, model_types_of, last_model_of, are_bits, bits_of, plain_word_of, word_spec_of, has_cases, has_three, name_list_of, two_of, spec_expr_of, arguments_of, spec_exprs_of, switch_of, three_of, defs_of, pairs_of, pair_of, pair_in, last_expr_of, signature_of, signatures_of, form_of, begins_with_word, by_form_of, instantiation_of, veri_of, attr_kind_of, attr_kinds_of, attr_of, state_of, macro_of, valued_of, variant_value_of, variant_values_of, model_value_of, model_of}
-use Rattle.text_reader.specs.TermSpecGrammar.{once_of, modifies_of, with_section, with_part_of, with_parts_of, spec_of}
+use Rattle.text_reader.specs.SpecGrammar.{is_empty, section_of, last_of, use_of, bits_model_of, model_type_of, model_types_of, last_model_of, has_cases, has_three, name_list_of, two_of, spec_expr_of, arguments_of, spec_exprs_of, switch_of, three_of, defs_of, pairs_of, pair_of, pair_in, last_expr_of, signature_of, signatures_of, form_of, begins_with_word, instantiation_of, attr_kind_of, attr_kinds_of, attr_of, state_of, macro_of, valued_of, variant_value_of, variant_values_of, model_value_of, model_of}
+use Rattle.text_reader.specs.TermSpecGrammar.{once_of, with_section, with_part_of, with_parts_of, spec_of}
 use Rattle.text_reader.specs.Verifying.{said_by, verification_of}
-use Rattle.text_writer.specs.PlacelessTrees.{placeless_model_type, placeless_spec_expr, placeless_spec_exprs, placeless_modifies, placeless_spec, placeless_variant_value, placeless_model_value, placeless_model, placeless_signature, placeless_signatures, placeless_instantiation, placeless_attr_kind, placeless_attr, placeless_state, placeless_macro, placeless_tree}
+use Rattle.text_writer.specs.PlacelessTrees.{placeless_model_type, placeless_spec_expr, placeless_spec_exprs, placeless_spec, placeless_variant_value, placeless_model_value, placeless_model, placeless_signature, placeless_signatures, placeless_instantiation, placeless_attr_kind, placeless_attr, placeless_state, placeless_macro, placeless_tree}
 
 -- ---- lists
 
@@ -39,29 +39,13 @@ use_bare f = grind (arith, common_steps, both, bare, list_bare, bare_list, next_
 
 -- ---- types of models
 
-bits_model_in_bare : (f : FormTree) (at : Position) → bared placeless_model_type (bits_model_in f at) ≡ bits_model_in (bare f) nowhere
-bits_model_in_bare f at = grind (arith, common_steps)
-
 bits_model_bare : (l : Listed) → bared placeless_model_type (bits_model_of l) ≡ bits_model_of (bare_list l)
 bits_model_bare l =
     by_empty placeless_model_type l.parts _ _ _ _ refl
-    (both bare placeless_model_type (last_of M.Width l) (last_of M.Width (bare_list l)) _ _ (last_bare M.Width l) (λ f. bits_model_in_bare f l.at))
-
-named_model_bare : (l : Listed) → bared placeless_model_type (named_model_of l) ≡ named_model_of (bare_list l)
-named_model_bare l = grind (arith, common_steps, both, bare_list, next_name_bare, all_bare, ended_bare)
-
-word_model_bare : (n : Name) → bared placeless_model_type (word_model_of n) ≡ word_model_of (placeless_name n)
-word_model_bare n = grind (arith, common_steps, either)
-
-list_model_bare : (f : FormTree) → bared placeless_model_type (list_model_of f) ≡ list_model_of (bare f)
-list_model_bare f = grind (arith, common_steps, both, bare, headed_bare, either, bits_model_bare, named_model_bare)
+    (both bare placeless_model_type (last_of M.Width l) (last_of M.Width (bare_list l)) _ _ (last_bare M.Width l) (λ f. grind (arith, common_steps)))
 
 model_type_bare : (f : FormTree) → bared placeless_model_type (model_type_of f) ≡ model_type_of (bare f)
-model_type_bare (a_word n) = word_model_bare n
-model_type_bare (a_number z p) = list_model_bare (a_number z p)
-model_type_bare (a_constant n p) = list_model_bare (a_constant n p)
-model_type_bare (a_binding n f) = list_model_bare (a_binding n f)
-model_type_bare (a_list fs p e) = list_model_bare (a_list fs p e)
+model_type_bare f = grind (arith, common_steps, either, both, headed_bare, bits_model_bare)
 
 model_types_bare : (fs : FormTrees) → bared (map placeless_model_type) (model_types_of fs) ≡ model_types_of (all_bare fs)
 model_types_bare fs = each_bare placeless_model_type model_type_of model_type_of model_type_bare fs
@@ -70,18 +54,6 @@ last_model_bare : (l : Listed) → bared placeless_model_type (last_model_of l) 
 last_model_bare l = both bare placeless_model_type (last_of M.ModelType l) (last_of M.ModelType (bare_list l)) _ _ (last_bare M.ModelType l) model_type_bare
 
 -- ---- expressions
-
-bits_bare : (radix each : ℕ) (digits : List ℕ) (at : Position) → bared placeless_spec_expr (bits_of radix each digits at) ≡ bits_of radix each digits nowhere
-bits_bare radix each digits at = either placeless_spec_expr (are_bits radix each digits) _ _ _ _ refl refl
-
-plain_word_bare : (n : Name) → placeless_spec_expr (plain_word_of n) ≡ plain_word_of (placeless_name n)
-plain_word_bare n = grind (arith, common_steps, apply_if)
-
-word_spec_bare : (n : Name) → bared placeless_spec_expr (word_spec_of n) ≡ word_spec_of (placeless_name n)
-word_spec_bare n = grind (arith, common_steps, either, bits_bare, plain_word_bare)
-
-name_list_bare : (f : FormTree) → bared (map placeless_name) (name_list_of f) ≡ name_list_of (bare f)
-name_list_bare f = grind (arith, common_steps, both, bare, list_bare, names_bare)
 
 -- the parts of what is said in two parts
 module _ (defs other_defs : Result SpecExprTrees Wrong) (names other_names : Result (List Name) Wrong) (value other_value body other_body : Result SpecExprTree Wrong)
@@ -95,11 +67,11 @@ mutual
   spec_expr_bare : (f : FormTree) → bared placeless_spec_expr (spec_expr_of f) ≡ spec_expr_of (bare f)
   spec_expr_bare (a_list fs p e) =
       by_empty placeless_spec_expr fs _ _ _ _ refl
-      (both placeless_name placeless_spec_expr (head_of fs e) (head_of (all_bare fs) nowhere) _ _ (head_bare fs e) (λ op.
+      (both placeless_name placeless_spec_expr (head_of fs e) (head_of (all_bare fs) nowhere) _ _ (grind arith) (λ op.
       either placeless_spec_expr (has_cases op) _ _ _ _ (switch_bare op fs p e)
       (either placeless_spec_expr (has_three op) _ _ _ _ (three_bare op fs p e)
       (both placeless_spec_exprs placeless_spec_expr (arguments_of fs) (arguments_of (all_bare fs)) _ _ (arguments_bare fs) (λ args. refl)))))
-  spec_expr_bare f = grind (arith, common_steps, word_spec_bare)
+  spec_expr_bare f = grind (arith, common_steps)
 
   arguments_bare : (fs : FormTrees) → bared placeless_spec_exprs (arguments_of fs) ≡ arguments_of (all_bare fs)
   arguments_bare no_form = refl
@@ -118,7 +90,7 @@ mutual
   three_bare : (op : Name) (fs : FormTrees) (p e : Position) → bared placeless_spec_expr (three_of op fs p e) ≡ three_of (placeless_name op) (all_bare fs) nowhere nowhere
   three_bare op (form_and h (form_and f (form_and g no_form))) p e =
       two_bare (defs_of f) (defs_of (bare f)) (name_list_of f) (name_list_of (bare f)) (spec_expr_of f) (spec_expr_of (bare f)) (spec_expr_of g) (spec_expr_of (bare g))
-      (model_type_of g) (model_type_of (bare g)) op p (defs_bare f) (name_list_bare f) (spec_expr_bare f) (spec_expr_bare g) (model_type_bare g)
+      (model_type_of g) (model_type_of (bare g)) op p (defs_bare f) (grind (arith, both, list_bare, names_bare)) (spec_expr_bare f) (spec_expr_bare g) (model_type_bare g)
   three_bare op (form_and h (form_and f (form_and g (form_and more fs)))) p e = ap (no M.End) (sym (place_bare more))
   three_bare op _ p e = refl
 
@@ -165,9 +137,6 @@ signatures_bare fs = each_bare placeless_signature signature_of signature_of sig
 form_bare : (l : Listed) → bared placeless_signatures (form_of l) ≡ form_of (bare_list l)
 form_bare l = grind (arith, common_steps, both, bare_list, next_name_bare, all_bare, signatures_bare)
 
-by_form_bare : (term : Name) (l : Listed) (at : Position) → bared placeless_instantiation (by_form_of term l at) ≡ by_form_of (placeless_name term) (bare_list l) nowhere
-by_form_bare term l at = grind (arith, common_steps, both, bare_list, next_name_bare, all_bare, ended_bare)
-
 -- by a test whether a word comes next
 by_word : {A B : Type 0} (g : A → B) (fs : FormTrees) (r s : Result A Wrong) (t u : Result B Wrong) → bared g r ≡ t → bared g s ≡ u
     → bared g (if begins_with_word fs then r else s) ≡ (if begins_with_word (all_bare fs) then t else u)
@@ -176,16 +145,13 @@ by_word g fs r s t u e f = grind (arith, common_steps)
 instantiation_bare : (l : Listed) → bared placeless_instantiation (instantiation_of l) ≡ instantiation_of (bare_list l)
 instantiation_bare l =
     both bare_named placeless_instantiation (next_name_of l) (next_name_of (bare_list l)) _ _ (next_name_bare l) (λ n.
-    by_word placeless_instantiation n.1.parts _ _ _ _ (by_form_bare n.0 n.1 l.at)
+    by_word placeless_instantiation n.1.parts _ _ _ _ (grind (arith, common_steps, both, next_name_bare, ended_bare))
     (both (map placeless_signature) placeless_instantiation (signatures_of n.1.parts) (signatures_of (all_bare n.1.parts)) _ _ (signatures_bare n.1.parts) (λ ss. refl)))
 
 -- ---- attributes
 
-veri_bare : (at : Position) (n : Name) → bared placeless_attr_kind (veri_of at n) ≡ veri_of nowhere (placeless_name n)
-veri_bare at n = grind (arith, common_steps, either)
-
 attr_kind_bare : (f : FormTree) → bared placeless_attr_kind (attr_kind_of f) ≡ attr_kind_of (bare f)
-attr_kind_bare f = grind (arith, common_steps, both, bare, headed_bare, bare_list, next_name_bare, all_bare, ended_bare, either, veri_bare)
+attr_kind_bare f = grind (arith, common_steps, both, headed_bare, next_name_bare, ended_bare, either)
 
 attr_kinds_bare : (fs : FormTrees) → bared (map placeless_attr_kind) (attr_kinds_of fs) ≡ attr_kinds_of (all_bare fs)
 attr_kinds_bare fs = each_bare placeless_attr_kind attr_kind_of attr_kind_of attr_kind_bare fs
@@ -195,11 +161,8 @@ abbrev attr_by : Position → Bool × Listed → Result AttrTree Wrong
 attr_by at r =
     next_name_of r.1 >>= (λ n. attr_kinds_of n.1.parts >>= (λ kinds. Ok (record { is_rule = r.0; name = n.0; kinds = kinds; at = at })))
 
-attr_by_bare : (at : Position) (r : Bool × Listed) → bared placeless_attr (attr_by at r) ≡ attr_by nowhere (bare_flagged r)
-attr_by_bare at r = grind (arith, common_steps, both, bare_list, next_name_bare, all_bare, attr_kinds_bare)
-
 attr_bare : (l : Listed) → bared placeless_attr (attr_of l) ≡ attr_of (bare_list l)
-attr_bare l = attr_by_bare l.at (next_if_of (codes "rule") l) ∙ ap (attr_by nowhere) (next_if_bare (codes "rule") l)
+attr_bare l = (grind (arith, common_steps, both, next_name_bare, attr_kinds_bare)) ∙ ap (attr_by nowhere) (next_if_bare (codes "rule") l)
 
 -- ---- states and macros
 
@@ -252,11 +215,8 @@ model_bare l = grind (arith, common_steps, both, bare_list, next_name_bare, last
 once_bare : (o : Option SpecExprTrees) (l : Listed) → bared (option_map placeless_spec_exprs) (once_of o l) ≡ once_of (option_map placeless_spec_exprs o) (bare_list l)
 once_bare o l = grind (arith, common_steps, both, all_bare, spec_exprs_bare)
 
-modifies_bare : (l : Listed) → bared placeless_modifies (modifies_of l) ≡ modifies_of (bare_list l)
-modifies_bare l = grind (arith, common_steps, both, bare_list, next_name_bare, by_empty, all_bare, ended_bare)
-
 with_section_bare : (s : SpecTree) (head : Name) (l : Listed) → bared placeless_spec (with_section s head l) ≡ with_section (placeless_spec s) (placeless_name head) (bare_list l)
-with_section_bare s head l = grind (arith, common_steps, either, both, bare_list, once_bare, modifies_bare, map-append)
+with_section_bare s head l = grind (arith, common_steps, either, both, once_bare, map-append)
 
 with_part_bare : (s : SpecTree) (f : FormTree) → bared placeless_spec (with_part_of s f) ≡ with_part_of (placeless_spec s) (bare f)
 with_part_bare s f =

@@ -18,21 +18,17 @@ at_last r old new t e f = grind (arith, common_steps)
 pub three : (s a b c : List ℕ) → ((s ++ a) ++ b) ++ c ≡ s ++ (a ++ (b ++ c))
 three s a b c = append_assoc (s ++ a) b c ∙ append_assoc s a (b ++ c)
 
--- a list that begins so, has two parts of its text, and ends
-pub in_list : (s s1 s2 s3 s4 a b c x : List ℕ) → s1 ≡ s ++ a → s2 ≡ s1 ++ b → s3 ≡ s2 ++ c → s4 ≡ s3 ++ 41 ∷ [] → x ≡ b ++ c → s4 ≡ s ++ (a ++ (x ++ 41 ∷ []))
-in_list s s1 s2 s3 s4 a b c x e1 e2 e3 e4 is = grind (arith, common_steps, three)
-
 pub decl_told : (d : DeclTree) (s s1 s2 s3 s4 : List ℕ) → s1 ≡ s ++ codes "(decl" → s2 ≡ s1 ++ spaced (flags_before d no_form) → s3 ≡ s2 ++ spaced (signature d)
     → s4 ≡ s3 ++ codes ")" → s4 ≡ s ++ written (decl_form d)
-decl_told d s s1 s2 s3 s4 e1 e2 e3 e4 = grind (arith, common_steps, in_list, spaced-flags)
+decl_told d s s1 s2 s3 s4 e1 e2 e3 e4 = grind (arith, common_steps, spaced-flags)
 
 pub type_told : (t : TypeTree) (s s1 s2 s3 s4 : List ℕ) → s1 ≡ s ++ codes "(type" → s2 ≡ s1 ++ spaced (type_words_before t no_form) → s3 ≡ s2 ++ 32 ∷ written (value_form t.value)
     → s4 ≡ s3 ++ codes ")" → s4 ≡ s ++ written (type_form t)
-type_told t s s1 s2 s3 s4 e1 e2 e3 e4 = grind (arith, common_steps, in_list, spaced-type_words)
+type_told t s s1 s2 s3 s4 e1 e2 e3 e4 = grind (arith, common_steps, spaced-type_words)
 
 pub rule_told : (r : RuleTree) (s s1 s2 s3 : List ℕ) → s1 ≡ s ++ codes "(rule" → s2 ≡ s1 ++ spaced (rule_words_before r no_form) → s3 ≡ s2 ++ (spaced (rule_body r) ++ 41 ∷ [])
     → s3 ≡ s ++ written (rule_form r)
-rule_told r s s1 s2 s3 e1 e2 e3 = grind (arith, common_steps, in_list, spaced-rule_words)
+rule_told r s s1 s2 s3 e1 e2 e3 = grind (arith, common_steps, spaced-rule_words)
 
 -- an expression that ends a list
 pub ended : (w e : List ℕ) → w ++ 32 ∷ (e ++ 41 ∷ []) ≡ (w ++ 32 ∷ (e ++ [])) ++ 41 ∷ []

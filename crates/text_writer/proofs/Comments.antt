@@ -11,12 +11,9 @@ abbrev Shorter : Result (List ℕ) Mistake → List ℕ → Type 0
 Shorter (Ok rest) cs = length rest < length cs
 Shorter (Err m) cs = ⊤
 
-one_longer : (r : Result (List ℕ) Mistake) (c : ℕ) (cs : List ℕ) → Shorter r cs → Shorter r (c ∷ cs)
-one_longer r c cs h = grind (arith, common_steps)
-
 shorter : (cs : List ℕ) (depth last : ℕ) → Shorter (after_comment depth last cs) cs
 shorter [] depth last = tt
-shorter (c ∷ cs) depth last = grind (arith, common_steps, shorter cs (depth + 1) 32, shorter cs (depth - 1) 32, shorter cs depth c, one_longer)
+shorter (c ∷ cs) depth last = grind (arith, common_steps, shorter cs (depth + 1) 32, shorter cs (depth - 1) 32, shorter cs depth c)
 
 no_front : (cs rest : List ℕ) → cs ++ rest ≡ rest → cs ≡ []
 no_front cs rest e = grind (arith, common_steps, length-append cs rest)

@@ -1,9 +1,9 @@
 -- What texts have, one text more at a time; and that it goes together.
-use Rattle.std.proofs.Common.{◌≡◌, ℕ, suc, ◌+◌, List, [], ◌∷◌, ◌++◌, length, map, refl, sym, ap, ◌∙◌, subst, append-nil, arith}
-use Rattle.std.specs.Prelude.{Option, ⊤}
+use Rattle.std.proofs.Common.{◌≡◌, ℕ, suc, ◌+◌, List, [], ◌∷◌, ◌++◌, length, map, refl, sym, ap, ◌∙◌, subst, arith}
+use Rattle.std.specs.Prelude.{⊤}
 use Rattle.std.proofs.lemmas.List.{append_assoc, length-append, map-append}
 use Rattle.std.proofs.lemmas.Grind.{common_steps}
-use Rattle.model.specs.lists.Syntax.{Position, Definition}
+use Rattle.model.specs.lists.Syntax.{Definition}
 use Rattle.core_syntax.specs.SyntaxViews.{definition_place, definition_views}
 use Rattle.text_reader.specs.Lexemes.{Wrong}
 use Rattle.text_reader.specs.RecoveryViews.{wrong_view}
@@ -13,17 +13,13 @@ use Rattle.text_writer.specs.declared.spec_faults.SpecPrintFault.{SpecPrintFault
 use Rattle.text_writer.specs.declared.spec_faults.SpecPrintFault.TheVariants.{Memory, Unspellable, Unmatched}
 use Rattle.text_writer.specs.SpecFaults.{IsTrouble}
 use Rattle.text_writer.specs.Woven.{AreMatched, Trees, number_by, other_numbers, woven}
-use Rattle.text_writer.specs.Contents.{AreOfTexts, TextContents, behind, contents_of_text, contents_of_texts, followed_by, no_contents}
+use Rattle.text_writer.specs.Contents.{AreOfTexts, TextContents, behind, contents_of_text, contents_of_texts, followed_by}
 use Rattle.text_writer.proofs.Matched.{never_unmatched, text_matched}
 
 -- ---- contents behind one another
 
 abbrev pub held : List Definition → Trees → List Wrong → TextContents
 held ds vs ms = record { definitions = ds; trees = vs; mistakes = ms }
-
-alike : (ds es : List Definition) (vs ws : Trees) (ms ns : List Wrong) → ds ≡ es → vs ≡ ws → ms ≡ ns
-    → (let c : TextContents = record { definitions = ds; trees = vs; mistakes = ms } in let d : TextContents = record { definitions = es; trees = ws; mistakes = ns } in c ≡ d)
-alike ds es vs ws ms ns a b c = grind (arith, common_steps)
 
 behind_none : (vs : Trees) → map (behind 0) vs ≡ vs
 behind_none [] = refl
@@ -33,23 +29,10 @@ behind_both : (m n k : ℕ) → m + n ≡ k → (vs : Trees) → map (behind m) 
 behind_both m n k e [] = refl
 behind_both m n k e (v ∷ vs) = grind (arith, common_steps, behind_both m n k e vs)
 
-behind_assoc : (a b c : TextContents) → followed_by (followed_by a b) c ≡ followed_by a (followed_by b c)
-behind_assoc a b c = grind (arith, common_steps, alike, append_assoc, behind_both, length-append, map-append)
-
-nothing_behind : (c : TextContents) → followed_by c no_contents ≡ c
-nothing_behind c = alike _ _ _ _ _ _ (append-nil c.definitions) (append-nil c.trees) (append-nil c.mistakes)
-
-behind_nothing : (c : TextContents) → followed_by no_contents c ≡ c
-behind_nothing c = alike _ _ _ _ _ _ refl (behind_none c.trees) refl
-
--- one text more
-at_number : (m n : ℕ) → m ≡ n → (text : List ℕ) → followed_by (contents_of_text m text) no_contents ≡ followed_by no_contents (contents_of_text n text)
-at_number m n e text = nothing_behind (contents_of_text m text) ∙ ap (λ k. contents_of_text k text) e ∙ sym (behind_nothing (contents_of_text n text))
-
 one_more : (first : ℕ) (texts : List (List ℕ)) (text : List ℕ)
     → contents_of_texts first (texts ++ text ∷ []) ≡ followed_by (contents_of_texts first texts) (contents_of_text (first + length texts) text)
-one_more first [] text = at_number first (first + 0) (omega arith) text
-one_more first (t ∷ ts) text = grind (arith, one_more (first + 1) ts text, behind_assoc)
+one_more first [] text = grind (arith, common_steps, behind_none)
+one_more first (t ∷ ts) text = grind (arith, one_more (first + 1) ts text, append_assoc, behind_both, length-append, map-append)
 
 pub text_follows : (texts : List (List ℕ)) (text : List ℕ)
     → contents_of_texts 0 (texts ++ text ∷ []) ≡ followed_by (contents_of_texts 0 texts) (contents_of_text (length texts) text)
@@ -67,12 +50,9 @@ behind_numbers k (v ∷ vs) = ap (λ ns. (k + v.0) ∷ ns) (behind_numbers k vs)
 both : {xs ys zs ws : List ℕ} → xs ≡ zs → ys ≡ ws → xs ++ ys ≡ zs ++ ws
 both e f = rw (e, f) refl
 
-one_number : (o : Option Position) (k n : ℕ) → map (λ m. k + m) (number_by o (suc n)) ≡ map (λ m. suc k + m) (number_by o n)
-one_number o k n = grind (arith, common_steps)
-
 next_numbers : (ds : List Definition) (k n : ℕ) → map (λ m. k + m) (other_numbers (suc n) ds) ≡ map (λ m. suc k + m) (other_numbers n ds)
 next_numbers [] k n = refl
-next_numbers (d ∷ ds) k n = grind (arith, common_steps, next_numbers ds k (suc n), map-append, both, one_number)
+next_numbers (d ∷ ds) k n = grind (arith, common_steps, next_numbers ds k (suc n), map-append, both)
 
 same_numbers : (ns : List ℕ) → ns ≡ map (λ m. 0 + m) ns
 same_numbers [] = refl
@@ -125,9 +105,9 @@ never_told found ds vs _ told is of d v = is
 -- what is read of a text is added
 pub read_added : (ds new_ds more_ds : List Definition) (vs new_vs more_vs : Trees) (ms new_ms : List Wrong) → new_ds ≡ ds ++ more_ds → new_vs ≡ vs ++ map (behind (length ds)) more_vs → new_ms ≡ ms
     → held new_ds new_vs new_ms ≡ followed_by (held ds vs ms) (held more_ds more_vs [])
-read_added ds new_ds more_ds vs new_vs more_vs ms new_ms d v m = alike _ _ _ _ _ _ d v (m ∙ sym (append-nil ms))
+read_added ds new_ds more_ds vs new_vs more_vs ms new_ms d v m = grind (arith, common_steps)
 
 -- its mistake is added
 pub mistake_added : (ds new_ds : List Definition) (vs new_vs : Trees) (ms new_ms : List Wrong) (mistake : Wrong) → new_ds ≡ ds → new_vs ≡ vs → new_ms ≡ ms ++ mistake ∷ []
     → held new_ds new_vs new_ms ≡ followed_by (held ds vs ms) (held [] [] (mistake ∷ []))
-mistake_added ds new_ds vs new_vs ms new_ms mistake d v m = alike _ _ _ _ _ _ (d ∙ sym (append-nil ds)) (v ∙ sym (append-nil vs)) m
+mistake_added ds new_ds vs new_vs ms new_ms mistake d v m = grind (arith, common_steps)

@@ -2,7 +2,6 @@
 use Rattle.std.proofs.Common.{◌≡◌, ℕ, zero, suc, ◌+◌, ◌*◌, ◌^◌, ◌/◌, ◌%◌, ◌<◌, ◌≤◌, ◌==◌, List, [], ◌∷◌, ◌++◌, length, true, refl, inl, inr, ap, ◌∙◌, arith}
 use Rattle.std.specs.Prelude.{Bool, ◌&&◌, nat_lt, nat_le, Ok}
 use Rattle.std.specs.List.{list_all}
-use Rattle.std.specs.Char.{digit_value}
 use Rattle.std.proofs.lemmas.Bool.{cases_Bool, ltb-true, leb-true, lt-ltb, le-leb, eqb-true, eqb-false}
 use Rattle.std.proofs.lemmas.List.Folds.{list_all-append}
 use Rattle.std.proofs.Math.Nat.{pow-zero, pow-suc, mod-lt, div-add-mod, div-lt_iff_lt-mul}
@@ -11,7 +10,7 @@ use Rattle.std.proofs.lemmas.Grind.{common_steps}
 use Rattle.text_reader.specs.Numbers.{digits_after, grown}
 use Rattle.text_reader.specs.Solid.{nowhere}
 use Rattle.text_reader.specs.SpecTrees.{spec_bits}
-use Rattle.text_reader.specs.SpecGrammar.{are_digits, bits_of, word_spec_of}
+use Rattle.text_reader.specs.SpecGrammar.{bits_of, word_spec_of}
 use Rattle.text_writer.specs.SpecForms.{digit_text, digits_text, bits_text}
 use Rattle.text_writer.specs.SpellableTrees.{bits_are_spellable}
 use Rattle.text_writer.proofs.WordParts.{both, three}
@@ -26,12 +25,6 @@ all_below test (suc n) = test n && all_below test n
 pub each_below : (test : ℕ → Bool) (n : ℕ) → all_below test n ≡ true → (d : ℕ) → d < n → test d ≡ true
 each_below test zero h d less = absurd (omega (arith, less))
 each_below test (suc n) h d less = grind (arith, common_steps, each_below test n, both, eqb-true, eqb-false)
-
-value-of_digit : (d : ℕ) → d < 16 → digit_value (digit_text d) ≡ d
-value-of_digit d h = eqb-true (digit_value (digit_text d)) d (each_below (λ e. digit_value (digit_text e) == e) 16 refl d h)
-
-grown-digit : (radix n d : ℕ) → d < 16 → grown radix n (digit_text d) ≡ n * radix + d
-grown-digit radix n d h = grind (arith, common_steps, value-of_digit, eqb-true)
 
 -- ---- the digits of a number
 
@@ -52,18 +45,15 @@ module _ (radix : ℕ) (two : 2 ≤ radix) (most : radix ≤ 16) where
   text-all test all zero n = refl
   text-all test all (suc k) n = grind (arith, common_steps, text-all test all k (n / radix), list_all-append, mod-lt)
 
-  text-digits : (k n : ℕ) → are_digits radix (digits_text radix k n) ≡ true
-  text-digits k n = grind (arith, common_steps, text-all, value-of_digit, lt-ltb)
-
   text-value : (k n : ℕ) → n < radix ^ k → digits_after radix 0 (digits_text radix k n) ≡ n
   text-value zero n h = let one : radix ^ 0 ≡ 1 = pow-zero radix in omega (arith, one, h)
-  text-value (suc k) n h = grind (arith, common_steps, text-value k (n / radix), pow-suc, div-lt_iff_lt-mul, one_after, grown-digit, small, div-add-mod)
+  text-value (suc k) n h = grind (arith, common_steps, text-value k (n / radix), pow-suc, div-lt_iff_lt-mul, one_after, small, div-add-mod)
 
 -- ---- bits
 
 made : (radix each k value : ℕ) → 2 ≤ radix → radix ≤ 16 → 0 < k → k * each ≤ 128 → value < radix ^ k
     → bits_of radix each (digits_text radix k value) nowhere ≡ Ok (spec_bits value (k * each) nowhere)
-made radix each k value two most some fits small = grind (arith, common_steps, text-length, lt-ltb, le-leb, text-digits, text-value)
+made radix each k value two most some fits small = grind (arith, common_steps, text-length, lt-ltb, le-leb, text-value, text-all)
 
 pub bits_read : (value width : ℕ) → bits_are_spellable value width ≡ true → word_spec_of (record { text = bits_text value width; at = nowhere }) ≡ Ok (spec_bits value width nowhere)
 unfolding bits_are_spellable

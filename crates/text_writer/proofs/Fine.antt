@@ -1,6 +1,6 @@
 -- The forms of definitions that can be spelled: their words, numbers and constants can be, and they nest 1,000 deep at most. Words
 -- that begin with `-` stand in other forms.
-use Rattle.std.proofs.Common.{◌≡◌, ℕ, zero, suc, ◌+◌, ◌-◌, ◌≤◌, refl, List, [], ◌∷◌, arith}
+use Rattle.std.proofs.Common.{◌≡◌, ℕ, suc, ◌+◌, ◌-◌, ◌≤◌, refl, List, [], ◌∷◌, arith}
 use Rattle.std.specs.Prelude.{◌^◌, ℤ, pos, negsuc, max, nat_lt, Bool, true, false, ◌&&◌, ◌==◌, codes, Option, Some, None}
 use Rattle.std.specs.List.{list_all}
 use Rattle.std.specs.Str.{IsAscii}
@@ -80,9 +80,8 @@ unfolding begins_word
 is_plain t = list_all is_ascii t && begins_word t && list_all is_in_word t
 
 ascii : (t : List ℕ) → list_all is_ascii t ≡ true → IsAscii t
-ascii [] h i = omega arith
-ascii (b ∷ bs) h zero = grind (arith, nat_tests, (both (is_ascii b) (list_all is_ascii bs) h).0)
 ascii (b ∷ bs) h (suc i) = ascii bs (both (is_ascii b) (list_all is_ascii bs) h).1 i
+ascii t h i = grind (arith, nat_tests, both)
 
 plain_word : (t : List ℕ) → is_plain t ≡ true → is_word (record { text = t; at = nowhere }) ≡ true
 unfolding is_plain is_word has_word_characters
@@ -207,9 +206,6 @@ mutual
 pub one_more : (room : ℕ) → nat_lt 1 room ≡ true → nat_lt 0 room ≡ true
 one_more room h = grind (arith, nat_tests, h)
 
-pub some_left : (room : ℕ) → nat_lt 1 room ≡ true → nat_lt 0 (room - 1) ≡ true
-some_left room h = grind (arith, nat_tests, h)
-
 pub two_less : (room : ℕ) → (room - 1) - 1 ≡ room - 2
 two_less room = omega arith
 
@@ -227,7 +223,7 @@ mutual
   expr_fits (let_expr ds e p) room h =
       let k = three (nat_lt 1 room) (lets_are_spellable ds (room - 2)) (expr_is_spellable e (room - 1)) h in
       headed (codes "let") room (one_more room k.0) refl
-      (grind (arith, lets_fit ds (room - 2) k.1, expr_fits e (room - 1) k.2, more, listed, some_left, two_less))
+      (grind (arith, lets_fit ds (room - 2) k.1, expr_fits e (room - 1) k.2, more, listed, two_less))
 
   exprs_fit : (es : ExprTrees) (room : ℕ) → exprs_are_spellable es room ≡ true → AllFit false (expr_forms es) room
   exprs_fit no_expr room h = none

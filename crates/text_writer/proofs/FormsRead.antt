@@ -1,6 +1,6 @@
 -- The form of a definition that can be spelled is read as this definition.
 use Rattle.std.proofs.Common.{◌≡◌, ℕ, suc, ◌-◌, refl, ap, List, [], ◌∷◌, map, arith}
-use Rattle.std.specs.Prelude.{◌^◌, ℤ, nat_lt, Bool, true, false, not, ◌&&◌, ◌==◌, codes, Option, Some, None, Ok}
+use Rattle.std.specs.Prelude.{ℤ, nat_lt, Bool, true, false, not, ◌&&◌, ◌==◌, codes, Option, Some, None, Ok}
 use Rattle.std.specs.List.{list_all}
 use Rattle.std.proofs.lemmas.Bool.{false≢true, eqb-true}
 use Rattle.std.proofs.lemmas.Grind.{common_steps}
@@ -37,12 +37,8 @@ mutual
       let k = three (nat_lt 0 room) (is_pattern_head t) (patterns_are_spellable qs (room - 1)) h in
       let names = pattern_head_parts t k.1 in
       rw (patterns_read qs (room - 1) k.2, names.2, names.1) refl
-  pattern_read (and_pattern qs p) room h =
-      let k = both (nat_lt 0 room) (patterns_are_spellable qs (room - 1)) h in
-      rw (patterns_read qs (room - 1) k.1) refl
-  pattern_read (macro_arg i p) room h =
-      let k = both (nat_lt 0 room) (nat_lt i (2 ^ 64)) h in
-      rw k.1 refl
+  pattern_read (and_pattern qs p) room h = grind (arith, common_steps, patterns_read qs (room - 1), both (nat_lt 0 room) (patterns_are_spellable qs (room - 1)) h)
+  pattern_read (macro_arg i p) room h = grind (arith, common_steps, both (nat_lt 0 room))
   pattern_read _ room h = refl
 
   patterns_read : (qs : PatternTrees) (room : ℕ) → patterns_are_spellable qs room ≡ true → patterns_of (pattern_forms qs) ≡ Ok (placeless_patterns qs)

@@ -3,7 +3,7 @@ use Rattle.std.proofs.Common.{◌≡◌, ℕ, List, [], sym, ap, ◌∙◌, arit
 use Rattle.std.specs.Prelude.{Result, Ok, ⊤}
 use Rattle.std.specs.Str.{chars}
 use Rattle.std.proofs.lemmas.Grind.{common_steps}
-use Rattle.text_reader.specs.Definitions.{lists_in, tokens_in, forms_in}
+use Rattle.text_reader.specs.Definitions.{lists_in, tokens_in}
 use Rattle.text_reader.specs.FormTrees.{FormTrees}
 use Rattle.text_reader.specs.Lexemes.{Wrong, ◌>>=◌}
 use Rattle.text_reader.specs.Lexing.{Tokens, tokens_after}
@@ -16,14 +16,11 @@ use Rattle.text_writer.specs.Pages.{laid, text_of}
 abbrev fine : Result ⊤ Wrong
 fine = Ok tt
 
-anything : {A B : Type 0} (r : Result A Wrong) (x : B) → (r >>= (λ _. fine)) ≡ fine → (r >>= (λ _. Ok x)) ≡ Ok x
-anything r x h = grind (arith, common_steps)
-
 pub had_tokens : (r : Result Tokens Wrong) (f : Tokens → Result FormTrees Wrong) → ((r >>= f) >>= (λ _. fine)) ≡ fine → (ts : Tokens) × (r ≡ Ok ts)
 had_tokens r f h = grind (arith, common_steps)
 
 pub has_layout : (file : ℕ) (i : Indentation) (text made : List ℕ) → lists_in file text ≡ fine → made ≡ text_of (laid i (pieces_of (chars text))) → layout_in file i text ≡ Ok made
-has_layout file i text made h e = anything (forms_in file text) _ h ∙ ap (λ m. Ok m) (sym e)
+has_layout file i text made h e = (grind (arith, common_steps)) ∙ ap (λ m. Ok m) (sym e)
 
 -- what holds of all pieces of a text with tokens holds of those of a text with lists
 pub has_same : (file : ℕ) (i : Indentation) (text made : List ℕ) → lists_in file text ≡ fine

@@ -1,13 +1,10 @@
 -- The text of definitions and trees for a verifier is read as these, but for places.
 use Rattle.std.proofs.Common.{◌≡◌, ℕ, suc, refl, sym, ap, ◌∙◌, subst, List, [], ◌∷◌, ◌++◌, map, arith}
-use Rattle.std.specs.Prelude.{true, false, Option, Some, None, Ok}
+use Rattle.std.specs.Prelude.{true, None, Ok}
 use Rattle.std.specs.List.{list_all}
 use Rattle.std.proofs.lemmas.Simd.{map-map}
 use Rattle.std.proofs.lemmas.Grind.{common_steps}
-use Rattle.model.specs.lists.Syntax.{Definition}
 use Rattle.text_reader.specs.Lexemes.{◌>>=◌}
-use Rattle.text_reader.specs.FormTrees.{FormTree, FormTrees, form_and}
-use Rattle.text_reader.specs.PassedOver.{is_passed_over}
 use Rattle.text_reader.specs.Definitions.{definition_of}
 use Rattle.text_writer.specs.Forms.{form_of}
 use Rattle.text_writer.specs.ReadsBack.{ReadsBackAs}
@@ -17,11 +14,11 @@ use Rattle.text_writer.specs.Spellable as D
 use Rattle.text_writer.proofs.WordParts.{both}
 use Rattle.text_writer.proofs.Bare.{bared}
 use Rattle.text_writer.proofs.Placed.{placed, placed_bare}
-use Rattle.text_writer.proofs.Lines.{StandsAlone, lines, line_end, lines_placed, lines_forms, placed_passed}
+use Rattle.text_writer.proofs.Lines.{StandsAlone, lines, line_end, lines_placed, lines_forms}
 use Rattle.text_writer.proofs.FormsRead.{definition_read}
 use Rattle.text_writer.proofs.ReadBack.{good, definition_stands, all_stand, all_spelled_back}
 use Rattle.text_reader.specs.SpecTrees.{VerificationTree}
-use Rattle.text_reader.specs.Verifying.{verification_of, said_of, said_from, numbered}
+use Rattle.text_reader.specs.Verifying.{verification_of, said_from}
 use Rattle.text_writer.specs.PlacelessTrees.{placeless_tree}
 use Rattle.text_writer.specs.SpecForms.{verification_form, printed}
 use Rattle.text_writer.specs.SpellableTrees as T
@@ -30,12 +27,9 @@ use Rattle.text_writer.specs.Saying.{numbered_from, placeless_numbered, ReadsBac
 use Rattle.text_writer.proofs.TreesRead.{tree_read}
 use Rattle.text_writer.proofs.BareTrees.{verification_bare}
 use Rattle.text_writer.proofs.TwiceTrees.{tree_twice}
-use Rattle.text_writer.proofs.TreesFit.{tree_passed, tree_stands}
+use Rattle.text_writer.proofs.TreesFit.{tree_stands}
 
 -- ---- one item
-
-definition_passed : (d : Definition) → is_passed_over (form_of d) ≡ false
-definition_passed d = grind (arith, common_steps)
 
 item_read : (i : Item) → item_can_be_spelled i ≡ true → definition_of (item_form i) ≡ Ok (placeless_definition (definition_in i))
 item_read i h = grind (arith, common_steps, definition_read)
@@ -56,16 +50,6 @@ module _ (file : ℕ) where
       ∙ ap (bared placeless_tree) (tree_read v h)
       ∙ ap Ok (tree_twice v))
 
-  nothing_said : (o : ℕ) (d : Definition) → said_of (placed file o (form_of d)) ≡ Ok None
-  nothing_said o d = grind (arith, common_steps, placed, placed_passed, definition_passed)
-
-  tree_said : (o : ℕ) (v w : VerificationTree) → verification_of (placed file o (verification_form v)) ≡ Ok w → said_of (placed file o (verification_form v)) ≡ Ok (Some w)
-  tree_said o v w e = grind (arith, common_steps, placed, placed_passed, tree_passed)
-
-  one_more : (n : ℕ) (f : FormTree) (fs : FormTrees) (v : Option VerificationTree) (vs : List (ℕ × VerificationTree)) → said_of f ≡ Ok v → said_from (suc n) fs ≡ Ok vs
-      → said_from n (form_and f fs) ≡ Ok (numbered n v ++ vs)
-  one_more n f fs v vs e g = grind (arith, common_steps)
-
   items_said : (is : List Item) (n o : ℕ) → list_all item_can_be_spelled is ≡ true
       → (said : List (ℕ × VerificationTree)) × (said_from n (lines_placed file o (map item_form is)) ≡ Ok said)
       × (map placeless_numbered said ≡ map placeless_numbered (trees_from n is))
@@ -74,14 +58,14 @@ module _ (file : ℕ) where
       let k = both (D.can_be_spelled d) (list_all item_can_be_spelled is) h in
       let behind = line_end file o (form_of d) in
       let rest = items_said is (suc n) behind k.1 in
-      (rest.0, one_more n (placed file o (form_of d)) (lines_placed file behind (map item_form is)) None rest.0 (nothing_said o d) rest.1, rest.2)
+      (rest.0, (grind (arith, common_steps)), rest.2)
   items_said (a_tree v ∷ is) n o h =
       let k = both (T.can_be_spelled v) (list_all item_can_be_spelled is) h in
       let behind = line_end file o (verification_form v) in
       let one = tree_there o v k.0 in
       let rest = items_said is (suc n) behind k.1 in (
         (n, one.0) ∷ rest.0,
-        one_more n (placed file o (verification_form v)) (lines_placed file behind (map item_form is)) (Some one.0) rest.0 (tree_said o v one.0 one.1) rest.1,
+        (grind (arith, common_steps)),
         first one.2 rest.2,
       )
     where

@@ -1,10 +1,7 @@
 -- Comments give no tokens, however long they are.
-use Rattle.std.proofs.Common.{◌≡◌, ℕ, zero, suc, ◌+◌, List, [], ◌∷◌, ◌++◌, refl, ap, map, arith, lit<, encode_utf8}
-use Rattle.std.specs.Prelude.{replicate, Result}
-use Rattle.std.proofs.lemmas.List.{length-append}
-use Rattle.std.proofs.lemmas.Str.{length-encode, len_utf8_ascii}
+use Rattle.std.proofs.Common.{◌≡◌, ℕ, zero, suc, ◌+◌, List, [], ◌∷◌, ◌++◌, refl, ap, map, arith}
+use Rattle.std.specs.Prelude.{replicate}
 use Rattle.std.proofs.lemmas.Grind.{common_steps}
-use Rattle.text_reader.specs.Lexemes.{Wrong, ◌>>=◌}
 use Rattle.text_reader.specs.Lexing.{Tokens, tokens_after}
 use Rattle.text_reader.specs.Pieces.{Piece, space, line, block, left, right, bind, name, sign, endless, alone, spelling, size}
 use Rattle.text_reader.specs.Solid.{solid, stripped}
@@ -24,19 +21,13 @@ blanked (sign cs ∷ ps) = sign cs ∷ blanked ps
 blanked (endless cs ∷ ps) = endless cs ∷ blanked ps
 blanked (alone ∷ ps) = alone ∷ blanked ps
 
-bind_same : {A B : Type 0} (r : Result A Wrong) (f g : A → Result B Wrong) → ((x : A) → f x ≡ g x) → (r >>= f) ≡ (r >>= g)
-bind_same r f g h = grind (arith, common_steps)
-
-one_byte : size (32 ∷ []) ≡ 1
-one_byte = omega (arith, length-append (encode_utf8 32) [], length-encode 32, len_utf8_ascii 32 (lit< tt))
-
 skipped : (file n o : ℕ) (ps : List Piece) (done : Tokens) → tokens_after file o (replicate n (space 32) ++ ps) done ≡ tokens_after file (o + n) ps done
 skipped file zero o ps done = let e : o ≡ o + 0 = omega arith in ap (λ k. tokens_after file k ps done) e
-skipped file (suc n) o ps done = grind (arith, common_steps, skipped file n (o + size (32 ∷ [])) ps done, one_byte)
+skipped file (suc n) o ps done = grind (arith, common_steps, skipped file n (o + size (32 ∷ [])) ps done)
 
 blank_tokens : (file : ℕ) (ps : List Piece) (o : ℕ) (done : Tokens) → tokens_after file o ps done ≡ tokens_after file o (blanked ps) done
 blank_tokens file [] o done = refl
-blank_tokens file (p ∷ ps) o done = grind (arith, common_steps, blank_tokens file ps, skipped, bind_same)
+blank_tokens file (p ∷ ps) o done = grind (arith, common_steps, blank_tokens file ps, skipped)
 
 abbrev unlined : List Piece → List Piece
 unlined [] = []

@@ -1,11 +1,10 @@
 -- What is read of one text goes together: a list that is passed over is a definition without a place, and a tree with its number.
 use Rattle.std.proofs.Common.{◌≡◌, ◌≢◌, ℕ, suc, refl, ap, subst, List, [], ◌∷◌, ◌++◌, map, arith}
 use Rattle.std.specs.Prelude.{Bool, true, false, Option, Some, None, Result, Ok, Err, codes, if◌then◌else◌}
-use Rattle.std.proofs.lemmas.Bool.{eq-eqb}
 use Rattle.std.proofs.lemmas.List.{map-append}
 use Rattle.std.proofs.lemmas.Grind.{common_steps}
 use Rattle.model.proofs.Bytes.{same_bytes}
-use Rattle.model.specs.lists.Syntax.{Position, Name, Definition, other_definition}
+use Rattle.model.specs.lists.Syntax.{Position, Name, Definition}
 use Rattle.core_syntax.specs.SyntaxViews.{definition_place}
 use Rattle.text_reader.specs.Lexemes.{Wrong, ◌>>=◌}
 use Rattle.text_reader.specs.FormTrees.{FormTree, FormTrees, no_form, form_and, a_word, a_list}
@@ -20,8 +19,7 @@ use Rattle.text_reader.specs.RuleGrammar.{rule_of, parted_of, priority_of, rule_
 use Rattle.text_reader.specs.Definitions.{defined_by, definition_of, definitions_of, reading}
 use Rattle.text_reader.specs.SpecTrees.{VerificationTree}
 use Rattle.text_reader.specs.Verifying.{numbered, said_of, said_from, verification_in, verification_of}
-use Rattle.text_writer.specs.Items.{Item}
-use Rattle.text_writer.specs.Woven.{Trouble, unspelled, unmatched, Trees, tree_item, item_by, left_by, left_behind, item_before, woven, number_by, other_numbers, AreMatched}
+use Rattle.text_writer.specs.Woven.{unmatched, Trees, left_behind, woven, number_by, other_numbers, AreMatched}
 
 -- ---- steps of the grammar
 
@@ -108,9 +106,6 @@ by_word : (head : Name) (word : List ℕ) (r : Result Definition Wrong) → pass
     → reads head word ≡ true → (d : Definition) → r ≡ Ok d → Agrees (passes_over head.text) d
 by_word head word r other h is d e = grind (arith, common_steps, same_bytes head.text word is)
 
-passed_over : (head : Name) (w : Wrong) (d : Definition) → (if passes_over head.text then Ok other_definition else Err w) ≡ Ok d → Agrees (passes_over head.text) d
-passed_over head w = grind (arith, common_steps, chosen)
-
 defined_agrees : (head : Name) (l : Listed) (d : Definition) → defined_by head l ≡ Ok d → Agrees (passes_over head.text) d
 defined_agrees head l =
     let P = Agrees (passes_over head.text) in
@@ -119,8 +114,7 @@ defined_agrees head l =
     (λ _. chosen P (reads head (codes "rule")) _ _ (by_word head (codes "rule") _ refl (rule_placed l))
     (λ _. chosen P (reads head (codes "extractor")) _ _ (by_word head (codes "extractor") _ refl (extractor_placed l))
     (λ _. chosen P (reads head (codes "extern")) _ _ (by_word head (codes "extern") _ refl (stepped HasPlace (next_of M.Extern l) _ (λ kind. external_placed kind.0 kind.1)))
-    (λ _. chosen P (reads head (codes "convert")) _ _ (by_word head (codes "convert") _ refl (conversion_placed l))
-    (λ _. passed_over head _))))))
+    (λ _. grind (arith, common_steps, chosen, by_word, conversion_placed))))))
 
 form_agrees : (f : FormTree) (d : Definition) → definition_of f ≡ Ok d → Agrees (is_passed_over f) d
 form_agrees (a_list (form_and (a_word n) fs) p end) d e = defined_agrees n (listed fs p end) d e
@@ -158,20 +152,6 @@ text_matched file text ds vs e g = grind (arith, all_matched)
 
 -- ---- what goes together is woven, if it can be spelled
 
-spelled_or_not : (b : Bool) (i : Item) (p : Position) (k : ℕ) → (if b then Ok i else Err (unspelled p)) ≢ Err (unmatched k)
-spelled_or_not b i p k = grind (arith, common_steps)
-
-numbered_item : (n : ℕ) (v : ℕ × VerificationTree) (k : ℕ) → v.0 ≡ n → tree_item n v ≢ Err (unmatched k)
-numbered_item n v k e = grind (arith, common_steps, spelled_or_not, eq-eqb)
-
-one_matched : (o : Option Position) (n : ℕ) (d : Definition) (vs : Trees) (rest : List ℕ) → numbers vs ≡ number_by o n ++ rest
-    → (numbers (left_by o vs) ≡ rest) × ((k : ℕ) → item_by o n d vs ≢ Err (unmatched k))
-one_matched o n d vs rest e = grind (arith, common_steps, numbered_item, spelled_or_not)
-
-unmatched_behind : (r : Result Item Trouble) (s : Result (List ℕ) Trouble) (k : ℕ) → r ≢ Err (unmatched k) → item_before r s ≡ Err (unmatched k) → s ≡ Err (unmatched k)
-unmatched_behind r s k never e = grind (arith, common_steps)
-
 pub never_unmatched : (n : ℕ) (ds : List Definition) (vs : Trees) (k : ℕ) → AreMatched n ds vs → woven n ds vs ≢ Err (unmatched k)
-never_unmatched n [] [] k h = λ e. absurd (cc e)
-never_unmatched n [] (v ∷ vs) k h = absurd (cc h)
-never_unmatched n (d ∷ ds) vs k h = grind (arith, common_steps, never_unmatched (suc n) ds (left_behind d vs) k, one_matched, unmatched_behind)
+never_unmatched n (d ∷ ds) vs k h = grind (arith, common_steps, never_unmatched (suc n) ds (left_behind d vs) k)
+never_unmatched n ds vs k h = grind arith

@@ -1,8 +1,8 @@
 -- The token of a number that is written.
 use Rattle.std.proofs.Common.{◌≡◌, ℕ, zero, suc, ◌+◌, ◌*◌, ◌<◌, refl, List, [], ◌∷◌, length, arith}
-use Rattle.std.specs.Prelude.{ℤ, pos, negsuc, ◌^◌, Bool, true, false, ◌&&◌, ◌==◌, nat_lt, Ok, slice_index}
+use Rattle.std.specs.Prelude.{ℤ, pos, negsuc, ◌^◌, Bool, true, false, ◌==◌, nat_lt, Ok, slice_index}
 use Rattle.std.specs.List.{list_all}
-use Rattle.std.specs.Char.{digit_value, is_ascii_digit}
+use Rattle.std.specs.Char.{digit_value}
 use Rattle.std.specs.Fmt.{decimal, signed_decimal}
 use Rattle.std.specs.Str.{IsAscii}
 use Rattle.std.specs.Str.Parse.{AllDigits, digits_value_after, digits_value}
@@ -13,26 +13,17 @@ use Rattle.std.proofs.lemmas.Str.Parse.{digit_from_value}
 use Rattle.std.proofs.lemmas.Grind.{common_steps}
 use Rattle.model.specs.lists.Syntax.{Position}
 use Rattle.text_reader.specs.Pieces.{is_in_word}
-use Rattle.text_reader.specs.Numbers.{is_underscore_or_digit, are_digits, digits_after, has_mark, radix_of, sized, unsigned_number, number_of}
+use Rattle.text_reader.specs.Numbers.{is_underscore_or_digit, digits_after, has_mark, radix_of, sized, unsigned_number, number_of}
 use Rattle.text_reader.specs.Lexemes.{number, begins_number, word_token}
 use Rattle.text_writer.specs.Spellable.{is_signed_128, is_some_text}
 
 -- ---- digits
 
-in_word_from_48 : (d : ℕ) → d < 10 → is_in_word (48 + d) ≡ true
-in_word_from_48 d h = grind (arith, common_steps)
-
 digit_in_word : (c : ℕ) → digit_value c < 10 → is_in_word c ≡ true
-digit_in_word c h = grind (arith, common_steps, digit_from_value, in_word_from_48)
+digit_in_word c h = grind (arith, common_steps, digit_from_value)
 
 digit_no_underscore : (c : ℕ) → digit_value c < 10 → (c == 95) ≡ false
 digit_no_underscore c h = let range = digit_from_value c h in grind (arith, nat_tests, range.1)
-
-no_mark : (c m : ℕ) → digit_value c < 10 → 57 < m → (c == m) ≡ false
-no_mark c m h past = let range = digit_from_value c h in grind (arith, nat_tests, range.1, past)
-
-nothing_mark : (m : ℕ) → 57 < m → (0 == m) ≡ false
-nothing_mark m past = grind (arith, nat_tests, past)
 
 digit_test : (c : ℕ) → digit_value c < 10 → nat_lt (digit_value c) 10 ≡ true
 digit_test c h = grind (arith, nat_tests, h)
@@ -43,28 +34,19 @@ digits_in_word (c ∷ cs) h = rw (digit_in_word c h.0, digits_in_word cs h.1) re
 
 -- ---- how digits are read
 
-and_false : (a b : Bool) → b ≡ false → (a && b) ≡ false
-and_false a b e = grind (arith, common_steps)
-
 each_digit : (ds : List ℕ) → AllDigits 10 ds → list_all (is_underscore_or_digit 10) ds ≡ true
 each_digit [] h = refl
 each_digit (c ∷ cs) h = rw (digit_no_underscore c h.0, digit_test c h.0) (each_digit cs h.1)
-
-digits_are : (c : ℕ) (cs : List ℕ) → AllDigits 10 (c ∷ cs) → are_digits 10 (c ∷ cs) ≡ true
-digits_are c cs h = rw (digit_no_underscore c h.0, digit_test c h.0, each_digit cs h.1) refl
 
 digits_same : (n : ℕ) (ds : List ℕ) → AllDigits 10 ds → digits_after 10 n ds ≡ digits_value_after 10 n ds
 digits_same n [] h = refl
 digits_same n (c ∷ cs) h = rw (digit_no_underscore c h.0) (digits_same (n * 10 + digit_value c) cs h.1)
 
 second_no_mark : (c : ℕ) (cs : List ℕ) (small capital : ℕ) → AllDigits 10 (c ∷ cs) → 57 < small → 57 < capital → has_mark small capital (c ∷ cs) ≡ false
-second_no_mark c cs small capital h s k = grind (arith, common_steps, and_false, nothing_mark, no_mark)
-
-decimal_radix : (c : ℕ) (cs : List ℕ) → AllDigits 10 (c ∷ cs) → radix_of (c ∷ cs) ≡ (10, c ∷ cs)
-decimal_radix c cs h = grind (arith, common_steps, second_no_mark)
+second_no_mark c cs small capital h s k = grind (arith, common_steps)
 
 digits_number : (is_negative : Bool) (ds : List ℕ) → 0 < length ds → AllDigits 10 ds → unsigned_number is_negative (radix_of ds) ≡ sized is_negative (digits_value 10 ds)
-digits_number is_negative ds some h = grind (arith, common_steps, decimal_radix, digits_are, digits_same)
+digits_number is_negative ds some h = grind (arith, common_steps, digits_same, digit_no_underscore, digit_test, each_digit, second_no_mark)
 
 -- ---- a number below 2^127, and one above -2^127
 
@@ -85,9 +67,6 @@ neg_sized n h = grind (arith, common_steps, nat_tests)
 first_no_dash : (ds : List ℕ) → 0 < length ds → AllDigits 10 ds → (slice_index ds 0 == 45) ≡ false
 first_no_dash ds some h = grind (arith, common_steps)
 
-first_digit : (ds : List ℕ) → 0 < length ds → AllDigits 10 ds → is_ascii_digit (slice_index ds 0) ≡ true
-first_digit ds some h = grind (arith, common_steps)
-
 number_read : (z : ℤ) → is_signed_128 z ≡ true → number_of (signed_decimal z) ≡ Ok z
 unfolding number_of
 number_read (pos n) h =
@@ -103,11 +82,11 @@ pub begins_as_number : (z : ℤ) → is_signed_128 z ≡ true → begins_number 
 begins_as_number (pos n) h =
     let k = pos_small n h in
     let ds = decimal_is_IsNumeral_wide n (omega (arith, k)) in
-    rw (first_no_dash (decimal n) ds.0.0 ds.0.1) (first_digit (decimal n) ds.0.0 ds.0.1)
+    rw (first_no_dash (decimal n) ds.0.0 ds.0.1) (grind (arith, common_steps))
 begins_as_number (negsuc n) h =
     let k = neg_small n h in
     let ds = decimal_is_IsNumeral_wide (suc n) (omega (arith, k)) in
-    first_digit (decimal (suc n)) ds.0.0 ds.0.1
+    grind (arith, common_steps)
 
 pub number_token : (z : ℤ) (at : Position) → is_signed_128 z ≡ true → word_token (record { text = signed_decimal z; at = at }) ≡ Ok (number z at)
 unfolding word_token

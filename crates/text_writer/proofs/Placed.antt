@@ -8,13 +8,13 @@ use Rattle.std.proofs.lemmas.List.{map-append}
 use Rattle.std.proofs.lemmas.Str.{encodes-chars, encodes-IsAscii}
 use Rattle.std.proofs.lemmas.Grind.{common_steps}
 use Rattle.model.specs.lists.Syntax.{Position, Name}
-use Rattle.text_reader.specs.Lexemes.{Lexeme, begin_list, end_list, word, dash, binder, number, constant, Wrong, ◌>>=◌, word_token, last_bound, or_mistake}
+use Rattle.text_reader.specs.Lexemes.{Lexeme, begin_list, end_list, word, dash, binder, number, Wrong, ◌>>=◌, word_token, last_bound}
 use Rattle.text_reader.specs.FormTrees.{FormTree, a_word, a_number, a_constant, a_binding, a_list, FormTrees, no_form, form_and, spelled, all_spelled, depth, all_depth}
 use Rattle.text_reader.specs.Pieces.{Piece, space, left, right, bind, name, sign}
 use Rattle.text_reader.specs.Solid.{nowhere, placeless_name}
 use Rattle.text_reader.specs.Lexing.{Tokens, added, tokens_after}
 use Rattle.text_reader.specs.PassedOver.{is_dashed, mark}
-use Rattle.text_writer.specs.Spellable.{begins_any_word, is_word, is_any_word, is_constant_name, is_signed_128}
+use Rattle.text_writer.specs.Spellable.{begins_any_word, is_any_word, is_signed_128}
 use Rattle.text_writer.proofs.WordParts.{both, word_parts, any_word_parts, any_beginning_parts, nothing_begins_any, word_is_any}
 use Rattle.text_writer.proofs.Bare.{bare, all_bare}
 use Rattle.text_writer.proofs.Fine.{is_fine, are_fine, no_dash}
@@ -120,23 +120,12 @@ module _ (file : ℕ) where
   word_added n o done h =
       rw (encodes-chars n.text (name_utf8 n (word_characters n h)), word_is_token n.text (at o) (any_word_parts n h).0) refl
 
-  -- a name that is bound doesn't begin with `-`
-  plain_added : (n : Name) (o : ℕ) (done : Tokens) → is_word n ≡ true → added (name (chars n.text)) (at o) done ≡ Ok (done ++ word (name_at n o) ∷ [])
-  plain_added n o done h = grind (arith, common_steps, word_added, word_is_any, no_dash, word_parts)
-
   pub number_added : (z : ℤ) (o : ℕ) (done : Tokens) → is_signed_128 z ≡ true → added (name (signed_decimal z)) (at o) done ≡ Ok (done ++ number z (at o) ∷ [])
   number_added z o done h = rw (encodes-IsAscii (signed_decimal z) (number_ascii z h), number_token z (at o) h) refl
-
-  constant_added : (n : Name) (o : ℕ) (done : Tokens) → is_constant_name n ≡ true
-      → added (sign (chars n.text)) (at o) done ≡ Ok (done ++ constant (name_at n (o + 1)) (at o) ∷ [])
-  constant_added n o done h = rw (encodes-chars n.text (name_utf8 n (constant_characters n h))) refl
 
   -- one piece after another
   pub next : (o : ℕ) (p : Piece) (ps : List Piece) (done more : Tokens) → added p (at o) done ≡ Ok more → tokens_after file o (p ∷ ps) done ≡ tokens_after file (past o p) ps more
   next o p ps done more e = ap (λ r. r >>= tokens_after file (past o p) ps) e
-
-  bind_added : (n : Name) (o : ℕ) (done : Tokens) → added bind (at o) (done ++ word n ∷ []) ≡ Ok (done ++ binder n ∷ [])
-  bind_added n o done = ap (or_mistake (at o)) (bound done n)
 
   pub joined : (done : Tokens) (f : FormTree) (fs : FormTrees)
       → (done ++ map mark (spelled f [])) ++ map mark (all_spelled fs []) ≡ done ++ map mark (all_spelled (form_and f fs) [])
@@ -147,8 +136,8 @@ module _ (file : ℕ) where
         → tokens_after file o (pieces f after) done ≡ tokens_after file (behind o f) after (done ++ map mark (spelled (placed o f) []))
     form_told (a_word n) o after done h = next o (name (chars n.text)) after done _ (word_added n o done h)
     form_told (a_number z p) o after done h = next o (name (signed_decimal z)) after done _ (number_added z o done h)
-    form_told (a_constant n p) o after done h = next o (sign (chars n.text)) after done _ (constant_added n o done h)
-    form_told (a_binding n f) o after done h = grind (arith, common_steps, form_told f, both, is_fine, past, next, pieces, plain_added, bind_added, behind)
+    form_told (a_constant n p) o after done h = next o (sign (chars n.text)) after done _ (grind (arith, encodes-chars, name_utf8, constant_characters))
+    form_told (a_binding n f) o after done h = grind (arith, common_steps, form_told f, both, next, behind, bound, word_added, word_is_any, no_dash, word_parts)
     form_told (a_list fs p e) o after done h =
         let inside = past o left in
         let begun = done ++ begin_list (at o) ∷ [] in

@@ -18,15 +18,11 @@ use Rattle.text_writer.proofs.FormsRead.{definition_read}
 use Rattle.text_writer.proofs.Bare.{bared, definition_bare}
 use Rattle.text_writer.proofs.Twice.{definition_twice}
 use Rattle.text_writer.proofs.Fine.{definition_fits, fine_anyway, fine_dashes}
-use Rattle.text_writer.proofs.Written.{is_list}
 use Rattle.text_writer.proofs.Placed.{placed, placed_bare}
 use Rattle.text_writer.proofs.Lines.{StandsAlone, AllStand, lines, line_end, lines_placed, lines_forms}
 
 pub good : {A B : Type 0} (g : A → B) (r : Result A Wrong) (y : B) → bared g r ≡ Ok y → (x : A) × (r ≡ Ok x) × (g x ≡ y)
 good g r y e = grind (arith, common_steps)
-
-definition_is_list : (d : Definition) → is_list (form_of d) ≡ true
-definition_is_list d = grind (arith, common_steps)
 
 pub two : {A : Type 0} (r : Result A Wrong) (s : Result (List A) Wrong) (x : A) (xs : List A) → r ≡ Ok x → s ≡ Ok xs → r >>= (λ y. s >>= (λ ys. Ok (y ∷ ys))) ≡ Ok (x ∷ xs)
 two r s x xs e f = rw (e, f) refl
@@ -71,7 +67,7 @@ module _ {A : Type 0} (form : A → FormTree) (definition : A → Definition) (t
 
 -- the form of a definition stands on a line of its own
 pub definition_stands : (d : Definition) → can_be_spelled d ≡ true → StandsAlone (form_of d)
-definition_stands d h = grind (arith, common_steps, definition_fits d h, definition_is_list d, fine_anyway (form_of d), fine_dashes (form_of d))
+definition_stands d h = grind (arith, common_steps, definition_fits d h, fine_anyway (form_of d), fine_dashes (form_of d))
 
 printed_lines : (ds : List Definition) → printed ds ≡ lines (map form_of ds)
 printed_lines [] = refl

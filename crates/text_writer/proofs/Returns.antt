@@ -14,31 +14,20 @@ pub dropped : (cs : List ℕ) → without_returns (cs ++ 13 ∷ []) ≡ without_
 dropped [] = refl
 dropped (c ∷ cs) = ap (before_kept c) (dropped cs)
 
-more_kept : (c : ℕ) (cs : List ℕ) (d : ℕ) → before_kept c (cs ++ d ∷ []) ≡ c ∷ (cs ++ d ∷ [])
-more_kept c cs d = grind (arith, common_steps)
-
 pub stays : (cs : List ℕ) (d : ℕ) → (d == 13) ≡ false → without_returns (cs ++ d ∷ []) ≡ cs ++ d ∷ []
 stays [] d e = rw e refl
-stays (c ∷ cs) d e = ap (before_kept c) (stays cs d e) ∙ more_kept c cs d
-
--- once is enough
-kept_front : (c : ℕ) (cs : List ℕ) → without_returns cs ≡ cs → without_returns (before_kept c cs) ≡ before_kept c cs
-kept_front c cs e = grind (arith, common_steps)
+stays (c ∷ cs) d e = ap (before_kept c) (stays cs d e) ∙ (grind (arith, common_steps))
 
 pub returns_once : (cs : List ℕ) → without_returns (without_returns cs) ≡ without_returns cs
 returns_once [] = refl
-returns_once (c ∷ cs) = kept_front c (without_returns cs) (returns_once cs)
+returns_once (c ∷ cs) = grind (arith, common_steps, returns_once cs)
 
 pub kept_once : (p : Piece) → kept (kept p) ≡ kept p
 kept_once p = grind (arith, common_steps, returns_once)
 
--- what is left lies on one line
-all_front : (c : ℕ) (cs : List ℕ) → not (c == 10) ≡ true → list_all (λ d. not (d == 10)) cs ≡ true → list_all (λ d. not (d == 10)) (before_kept c cs) ≡ true
-all_front c cs e a = grind (arith, common_steps)
-
 pub on_one_line : (cs : List ℕ) → list_all (λ d. not (d == 10)) cs ≡ true → list_all (λ d. not (d == 10)) (without_returns cs) ≡ true
 on_one_line [] a = refl
-on_one_line (c ∷ cs) a = grind (arith, common_steps, on_one_line cs, and_parts, all_front)
+on_one_line (c ∷ cs) a = grind (arith, common_steps, on_one_line cs, and_parts)
 
 -- the last character is taken away
 pub other_kept : (popped before made whole : List ℕ) (c : ℕ) → (c ≡ 13 → ⊥) → made ≡ popped ++ c ∷ [] → before ≡ popped ++ c ∷ [] → without_returns before ≡ whole → made ≡ whole

@@ -1,5 +1,5 @@
 -- Whatever pieces a text is divided into, reading it one character at a time makes the same of it.
-use Rattle.std.proofs.Common.{◌≡◌, ℕ, ◌+◌, ◌-◌, ◌<◌, true, false, not, ◌&&◌, ◌==◌, List, [], ◌∷◌, ◌++◌, length, refl, sym, ap, ◌∙◌, subst, inl, inr, arith, Bool, encode_utf8, encode_utf8_all}
+use Rattle.std.proofs.Common.{◌≡◌, ℕ, ◌+◌, ◌-◌, ◌<◌, true, false, not, ◌&&◌, ◌==◌, List, [], ◌∷◌, ◌++◌, length, refl, sym, ap, ◌∙◌, subst, inl, inr, arith, Bool}
 use Rattle.std.specs.Prelude.{Result, Ok, Err, nat_le}
 use Rattle.std.specs.List.{list_all}
 use Rattle.std.specs.Char.{is_whitespace}
@@ -166,25 +166,14 @@ module _ {A : Type 0} (add : Piece → A → A) where
   unfolding run
   marked_start c rest a e = rw e refl
 
--- a piece has characters
-longer : (c : ℕ) (cs : List ℕ) → 0 < size (c ∷ cs)
-longer c cs = omega (arith, length-append (encode_utf8 c) (encode_utf8_all cs), length-encode c, (len_utf8_bounds c).0)
-
 pub sized : (q : Piece) (rest : List ℕ) (o : ℕ) → Stands o q rest → 0 < size (spelling q)
-sized q rest o s = grind (arith, common_steps, longer)
+sized q rest o s = grind (arith, common_steps, length-append, length-encode, len_utf8_bounds)
 
 pub fronted : (d : ℕ) (q : Piece) (rest : List ℕ) (o : ℕ) → Stands o q rest → begins_with d (spelling q ++ rest) ≡ begins_with d (spelling q)
 fronted d q rest o s = grind (arith, common_steps)
 
 pub past_zero : (b : Bool) (n : ℕ) → 0 < n → (b && n == 0) ≡ false
 past_zero b n h = grind (arith, common_steps, nat_tests)
-
-no_mark_name : (c : ℕ) → begins_word 0 c ≡ true → (c == 65279) ≡ true → true ≡ false
-no_mark_name c b m = grind (arith, nat_tests, b, m)
-
--- what begins with a byte order mark at the text's beginning is one
-pub only_mark : (q : Piece) (rest : List ℕ) → Stands 0 q rest → begins_with 65279 (spelling q) ≡ true → (c : ℕ) × (q ≡ space c) × ((c == 65279) ≡ true)
-only_mark q rest s m = grind (arith, common_steps, no_mark_name, and_parts)
 
 module _ {A : Type 0} (add : Piece → A → A) where
   pub only : (ps : List Piece) (o : ℕ) (text : List ℕ) (a : A) → (begins_with 65279 text && o == 0) ≡ false → AreIn o text ps → run add (between, a) text ≡ folded add a ps
@@ -210,7 +199,7 @@ module _ {A : Type 0} (add : Piece → A → A) where
     where
       marked : (ps : List Piece) (text : List ℕ) (a : A) → AreIn 0 text ps → begins_with 65279 text ≡ true → run add (start, a) text ≡ folded add a ps
       marked [] text a h m = absurd (false≢true (ap (begins_with 65279) (sym h) ∙ m))
-      marked (q ∷ ps) text a h m = grind (arith, common_steps, only_mark q h.0 h.2, fronted 65279 q h.0 0 h.2, behind_mark q ps h.0 a)
+      marked (q ∷ ps) text a h m = grind (arith, common_steps, fronted 65279 q h.0 0 h.2, behind_mark q ps h.0 a)
 
 -- ---- a text has one list of pieces
 abbrev behind_all : Piece → List Piece → List Piece

@@ -1,13 +1,11 @@
 -- Pieces that are whole by themselves: they stand wherever what follows ends them.
 use Rattle.std.proofs.Common.{◌≡◌, ℕ, ◌+◌, true, false, not, ◌&&◌, ◌==◌, List, [], ◌∷◌, refl, arith}
-use Rattle.std.specs.Prelude.{Result, Ok, ⊤}
+use Rattle.std.specs.Prelude.{Ok, ⊤}
 use Rattle.std.specs.List.{list_all}
 use Rattle.std.proofs.lemmas.Bool.{and_parts}
-use Rattle.std.proofs.lemmas.Bool.Decides.{nat_tests}
 use Rattle.std.proofs.lemmas.Grind.{common_steps}
-use Rattle.text_reader.specs.Lexemes.{Wrong, ◌>>=◌}
 use Rattle.text_reader.specs.Lexing.{Tokens, tokens_after}
-use Rattle.text_reader.specs.Pieces.{Piece, space, line, block, left, right, bind, name, sign, endless, alone, spelling, size, begins_word, begins_with, is_name, is_constant, after_comment, ends_word, ends_line, Stands, AreIn}
+use Rattle.text_reader.specs.Pieces.{Piece, space, line, block, left, right, bind, name, sign, endless, alone, spelling, size, begins_with, is_name, is_constant, after_comment, ends_word, ends_line, Stands, AreIn}
 use Rattle.text_writer.specs.Placing.{Placed, all_placed, kept}
 use Rattle.text_writer.proofs.Comments.{whole_comment, ended_comment}
 use Rattle.text_writer.proofs.Returns.{on_one_line, kept_once}
@@ -42,41 +40,24 @@ Ends (sign cs) rest = ends_word rest ≡ true
 Ends (endless cs) rest = ⊤
 Ends alone rest = ⊤
 
-word_anywhere : (o c : ℕ) → begins_word o c ≡ true → begins_word 1 c ≡ true
-word_anywhere o c h = grind (arith, nat_tests, h)
-
-name_anywhere : (o : ℕ) (cs : List ℕ) → is_name o cs ≡ true → is_name 1 cs ≡ true
-name_anywhere o cs h = grind (arith, common_steps, and_parts, word_anywhere)
-
-word_there : (o c : ℕ) → begins_word 1 c ≡ true → (c == 65279 && o == 0) ≡ false → begins_word o c ≡ true
-word_there o c h n = grind (arith, nat_tests, h, n)
-
-name_there : (o : ℕ) (cs : List ℕ) → is_name 1 cs ≡ true → (begins_with 65279 cs && o == 0) ≡ false → is_name o cs ≡ true
-name_there o cs h n = grind (arith, common_steps, and_parts, word_there)
-
 pub standing : (p : Piece) (o : ℕ) (rest : List ℕ) → IsWhole p → (begins_with 65279 (spelling p) && o == 0) ≡ false → Ends p rest → Stands o p rest
 standing (line cs) o rest w n e = (w, e)
 standing (block cs) o rest w n e = ended_comment cs rest [] 1 32 w
 standing left o rest w n e = e
 standing right o rest w n e = tt
 standing bind o rest w n e = tt
-standing (name cs) o rest w n e = (name_there o cs w n, e)
+standing (name cs) o rest w n e = ((grind (arith, common_steps, and_parts)), e)
 standing (sign cs) o rest w n e = (w, e)
 standing _ o rest w n e = absurd w
 
-went_on : {A B : Type 0} (r : Result A Wrong) (f : A → Result B Wrong) (y : B) → (r >>= f) ≡ Ok y → (x : A) × (f x ≡ Ok y)
-went_on r f y h = grind (arith, common_steps)
-
 -- the pieces of a text with tokens
 pub wholes : (file : ℕ) (ps : List Piece) (o : ℕ) (text : List ℕ) (b s : ℕ) (done ts : Tokens) → AreIn o text ps → tokens_after file o ps done ≡ Ok ts → AreWhole (all_placed b s ps)
-wholes file [] o text b s done ts a t = tt
 wholes file (space c ∷ ps) o text b s done ts a t = wholes file ps (o + size (spelling (space c))) a.0 _ _ done ts a.3 t
 wholes file (line cs ∷ ps) o text b s done ts a t = (on_one_line cs a.2.0, kept_once (line cs), wholes file ps (o + size (spelling (line cs))) a.0 0 0 done ts a.3 t)
 wholes file (block cs ∷ ps) o text b s done ts a t = (whole_comment cs a.0 1 32 a.2, refl, wholes file ps (o + size (spelling (block cs))) a.0 0 0 done ts a.3 t)
 wholes file (left ∷ ps) o text b s done ts a t = (tt, refl, wholes file ps (o + size (spelling left)) a.0 0 0 _ ts a.3 t)
 wholes file (right ∷ ps) o text b s done ts a t = (tt, refl, wholes file ps (o + size (spelling right)) a.0 0 0 _ ts a.3 t)
-wholes file (bind ∷ ps) o text b s done ts a t = grind (arith, common_steps, wholes file ps (o + size (spelling bind)) a.0 0 0, went_on)
-wholes file (name cs ∷ ps) o text b s done ts a t = grind (arith, common_steps, wholes file ps (o + size (spelling (name cs))) a.0 0 0, went_on, name_anywhere)
+wholes file (bind ∷ ps) o text b s done ts a t = grind (arith, common_steps, wholes file ps (o + size (spelling bind)) a.0 0 0)
+wholes file (name cs ∷ ps) o text b s done ts a t = grind (arith, common_steps, wholes file ps (o + size (spelling (name cs))) a.0 0 0, and_parts)
 wholes file (sign cs ∷ ps) o text b s done ts a t = (a.2.0, refl, wholes file ps (o + size (spelling (sign cs))) a.0 0 0 _ ts a.3 t)
-wholes file (endless cs ∷ ps) o text b s done ts a t = absurd (cc t)
-wholes file (alone ∷ ps) o text b s done ts a t = absurd (cc t)
+wholes file ps o text b s done ts a t = grind arith

@@ -39,12 +39,8 @@ moved_over old new c rest whole e w = ap (λ x. x ++ rest) e ∙ append_assoc ol
 pub one_more : (old new : List ℕ) (before : List ℕ) (n c : ℕ) → new ≡ old ++ c ∷ [] → old ≡ before ++ replicate n c → new ≡ before ++ replicate (n + 1) c
 one_more old new before n c e h = e ∙ ap (λ x. x ++ c ∷ []) h ∙ append_assoc before (replicate n c) (c ∷ []) ∙ ap (λ x. before ++ x) (replicate-append-replicate n 1 c)
 
--- the sign of a constant
-named : (bs cs : List ℕ) → (length bs == 0) ≡ false → encode_utf8_all cs ≡ bs → sign_piece cs ≡ sign cs
-named bs cs n e = grind (arith, common_steps)
-
 pub sign_named : {Z : Type 0} (s : String Z) → (string_len s == 0) ≡ false → sign_piece (chars (string_bytes s)) ≡ sign (chars (string_bytes s))
-sign_named s n = named (string_bytes s) (chars (string_bytes s)) (ap (λ k. k == 0) (sym s.bytes.ok.0) ∙ n) (encoded_text s)
+sign_named s n = grind (arith, common_steps, encoded_text s)
 
 pub sign_alone : {Z : Type 0} (s : String Z) → (string_len s == 0) ≡ true → sign_piece (chars (string_bytes s)) ≡ alone
 sign_alone s n = grind (arith, common_steps, chars-nil, eqb-true)

@@ -12,8 +12,7 @@ use Rattle.text_reader.specs.Pieces.{is_in_word}
 use Rattle.text_writer.specs.Forms.{the_word, word_form, names_before}
 use Rattle.text_writer.specs.Spellable.{is_any_word, begins_word}
 use Rattle.text_writer.proofs.WordParts.{both, three, four, six}
-use Rattle.text_writer.proofs.Fine.{is_plain, Fits, AllFit, known, any_word_fits, number_fits, index_fits, truth_fits, none, more, listed, headed, one_more, some_left, two_less}
-use Rattle.text_writer.proofs.Written.{is_list}
+use Rattle.text_writer.proofs.Fine.{is_plain, Fits, AllFit, known, any_word_fits, number_fits, index_fits, truth_fits, none, more, listed, headed, one_more, two_less}
 use Rattle.text_writer.proofs.Lines.{StandsAlone}
 use Rattle.text_reader.specs.SpecGrammar.{has_cases}
 use Rattle.text_reader.specs.SpecTrees.{SpecExprTree, spec_int, spec_bits, spec_bool, spec_unit, spec_var, spec_op, spec_cases, spec_let, spec_with, spec_as, spec_pair, SpecExprTrees, no_spec_expr, spec_expr_and, ModelTypeTree, int_model, bool_model, unit_model, bits_model, named_model, ModifiesTree, SpecTree, VariantValueTree, ModelValueTree, type_value, enum_value, const_value, SignatureTree, AttrKindTree, tag, chain, priority, AttrTree, MacroTree, VerificationTree, a_spec, a_model, a_form, an_instantiation, an_attr, a_state, a_macro, a_pragma}
@@ -21,6 +20,7 @@ use Rattle.text_writer.specs.SpecForms.{with_forms, forms_by, form_if, section_f
 use Rattle.text_writer.specs.SpellableTrees.{are_any_words, is_operator, is_no_name_or_any_word, model_type_is_spellable, spec_expr_is_spellable, spec_exprs_are_spellable, pair_is_spellable, pairs_are_spellable, part_is_spellable, modifies_is_spellable, is_no_value_or_spellable, variant_value_is_spellable, model_value_is_spellable, signature_type_is_spellable, signature_is_spellable, signatures_are_spellable, are_signatures_spellable, attr_kind_is_spellable, can_be_spelled}
 use Rattle.text_writer.proofs.WordTests.{variable_parts, operator_parts, cases_fit}
 use Rattle.text_writer.proofs.DigitTexts.{each_below, text-all}
+use Rattle.std.proofs.lemmas.Bool.Decides.{nat_tests}
 
 -- ---- lists
 
@@ -96,11 +96,11 @@ mutual
   expr_fits (spec_let ds x p) room h =
       let k = three (nat_lt 1 room) (pairs_are_spellable ds (room - 2)) (spec_expr_is_spellable x (room - 1)) h in
       headed (codes "let") room (one_more room k.0) refl
-      (more (listed (room - 1) (some_left room k.0) (rw (two_less room) (pairs_fit ds (room - 2) k.1))) (more (expr_fits x (room - 1) k.2) none))
+      (more (listed (room - 1) (grind (arith, common_steps, nat_tests)) (rw (two_less room) (pairs_fit ds (room - 2) k.1))) (more (expr_fits x (room - 1) k.2) none))
   expr_fits (spec_with ns x p) room h =
       let k = three (nat_lt 1 room) (are_any_words ns) (spec_expr_is_spellable x (room - 1)) h in
       headed (codes "with") room (one_more room k.0) refl
-      (more (listed (room - 1) (some_left room k.0) (names_fit ns no_form ((room - 1) - 1) k.1 none)) (more (expr_fits x (room - 1) k.2) none))
+      (more (listed (room - 1) (grind (arith, common_steps, nat_tests)) (names_fit ns no_form ((room - 1) - 1) k.1 none)) (more (expr_fits x (room - 1) k.2) none))
   expr_fits (spec_as x t p) room h =
       let k = three (nat_lt 0 room) (spec_expr_is_spellable x (room - 1)) (model_type_is_spellable t (room - 1)) h in
       headed (codes "as") room k.0 refl (more (expr_fits x (room - 1) k.1) (more (model_type_fits t (room - 1) k.2) none))
@@ -225,20 +225,13 @@ tree_fits (a_state s) h =
 tree_fits (a_macro m) h = macro_fits m h
 tree_fits (a_pragma p) h = headed (codes "pragma") 1000 refl refl none
 
-tree_is_list : (v : VerificationTree) → is_list (verification_form v) ≡ true
-tree_is_list v = grind (arith, common_steps)
-
-pub tree_passed : (v : VerificationTree) → is_passed_over (verification_form v) ≡ true
-tree_passed v = grind (arith, common_steps)
-
 -- the form of a tree stands on a line of its own
 pub tree_stands : (v : VerificationTree) → can_be_spelled v ≡ true → StandsAlone (verification_form v)
 tree_stands v h = record {
-  list = tree_is_list v;
+  list = grind arith;
   fits = tree_fits v h;
-  dashes = anyway (not (has_dash (verification_form v))) (is_passed_over (verification_form v)) (tree_passed v);
+  dashes = anyway (not (has_dash (verification_form v))) (is_passed_over (verification_form v)) (grind arith);
 }
   where
     anyway : (a b : Bool) → b ≡ true → (a || b) ≡ true
-    anyway true b h = refl
-    anyway false b h = h
+    anyway a b h = grind (arith, common_steps)

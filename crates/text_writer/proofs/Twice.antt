@@ -1,10 +1,9 @@
 -- Without its places a definition has none to lose.
 use Rattle.std.proofs.Common.{◌≡◌, refl, ap, List, [], ◌∷◌, map, arith}
-use Rattle.std.specs.Prelude.{Option, option_map}
 use Rattle.std.proofs.lemmas.Grind.{common_steps}
-use Rattle.model.specs.lists.Syntax.{Name, PatternTree, bind_pattern, term_pattern, and_pattern, PatternTrees, no_pattern, pattern_and, ExprTree, term_expr, let_expr, ExprTrees, no_expr, expr_and, LetTrees, no_let, let_and, FieldTrees, TypeValueTree, ExternTree, Definition}
+use Rattle.model.specs.lists.Syntax.{PatternTree, bind_pattern, term_pattern, and_pattern, PatternTrees, no_pattern, pattern_and, ExprTree, term_expr, let_expr, ExprTrees, no_expr, expr_and, LetTrees, no_let, let_and, Definition}
 use Rattle.text_reader.specs.Solid.{nowhere, placeless_name}
-use Rattle.text_writer.specs.Placeless.{placeless_pattern, placeless_patterns, placeless_expr, placeless_exprs, placeless_lets, placeless_fields, placeless_value, placeless_extern, placeless_definition}
+use Rattle.text_writer.specs.Placeless.{placeless_pattern, placeless_patterns, placeless_expr, placeless_exprs, placeless_lets, placeless_definition}
 
 pub map_twice : {A : Type 0} (f : A → A) → ((x : A) → f (f x) ≡ f x) → (xs : List A) → map f (map f xs) ≡ map f xs
 map_twice f twice [] = refl
@@ -35,17 +34,5 @@ mutual
   lets_twice no_let = refl
   lets_twice (let_and n t e p ds) = rw (expr_twice e, lets_twice ds) refl
 
-fields_twice : (fs : FieldTrees) → placeless_fields (placeless_fields fs) ≡ placeless_fields fs
-fields_twice fs = grind (arith, common_steps, map_twice)
-
-value_twice : (v : TypeValueTree) → placeless_value (placeless_value v) ≡ placeless_value v
-value_twice v = grind (arith, common_steps, map_twice, fields_twice)
-
-extern_twice : (e : ExternTree) → placeless_extern (placeless_extern e) ≡ placeless_extern e
-extern_twice e = grind (arith, common_steps)
-
-maybe_twice : (o : Option Name) → option_map placeless_name (option_map placeless_name o) ≡ option_map placeless_name o
-maybe_twice o = grind (arith, common_steps)
-
 pub definition_twice : (d : Definition) → placeless_definition (placeless_definition d) ≡ placeless_definition d
-definition_twice d = grind (arith, common_steps, value_twice, map_twice, pattern_twice, expr_twice, maybe_twice, extern_twice)
+definition_twice d = grind (arith, common_steps, map_twice, pattern_twice, expr_twice)

@@ -8,7 +8,6 @@ use Rattle.std.proofs.lemmas.List.{append_assoc}
 use Rattle.std.proofs.lemmas.Grind.{common_steps}
 use Rattle.text_reader.specs.Pieces.{Piece, space, line, left, name, sign, spelling, size, begins_with, ends_word, ends_line, AreIn}
 use Rattle.text_reader.specs.Solid.{solid}
-use Rattle.text_writer.specs.declared.gaps.Gap.{Gap}
 use Rattle.text_writer.specs.declared.gaps.Gap.TheVariants.{Spaces, Breaks}
 use Rattle.text_writer.specs.declared.gaps.Last.{Last}
 use Rattle.text_writer.specs.declared.gaps.Last.TheVariants as L
@@ -34,46 +33,36 @@ breaks_first : (n column : ℕ) (ps : List Piece) → 0 < n → (rest : List ℕ
 breaks_first zero column ps h = absurd (omega (arith, h))
 breaks_first (suc n) column ps h = (text_of ((replicate n (space 10) ++ replicate column (space 32)) ++ ps), refl)
 
-spaces_first : (n column : ℕ) (ps : List Piece) → 0 < n → (rest : List ℕ) × (text_of (white column (Spaces n) ++ ps) ≡ 32 ∷ rest)
-spaces_first zero column ps h = absurd (omega (arith, h))
-spaces_first (suc n) column ps h = (text_of (replicate n (space 32) ++ ps), refl)
-
 pub some_break : (n : ℕ) → (n == 0) ≡ false → 0 < min n 2
 some_break n h = let p : 0 < n = grind (arith, nat_tests, h) in omega arith
 
-broken_ends : (p : Piece) (n k column : ℕ) (ps : List Piece) → (n == 0) ≡ false → ((rest : List ℕ) → Ends p (10 ∷ rest)) → Ends p (text_of (white column (broken n k) ++ ps))
-broken_ends p n k column ps h e = grind (arith, common_steps, breaks_first (min n 2) column ps (some_break n h), some_break n h)
-
 -- behind `(` on a line
 open_ends : (p : Piece) (before column : ℕ) (ps : List Piece) → IsWhole p → begins_with 59 (text_of (white column (Spaces (spaces_in_line 0 before p)) ++ (p ∷ ps))) ≡ false
-open_ends p before column ps w = grind (arith, common_steps, spaces_first, and_parts)
+open_ends p before column ps w = grind (arith, common_steps, and_parts)
 
 -- behind a word on a line
 word_ends : (p : Piece) (before column : ℕ) (ps : List Piece) → IsWhole p → ends_word (text_of (white column (Spaces (spaces_in_line 1 before p)) ++ (p ∷ ps))) ≡ true
-word_ends p before column ps w = grind (arith, common_steps, spaces_first)
+word_ends p before column ps w = grind (arith, common_steps)
 
 -- a piece is ended by the gap of the next one, with that
 word_gap : (q : Placed) (column : ℕ) (ps : List Piece) → IsWhole q.piece → ends_word (text_of (white column (broken q.breaks (spaces_in_line 1 q.spaces q.piece)) ++ (q.piece ∷ ps))) ≡ true
 word_gap q column ps w = elim (cases_Bool (q.breaks == 0)) [
   | inl none ↦ rw none (word_ends q.piece q.spaces column ps w)
-  | inr some ↦ broken_ends (name []) q.breaks (spaces_in_line 1 q.spaces q.piece) column (q.piece ∷ ps) some (λ rest. refl)
+  | inr some ↦ grind (arith, common_steps, breaks_first (min q.breaks 2) column (q.piece ∷ ps) (some_break q.breaks some), some_break q.breaks some)
 ]
 
 gap_ends : (p : Piece) (q : Placed) (column : ℕ) (ps : List Piece) → IsWhole q.piece → Ends p (text_of (white column (gap_before (last_of p) q) ++ (q.piece ∷ ps)))
 gap_ends (line cs) q column ps w = ap ends_line (breaks_first (max (min q.breaks 2) 1) column (q.piece ∷ ps) (omega arith)).1
 gap_ends left q column ps w = elim (cases_Bool (q.breaks == 0)) [
   | inl none ↦ rw none (open_ends q.piece q.spaces column ps w)
-  | inr some ↦ broken_ends left q.breaks (spaces_in_line 0 q.spaces q.piece) column (q.piece ∷ ps) some (λ rest. refl)
+  | inr some ↦ grind (arith, common_steps, breaks_first (min q.breaks 2) column (q.piece ∷ ps) (some_break q.breaks some), some_break q.breaks some)
 ]
 gap_ends (name cs) q column ps w = word_gap q column ps w
 gap_ends (sign cs) q column ps w = word_gap q column ps w
 gap_ends _ q column ps w = tt
 
-last_ends : (p : Piece) → Ends p (10 ∷ [])
-last_ends p = grind (arith, common_steps)
-
 rest_ends : (p : Piece) (so_far : Layout) (ps : List Placed) → AreWhole ps → Ends p (text_of (laid_from so_far (planned (last_of p) ps) ++ last_break))
-rest_ends p so_far [] w = last_ends p
+rest_ends p so_far [] w = grind arith
 rest_ends p so_far (q ∷ qs) w = grind (arith, common_steps, regrouped, gap_ends)
 
 -- ---- pieces where they stand
@@ -81,15 +70,9 @@ times : (n c : ℕ) (ps : List Piece) → is_whitespace c ≡ true → AreLater 
 times zero c ps w h = h
 times (suc n) c ps w h = grind (arith, common_steps, times n c ps w h)
 
-white_are : (column : ℕ) (g : Gap) (ps : List Piece) → AreLater ps → AreLater (white column g ++ ps)
-white_are column g ps h = grind (arith, common_steps, times, append_assoc)
-
-piece_is : (p : Piece) (rest : List Piece) (o : ℕ) → IsWhole p → Ends p (text_of rest) → AreLater rest → (begins_with 65279 (spelling p) && o == 0) ≡ false → AreIn o (text_of (p ∷ rest)) (p ∷ rest)
-piece_is p rest o w e h n = grind (arith, common_steps, standing p o (text_of rest) w n e, sized p (text_of rest) o)
-
 later : (ps : List Placed) (last : Last) (so_far : Layout) → AreWhole ps → AreLater (laid_from so_far (planned last ps) ++ last_break)
 later [] last so_far w = λ o pos. ([], refl, refl, refl)
-later (q ∷ qs) last so_far w = grind (arith, common_steps, later qs (last_of q.piece), regrouped, white_are, piece_is, rest_ends, past_zero)
+later (q ∷ qs) last so_far w = grind (arith, common_steps, later qs (last_of q.piece), regrouped, rest_ends, past_zero, standing, sized, times, append_assoc)
 
 -- the text's beginning
 first : (ps : List Placed) (so_far : Layout) → AreWhole ps → (let r = planned L.Nothing ps in AreIn 0 (text_of (laid_from so_far r ++ ending r)) (laid_from so_far r ++ ending r))
@@ -105,8 +88,8 @@ first (q ∷ qs) so_far w =
     begun : (q : Placed) (column : ℕ) (rest : List Piece) → IsWhole q.piece → Ends q.piece (text_of rest) → AreLater rest
         → (let r = white column (gap_before L.Nothing q) ++ (q.piece ∷ rest) in AreIn 0 (text_of r) r)
     begun q column rest w e h = elim (cases_Bool (begins_with 65279 (spelling q.piece))) [
-      | inl m ↦ grind (arith, common_steps, piece_is q.piece, past_zero (begins_with 65279 (spelling q.piece)) (0 + size (32 ∷ [])), sized (space 32) [] 0 refl)
-      | inr m ↦ rw m (piece_is q.piece rest 0 w e h (ap (λ b. b && 0 == 0) m))
+      | inl m ↦ grind (arith, common_steps, past_zero (begins_with 65279 (spelling q.piece)) (0 + size (32 ∷ [])), sized (space 32) [] 0 refl)
+      | inr m ↦ rw m (grind (arith, common_steps, standing q.piece 0 (text_of rest) w (ap (λ b. b && 0 == 0) m) e, sized q.piece (text_of rest) 0))
     ]
 
 plan_is_laid : (i : Indentation) (marked : Bool) (ps : List Placed) → AreWhole ps → (let r = laid_plan i marked (planned (first_last marked) ps) in AreIn 0 (text_of r) r)
@@ -125,15 +108,12 @@ solid_times : (n c : ℕ) (ps : List Piece) → solid (replicate n (space c) ++ 
 solid_times zero c ps = refl
 solid_times (suc n) c ps = solid_times n c ps
 
-solid_white : (column : ℕ) (g : Gap) (ps : List Piece) → solid (white column g ++ ps) ≡ solid ps
-solid_white column g ps = grind (arith, common_steps, solid_times, append_assoc)
-
 abbrev pieces_of : List Placed → List Piece
 pieces_of ps = map (λ (p : Placed). p.piece) ps
 
 solid_from : (ps : List Placed) (last : Last) (so_far : Layout) → AreWhole ps → solid (laid_from so_far (planned last ps) ++ last_break) ≡ pieces_of ps
 solid_from [] last so_far w = refl
-solid_from (q ∷ qs) last so_far w = grind (arith, common_steps, solid_from qs (last_of q.piece), regrouped, solid_white, solid_piece)
+solid_from (q ∷ qs) last so_far w = grind (arith, common_steps, solid_from qs (last_of q.piece), regrouped, solid_piece, solid_times, append_assoc)
 
 solid_plan : (i : Indentation) (marked : Bool) (ps : List Placed) → AreWhole ps → solid (laid_plan i marked (planned (first_last marked) ps)) ≡ pieces_of ps
 solid_plan i false (q ∷ qs) w = solid_from (q ∷ qs) L.Nothing (first_layout i false) w

@@ -50,11 +50,6 @@ beginning_parts b bs h =
     let k = three (not (b == 36)) (not (b == 45)) (not (is_ascii_digit b)) h in
     (unless (b == 36) k.0, unless (b == 45) k.1, unless (is_ascii_digit b) k.2)
 
-pub beginning_some : (t : List ℕ) → begins_word t ≡ true → is_some_text t ≡ true
-unfolding begins_word
-beginning_some [] h = absurd (false≢true h)
-beginning_some (b ∷ bs) h = refl
-
 pub nothing_begins : begins_word [] ≡ false
 unfolding begins_word
 nothing_begins = refl

@@ -1,17 +1,16 @@
 -- The text of definitions and trees that are woven is that of items that they are read from.
 use Rattle.std.proofs.Common.{◌≡◌, ℕ, suc, refl, sym, ap, ◌∙◌, subst, List, [], ◌∷◌, ◌++◌, map, append_assoc, arith}
-use Rattle.std.specs.Prelude.{true, Some, Result, Ok, IfOk, String, string_bytes}
+use Rattle.std.specs.Prelude.{true, Result, Ok, IfOk, String, string_bytes}
 use Rattle.std.specs.declared.alloc.Global.{Global}
 use Rattle.std.specs.List.{list_all}
 use Rattle.std.proofs.lemmas.Grind.{common_steps}
-use Rattle.model.specs.lists.Syntax.{Position, Definition}
-use Rattle.core_syntax.specs.SyntaxViews.{definition_place}
+use Rattle.model.specs.lists.Syntax.{Definition}
 use Rattle.text_writer.specs.ReadsBack.{ReadsBackAs}
 use Rattle.text_writer.specs.Texts.{written}
 use Rattle.text_writer.specs.Items.{Item, definition_in, trees_from, item_form, item_can_be_spelled, printed_items}
 use Rattle.text_writer.specs.Saying.{ReadsBackVerification}
 use Rattle.text_writer.specs.declared.spec_faults.SpecPrintFault.{SpecPrintFault}
-use Rattle.text_writer.specs.Woven.{Trouble, Trees, defined_item, item_at, left_behind, before, item_before, woven}
+use Rattle.text_writer.specs.Woven.{Trouble, Trees, item_at, left_behind, before, item_before, woven}
 use Rattle.text_writer.proofs.ItemsReadBack.{items_read_back}
 
 -- ---- what an item is made of
@@ -22,11 +21,8 @@ pub record IsItem (n : ℕ) (d : Definition) (vs : Trees) (i : Item) : Type 0 wh
   pub trees : (is : List Item) → trees_from (suc n) is ≡ left_behind d vs → trees_from n (i ∷ is) ≡ vs
   pub spelled : item_can_be_spelled i ≡ true
 
-defined : (n : ℕ) (d : Definition) (p : Position) (vs : Trees) (i : Item) → definition_place d ≡ Some p → defined_item d p ≡ Ok i → IsItem n d vs i
-defined n d p vs i place e = grind (arith, common_steps)
-
 pub item : (n : ℕ) (d : Definition) (vs : Trees) (i : Item) → item_at n d vs ≡ Ok i → IsItem n d vs i
-item n d vs i e = grind (arith, common_steps, defined)
+item n d vs i e = grind (arith, common_steps)
 
 -- ---- all items
 
@@ -46,8 +42,6 @@ split_item : (r : Result Item Trouble) (s : Result (List ℕ) Trouble) (text : L
 split_item r s text e = grind (arith, common_steps)
 
 woven_items : (n : ℕ) (ds : List Definition) (vs : Trees) (text : List ℕ) → woven n ds vs ≡ Ok text → AreItems n ds vs text
-woven_items n [] [] text e = record { items = []; definitions = refl; trees = refl; spelled = refl; printed = cc e }
-woven_items n [] (v ∷ vs) text e = absurd (cc e)
 woven_items n (d ∷ ds) vs text e =
     let one = split_item (item_at n d vs) (woven (suc n) ds (left_behind d vs)) text e in
     let i = one.0 in
@@ -64,6 +58,7 @@ woven_items n (d ∷ ds) vs text e =
   where
     pair : {x y : Definition} {xs ys : List Definition} → x ≡ y → xs ≡ ys → x ∷ xs ≡ y ∷ ys
     pair e f = rw (e, f) refl
+woven_items n ds vs text e = grind arith
 
 woven_reads_back : (ds : List Definition) (vs : Trees) (text : List ℕ) → woven 0 ds vs ≡ Ok text → ReadsBackAs text ds × ReadsBackVerification text vs
 woven_reads_back ds vs text e =

@@ -1,6 +1,6 @@
 -- The pieces of forms that are written.
 use Rattle.std.proofs.Common.{◌≡◌, ℕ, ◌+◌, ◌≤◌, ◌<◌, refl, sym, ap, ◌∙◌, inl, inr, List, [], ◌∷◌, ◌++◌, length, append_assoc, arith}
-use Rattle.std.specs.Prelude.{ℤ, Bool, true, false, not, ◌==◌, codes}
+use Rattle.std.specs.Prelude.{ℤ, Bool, true, false, ◌==◌}
 use Rattle.std.specs.List.{list_all}
 use Rattle.std.specs.Fmt.{signed_decimal}
 use Rattle.std.specs.Str.{chars, encode_utf8_all, IsAscii, IsUtf8}
@@ -37,8 +37,7 @@ abbrev mutual
 
 mutual
   pub text_written : (f : FormTree) (rest : List ℕ) → written f ++ rest ≡ text f rest
-  text_written (a_binding n f) rest =
-      append_assoc n.text (codes " @ " ++ written f) rest ∙ ap (λ t. n.text ++ 32 ∷ 64 ∷ 32 ∷ t) (text_written f rest)
+  text_written (a_binding n f) rest = grind (arith, common_steps, text_written f rest)
   text_written (a_list fs p e) rest = ap (λ t. 40 ∷ t) (append_assoc (parted fs) (41 ∷ []) rest ∙ text_parted fs (41 ∷ rest))
   text_written _ rest = refl
 
@@ -145,13 +144,10 @@ number_stands o z begun h = stands o (signed_decimal z) begun (number_characters
 constant_stands : (cs : List ℕ) → list_all is_in_word cs ≡ true → is_some_text cs ≡ true → is_constant cs ≡ true
 constant_stands cs all some = grind (arith, common_steps)
 
-pub no_comment : (cs rest : List ℕ) → list_all is_in_word cs ≡ true → is_some_text cs ≡ true → begins_with 59 (cs ++ rest) ≡ false
-no_comment cs rest all some = grind (arith, common_steps, both)
-
 -- ---- what forms begin with
 
 pub plain_text : (t rest : List ℕ) → IsUtf8 t → list_all is_in_word (chars t) ≡ true → is_some_text t ≡ true → begins_with 59 (chars (t ++ rest)) ≡ false
-plain_text t rest u all some = ap (begins_with 59) (chars-append t rest u) ∙ no_comment (chars t) (chars rest) all (some_chars t u some)
+plain_text t rest u all some = ap (begins_with 59) (chars-append t rest u) ∙ (grind (arith, common_steps, both, some_chars t u some))
 
 word_plain : (n : Name) (rest : List ℕ) → is_any_word n ≡ true → begins_with 59 (chars (n.text ++ rest)) ≡ false
 word_plain n rest h = grind (arith, common_steps, word_characters, plain_text, name_utf8, name_in_word, any_beginning_some, any_word_parts)
@@ -174,9 +170,6 @@ more_ends : (fs : FormTrees) (rest : List ℕ) → ends_word (chars rest) ≡ tr
 more_ends no_form rest h = h
 more_ends (form_and f fs) rest h = ap ends_word (first_char 32 (text f (more_text fs rest)) (omega arith))
 
-pub ends_after : (c : ℕ) (rest : List ℕ) → c < 128 → is_in_word c ≡ false → ends_word (chars (c ∷ rest)) ≡ true
-ends_after c rest small ends = ap ends_word (first_char c rest small) ∙ ap not ends
-
 -- ---- the text is these pieces
 
 -- a piece of one character
@@ -187,10 +180,6 @@ one_piece o c rest p after small is stand h = (chars rest, first_char c rest sma
 word_piece : (o : ℕ) (n : Name) (rest : List ℕ) (after : List Piece) → 1 ≤ o → is_any_word n ≡ true → ends_word (chars rest) ≡ true
     → AreIn (past o (name (chars n.text))) (chars rest) after → AreIn o (chars (n.text ++ rest)) (name (chars n.text) ∷ after)
 word_piece o n rest after begun h ends are = grind (arith, common_steps, chars-append, name_utf8, word_characters, word_stands)
-
-pub number_piece : (o : ℕ) (z : ℤ) (rest : List ℕ) (after : List Piece) → 1 ≤ o → is_signed_128 z ≡ true → ends_word (chars rest) ≡ true
-    → AreIn (past o (name (signed_decimal z))) (chars rest) after → AreIn o (chars (signed_decimal z ++ rest)) (name (signed_decimal z) ∷ after)
-number_piece o z rest after begun h ends are = grind (arith, common_steps, chars-append, number_utf8, chars-IsAscii, number_ascii, number_stands)
 
 constant_piece : (o : ℕ) (n : Name) (rest : List ℕ) (after : List Piece) → is_constant_name n ≡ true → ends_word (chars rest) ≡ true
     → AreIn (past o (sign (chars n.text))) (chars rest) after → AreIn o (chars (36 ∷ (n.text ++ rest))) (sign (chars n.text) ∷ after)
@@ -207,11 +196,9 @@ constant_piece o n rest after h ends are =
 -- offsets grow
 mutual
   pub farther : (f : FormTree) (o : ℕ) → 1 ≤ o → 1 ≤ behind o f
-  farther (a_word n) o h = later o (name (chars n.text)) h
-  farther (a_number z p) o h = later o (name (signed_decimal z)) h
-  farther (a_constant n p) o h = later o (sign (chars n.text)) h
   farther (a_binding n f) o h = grind (arith, common_steps, farther f, later)
   farther (a_list fs p e) o h = later (parts_behind (past o left) fs) right (parts_farther fs (past o left) (later o left h))
+  farther f o h = grind (arith, later)
 
   pub parts_farther : (fs : FormTrees) (o : ℕ) → 1 ≤ o → 1 ≤ parts_behind o fs
   parts_farther no_form o h = h
@@ -225,7 +212,7 @@ mutual
   pub form_in : (f : FormTree) (o : ℕ) (rest : List ℕ) (after : List Piece) → is_fine true f ≡ true → 1 ≤ o → ends_word (chars rest) ≡ true
       → AreIn (behind o f) (chars rest) after → AreIn o (chars (text f rest)) (pieces f after)
   form_in (a_word n) o rest after h begun ends are = word_piece o n rest after begun h ends are
-  form_in (a_number z p) o rest after h begun ends are = number_piece o z rest after begun h ends are
+  form_in (a_number z p) o rest after h begun ends are = grind (arith, chars-append, number_utf8, chars-IsAscii, number_ascii, number_stands)
   form_in (a_constant n p) o rest after h begun ends are = constant_piece o n rest after h ends are
   form_in (a_binding n f) o rest after h begun ends are =
       let k = both (is_word n) (is_fine true f) h in
@@ -233,7 +220,7 @@ mutual
       let two = past one (space 32) in
       let three = past two bind in
       let four = past three (space 32) in
-      word_piece o n (32 ∷ 64 ∷ 32 ∷ text f rest) (space 32 ∷ bind ∷ space 32 ∷ pieces f after) begun (word_is_any n k.0) (ends_after 32 (64 ∷ 32 ∷ text f rest) (omega arith) refl)
+      word_piece o n (32 ∷ 64 ∷ 32 ∷ text f rest) (space 32 ∷ bind ∷ space 32 ∷ pieces f after) begun (word_is_any n k.0) (grind (arith, common_steps, first_char))
       (one_piece one 32 (64 ∷ 32 ∷ text f rest) (space 32) (bind ∷ space 32 ∷ pieces f after) (omega arith) refl refl
       (one_piece two 64 (32 ∷ text f rest) bind (space 32 ∷ pieces f after) (omega arith) refl tt
       (one_piece three 32 (text f rest) (space 32) (pieces f after) (omega arith) refl refl
@@ -242,8 +229,7 @@ mutual
       let inside = past o left in
       one_piece o 40 (parts_text fs (41 ∷ rest)) left (parts_pieces fs (right ∷ after)) (omega arith) refl
       (parts_plain fs (41 ∷ rest) h (ap (begins_with 59) (first_char 41 rest (omega arith))))
-      (parts_in fs inside (41 ∷ rest) (right ∷ after) h (begins o left refl) (ends_after 41 rest (omega arith) refl)
-      (one_piece (parts_behind inside fs) 41 rest right after (omega arith) refl tt are))
+      (grind (arith, common_steps, parts_in fs inside (41 ∷ rest) (right ∷ after) h (begins o left refl), begins, first_char, one_piece))
 
   pub parts_in : (fs : FormTrees) (o : ℕ) (rest : List ℕ) (after : List Piece) → are_fine true fs ≡ true → 1 ≤ o → ends_word (chars rest) ≡ true
       → AreIn (parts_behind o fs) (chars rest) after → AreIn o (chars (parts_text fs rest)) (parts_pieces fs after)
@@ -269,4 +255,4 @@ is_list (a_list fs p e) = true
 -- a list stands at the beginning of a text too
 pub whole_in : (f : FormTree) (o : ℕ) (rest : List ℕ) (after : List Piece) → is_list f ≡ true → is_fine true f ≡ true
     → AreIn (behind o f) (chars rest) after → AreIn o (chars (text f rest)) (pieces f after)
-whole_in f o rest after list h are = grind (arith, common_steps, one_piece, parts_plain, first_char, parts_in, begins, ends_after)
+whole_in f o rest after list h are = grind (arith, common_steps, one_piece, parts_plain, first_char, parts_in, begins)
