@@ -1,10 +1,11 @@
 -- Where a text may be cut for an edit, and that an edit has one outcome.
-use Rattle.std.proofs.Common.{◌≡◌, ℕ, true, List, [], ◌∷◌, ◌++◌, Option, Some, refl, sym, ap, ap₂, ◌∙◌, subst, inl, inr, chars, encode_utf8_all, IsUtf8, IsCharBoundary}
+use Rattle.std.proofs.Common.{◌≡◌, ℕ, true, List, [], ◌∷◌, ◌++◌, refl, sym, ap, ◌∙◌, subst, inl, inr, chars, encode_utf8_all, IsUtf8, IsCharBoundary, arith}
 use Rattle.std.specs.Str.{all_scalars}
 use Rattle.std.proofs.lemmas.Bool.{and_parts}
 use Rattle.std.proofs.lemmas.Str.{encodes-append, encodes-chars, scalars-chars, IsCharBoundary-at_seam}
+use Rattle.std.proofs.lemmas.Grind.{common_steps}
 use Rattle.text_documents.specs.declared.places.DocumentPosition.{DocumentPosition}
-use Rattle.text_documents.specs.Places.{IsCutAt, IsOffsetOf, IsRange, IsEdit, replaced}
+use Rattle.text_documents.specs.Places.{IsCutAt, IsOffsetOf, IsRange, IsEdit}
 use Rattle.text_documents.proofs.OffsetLemmas.{offset_one}
 
 scalars_back : (front back : List ℕ) → all_scalars (front ++ back) ≡ true → all_scalars back ≡ true
@@ -26,12 +27,6 @@ offset_boundary bytes place offset u (inr h) = cut_boundary bytes h.front h.back
 pub range_one : (text : List ℕ) (begin end : DocumentPosition) (a b c d : ℕ) → IsRange text begin end a b → IsRange text begin end c d → (a ≡ c) × (b ≡ d)
 range_one text begin end a b c d h k = (offset_one text begin a c h.begins k.begins, offset_one text end b d h.ends k.ends)
 
-pub range_same : (text : List ℕ) (begin end : DocumentPosition) (a b c d : ℕ) → IsRange text begin end a b → IsRange text begin end c d
-    → (let x : Option (ℕ × ℕ) = Some (a, b) in let y : Option (ℕ × ℕ) = Some (c, d) in x ≡ y)
-range_same text begin end a b c d h k = let e = range_one text begin end a b c d h k in ap₂ (λ (x y : ℕ). Some (x, y)) e.0 e.1
-
 -- an edit has one outcome
 pub edit_one : (bytes : List ℕ) (begin end : DocumentPosition) (new made other : List ℕ) → IsEdit bytes begin end new made → IsEdit bytes begin end new other → made ≡ other
-edit_one bytes begin end new made other h k =
-    let e = range_one (chars bytes) begin end h.from h.to k.from k.to h.range k.range in
-    h.is ∙ ap₂ (λ a b. replaced bytes a b new) e.0 e.1 ∙ sym k.is
+edit_one bytes begin end new made other h k = grind (arith, common_steps, range_one (chars bytes) begin end h.from h.to k.from k.to h.range k.range)

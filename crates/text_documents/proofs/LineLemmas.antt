@@ -1,6 +1,7 @@
 -- Lines of a text: what follows the first one, and what follows so many.
-use Rattle.std.proofs.Common.{◌≡◌, ℕ, zero, suc, ◌<◌, Bool, true, false, not, ◌&&◌, ◌||◌, ◌==◌, List, [], ◌∷◌, ◌++◌, Option, Some, None, MatchOption, option_and_then, refl, sym, ap, ◌∙◌, subst, inl, inr, arith, append_assoc, append-nil, eqb-true}
+use Rattle.std.proofs.Common.{◌≡◌, ℕ, zero, suc, ◌<◌, Bool, true, false, not, ◌&&◌, ◌||◌, ◌==◌, List, [], ◌∷◌, ◌++◌, Option, Some, None, MatchOption, option_and_then, refl, sym, ap, ◌∙◌, subst, inl, inr, arith, append_assoc, eqb-true}
 use Rattle.std.proofs.lemmas.Bool.{cases_Bool}
+use Rattle.std.proofs.lemmas.Grind.{common_steps}
 use Rattle.text_documents.specs.Lines.{End, feed, return_feed, return, ending, is_break, IsUnbroken, begins_with_feed, MayFollow, AreLines}
 use Rattle.text_documents.specs.Places.{LacksLine}
 use Rattle.text_documents.specs.Walks.{without_feed, after_line, after_lines}
@@ -11,8 +12,7 @@ pub record NoBreak (c : ℕ) : Type 0 where
   pub no_return : (c == 13) ≡ false
 
 neither : (a b : Bool) → (a || b) ≡ false → (a ≡ false) × (b ≡ false)
-neither false b h = (refl, h)
-neither true b h = let no : ⊥ = cc in absurd no
+neither a b h = grind (arith, common_steps)
 
 pub no_break : (c : ℕ) → is_break c ≡ false → NoBreak c
 no_break c h = let p = neither (c == 10) (c == 13) h in record { no_feed = p.0; no_return = p.1 }
@@ -21,8 +21,7 @@ pub is_no_break : (c : ℕ) → NoBreak c → is_break c ≡ false
 is_no_break c n = rw (n.no_feed, n.no_return) refl
 
 parts : (b r : Bool) → (not b && r) ≡ true → (b ≡ false) × (r ≡ true)
-parts false r h = (refl, h)
-parts true r h = let no : ⊥ = cc in absurd no
+parts b r h = grind (arith, common_steps)
 
 pub unbroken_first : (c : ℕ) (cs : List ℕ) → IsUnbroken (c ∷ cs) → is_break c ≡ false
 unbroken_first c cs u = (parts (is_break c) _ u).0
@@ -30,32 +29,18 @@ unbroken_first c cs u = (parts (is_break c) _ u).0
 pub unbroken_rest : (c : ℕ) (cs : List ℕ) → IsUnbroken (c ∷ cs) → IsUnbroken cs
 unbroken_rest c cs u = (parts (is_break c) _ u).1
 
-whole : (b r : Bool) → b ≡ false → r ≡ true → (not b && r) ≡ true
-whole false r h k = k
-whole true r h k = let no : ⊥ = cc in absurd no
-
 pub unbroken_cons : (c : ℕ) (cs : List ℕ) → is_break c ≡ false → IsUnbroken cs → IsUnbroken (c ∷ cs)
-unbroken_cons c cs h u = whole (is_break c) _ h u
-
-pub IsUnbroken-append : (xs ys : List ℕ) → IsUnbroken xs → IsUnbroken ys → IsUnbroken (xs ++ ys)
-IsUnbroken-append [] ys u v = v
-IsUnbroken-append (c ∷ cs) ys u v = unbroken_cons c (cs ++ ys) (unbroken_first c cs u) (IsUnbroken-append cs ys (unbroken_rest c cs u) v)
+unbroken_cons c cs h u = grind arith
 
 -- ---- what follows the first line
 pub without_feed_none : (cs : List ℕ) → begins_with_feed cs ≡ false → without_feed cs ≡ cs
-without_feed_none [] h = refl
-without_feed_none (c ∷ cs) h = rw h refl
+without_feed_none cs h = grind (arith, common_steps)
 
 pub after_line_step : (c : ℕ) (cs : List ℕ) → is_break c ≡ false → after_line (c ∷ cs) ≡ after_line cs
 after_line_step c cs h = let n = no_break c h in rw (n.no_feed, n.no_return) refl
 
-ended : (end : End) (rest : List ℕ) → MayFollow end rest → after_line (ending end ++ rest) ≡ Some rest
-ended feed rest m = refl
-ended return_feed rest m = refl
-ended return rest m = ap (λ x. Some x) (without_feed_none rest m)
-
 pub after_line_is : (line : List ℕ) (end : End) (rest : List ℕ) → IsUnbroken line → MayFollow end rest → after_line (line ++ (ending end ++ rest)) ≡ Some rest
-after_line_is [] end rest u m = ended end rest m
+after_line_is [] end rest u m = grind (arith, without_feed_none)
 after_line_is (c ∷ cs) end rest u m = after_line_step c (cs ++ (ending end ++ rest)) (unbroken_first c cs u) ∙ after_line_is cs end rest (unbroken_rest c cs u) m
 
 pub after_line_none : (line : List ℕ) → IsUnbroken line → after_line line ≡ None
@@ -89,14 +74,7 @@ longer c cs (Some rest) h f = record { line = c ∷ f.line; end = f.end; is = ap
 
 pub first_line : (cs : List ℕ) → LineFound cs (after_line cs)
 first_line [] = refl
-first_line (c ∷ cs) = elim (cases_Bool (c == 10)) [
-  | inl e ↦ subst (λ x. LineFound (x ∷ cs) (after_line (x ∷ cs))) (sym (eqb-true c 10 e)) (feed_line cs)
-  | inr e ↦ elim (cases_Bool (c == 13)) [
-    | inl f ↦ subst (λ x. LineFound (x ∷ cs) (after_line (x ∷ cs))) (sym (eqb-true c 13 f)) (return_line cs)
-    | inr f ↦ (let n : is_break c ≡ false = is_no_break c (record { no_feed = e; no_return = f }) in
-        subst (LineFound (c ∷ cs)) (sym (after_line_step c cs n)) (longer c cs (after_line cs) n (first_line cs)))
-  ]
-]
+first_line (c ∷ cs) = grind (arith, common_steps, first_line cs, feed_line cs, return_line cs, is_no_break c, after_line_step c cs, longer c cs (after_line cs))
 
 -- ---- what follows so many lines
 pub regrouped : (line : List ℕ) (end : End) (more rest : List ℕ) → (line ++ (ending end ++ more)) ++ rest ≡ line ++ (ending end ++ (more ++ rest))
@@ -120,24 +98,8 @@ after_lines_none (suc m) (suc n) front rest h u l =
 -- one more line
 pub AreLines-more : (n : ℕ) (front line : List ℕ) (end : End) (rest : List ℕ) → AreLines n front (line ++ (ending end ++ rest)) → IsUnbroken line → MayFollow end rest
     → AreLines (suc n) (front ++ (line ++ ending end)) rest
-AreLines-more zero front line end rest h u m = (
-  line,
-  end,
-  [],
-  ap (λ x. x ++ (line ++ ending end)) h ∙ ap (λ x. line ++ x) (sym (append-nil (ending end))),
-  u,
-  m,
-  refl,
-)
-AreLines-more (suc n) front line end rest h u m = (
-  h.0,
-  h.1,
-  h.2 ++ (line ++ ending end),
-  ap (λ x. x ++ (line ++ ending end)) h.3 ∙ regrouped h.0 h.1 h.2 (line ++ ending end),
-  h.4,
-  subst (MayFollow h.1) (sym (append_assoc h.2 (line ++ ending end) rest ∙ ap (λ x. h.2 ++ x) (append_assoc line (ending end) rest))) h.5,
-  AreLines-more n h.2 line end rest h.6 u m,
-)
+AreLines-more zero front line end rest h u m = grind (arith, common_steps)
+AreLines-more (suc n) front line end rest h u m = grind (arith, common_steps, AreLines-more n h.2 line end rest h.6 u m, regrouped h.0 h.1 h.2 (line ++ ending end))
 
 -- where a text has so many lines
 abbrev pub LinesFound : ℕ → List ℕ → Option (List ℕ) → Type 0
@@ -150,38 +112,16 @@ behind n cs more None f l = record {
   in_line = record {
     above = f.line ++ (ending f.end ++ l.in_line.above);
     front_is = f.is ∙ ap (λ x. f.line ++ (ending f.end ++ x)) l.in_line.front_is ∙ sym (regrouped f.line f.end l.in_line.above l.begun);
-    are_lines = (
-      f.line,
-      f.end,
-      l.in_line.above,
-      refl,
-      f.unbroken,
-      subst (MayFollow f.end) (l.in_line.front_is ∙ ap (λ x. l.in_line.above ++ x) (sym (append-nil l.begun))) f.follows,
-      l.in_line.are_lines,
-    );
+    are_lines = grind (arith, common_steps);
     unbroken = l.in_line.unbroken;
   };
   before = omega (arith, l.before);
 }
-behind n cs more (Some rest) f l = (
-  f.line ++ (ending f.end ++ l.0),
-  f.is ∙ ap (λ x. f.line ++ (ending f.end ++ x)) l.1 ∙ sym (regrouped f.line f.end l.0 rest),
-  (f.line, f.end, l.0, refl, f.unbroken, subst (MayFollow f.end) l.1 f.follows, l.2),
-)
+behind n cs more (Some rest) f l = grind (arith, common_steps, regrouped f.line f.end l.0 rest)
 
 lacking : (n : ℕ) (cs : List ℕ) → IsUnbroken cs → LacksLine cs (suc n)
-lacking n cs u = record {
-  last = 0;
-  begun = cs;
-  in_line = record { above = []; front_is = refl; are_lines = refl; unbroken = u };
-  before = omega arith;
-}
-
-lines_step : (n : ℕ) (cs : List ℕ) (r : Option (List ℕ)) → ((more : List ℕ) → LinesFound n more (after_lines n more)) → LineFound cs r
-    → LinesFound (suc n) cs (option_and_then (after_lines n) r)
-lines_step n cs None rec u = lacking n cs u
-lines_step n cs (Some more) rec f = behind n cs more (after_lines n more) f (rec more)
+lacking n cs u = grind (arith, common_steps)
 
 pub lines_found : (n : ℕ) (cs : List ℕ) → LinesFound n cs (after_lines n cs)
 lines_found zero cs = ([], refl, refl)
-lines_found (suc n) cs = lines_step n cs (after_line cs) (lines_found n) (first_line cs)
+lines_found (suc n) cs = grind (arith, common_steps, lacking, behind, lines_found n, first_line cs)

@@ -1,12 +1,13 @@
 -- A place's offset: what follows the place.
-use Rattle.std.proofs.Common.{◌≡◌, ℕ, ◌+◌, ◌-◌, ◌<◌, ◌≤◌, List, ◌∷◌, ◌++◌, ◌⊎◌, Option, Some, None, MatchOption, option_and_then, unwrap_or, length, refl, sym, ap, ◌∙◌, subst, inl, inr, arith, append_assoc, append-nil, chars, true, IsUtf8}
+use Rattle.std.proofs.Common.{◌≡◌, ℕ, ◌+◌, ◌-◌, ◌<◌, ◌≤◌, List, ◌∷◌, ◌++◌, ◌⊎◌, Option, Some, None, MatchOption, option_and_then, unwrap_or, length, refl, sym, ap, ◌∙◌, subst, inl, inr, arith, append_assoc, chars, true, IsUtf8}
 use Rattle.std.proofs.lemmas.List.{append_cancel_right}
+use Rattle.std.proofs.lemmas.Grind.{common_steps}
 use Rattle.text_documents.specs.declared.places.DocumentPosition.{DocumentPosition}
 use Rattle.text_documents.specs.Lines.{AreLines, EndsInLine, is_at_end}
-use Rattle.text_documents.specs.Places.{size, units_of, IsBetween, IsPast, IsCutAt, IsPlaceAt, IsPastAt, IsOffsetOf, LacksLine, IsInPair}
+use Rattle.text_documents.specs.Places.{size, units_of, IsBetween, IsPast, IsPlaceAt, IsPastAt, IsOffsetOf, LacksLine, IsInPair}
 use Rattle.text_documents.specs.Walks.{after_lines, after_units, back_at}
 use Rattle.text_documents.proofs.SizeLemmas.{size-append, size-chars, cut_bytes}
-use Rattle.text_documents.proofs.LineLemmas.{after_lines_is, after_lines_none, LinesFound, lines_found}
+use Rattle.text_documents.proofs.LineLemmas.{after_lines_is, after_lines_none, lines_found}
 use Rattle.text_documents.proofs.UnitLemmas.{units_exact, units_past, units_inside, UnitsEnd, UnitsFound, units_found}
 
 -- ---- what a place says of the text behind it
@@ -30,11 +31,7 @@ pair_back place text h =
     ∙ units_inside h.begun h.back h.wide place.character h.in_line.unbroken h.pair h.character
 
 pub lacking_back : (place : DocumentPosition) (text : List ℕ) → LacksLine text place.line → back_at place text ≡ None
-lacking_back place text h =
-    let i = h.in_line in
-    ap (back_at place) i.front_is
-    ∙ ap (option_and_then (after_units place.character))
-    (after_lines_none h.last place.line i.above h.begun (subst (AreLines h.last i.above) (append-nil h.begun) i.are_lines) i.unbroken h.before)
+lacking_back place text h = grind (arith, common_steps, after_lines_none h.last place.line)
 
 -- ---- what is found there
 abbrev pub IsThere : DocumentPosition → List ℕ → List ℕ → Type 0
@@ -47,8 +44,7 @@ module _ (place : DocumentPosition) (text above rest : List ℕ) (is : text ≡ 
   side : (back : List ℕ) (u : UnitsEnd place.character rest back) → EndsInLine place.line (above ++ u.begun) back u.begun
       → (units_of u.begun ≡ place.character) ⊎ ((is_at_end back ≡ true) × (units_of u.begun < place.character))
       → IsBetween place (above ++ u.begun) back ⊎ IsPast place (above ++ u.begun) back
-  side back u i (inl e) = inl (record { begun = u.begun; in_line = i; character = e })
-  side back u i (inr h) = inr (record { begun = u.begun; in_line = i; at_end = h.0; character = h.1 })
+  side back u i k = grind (arith, common_steps)
 
   units_step : (r : Option (List ℕ)) → UnitsFound place.character rest r → BackFound place text r
   units_step None f = inr (record {
@@ -61,18 +57,10 @@ module _ (place : DocumentPosition) (text above rest : List ℕ) (is : text ≡ 
     in_line = record { above = above; front_is = refl; are_lines = subst (AreLines place.line above) f.parts lines; unbroken = f.unbroken };
     character = f.before;
   })
-  units_step (Some back) f = (
-    above ++ f.begun,
-    is ∙ ap (λ x. above ++ x) f.parts ∙ sym (append_assoc above f.begun back),
-    side back f (record { above = above; front_is = refl; are_lines = subst (AreLines place.line above) f.parts lines; unbroken = f.unbroken }) f.where_,
-  )
-
-lines_step : (place : DocumentPosition) (text : List ℕ) (r : Option (List ℕ)) → LinesFound place.line text r → BackFound place text (option_and_then (after_units place.character) r)
-lines_step place text None l = inl l
-lines_step place text (Some rest) l = units_step place text l.0 rest l.1 l.2 (after_units place.character rest) (units_found rest place.character)
+  units_step (Some back) f = grind (arith, common_steps, side back f)
 
 pub back_found : (place : DocumentPosition) (text : List ℕ) → BackFound place text (back_at place text)
-back_found place text = lines_step place text (after_lines place.line text) (lines_found place.line text)
+back_found place text = grind (arith, common_steps, units_step, units_found, lines_found place.line text)
 
 -- ---- offsets
 pub record OffsetBack (text : List ℕ) (place : DocumentPosition) (offset : ℕ) : Type 0 where
@@ -81,25 +69,14 @@ pub record OffsetBack (text : List ℕ) (place : DocumentPosition) (offset : ℕ
   pub bytes : offset + size back ≡ size text
 
 pub offset_back : (text : List ℕ) (place : DocumentPosition) (offset : ℕ) → IsOffsetOf text place offset → OffsetBack text place offset
-offset_back text place offset (inl h) = record {
-  back = h.back;
-  is = ap (back_at place) h.cut.parts ∙ between_back place h.front h.back h.between;
-  bytes = cut_bytes text h.front h.back offset h.cut;
-}
-offset_back text place offset (inr h) = record {
-  back = h.back;
-  is = ap (back_at place) h.cut.parts ∙ past_back place h.front h.back h.past;
-  bytes = cut_bytes text h.front h.back offset h.cut;
-}
-
-same_back : (x y : List ℕ) (r : Option (List ℕ)) → r ≡ Some x → r ≡ Some y → x ≡ y
-same_back x y r a b = ap (λ o. unwrap_or o x) (sym a ∙ b)
+offset_back text place offset (inl h) = grind (arith, common_steps, between_back place h.front h.back h.between, cut_bytes text h.front h.back offset h.cut)
+offset_back text place offset (inr h) = grind (arith, common_steps, past_back place h.front h.back h.past, cut_bytes text h.front h.back offset h.cut)
 
 -- a place has one offset
 pub offset_one : (text : List ℕ) (place : DocumentPosition) (a b : ℕ) → IsOffsetOf text place a → IsOffsetOf text place b → a ≡ b
 offset_one text place a b h k =
     let x = offset_back text place a h in let y = offset_back text place b k in
-    let e = same_back x.back y.back (back_at place text) x.is y.is in
+    let e = ap (λ o. unwrap_or o x.back) (sym x.is ∙ y.is) in
     omega (arith, x.bytes, y.bytes, ap size e)
 
 -- a place has no offset where the text lacks its line, or it is in a pair
@@ -114,16 +91,6 @@ pub outside : (text : List ℕ) (place : DocumentPosition) (offset : ℕ) → La
 outside text place offset n h = no_offset text place offset (none_back text place n) h
 
 -- ---- for the code: a text and what follows the place, in bytes
-found_at : (place : DocumentPosition) (text back : List ℕ) (offset : ℕ) → offset + size back ≡ size text → IsThere place text back → IsOffsetOf text place offset
-found_at place text back offset e t = sides t.2
-  where
-    cut : IsCutAt text offset t.0 back
-    cut = record { parts = t.1; bytes = omega (arith, e, ap size t.1, size-append t.0 back) }
-
-    sides : IsBetween place t.0 back ⊎ IsPast place t.0 back → IsOffsetOf text place offset
-    sides (inl b) = inl (record { front = t.0; back = back; cut = cut; between = b })
-    sides (inr p) = inr (record { front = t.0; back = back; cut = cut; past = p })
-
 pub found : (place : DocumentPosition) (bytes back : List ℕ) → IsUtf8 bytes → IsUtf8 back → Some (chars back) ≡ back_at place (chars bytes) → IsThere place (chars bytes) (chars back)
 found place bytes back u v e = subst (BackFound place (chars bytes)) (sym e) (back_found place (chars bytes))
 
@@ -133,12 +100,10 @@ there_bytes place bytes back u v t = omega (arith, ap size t.1, size-append t.0 
 pub offset_some : (place : DocumentPosition) (bytes back : List ℕ) → IsUtf8 bytes → IsUtf8 back → Some (chars back) ≡ back_at place (chars bytes) → IsOffsetOf (chars bytes) place (length bytes - length back)
 offset_some place bytes back u v e =
     let t = found place bytes back u v e in
-    found_at place (chars bytes) (chars back) (length bytes - length back) (there_bytes place bytes back u v t) t
+    grind (arith, common_steps, size-append, there_bytes place bytes back u v t)
 
 pub back_shorter : (place : DocumentPosition) (bytes back : List ℕ) → IsUtf8 bytes → IsUtf8 back → Some (chars back) ≡ back_at place (chars bytes) → length back ≤ length bytes
-back_shorter place bytes back u v e =
-    let t = found place bytes back u v e in
-    omega (arith, ap size t.1, size-append t.0 (chars back), size-chars bytes u, size-chars back v)
+back_shorter place bytes back u v e = grind (arith, common_steps, found place bytes back u v e, size-append, size-chars bytes u, size-chars back v)
 
 pub offset_none : (place : DocumentPosition) (text : List ℕ) → None ≡ back_at place text → LacksLine text place.line ⊎ IsInPair text place
 offset_none place text e = subst (BackFound place text) (sym e) (back_found place text)
@@ -149,7 +114,7 @@ past_not_at text place a b h k =
     let x = h.between in let y = k.past in
     let lines = ap (after_lines place.line) h.cut.parts ∙ line_back place.line h.front h.back x.begun x.in_line in
     let others = ap (after_lines place.line) k.cut.parts ∙ line_back place.line k.front k.back y.begun y.in_line in
-    let backs = same_back h.back k.back (back_at place text) (ap (back_at place) h.cut.parts ∙ between_back place h.front h.back x) (ap (back_at place) k.cut.parts ∙ past_back place k.front k.back y) in
-    let line = same_back (x.begun ++ h.back) (y.begun ++ k.back) (after_lines place.line text) lines others in
+    let backs = ap (λ o. unwrap_or o h.back) (sym (ap (back_at place) h.cut.parts ∙ between_back place h.front h.back x) ∙ (ap (back_at place) k.cut.parts ∙ past_back place k.front k.back y)) in
+    let line = ap (λ o. unwrap_or o (x.begun ++ h.back)) (sym lines ∙ others) in
     let begun = append_cancel_right x.begun y.begun k.back (ap (λ b. x.begun ++ b) (sym backs) ∙ line) in
     omega (arith, ap units_of begun, x.character, y.character)

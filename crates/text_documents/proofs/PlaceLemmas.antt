@@ -1,13 +1,14 @@
 -- An offset's place: what a walk over the text finds, and what there is to find.
-use Rattle.std.proofs.Common.{◌≡◌, ℕ, zero, suc, ◌+◌, ◌-◌, ◌≤◌, Bool, true, false, ◌==◌, nat_lt, List, [], ◌∷◌, ◌++◌, ◌⊎◌, Option, Some, None, IfSome, IfNone, unwrap_or, refl, sym, ap, ap₂, ◌∙◌, subst, inl, inr, arith, append_assoc, append-nil, add-zero, zero-add, eqb-true, ne_eqb, le-ltb, ltb-false}
+use Rattle.std.proofs.Common.{◌≡◌, ℕ, zero, suc, ◌+◌, ◌-◌, ◌≤◌, Bool, true, false, ◌==◌, List, [], ◌∷◌, ◌++◌, ◌⊎◌, Option, Some, None, IfSome, IfNone, unwrap_or, refl, sym, ap, ap₂, ◌∙◌, subst, inl, inr, arith, append_assoc, append-nil, add-zero, zero-add, eqb-true}
 use Rattle.std.proofs.lemmas.Bool.{cases_Bool}
 use Rattle.std.proofs.lemmas.List.Sums.{sum_by_push}
+use Rattle.std.proofs.lemmas.Grind.{common_steps}
 use Rattle.text_documents.specs.declared.places.DocumentPosition.{DocumentPosition}
-use Rattle.text_documents.specs.Lines.{End, feed, return_feed, return, ending, is_break, IsUnbroken, begins_with_feed, MayFollow, AreLines}
+use Rattle.text_documents.specs.Lines.{End, feed, return_feed, return, ending, is_break, IsUnbroken, MayFollow, AreLines}
 use Rattle.text_documents.specs.Places.{units, units_of, size, IsBetween, IsCutAt, IsPlaceAt, IsOffsetOf, IsInEnd}
 use Rattle.text_documents.specs.Walks.{place_past, place_after}
 use Rattle.text_documents.proofs.SizeLemmas.{width, width_pos, size_more, size-append}
-use Rattle.text_documents.proofs.LineLemmas.{no_break, unbroken_first, unbroken_rest, unbroken_cons, IsUnbroken-append, regrouped, AreLines-more}
+use Rattle.text_documents.proofs.LineLemmas.{no_break, unbroken_first, unbroken_rest, unbroken_cons, regrouped, AreLines-more}
 use Rattle.text_documents.proofs.UnitLemmas.{units_more}
 
 abbrev pub at : ℕ → ℕ → DocumentPosition
@@ -15,28 +16,16 @@ at line character = record { line = line; character = character }
 
 -- ---- one character
 pub place_step : (p : DocumentPosition) (r : Bool) (left c : ℕ) (cs : List ℕ) → place_after p r (width c + left) (c ∷ cs) ≡ place_after (place_past p r c) (c == 13) left cs
-place_step p r left c cs =
-    let e : ((width c + left) == 0) ≡ false = ne_eqb (width c + left) 0 (λ k. omega (arith, width_pos c, k)) in
-    let f : nat_lt (width c + left) (width c) ≡ false = le-ltb (width c + left) (width c) (omega arith) in
-    let g : (width c + left) - width c ≡ left = omega arith in
-    rw (e, f, g) refl
+place_step p r left c cs = grind (arith, common_steps, width_pos c)
 
 place_here : (p : DocumentPosition) (cs : List ℕ) → place_after p false 0 cs ≡ Some p
 place_here p [] = refl
 place_here p (c ∷ cs) = refl
 
--- behind \r, where no \n follows
-place_return : (p : DocumentPosition) (left : ℕ) (cs : List ℕ) → begins_with_feed cs ≡ false → place_after p true left cs ≡ place_after p false left cs
-place_return p left [] h = refl
-place_return p left (c ∷ cs) h = rw h refl
-
-plain_past : (p : DocumentPosition) (r : Bool) (c : ℕ) → is_break c ≡ false → place_past p r c ≡ at p.line (p.character + units c)
-plain_past p r c h = let n = no_break c h in rw (n.no_feed, n.no_return) refl
-
 plain_step : (p : DocumentPosition) (r : Bool) (left c : ℕ) (cs : List ℕ) → is_break c ≡ false → place_after p r (width c + left) (c ∷ cs) ≡ place_after (at p.line (p.character + units c)) false left cs
 plain_step p r left c cs h =
     place_step p r left c cs
-    ∙ ap (λ q. place_after q (c == 13) left cs) (plain_past p r c h)
+    ∙ ap (λ q. place_after q (c == 13) left cs) (grind (arith, no_break))
     ∙ ap (λ s. place_after (at p.line (p.character + units c)) s left cs) (no_break c h).no_return
 
 -- ---- the characters of a line, an end, and whole lines
@@ -59,13 +48,10 @@ place_end return_feed rest l c left m =
     ap (λ n. place_after (at l c) false n (13 ∷ 10 ∷ rest)) e ∙ place_step (at l c) false (width 10 + left) 13 (10 ∷ rest) ∙ place_step (at (l + 1) 0) true left 10 rest
 place_end return rest l c left m =
     let e : size (13 ∷ []) + left ≡ width 13 + left = omega (arith, size_more 13 []) in
-    ap (λ n. place_after (at l c) false n (13 ∷ rest)) e ∙ place_step (at l c) false left 13 rest ∙ place_return (at (l + 1) 0) left rest m
+    ap (λ n. place_after (at l c) false n (13 ∷ rest)) e ∙ place_step (at l c) false left 13 rest ∙ (grind arith)
 
 place_lines : (n : ℕ) (front rest : List ℕ) (l left : ℕ) → AreLines n front rest → place_after (at l 0) false (size front + left) (front ++ rest) ≡ place_after (at (l + n) 0) false left rest
-place_lines zero front rest l left h =
-    ap (λ x. place_after (at l 0) false (size x + left) (x ++ rest)) h
-    ∙ ap (λ k. place_after (at l 0) false k rest) (zero-add left)
-    ∙ ap (λ k. place_after (at k 0) false left rest) (sym (add-zero l))
+place_lines zero front rest l left h = grind (arith, common_steps)
 place_lines (suc n) front rest l left h =
     let e : size (h.0 ++ (ending h.1 ++ h.2)) + left ≡ size h.0 + (size (ending h.1) + (size h.2 + left)) = omega (arith, size-append h.0 (ending h.1 ++ h.2), size-append (ending h.1) h.2) in
     let f : (l + 1) + n ≡ l + suc n = omega arith in
@@ -92,9 +78,7 @@ between_place p front back b =
 
 -- none is found between \r and \n
 end_place : (before : List ℕ) (p : DocumentPosition) (r : Bool) (after : List ℕ) → place_after p r (size (before ++ 13 ∷ [])) ((before ++ 13 ∷ []) ++ 10 ∷ after) ≡ None
-end_place [] p r after =
-    let e : size (13 ∷ []) ≡ width 13 + 0 = size_more 13 [] in
-    ap (λ n. place_after p r n (13 ∷ 10 ∷ after)) e ∙ place_step p r 0 13 (10 ∷ after)
+end_place [] p r after = grind (arith, common_steps, size_more 13 [], place_step p r 0 13 (10 ∷ after))
 end_place (c ∷ cs) p r after =
     ap (λ n. place_after p r n (c ∷ ((cs ++ 13 ∷ []) ++ 10 ∷ after))) (size_more c (cs ++ 13 ∷ []))
     ∙ place_step p r (size (cs ++ 13 ∷ [])) c ((cs ++ 13 ∷ []) ++ 10 ∷ after)
@@ -105,17 +89,7 @@ in_end_place front back h = ap₂ (λ x y. place_after (at 0 0) false (size x) (
 
 -- ---- each cut has a place, but those between \r and \n
 grow_char : (p : DocumentPosition) (front : List ℕ) (c : ℕ) (cs : List ℕ) → is_break c ≡ false → IsBetween p front (c ∷ cs) → IsBetween (at p.line (p.character + units c)) (front ++ c ∷ []) cs
-grow_char p front c cs h b =
-    let i = b.in_line in record {
-      begun = b.begun ++ c ∷ [];
-      in_line = record {
-        above = i.above;
-        front_is = ap (λ x. x ++ c ∷ []) i.front_is ∙ append_assoc i.above b.begun (c ∷ []);
-        are_lines = subst (AreLines p.line i.above) (sym (append_assoc b.begun (c ∷ []) cs)) i.are_lines;
-        unbroken = IsUnbroken-append b.begun (c ∷ []) i.unbroken (unbroken_cons c [] h refl);
-      };
-      character = sum_by_push units b.begun c ∙ ap (λ k. k + units c) b.character;
-    }
+grow_char p front c cs h b = grind (arith, common_steps, unbroken_cons c [] h refl, sum_by_push units b.begun c)
 
 grow_end : (p : DocumentPosition) (front : List ℕ) (end : End) (cs : List ℕ) → MayFollow end cs → IsBetween p front (ending end ++ cs) → IsBetween (at (suc p.line) 0) (front ++ ending end) cs
 grow_end p front end cs m b =
@@ -137,16 +111,10 @@ HasPlace front back = IsInEnd front back ⊎ ((p : DocumentPosition) × IsBetwee
 abbrev Goes : List ℕ → Type 0
 Goes cs = (front back : List ℕ) (p : DocumentPosition) → IsBetween p front (cs ++ back) → HasPlace (front ++ cs) back
 
-nothing : Goes []
-nothing front back p b = inr (p, subst (λ x. IsBetween p x back) (sym (append-nil front)) b)
-
 -- past an end that these characters begin with
 end_goes : (end : End) (ds : List ℕ) → Goes ds → (front back : List ℕ) (p : DocumentPosition) → MayFollow end (ds ++ back) → IsBetween p front (ending end ++ (ds ++ back)) → HasPlace (front ++ (ending end ++ ds)) back
 end_goes end ds h front back p m b =
     subst (λ x. HasPlace x back) (append_assoc front (ending end) ds) (h (front ++ ending end) back (at (suc p.line) 0) (grow_end p front end (ds ++ back) m b))
-
-feed_goes : (ds : List ℕ) → Goes ds → Goes (10 ∷ ds)
-feed_goes ds h front back p b = end_goes feed ds h front back p tt b
 
 char_goes : (d : ℕ) (ds : List ℕ) → is_break d ≡ false → Goes ds → Goes (d ∷ ds)
 char_goes d ds n h front back p b =
@@ -154,10 +122,7 @@ char_goes d ds n h front back p b =
 
 return_last : (back front : List ℕ) (p : DocumentPosition) → IsBetween p front (13 ∷ back) → HasPlace (front ++ 13 ∷ []) back
 return_last [] front p b = inr (at (suc p.line) 0, grow_end p front return [] refl b)
-return_last (x ∷ xs) front p b = elim (cases_Bool (x == 10)) [
-  | inl e ↦ inl (record { before = front; after = xs; front_is = refl; back_is = ap (λ y. y ∷ xs) (eqb-true x 10 e) })
-  | inr e ↦ inr (at (suc p.line) 0, grow_end p front return (x ∷ xs) e b)
-]
+return_last (x ∷ xs) front p b = grind (arith, common_steps, grow_end p front return (x ∷ xs))
 
 return_goes : (d : ℕ) (ds : List ℕ) → Goes ds → Goes (d ∷ ds) → Goes (13 ∷ d ∷ ds)
 return_goes d ds h k = elim (cases_Bool (d == 10)) [
@@ -167,7 +132,7 @@ return_goes d ds h k = elim (cases_Bool (d == 10)) [
 
 first_goes : (d : ℕ) (ds : List ℕ) → Goes ds → Goes (13 ∷ ds) → Goes (d ∷ ds)
 first_goes d ds h k = elim (cases_Bool (d == 10)) [
-  | inl e ↦ subst (λ x. Goes (x ∷ ds)) (sym (eqb-true d 10 e)) (feed_goes ds h)
+  | inl e ↦ subst (λ x. Goes (x ∷ ds)) (sym (eqb-true d 10 e)) (λ front back p b. end_goes feed ds h front back p tt b)
   | inr e ↦ elim (cases_Bool (d == 13)) [
     | inl f ↦ subst (λ x. Goes (x ∷ ds)) (sym (eqb-true d 13 f)) k
     | inr f ↦ (let n : is_break d ≡ false = rw (e, f) refl in char_goes d ds n h)
@@ -175,82 +140,58 @@ first_goes d ds h k = elim (cases_Bool (d == 10)) [
 ]
 
 goes : (cs : List ℕ) → Goes cs × Goes (13 ∷ cs)
-goes [] = (nothing, λ front back p b. return_last back front p b)
+goes [] = ((λ front back p b. inr (p, subst (λ x. IsBetween p x back) (sym (append-nil front)) b)), λ front back p b. return_last back front p b)
 goes (d ∷ ds) =
     let h = goes ds in
     let k : Goes (d ∷ ds) = first_goes d ds h.0 h.1 in
     (k, return_goes d ds h.0 k)
 
-at_start : (cs : List ℕ) → IsBetween (at 0 0) [] cs
-at_start cs = record { begun = []; in_line = record { above = []; front_is = refl; are_lines = refl; unbroken = refl }; character = refl }
-
 pub has_place : (front back : List ℕ) → HasPlace front back
-has_place front back = (goes front).0 [] back (at 0 0) (at_start (front ++ back))
+has_place front back = (goes front).0 [] back (at 0 0) (grind arith)
 
 -- ---- where a place is found, the text is cut
 abbrev HasCut : List ℕ → ℕ → Type 0
 HasCut text offset = (front : List ℕ) × (back : List ℕ) × IsCutAt text offset front back
 
-any : (o : Option DocumentPosition) (A : Type 0) → A → IfSome o (λ _. A)
-any None A a = tt
-any (Some p) A a = a
-
 map_any : (o : Option DocumentPosition) (A B : Type 0) → (A → B) → IfSome o (λ _. A) → IfSome o (λ _. B)
-map_any None A B f h = tt
-map_any (Some p) A B f h = f h
-
-at_front : (text : List ℕ) (left : ℕ) → (left == 0) ≡ true → HasCut text left
-at_front text left e = ([], text, record { parts = refl; bytes = sym (eqb-true left 0 e) })
+map_any o A B f h = grind (arith, common_steps)
 
 further : (c : ℕ) (cs : List ℕ) (left : ℕ) → width c ≤ left → HasCut cs (left - width c) → HasCut (c ∷ cs) left
 further c cs left l h = (c ∷ h.0, h.1, record { parts = ap (λ x. c ∷ x) h.2.parts; bytes = omega (arith, size_more c h.0, h.2.bytes, l) })
 
 place_cut : (cs : List ℕ) (p : DocumentPosition) (r : Bool) (left : ℕ) → IfSome (place_after p r left cs) (λ _. HasCut cs left)
 place_cut [] p r left = elim (cases_Bool (left == 0)) [
-  | inl e ↦ any (place_after p r left []) (HasCut [] left) (at_front [] left e)
+  | inl e ↦ grind (arith, common_steps)
   | inr e ↦ (let q : place_after p r left [] ≡ None = rw e refl in subst (λ o. IfSome o (λ _. HasCut [] left)) (sym q) tt)
 ]
 place_cut (c ∷ cs) p r left = elim (cases_Bool (left == 0)) [
-  | inl e ↦ any (place_after p r left (c ∷ cs)) (HasCut (c ∷ cs) left) (at_front (c ∷ cs) left e)
-  | inr e ↦ elim (cases_Bool (nat_lt left (width c))) [
-    | inl l ↦ (let q : place_after p r left (c ∷ cs) ≡ None = rw (e, l) refl in subst (λ o. IfSome o (λ _. HasCut (c ∷ cs) left)) (sym q) tt)
-    | inr l ↦ (let q : place_after p r left (c ∷ cs) ≡ place_after (place_past p r c) (c == 13) (left - width c) cs = rw (e, l) refl in
-        subst (λ o. IfSome o (λ _. HasCut (c ∷ cs) left)) (sym q)
-        (map_any (place_after (place_past p r c) (c == 13) (left - width c) cs) (HasCut cs (left - width c)) (HasCut (c ∷ cs) left)
-        (further c cs left (ltb-false left (width c) l)) (place_cut cs (place_past p r c) (c == 13) (left - width c))))
-  ]
+  | inl e ↦ grind (arith, common_steps)
+  | inr e ↦ grind (arith, common_steps, place_cut cs (place_past p r c) (c == 13) (left - width c), map_any, further)
 ]
 
 -- ---- offsets and places
 abbrev pub place_of : List ℕ → ℕ → Option DocumentPosition
 place_of text offset = place_after (at 0 0) false offset text
 
-cut_place : (text front back : List ℕ) (offset : ℕ) (o : Option DocumentPosition) → IsCutAt text offset front back → place_after (at 0 0) false (size front) (front ++ back) ≡ o → place_of text offset ≡ o
-cut_place text front back offset o cut e = ap₂ (λ t n. place_after (at 0 0) false n t) cut.parts (sym cut.bytes) ∙ e
-
 pub place_only : (text : List ℕ) (offset : ℕ) (p : DocumentPosition) → IsPlaceAt text offset p → place_of text offset ≡ Some p
-place_only text offset p h = cut_place text h.front h.back offset (Some p) h.cut (between_place p h.front h.back h.between)
+place_only text offset p h = grind (arith, common_steps, between_place p h.front h.back h.between)
 
 -- an offset has one place
 pub place_one : (text : List ℕ) (offset : ℕ) (p q : DocumentPosition) → IsPlaceAt text offset p → IsPlaceAt text offset q → p ≡ q
 place_one text offset p q h k = ap (λ o. unwrap_or o p) (sym (place_only text offset p h) ∙ place_only text offset q k)
 
 in_end_none : (text front back : List ℕ) (offset : ℕ) → IsCutAt text offset front back → IsInEnd front back → place_of text offset ≡ None
-in_end_none text front back offset cut h = cut_place text front back offset None cut (in_end_place front back h)
+in_end_none text front back offset cut h = grind (arith, common_steps, in_end_place front back h)
 
 -- no place is between \r and \n
 pub end_no_place : (p : DocumentPosition) (front back : List ℕ) → IsInEnd front back → IsBetween p front back → ⊥
 end_no_place p front back h b = let e = sym (in_end_place front back h) ∙ between_place p front back b in cc
 
 pub each_cut : (text front back : List ℕ) (offset : ℕ) → IsCutAt text offset front back → IsInEnd front back ⊎ ((p : DocumentPosition) × IsPlaceAt text offset p)
-each_cut text front back offset cut = elim (has_place front back) [
-  | inl h ↦ inl h
-  | inr h ↦ inr (h.0, record { front = front; back = back; cut = cut; between = h.1 })
-]
+each_cut text front back offset cut = grind (arith, common_steps, has_place front back)
 
 from_some : (o : Option DocumentPosition) (p : DocumentPosition) (A : Type 0) → o ≡ Some p → IfSome o (λ _. A) → A
-from_some None p A e h = let no : ⊥ = cc in absurd no
-from_some (Some q) p A e h = h
+from_some o p A e h = grind (arith, common_steps)
 
 pub place_found : (text : List ℕ) (offset : ℕ) (p : DocumentPosition) → place_of text offset ≡ Some p → IsPlaceAt text offset p
 place_found text offset p e =
@@ -290,13 +231,11 @@ offset_place text place offset (inr h) = (
 )
 
 pub offset_again_place : (text : List ℕ) (offset : ℕ) (o : Option ℕ) (p : DocumentPosition) → IsPlaceAt text offset p → IfSome o (λ _. (q : DocumentPosition) × IsPlaceAt text offset q)
-offset_again_place text offset None p h = tt
-offset_again_place text offset (Some x) p h = (p, h)
+offset_again_place text offset o p h = grind (arith, common_steps)
 
 pub place_again_found : (text : List ℕ) (place : DocumentPosition) (offset : ℕ) (o : Option DocumentPosition) → IsOffsetOf text place offset → IfSome o (IsPlaceAt text offset)
     → IfSome o (λ p. (n : ℕ) × IsOffsetOf text place n × IsPlaceAt text n p)
-place_again_found text place offset None h k = tt
-place_again_found text place offset (Some p) h k = (offset, h, k)
+place_again_found text place offset o h k = grind (arith, common_steps)
 
 pub place_again_none : (text : List ℕ) (place : DocumentPosition) (offset : ℕ) (o : Option DocumentPosition) (A : Type 0) → IsOffsetOf text place offset → ((p : DocumentPosition) → IsPlaceAt text offset p → o ≡ Some p) → IfNone o A
 place_again_none text place offset o A h only = let p = offset_place text place offset h in subst (λ r. IfNone r A) (sym (only p.0 p.1)) tt

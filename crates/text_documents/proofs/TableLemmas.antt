@@ -1,5 +1,6 @@
 -- Marks of a table of places.
-use Rattle.std.proofs.Common.{◌≡◌, ℕ, ◌+◌, ◌≤◌, Bool, false, ◌==◌, List, ◌∷◌, ap, sym, ◌∙◌, arith, chars, zero-add, refl}
+use Rattle.std.proofs.Common.{◌≡◌, ℕ, ◌+◌, Bool, false, ◌==◌, List, ◌∷◌, ap, ◌∙◌, arith}
+use Rattle.std.proofs.lemmas.Grind.{common_steps}
 use Rattle.text_documents.specs.declared.places.DocumentPosition.{DocumentPosition}
 use Rattle.text_documents.specs.Walks.{place_past, place_after}
 use Rattle.text_documents.proofs.PlaceLemmas.{at, place_step}
@@ -7,10 +8,6 @@ use Rattle.text_documents.proofs.SizeLemmas.{width}
 
 abbrev pub GoesOn : List ℕ → ℕ → DocumentPosition → Bool → List ℕ → Type 0
 GoesOn text offset p r rest = (n : ℕ) → place_after (at 0 0) false (offset + n) text ≡ place_after p r n rest
-
--- from the beginning
-pub goes_on_start : (text : List ℕ) → GoesOn text 0 (at 0 0) false text
-goes_on_start text n = ap (λ k. place_after (at 0 0) false k text) (zero-add n)
 
 -- one character further
 pub goes_on_past : (text rest whole : List ℕ) (offset c : ℕ) (p : DocumentPosition) (r : Bool) → whole ≡ c ∷ rest → GoesOn text offset p r whole → GoesOn text (offset + width c) (place_past p r c) (c == 13) rest
@@ -20,6 +17,4 @@ goes_on_past text rest whole offset c p r e h n =
 
 -- at a mark
 pub goes_on_at : (text rest : List ℕ) (offset mark left : ℕ) (p : DocumentPosition) (r : Bool) → left + mark ≡ offset → GoesOn text mark p r rest → place_after p r left rest ≡ place_after (at 0 0) false offset text
-goes_on_at text rest offset mark left p r e h =
-    let f : mark + left ≡ offset = omega (arith, e) in
-    sym (h left) ∙ ap (λ k. place_after (at 0 0) false k text) f
+goes_on_at text rest offset mark left p r e h = grind (arith, common_steps)

@@ -1,8 +1,9 @@
 -- Units of a line: what follows so many.
-use Rattle.std.proofs.Common.{◌≡◌, ℕ, zero, suc, ◌+◌, ◌-◌, ◌<◌, ◌≤◌, true, false, ◌==◌, nat_lt, List, [], ◌∷◌, ◌++◌, ◌⊎◌, Option, Some, None, MatchOption, length, refl, sym, ap, ◌∙◌, subst, inl, inr, arith, eqb-true, ne_eqb, le-ltb, lt-ltb, ltb-true, ltb-false}
+use Rattle.std.proofs.Common.{◌≡◌, ℕ, ◌+◌, ◌-◌, ◌<◌, ◌≤◌, true, false, ◌==◌, nat_lt, List, [], ◌∷◌, ◌++◌, ◌⊎◌, Option, Some, None, MatchOption, length, refl, sym, ap, ◌∙◌, inl, inr, arith}
 use Rattle.std.specs.Char.Escape.{encode_utf16}
 use Rattle.std.proofs.lemmas.Bool.{cases_Bool, eqb-false}
 use Rattle.std.proofs.lemmas.List.Sums.{sum_by-cons}
+use Rattle.std.proofs.lemmas.Grind.{common_steps}
 use Rattle.text_documents.specs.Lines.{is_break, is_at_end, IsUnbroken}
 use Rattle.text_documents.specs.Places.{units, units_of}
 use Rattle.text_documents.specs.Walks.{after_units}
@@ -10,10 +11,7 @@ use Rattle.text_documents.proofs.LineLemmas.{unbroken_first, unbroken_rest, unbr
 
 -- one unit below 65536, and else two
 pub units_cases : (c : ℕ) → ((c < 65536) × (units c ≡ 1)) ⊎ ((65536 ≤ c) × (units c ≡ 2))
-units_cases c = elim (cases_Bool (nat_lt c 65536)) [
-  | inl e ↦ inl (ltb-true c 65536 e, rw e refl)
-  | inr e ↦ inr (ltb-false c 65536 e, rw e refl)
-]
+units_cases c = grind (arith, common_steps)
 
 pub units-length : (c : ℕ) → units c ≡ length (encode_utf16 c)
 units-length c = elim (cases_Bool (nat_lt c 65536)) [ inl e ↦ rw e refl | inr e ↦ rw e refl ]
@@ -24,13 +22,6 @@ units_pos c = elim (units_cases c) [ inl h ↦ omega (arith, h.1) | inr h ↦ om
 pub units_more : (c : ℕ) (cs : List ℕ) → units_of (c ∷ cs) ≡ units c + units_of cs
 units_more c cs = sum_by-cons units c cs
 
--- a character of two units ends no line
-wide_no_break : (c : ℕ) → units c ≡ 2 → is_break c ≡ false
-wide_no_break c h = elim (units_cases c) [
-  | inl k ↦ absurd (omega (arith, h, k.1))
-  | inr k ↦ (let a : (c == 10) ≡ false = ne_eqb c 10 (λ e. omega (arith, e, k.0)) in let b : (c == 13) ≡ false = ne_eqb c 13 (λ e. omega (arith, e, k.0)) in rw (a, b) refl)
-]
-
 -- ---- one character
 pub after_units_zero : (cs : List ℕ) → after_units 0 cs ≡ Some cs
 after_units_zero [] = refl
@@ -40,16 +31,10 @@ pub after_units_break : (n c : ℕ) (cs : List ℕ) → is_break c ≡ true → 
 after_units_break n c cs h = elim (cases_Bool (n == 0)) [ inl e ↦ rw e refl | inr e ↦ rw (e, h) refl ]
 
 pub after_units_step : (n c : ℕ) (cs : List ℕ) → is_break c ≡ false → units c ≤ n → after_units n (c ∷ cs) ≡ after_units (n - units c) cs
-after_units_step n c cs h l =
-    let e : (n == 0) ≡ false = ne_eqb n 0 (λ k. omega (arith, units_pos c, k)) in
-    let f : nat_lt n (units c) ≡ false = le-ltb n (units c) l in
-    rw (e, h, f) refl
+after_units_step n c cs h l = grind (arith, common_steps, units_pos c)
 
 pub after_units_inside : (n c : ℕ) (cs : List ℕ) → is_break c ≡ false → 0 < n → n < units c → after_units n (c ∷ cs) ≡ None
-after_units_inside n c cs h p l =
-    let e : (n == 0) ≡ false = ne_eqb n 0 (λ k. omega (arith, k)) in
-    let f : nat_lt n (units c) ≡ true = lt-ltb n (units c) l in
-    rw (e, h, f) refl
+after_units_inside n c cs h p l = grind (arith, common_steps)
 
 -- ---- where the units end
 pub units_exact : (begun back : List ℕ) (n : ℕ) → IsUnbroken begun → units_of begun ≡ n → after_units n (begun ++ back) ≡ Some back
@@ -59,14 +44,13 @@ units_exact (c ∷ cs) back n u e =
     ∙ units_exact cs back (n - units c) (unbroken_rest c cs u) (omega (arith, e, units_more c cs))
 
 pub units_past : (begun back : List ℕ) (n : ℕ) → IsUnbroken begun → is_at_end back ≡ true → units_of begun < n → after_units n (begun ++ back) ≡ Some back
-units_past [] [] n u h l = refl
-units_past [] (c ∷ cs) n u h l = after_units_break n c cs h
 units_past (c ∷ cs) back n u h l =
     after_units_step n c (cs ++ back) (unbroken_first c cs u) (omega (arith, l, units_more c cs))
     ∙ units_past cs back (n - units c) (unbroken_rest c cs u) h (omega (arith, l, units_more c cs))
+units_past begun back n u h l = grind arith
 
 pub units_inside : (begun back : List ℕ) (wide n : ℕ) → IsUnbroken begun → units wide ≡ 2 → units_of begun + 1 ≡ n → after_units n (begun ++ wide ∷ back) ≡ None
-units_inside [] back wide n u w e = after_units_inside n wide back (wide_no_break wide w) (omega (arith, e)) (omega (arith, e, w))
+units_inside [] back wide n u w e = after_units_inside n wide back (grind (arith, units_cases)) (omega (arith, e)) (omega (arith, e, w))
 units_inside (c ∷ cs) back wide n u w e =
     after_units_step n c (cs ++ wide ∷ back) (unbroken_first c cs u) (omega (arith, e, units_more c cs))
     ∙ units_inside cs back wide (n - units c) (unbroken_rest c cs u) w (omega (arith, e, units_more c cs))
@@ -90,17 +74,8 @@ pub record UnitsEnd (n : ℕ) (cs back : List ℕ) : Type 0 where
 abbrev pub UnitsFound : ℕ → List ℕ → Option (List ℕ) → Type 0
 UnitsFound n cs r = MatchOption r (PairIn n cs) (UnitsEnd n cs)
 
-none_or_more : (n : ℕ) → (0 ≡ n) ⊎ ((is_at_end [] ≡ true) × (0 < n))
-none_or_more zero = inl refl
-none_or_more (suc n) = inr (refl, omega arith)
-
 ends_here : (n : ℕ) (cs : List ℕ) → (0 ≡ n) ⊎ ((is_at_end cs ≡ true) × (0 < n)) → UnitsEnd n cs cs
 ends_here n cs w = record { begun = []; parts = refl; unbroken = refl; where_ = w }
-
-longer_where : (n c : ℕ) (begun back : List ℕ) → units c ≤ n → (units_of begun ≡ n - units c) ⊎ ((is_at_end back ≡ true) × (units_of begun < n - units c))
-    → (units_of (c ∷ begun) ≡ n) ⊎ ((is_at_end back ≡ true) × (units_of (c ∷ begun) < n))
-longer_where n c begun back l (inl e) = inl (units_more c begun ∙ omega (arith, e, l))
-longer_where n c begun back l (inr h) = inr (h.0, omega (arith, units_more c begun, h.1, l))
 
 longer : (n c : ℕ) (cs : List ℕ) (r : Option (List ℕ)) → is_break c ≡ false → units c ≤ n → UnitsFound (n - units c) cs r → UnitsFound n (c ∷ cs) r
 longer n c cs None h l f = record {
@@ -116,7 +91,7 @@ longer n c cs (Some back) h l f = record {
   begun = c ∷ f.begun;
   parts = ap (λ x. c ∷ x) f.parts;
   unbroken = unbroken_cons c f.begun h f.unbroken;
-  where_ = longer_where n c f.begun back l f.where_;
+  where_ = grind (arith, common_steps, units_more);
 }
 
 inside : (n c : ℕ) (cs : List ℕ) → 0 < n → n < units c → PairIn n (c ∷ cs)
@@ -129,15 +104,8 @@ positive : (n : ℕ) → (n == 0) ≡ false → 0 < n
 positive n e = let no = eqb-false n 0 e in omega (arith, no)
 
 pub units_found : (cs : List ℕ) (n : ℕ) → UnitsFound n cs (after_units n cs)
-units_found [] n = ends_here n [] (none_or_more n)
+units_found [] n = ends_here n [] (grind arith)
 units_found (c ∷ cs) n = elim (cases_Bool (n == 0)) [
-  | inl e ↦ (let z : n ≡ 0 = eqb-true n 0 e in
-      subst (λ k. UnitsFound k (c ∷ cs) (after_units k (c ∷ cs))) (sym z) (ends_here 0 (c ∷ cs) (inl refl)))
-  | inr e ↦ elim (cases_Bool (is_break c)) [
-    | inl b ↦ subst (UnitsFound n (c ∷ cs)) (sym (after_units_break n c cs b)) (ends_here n (c ∷ cs) (inr (b, positive n e)))
-    | inr b ↦ elim (cases_Bool (nat_lt n (units c))) [
-      | inl l ↦ (let less = ltb-true n (units c) l in subst (UnitsFound n (c ∷ cs)) (sym (after_units_inside n c cs b (positive n e) less)) (inside n c cs (positive n e) less))
-      | inr l ↦ (let most = ltb-false n (units c) l in subst (UnitsFound n (c ∷ cs)) (sym (after_units_step n c cs b most)) (longer n c cs (after_units (n - units c) cs) b most (units_found cs (n - units c))))
-    ]
-  ]
+  | inl e ↦ grind (arith, common_steps, ends_here)
+  | inr e ↦ grind (arith, common_steps, units_found cs (n - units c), after_units_break, ends_here, positive, after_units_inside, inside, after_units_step, longer)
 ]

@@ -1,15 +1,15 @@
 -- One character of a text, and its end; one line of several.
-use Rattle.std.proofs.Common.{◌≡◌, ℕ, suc, ◌+◌, ◌-◌, ◌<◌, ◌≤◌, List, [], ◌∷◌, ◌++◌, Option, Some, None, option_and_then, length, refl, sym, ap, ◌∙◌, subst, inl, inr, arith, Bool, true, false, ◌&&◌, ◌==◌, if◌then◌else◌, nat_lt, ne_eqb, eq-eqb, le-ltb, lt-ltb, chars, encode_utf8, IsUtf8}
+use Rattle.std.proofs.Common.{◌≡◌, ℕ, suc, ◌+◌, ◌-◌, ◌<◌, ◌≤◌, List, [], ◌∷◌, ◌++◌, Option, Some, None, option_and_then, length, refl, sym, ap, ◌∙◌, inl, inr, arith, Bool, true, false, ◌&&◌, ◌==◌, if◌then◌else◌, nat_lt, ne_eqb, eq-eqb, le-ltb, lt-ltb, chars, encode_utf8, IsUtf8}
 use Rattle.std.proofs.lemmas.List.{nil_from_length}
-use Rattle.std.specs.Char.{len_utf8}
 use Rattle.std.proofs.lemmas.Str.{chars_past_char, chars-nil, length-encode, len_utf8_bounds}
 use Rattle.std.specs.Option.{SomeIff}
-use Rattle.std.proofs.lemmas.Bool.{cases_Bool, cases_lt}
+use Rattle.std.proofs.lemmas.Bool.{cases_lt}
 use Rattle.std.proofs.lemmas.Option.{none-some, same_Some}
+use Rattle.std.proofs.lemmas.Grind.{common_steps}
 use Rattle.text_documents.specs.declared.places.DocumentPosition.{DocumentPosition}
 use Rattle.text_documents.specs.Lines.{is_break}
 use Rattle.text_documents.specs.Places.{units}
-use Rattle.text_documents.specs.Walks.{after_line, after_lines, after_units, next_line, place_past, place_after, without_feed}
+use Rattle.text_documents.specs.Walks.{after_line, after_lines, after_units, place_past, place_after, without_feed}
 use Rattle.text_documents.proofs.SizeLemmas.{width}
 use Rattle.text_documents.proofs.LineLemmas.{after_line_step, is_no_break}
 use Rattle.text_documents.proofs.UnitLemmas.{units_cases, after_units_zero, after_units_break, after_units_step, after_units_inside}
@@ -27,19 +27,14 @@ line_on n counter cs rest whole l e h =
     ap (option_and_then (after_lines (n - (counter + 1)))) e ∙ ap (λ m. after_lines m cs) (sym k) ∙ h
 
 pub no_line_on : (n counter : ℕ) (cs : List ℕ) (whole : Option (List ℕ)) → counter < n → None ≡ after_line cs → after_lines (n - counter) cs ≡ whole → None ≡ whole
-no_line_on n counter cs whole l e h =
-    let k : n - counter ≡ suc (n - (counter + 1)) = omega arith in
-    ap (option_and_then (after_lines (n - (counter + 1)))) e ∙ ap (λ m. after_lines m cs) (sym k) ∙ h
+no_line_on n counter cs whole l e h = grind (arith, common_steps)
 
 pub lines_done : (n counter : ℕ) (cs : List ℕ) (whole : Option (List ℕ)) → n ≤ counter → after_lines (n - counter) cs ≡ whole → Some cs ≡ whole
 lines_done n counter cs whole l h = let k : 0 ≡ n - counter = omega arith in ap (λ m. after_lines m cs) k ∙ h
 
 -- ---- what a subtraction says
-not_le : (a b : ℕ) → (a ≤ b → ⊥) → b < a
-not_le a b never = elim (cases_lt b a) [ inl h ↦ h | inr h ↦ absurd (never h) ]
-
 pub too_few : (o : Option ℕ) (r n : ℕ) → SomeIff o (r ≤ n) (n - r) → o ≡ None → n < r
-too_few None r n h e = not_le r n h
+too_few None r n h e = grind (arith, cases_lt)
 too_few (Some x) r n h e = absurd (none-some x (sym e))
 
 pub enough : (o : Option ℕ) (r n m : ℕ) → SomeIff o (r ≤ n) (n - r) → o ≡ Some m → (r ≤ n) × (m ≡ n - r)
@@ -60,8 +55,7 @@ pub line_return : (bytes rest : List ℕ) (c : ℕ) (whole : Option (List ℕ)) 
 line_return bytes rest c whole u e w k = ap (λ x. after_line (x ∷ chars rest)) (sym k) ∙ one_on after_line bytes rest c whole u e w
 
 pub line_char : (bytes rest : List ℕ) (c : ℕ) (whole : Option (List ℕ)) → IsUtf8 bytes → bytes ≡ encode_utf8 c ++ rest → after_line (chars bytes) ≡ whole → (c ≡ 10 → ⊥) → (c ≡ 13 → ⊥) → after_line (chars rest) ≡ whole
-line_char bytes rest c whole u e w a b =
-    sym (after_line_step c (chars rest) (is_no_break c (record { no_feed = ne_eqb c 10 a; no_return = ne_eqb c 13 b }))) ∙ one_on after_line bytes rest c whole u e w
+line_char bytes rest c whole u e w a b = grind (arith, common_steps, after_line_step c (chars rest), is_no_break c, one_on after_line bytes rest c whole u e w)
 
 pub units_short : (n c r : ℕ) (o : Option ℕ) (bytes rest : List ℕ) (whole : Option (List ℕ)) → IsUtf8 bytes → bytes ≡ encode_utf8 c ++ rest → after_units n (chars bytes) ≡ whole
     → 0 < n → is_break c ≡ false → r ≡ units c → SomeIff o (r ≤ n) (n - r) → o ≡ None → None ≡ whole
@@ -116,26 +110,10 @@ walk_cut p r n bytes whole e w z = let a : (n == 0) ≡ false = ne_eqb n 0 z in 
 
 -- a line and a character go up by no more than the bytes that are passed
 pub units_width : (c : ℕ) → units c ≤ width c
-units_width c = subst (λ n. units c ≤ n) (sym (length-encode c)) (elim (units_cases c) [
-  | inl h ↦ (let b = (len_utf8_bounds c).0 in omega (arith, h.1, b))
-  | inr h ↦ (let a : nat_lt c 128 ≡ false = le-ltb c 128 (omega (arith, h.0)) in
-      let b : nat_lt c 2048 ≡ false = le-ltb c 2048 (omega (arith, h.0)) in
-      let d : nat_lt c 65536 ≡ false = le-ltb c 65536 h.0 in
-      let four : len_utf8 c ≡ 4 = rw (a, b, d) refl in
-      omega (arith, h.1, four))
-])
+units_width c = grind (arith, common_steps, length-encode c, units_cases c, len_utf8_bounds c)
 
 abbrev pub Bounds : DocumentPosition → ℕ → DocumentPosition → Type 0
 Bounds p c q = (q.line ≤ p.line + 1) × (q.character ≤ p.character + units c)
 
 pub past_bounds : (p : DocumentPosition) (r : Bool) (c : ℕ) → Bounds p c (place_past p r c)
-past_bounds p r c = elim (cases_Bool (c == 10)) [
-  | inl e ↦ elim (cases_Bool r) [
-    | inl f ↦ (let q : place_past p r c ≡ p = rw (e, f) refl in subst (Bounds p c) (sym q) (omega arith, omega arith))
-    | inr f ↦ (let q : place_past p r c ≡ next_line p = rw (e, f) refl in subst (Bounds p c) (sym q) (omega arith, omega arith))
-  ]
-  | inr e ↦ elim (cases_Bool (c == 13)) [
-    | inl f ↦ (let q : place_past p r c ≡ next_line p = rw (e, f) refl in subst (Bounds p c) (sym q) (omega arith, omega arith))
-    | inr f ↦ (let q : place_past p r c ≡ record p { character = p.character + units c } = rw (e, f) refl in subst (Bounds p c) (sym q) (omega arith, omega arith))
-  ]
-]
+past_bounds p r c = grind (arith, common_steps)
