@@ -1,6 +1,5 @@
 -- A visit asks a call that may answer nothing only to answer, and the calls that a value unwraps are such calls.
-use Rattle.std.proofs.Common.{◌≡◌, Bool, true, false, not, ◌&&◌, List, [], ◌∷◌, refl, sym, ap, subst, inl, inr, ◌∙◌, arith}
-use Rattle.std.proofs.lemmas.Bool.{false≢true}
+use Rattle.std.proofs.Common.{◌≡◌, Bool, true, false, not, ◌&&◌, List, [], ◌∷◌, refl, ap, subst, inl, inr, ◌∙◌, arith}
 use Rattle.std.proofs.lemmas.Grind.{common_steps}
 use Rattle.model.specs.rules.Program.{Program, Kind, a_call, kind}
 use Rattle.model.specs.sites.Sites.{Constraint, is_present, SiteTerm, extractor_call, constructor_call, some_part, SiteTerms}
@@ -40,12 +39,9 @@ module _ (p : Program) where
   onward : (d e : Demands) → IsQuiet e → OnwardQuiet d e
   onward d e h = record { holds = h; stays = λ s o. o }
 
-  after_asking : (s : SiteTerm) (c : Constraint) (v : Visit) → IsQuiet v.demands → (may_lack s ≡ true → c ≡ is_present) → IsQuiet (asking s c v).demands
-  after_asking s c v h o e i = grind (arith, common_steps, in_either)
-
   after_asking_all : (ss : List SiteTerm) (v : Visit) → IsQuiet v.demands → IsQuiet (asking_all ss v).demands
   after_asking_all [] v h = h
-  after_asking_all (s ∷ ss) v h = after_asking_all ss (asking s is_present v) (after_asking s is_present v h (λ t. refl))
+  after_asking_all (s ∷ ss) v h = after_asking_all ss (asking s is_present v) (grind (arith, in_either))
 
   leaf_plain : (d : Demands) (s : SiteTerm) → IsLeaf s → IsPlain d s
   leaf_plain d = by_leaf (IsPlain d) (λ i. (refl, λ s k. absurd k)) (λ b ty. (refl, λ s k. absurd k)) (λ z ty. (refl, λ s k. absurd k)) (λ name. (refl, λ s k. absurd k))
@@ -74,9 +70,9 @@ module _ (p : Program) where
     makes = λ ts v h. record { holds = h; stays = λ s m. m };
     calls = λ s v h m. record { holds = h; stays = λ u o. o };
     equates = λ a b v h m n. onward v.demands (equating a b v).demands (by_equating (λ w. IsQuiet w.demands) a b v h h);
-    asks = λ s c v f h m. onward v.demands (asking s c v).demands (after_asking s c v h (λ t. absurd (false≢true (sym m.0 ∙ t))));
+    asks = λ s c v f h m. onward v.demands (asking s c v).demands (grind (arith, in_either));
     asks_all = λ s v h m. onward v.demands (asking_all (unwraps s) v).demands (after_asking_all (unwraps s) v h);
-    asks_call = grind (arith, common_steps, onward, after_asking, part_plain);
+    asks_call = grind (arith, common_steps, onward, part_plain, in_either);
     iterates_extractor = λ t s v flags b e f c n h m. record { onward = record { holds = h; stays = λ u o. o }; site = (refl, m.1) };
     iterates_constructor = λ t i us v flags b e f n m h. record { holds = h; stays = λ u o. o };
   }

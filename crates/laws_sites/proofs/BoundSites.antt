@@ -5,7 +5,7 @@ use Rattle.std.proofs.lemmas.Grind.{common_steps}
 use Rattle.model.specs.rules.Program.{Program, Kind, unknown}
 use Rattle.model.specs.rules.Typed.{TypedPatterns}
 use Rattle.model.specs.sites.Sites.{is_present, SiteTerm, no_site}
-use Rattle.model.specs.visits.Demands.{Demands, demands_of, Visit, asking, output_sites, open_call, open_term, ValuedAll, visit_term, asking_all, visit_rule}
+use Rattle.model.specs.visits.Demands.{Demands, demands_of, Visit, asking, open_call, ValuedAll, visit_term, asking_all, visit_rule}
 use Rattle.model.proofs.Elements.{In, in_from_contains, in_either}
 use Rattle.laws_sites.specs.VisitLaws.{FormedRulesMakeEqualSites}
 use Rattle.laws_sites.proofs.VisitedRules.{visits_make_lem}
@@ -35,19 +35,12 @@ after_asking_all [] v h = h
 after_asking_all (s ∷ ss) v h = after_asking_all ss (asking s is_present v) h
 
 -- 1. patterns
-outputs_are_sites : (s : SiteTerm) (args : TypedPatterns) (tys : List ℕ) → AsMany args tys → IsSite s → AtEachTyped sites (output_sites s args) tys
-outputs_are_sites s args tys n m = outputs_each sites s args tys n (λ ty e. m) (λ a b rest e j ty g. λ q. cc)
-
 call_opens : (pure multi partial rec infallible : Bool) (call : SiteTerm) (args : TypedPatterns) (tys : List ℕ) (v : Visit) → AsMany args tys → IsSite call
     → AtEachTyped sites (open_call (record { pure = pure; multi = multi; partial = partial; rec = rec }) infallible call args v).inputs tys
-call_opens pure multi partial rec infallible call args tys v n m = grind (arith, common_steps, outputs_are_sites)
+call_opens pure multi partial rec infallible call args tys v n m = grind (arith, common_steps, outputs_each)
 
 call_equates : (pure multi partial rec infallible : Bool) (call : SiteTerm) (args : TypedPatterns) (v : Visit) → EqualsSites v.demands → EqualsSites (open_call (record { pure = pure; multi = multi; partial = partial; rec = rec }) infallible call args v).visit.demands
 call_equates pure multi partial rec infallible call args v h = grind (arith, common_steps)
-
-term_opens : (k : Kind) (t : ℕ) (s : SiteTerm) (args : TypedPatterns) (tys : List ℕ) (v : Visit) → (k ≡ unknown → ⊥) → AsMany args tys → EqualsSites v.demands
-    → EqualsSites (open_term k t s args v).visit.demands × AtEachTyped sites (open_term k t s args v).inputs tys
-term_opens k t s args tys v known n h = grind (arith, common_steps, all_fields_each, call_equates, call_opens)
 
 -- 2. expressions
 term_is_site : (k : Kind) (t : ℕ) (a : ValuedAll) (ty : ℕ) → (k ≡ unknown → ⊥) → EqualsSites a.visit.demands → IsGiven sites (visit_term k t a) ty
@@ -55,7 +48,7 @@ term_is_site k t a ty known h = grind (arith, common_steps)
 
 -- 3. rules
 sites_kept : (p : Program) → KeptWithTypes sites p
-sites_kept p = grind (arith, by_equating, after_equated, term_opens, term_known, term_is_site, after_asking_all)
+sites_kept p = grind (arith, by_equating, after_equated, term_known, term_is_site, after_asking_all, all_fields_each, call_equates, call_opens)
 
 only_made : (v : Visit) (s : SiteTerm) → Contains v.demands.made s ⊎ (s ≡ no_site) → IsSite s → Contains v.demands.made s
 only_made v s h n = elim h [ inl i ↦ i | inr e ↦ absurd (n e) ]

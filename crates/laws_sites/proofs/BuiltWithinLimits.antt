@@ -1,6 +1,6 @@
 -- A rule that is built is built within the limits: no count of its visit passes one, and its closing makes no more sites
 -- than there may be.
-use Rattle.std.proofs.Common.{◌≡◌, ◌≤◌, ℕ, true, false, not, nat_lt, List, length, Option, None, is_none, ap, arith, ltb-false}
+use Rattle.std.proofs.Common.{◌≡◌, ◌≤◌, true, false, not, nat_lt, List, length, None, is_none, ap, arith, ltb-false}
 use Rattle.std.proofs.lemmas.Bool.{and_parts, not-true}
 use Rattle.std.proofs.lemmas.Grind.{common_steps}
 use Rattle.model.specs.rules.Typed.{TypedRule}
@@ -8,15 +8,9 @@ use Rattle.model.specs.rules.Program.{Program}
 use Rattle.model.specs.sites.Sites.{SiteTerm}
 use Rattle.model.specs.visits.Demands.{demands_of}
 use Rattle.model.specs.sites.Closure.{is_unreachable, closed}
-use Rattle.model.specs.sites.Limits.{most_sites, RuleLimit, passed_in_visit, sites_until, limit_of_passed, sites_wanted, sites_reached, first_limit}
+use Rattle.model.specs.sites.Limits.{most_sites, passed_in_visit, sites_until, sites_wanted, sites_reached, first_limit}
 use Rattle.model.specs.sites.Overlap.{is_built}
 use Rattle.model.proofs.Elements.{none_some}
-
-is_nothing : {X : Type 0} (o : Option X) → is_none o ≡ true → o ≡ None
-is_nothing o h = grind (arith, common_steps)
-
-none_passed : (o : Option (RuleLimit × ℕ)) → limit_of_passed o ≡ None → o ≡ None
-none_passed o e = grind (arith, common_steps, none_some)
 
 -- of a rule that passes no limit
 module _ (p : Program) (before : List SiteTerm) (r : TypedRule) (none : first_limit p before r ≡ None) where
@@ -24,7 +18,7 @@ module _ (p : Program) (before : List SiteTerm) (r : TypedRule) (none : first_li
   has_room = grind (arith, common_steps, none_some)
 
   none_in_visit : passed_in_visit p r ≡ None
-  none_in_visit = grind (arith, common_steps, none_passed)
+  none_in_visit = grind (arith, common_steps)
 
   pub all_wanted : sites_reached p before r ≡ sites_wanted p before r
   all_wanted = ap (sites_until p before r) none_in_visit
@@ -32,7 +26,7 @@ module _ (p : Program) (before : List SiteTerm) (r : TypedRule) (none : first_li
 -- of a built rule
 module _ (p : Program) (before : List SiteTerm) (r : TypedRule) (built : is_built p before r ≡ true) where
   no_limit : first_limit p before r ≡ None
-  no_limit = is_nothing (first_limit p before r) (and_parts (is_none (first_limit p before r)) (not (is_unreachable (demands_of p r))) built).0
+  no_limit = grind arith
 
   pub is_reached : is_unreachable (demands_of p r) ≡ false
   is_reached = not-true (is_unreachable (demands_of p r)) (and_parts (is_none (first_limit p before r)) (not (is_unreachable (demands_of p r))) built).1

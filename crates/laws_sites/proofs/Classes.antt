@@ -72,20 +72,13 @@ place_of_field rs cs (is_int z ty) a i x e = absurd (none_some x e)
 place_of_field rs cs (is_prim name) a i x e = absurd (none_some x e)
 place_of_field rs cs is_present a i x e = absurd (none_some x e)
 
--- the sites of a list without repetition are those of the list
-in_with_one : (ts : List SiteTerm) (s x : SiteTerm) → In ts x ⊎ (s ≡ x) → In (if has_site ts s then ts else ts ++ s ∷ []) x
-in_with_one ts s x h = grind (arith, common_steps, has_in, in_left, in_right)
-
-with_site_in : (ts : List SiteTerm) (s x : SiteTerm) → In (if has_site ts s then ts else ts ++ s ∷ []) x → In ts x ⊎ (s ≡ x)
-with_site_in ts s x h = grind (arith, common_steps, in_either)
-
 pub in_with_sites : (ts ss : List SiteTerm) (x : SiteTerm) → In ts x ⊎ In ss x → In (with_sites ts ss) x
 in_with_sites ts [] x h = elim h [ inl i ↦ i | inr n ↦ absurd n ]
-in_with_sites ts (s ∷ ss) x h = grind (arith, common_steps, in_with_sites (if has_site ts s then ts else ts ++ s ∷ []) ss x, in_with_one)
+in_with_sites ts (s ∷ ss) x h = grind (arith, common_steps, in_with_sites (if has_site ts s then ts else ts ++ s ∷ []) ss x, has_in, in_left, in_right)
 
 pub with_sites_in : (ts ss : List SiteTerm) (x : SiteTerm) → In (with_sites ts ss) x → In ts x ⊎ In ss x
 with_sites_in ts [] x h = inl h
-with_sites_in ts (s ∷ ss) x h = grind (arith, common_steps, with_sites_in (if has_site ts s then ts else ts ++ s ∷ []) ss x h, with_site_in)
+with_sites_in ts (s ∷ ss) x h = grind (arith, common_steps, with_sites_in (if has_site ts s then ts else ts ++ s ∷ []) ss x h, in_either)
 
 -- owners of owners are owners
 own_first : (s : SiteTerm) → In (with_owners s) s

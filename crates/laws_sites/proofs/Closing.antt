@@ -1,25 +1,20 @@
 -- Closing demands without equalities adds nothing; closing never asks what doesn't follow.
-use Rattle.std.proofs.Common.{◌≡◌, ◌⊎◌, ◌↔◌, ℕ, zero, suc, not, if◌then◌else◌, List, [], ◌∷◌, ◌++◌, map, Option, Some, None, is_some, Contains, filter, flat_map, refl, sym, ap, ◌∙◌, subst, inl, inr, arith}
+use Rattle.std.proofs.Common.{◌≡◌, ◌⊎◌, ◌↔◌, ℕ, zero, suc, not, List, [], ◌∷◌, ◌++◌, map, Some, None, is_some, Contains, filter, flat_map, refl, sym, ap, ◌∙◌, subst, inl, inr, arith}
 use Rattle.std.proofs.lemmas.Bool.{cases_Bool, cond-true, cond-false}
 use Rattle.std.specs.List.{zip}
 use Rattle.std.proofs.lemmas.Grind.{common_steps}
 use Rattle.model.specs.sites.Sites.{Constraint, SiteTerm, field_terms}
 use Rattle.model.specs.visits.Demands.{Demands, has_site, with_sites}
-use Rattle.model.specs.sites.Closure.{Joined, given, itself, turned, chained, at_field, HasConstraint, IsUnreachable, two_at_a_site, constraint_of, Closed, class_at, without_class_of, merged_classes, merged_all, with_constraint, with_constraints, ascending, is_in_class, next_constrained, field_equalities, taken, closing, before_closing, begins_with, in_order, most_closing_steps, closed, two_in_a_class}
+use Rattle.model.specs.sites.Closure.{Joined, given, itself, turned, chained, at_field, HasConstraint, IsUnreachable, two_at_a_site, constraint_of, Closed, class_at, without_class_of, merged_classes, merged_all, with_constraint, with_constraints, ascending, next_constrained, field_equalities, taken, closing, before_closing, begins_with, in_order, most_closing_steps, closed, two_in_a_class}
 use Rattle.laws_sites.specs.ClosureLaws.{ClosedFollows, HasEnded}
 use Rattle.model.proofs.Elements.{In, in_from_contains, contains_from_in, some_is, none_some, in_left, in_right, in_either, in_map, from_flat_map, in_zip, in_filter, passed_filter}
 use Rattle.model.proofs.SameSites.{term_means, constraint_cases}
 use Rattle.model.proofs.SitesMade.{has_in}
 use Rattle.model.proofs.Options.{is_there}
 
--- where no class is left, nothing is taken
-nothing_at : (cs : List (SiteTerm × Constraint)) (s : SiteTerm) (ss : List SiteTerm) (o : Option Constraint) → next_constrained [] cs ss ≡ None
-    → elim o as (λ _. Option (SiteTerm × Constraint)) [ None ↦ next_constrained [] cs ss | Some c ↦ if is_in_class [] s then Some (s, c) else next_constrained [] cs ss ] ≡ None
-nothing_at cs s ss o e = grind (arith, common_steps)
-
 nothing_next : (cs : List (SiteTerm × Constraint)) (order : List SiteTerm) → next_constrained [] cs order ≡ None
 nothing_next cs [] = refl
-nothing_next cs (s ∷ ss) = nothing_at cs s ss (constraint_of cs s) (nothing_next cs ss)
+nothing_next cs (s ∷ ss) = grind (arith, common_steps, nothing_next cs ss)
 
 pub closing_ends : (n : ℕ) (k : Closed) → next_constrained k.classes k.constraints k.made ≡ None → closing n k ≡ k
 closing_ends n k e = grind (arith, common_steps)
@@ -49,13 +44,9 @@ pub found_constraint : (cs : List (SiteTerm × Constraint)) (s : SiteTerm) (c : 
 found_constraint [] s c e = absurd (none_some c e)
 found_constraint (d ∷ ds) s c e = grind (arith, common_steps, found_constraint ds s c, term_means d.0 s, some_is d.1 c)
 
--- constraints of a list, each site once
-with_one_in : (cs : List (SiteTerm × Constraint)) (c x : SiteTerm × Constraint) → In (with_constraint cs c) x → In cs x ⊎ (c ≡ x)
-with_one_in cs c x i = grind (arith, common_steps, in_either)
-
 pub constraints_in : (cs ds : List (SiteTerm × Constraint)) (x : SiteTerm × Constraint) → In (with_constraints cs ds) x → In cs x ⊎ In ds x
 constraints_in cs [] x i = inl i
-constraints_in cs (d ∷ ds) x i = grind (arith, common_steps, constraints_in (with_constraint cs d) ds x i, with_one_in)
+constraints_in cs (d ∷ ds) x i = grind (arith, common_steps, constraints_in (with_constraint cs d) ds x i, in_either)
 
 -- constraints stay
 pub keeps_one : (cs : List (SiteTerm × Constraint)) (c x : SiteTerm × Constraint) → In cs x → In (with_constraint cs c) x
@@ -89,7 +80,7 @@ module _ (all : List (SiteTerm × Constraint)) (once : OneEach all) where
   pub in_constraints : (cs ds : List (SiteTerm × Constraint)) (x : SiteTerm × Constraint) → ((y : SiteTerm × Constraint) → In cs y → In all y) → ((y : SiteTerm × Constraint) → In ds y → In all y)
       → In cs x ⊎ In ds x → In (with_constraints cs ds) x
   in_constraints cs [] x f g h = elim h [ inl i ↦ i | inr n ↦ absurd n ]
-  in_constraints cs (d ∷ ds) x f g h = grind (arith, common_steps, in_constraints (with_constraint cs d) ds x, with_one_in, one_kept)
+  in_constraints cs (d ∷ ds) x f g h = grind (arith, common_steps, in_constraints (with_constraint cs d) ds x, one_kept, in_either)
 
 -- each constraint of a list in which no site has two is kept
 pub constraints_kept : (ds : List (SiteTerm × Constraint)) → OneEach ds → (x : SiteTerm × Constraint) → In ds x → In (with_constraints [] ds) x

@@ -31,11 +31,6 @@ counted_alone p s e = ap (count_by p) e ∙ sum_by-cons (λ x. bit (p x)) s [] �
 counted_field : (p : SiteTerm → Bool) (s a : SiteTerm) → with_owners s ≡ s ∷ with_owners a → owners_by p s ≡ bit (p s) + owners_by p a
 counted_field p s a e = ap (count_by p) e ∙ sum_by-cons (λ x. bit (p x)) s (with_owners a)
 
--- a site that passes after passed before and isn't taken, or its owner is taken; one that is taken passed before
-no_more_than : (took after was owner : Bool) → (took ≡ true → was ≡ true) → (after ≡ true → ((was ≡ true) × (took ≡ false)) ⊎ (owner ≡ true))
-    → bit took + bit after ≤ bit was + bit owner
-no_more_than took after was owner f g = grind (arith, common_steps)
-
 -- each site that is taken passed before; each that passes after passed before and isn't taken, or is a field of one that is
 record TakesOwners (took after was : SiteTerm → Bool) : Type 0 where
   from : (x : SiteTerm) → took x ≡ true → was x ≡ true
@@ -46,8 +41,8 @@ module _ (took after was : SiteTerm → Bool) (of : TakesOwners took after was) 
   lessened : (u : SiteTerm) → bit (took u) + owners_by after u ≤ owners_by was u
   lessened =
       by_owners (λ u. bit (took u) + owners_by after u ≤ owners_by was u)
-      (λ s o e. grind (arith, common_steps, counted_alone, no_more_than, none_some))
-      (λ s a o e h. grind (arith, common_steps, counted_field, no_more_than, some_is))
+      (λ s o e. grind (arith, common_steps, counted_alone, none_some))
+      (λ s a o e h. grind (arith, common_steps, counted_field, some_is))
 
 -- 2. a site has no more owners among sites than there are
 -- how deep a field stands
@@ -200,20 +195,11 @@ module _ (us : List SiteTerm) (step : StepAmong us) where
   abbrev classes_after : List (List SiteTerm)
   classes_after = merged_all (without_class_of k.classes c.0) (field_equalities c.1 (ascending k.made (class_at k.classes c.0)))
 
-  class_there : In k.classes class
-  class_there = grind (arith, common_steps, in_any, class_found, has_in)
-
-  left_apart : IsApart left
-  left_apart l n s i j x y = apart l n s (without_in k.classes c.0 l i).0 (without_in k.classes c.0 n j).0 x y
-
   after_apart : IsApart classes_after
-  after_apart = each_apart (field_equalities c.1 members) left left_apart
+  after_apart = each_apart (field_equalities c.1 members) left (λ l n s i j x y. apart l n s (without_in k.classes c.0 l i).0 (without_in k.classes c.0 n j).0 x y)
 
   member_class : (x : SiteTerm) → In members x → In class x
   member_class x i = has_in class x (passed_filter (has_site class) k.made x i)
-
-  member_made : (x : SiteTerm) → In members x → In k.made x
-  member_made x i = in_filter (has_site class) k.made x i
 
   next_member : In members c.0
   next_member = filter_from (has_site class) k.made c.0 next.made_site (in_has class c.0 (own_class k.classes c.0))
@@ -221,8 +207,8 @@ module _ (us : List SiteTerm) (step : StepAmong us) where
   member_held : (x : SiteTerm) → has_site members x ≡ true → is_held us k.classes x ≡ true
   member_held x t =
       let i = has_in members x t in
-      and_from (has_site us x) (is_in_class k.classes x) (in_has us x (within x (member_made x i)))
-      (any_in (λ l. has_site l x) k.classes class class_there (in_has class x (member_class x i)))
+      and_from (has_site us x) (is_in_class k.classes x) (in_has us x (within x (grind (arith, in_filter))))
+      (any_in (λ l. has_site l x) k.classes class (grind (arith, common_steps, in_any, class_found, has_in)) (in_has class x (member_class x i)))
 
   -- a site in a class after the step was in one that is left, or is a member's field
   abbrev Comes : SiteTerm → Type 0
@@ -243,7 +229,7 @@ module _ (us : List SiteTerm) (step : StepAmong us) where
               and_from (has_site us x) (is_in_class k.classes x) h.0 (any_in (λ l. has_site l x) k.classes w.0 k_in.0 (in_has w.0 x w.2)),
               elim (cases_Bool (has_site members x)) [
                 | inl y ↦
-                    let same = apart w.0 class x k_in.0 class_there w.2 (member_class x (has_in members x y)) in
+                    let same = apart w.0 class x k_in.0 (grind (arith, common_steps, in_any, class_found, has_in)) w.2 (member_class x (has_in members x y)) in
                     absurd (k_in.1 (subst (λ l. In l c.0) (sym same) (own_class k.classes c.0)))
                 | inr f ↦ f
               ],

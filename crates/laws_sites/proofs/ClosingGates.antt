@@ -25,12 +25,9 @@ module _ (P : SiteTerm → Type 0) where
   pub without_members : (ks : List (List SiteTerm)) → Members ks → (s : SiteTerm) → Members (without_class_of ks s)
   without_members ks h s k u i = h k u (in_filter (λ l. not (has_site l s)) ks k i)
 
-  merged_members : (ks : List (List SiteTerm)) → Members ks → (e : SiteTerm × SiteTerm) → P e.0 × P e.1 → Members (merged_classes ks e)
-  merged_members ks h e g = grind (arith, common_steps, in_either, in_class_at, without_members)
-
   pub all_merged_members : (es : List (SiteTerm × SiteTerm)) (ks : List (List SiteTerm)) → Members ks → ((e : SiteTerm × SiteTerm) → In es e → P e.0 × P e.1) → Members (merged_all ks es)
   all_merged_members [] ks h f = h
-  all_merged_members (e ∷ es) ks h f = all_merged_members es (merged_classes ks e) (merged_members ks h e (f e (inl refl))) (λ x i. f x (inr i))
+  all_merged_members (e ∷ es) ks h f = all_merged_members es (merged_classes ks e) (grind (arith, common_steps, in_either, in_class_at, without_members)) (λ x i. f x (inr i))
 
 -- 2. fields
 -- the fields of a constrained site that may be tested may be tested

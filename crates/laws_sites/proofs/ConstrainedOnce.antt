@@ -1,5 +1,5 @@
 -- Closed demands list each constrained site once, so that as many constraints among others are all of them.
-use Rattle.std.proofs.Common.{◌≡◌, ◌≤◌, ℕ, false, List, [], ◌∷◌, ◌++◌, map, length, Option, None, is_some, refl, inl, inr, arith}
+use Rattle.std.proofs.Common.{◌≡◌, ◌≤◌, ℕ, List, [], ◌∷◌, ◌++◌, map, length, None, refl, inl, inr, arith}
 use Rattle.std.proofs.lemmas.Grind.{common_steps}
 use Rattle.model.specs.sites.Sites.{Constraint, SiteTerm}
 use Rattle.model.specs.visits.Demands.{Demands}
@@ -22,11 +22,8 @@ none_there : (cs : List (SiteTerm × Constraint)) (s : SiteTerm) → constraint_
 none_there [] s e c i = i
 none_there (x ∷ cs) s e c i = grind (arith, common_steps, none_there cs s, none_some, same_term)
 
-is_none : (o : Option Constraint) → is_some o ≡ false → o ≡ None
-is_none o h = grind (arith, common_steps)
-
 one_once : (cs : List (SiteTerm × Constraint)) (x : SiteTerm × Constraint) → StandOnce cs → StandOnce (with_constraint cs x)
-one_once cs x h = grind (arith, common_steps, push_once, none_there, is_none)
+one_once cs x h = grind (arith, common_steps, push_once, none_there)
 
 each_once : (cs ds : List (SiteTerm × Constraint)) → StandOnce cs → StandOnce (with_constraints cs ds)
 each_once cs [] h = h

@@ -5,10 +5,10 @@ use Rattle.std.proofs.lemmas.List.{append-nil, append_assoc, length-append}
 use Rattle.std.proofs.lemmas.List.Elements.{All-nil, All-cons, All-append}
 use Rattle.std.proofs.Math.Seq.{take-append_seam}
 use Rattle.std.proofs.lemmas.Grind.{common_steps}
-use Rattle.model.specs.rules.Program.{Program, Kind, a_variant, a_struct, a_call, unknown}
+use Rattle.model.specs.rules.Program.{Program}
 use Rattle.model.specs.rules.Typed.{TypedPatterns}
-use Rattle.model.specs.sites.Sites.{Constraint, is_variant, is_struct, is_present, SiteTerm, extractor_call, pick_of, some_part, field_terms}
-use Rattle.model.specs.visits.Demands.{fields_opened, Count, fields_matched, Visit, site_term_eq, making, counting, asking, iterating, equating, pattern_count, outputs_opened, open_call, open_term, ValuedAll, visit_term}
+use Rattle.model.specs.sites.Sites.{Constraint, is_present, SiteTerm, pick_of, some_part, field_terms}
+use Rattle.model.specs.visits.Demands.{fields_opened, Count, fields_matched, Visit, site_term_eq, making, counting, asking, iterating, equating, outputs_opened, open_call}
 use Rattle.model.specs.sites.Limits.{first_passed}
 use Rattle.model.proofs.Elements.{none_some}
 use Rattle.model.proofs.Either.{either}
@@ -54,20 +54,11 @@ call_continues pure false partial rec false call args v w k =
 fields_continue : (c : Constraint) (n : ℕ) (s : SiteTerm) (v w : Visit) → Continues v w → Continues v (fields_opened c n s w).visit
 fields_continue c n s v w k = grind (arith, common_steps, continues_alike v, continues_making (field_terms c s) v, continues_counting (fields_matched n) v w k)
 
-term_continues : (n : Kind) (t : ℕ) (s : SiteTerm) (args : TypedPatterns) (v w : Visit) → Continues v w → Continues v (open_term n t s args w).visit
-term_continues (a_variant ty variant) t s args v w k = fields_continue (is_variant ty variant (pattern_count args)) (pattern_count args) s v w k
-term_continues (a_struct ty) t s args v w k = fields_continue (is_struct ty (pattern_count args)) (pattern_count args) s v w k
-term_continues (a_call flags infallible) t s args v w k = call_continues flags.pure flags.multi flags.partial flags.rec infallible (extractor_call t s) args v w k
-term_continues unknown t s args v w k = k
-
-made_continues : (n : Kind) (t : ℕ) (a : ValuedAll) (v : Visit) → Continues v a.visit → Continues v (visit_term n t a).visit
-made_continues n t a v k = grind (arith, common_steps, continues_making)
-
 pub tests_continue : (p : Program) (v : Visit) → KeptByTests p (Continues v)
-tests_continue p v = grind (arith, common_steps, continues_alike, continues_equating, continues_counting, term_continues)
+tests_continue p v = grind (arith, common_steps, continues_alike, continues_equating, continues_counting, fields_continue, call_continues)
 
 pub values_continue : (p : Program) (v : Visit) → KeptByValues p (Continues v)
-values_continue p v = grind (arith, common_steps, continues_alike, continues_making, made_continues)
+values_continue p v = grind (arith, common_steps, continues_alike, continues_making)
 
 pub visits_continue_lem : VisitsContinue
 visits_continue_lem p v = record {

@@ -7,8 +7,8 @@ use Rattle.model.specs.lists.Tables.{TermKindEntry, variant_term, struct_term, d
 use Rattle.model.specs.rules.Program.{Program, Kind, unknown, always_answers, kind, kind_of}
 use Rattle.model.specs.rules.Typed.{TypedPattern, match_bind, match_var, match_bool, match_int, match_prim, match_term, match_any, match_and, TypedPatterns, no_typed_pattern, typed_pattern_and}
 use Rattle.model.specs.sites.Sites.{is_bool, is_int, is_prim, SiteTerm, extractor_call, tuple_part, fields_from}
-use Rattle.model.specs.visits.Demands.{Visit, asking, equating, binding, var_site, pattern_count, output_sites, part_sites, outputs_opened, open_call, open_term, visit_pattern, visit_each, visit_all}
-use Rattle.model.specs.visits.Runs.{BoundIds, done, with_bound, binds, finds, calls_visitor, on_variables}
+use Rattle.model.specs.visits.Demands.{Visit, asking, equating, binding, var_site, pattern_count, part_sites, outputs_opened, open_call, open_term, visit_pattern, visit_each, visit_all}
+use Rattle.model.specs.visits.Runs.{BoundIds, with_bound, binds, finds, calls_visitor, on_variables}
 use Rattle.model.specs.visits.Visitors.{PatternSteps}
 use Rattle.model.specs.visits.SiteVisitor.{any_parts}
 use Rattle.model.specs.visits.PatternRuns.{part_types, OpensKind, Opens, PatternRun, PartsRun, EachRun}
@@ -16,7 +16,6 @@ use Rattle.laws_sites.specs.VisitLaws.{Continues}
 use Rattle.laws_sites.proofs.Continued.{continues_now, tests_continue}
 use Rattle.laws_sites.proofs.VisitInvariants.{each_kept, all_kept}
 use Rattle.laws_sites.proofs.AskedSites.{equating_binds}
-use Rattle.laws_sites.proofs.WithSites.{open_binds}
 use Rattle.laws_sites.specs.Followers.{Follower, Goes, GoesOn, GivesParts, FollowsPatterns, EndsOnTheWay}
 use Rattle.laws_sites.proofs.FittingPatterns.{FitsTerm, Fits, FitAll}
 use Rattle.laws_sites.proofs.KnownVars.{KnowsVars, by_and_then, goes_further, goes_nowhere, knows_more, knows_stay, no_fault, one_answer, refusal, refused_ends}
@@ -40,15 +39,12 @@ parts_by s zero = []
 parts_by s (suc zero) = []
 parts_by s (suc (suc n)) = fields_from (tuple_part s) 0 (suc (suc n))
 
-outputs_are : (s : SiteTerm) (args : TypedPatterns) → output_sites s args ≡ outputs_by s (pattern_count args)
-outputs_are s args = grind (arith, common_steps)
-
 parts_are : (s : SiteTerm) (args : TypedPatterns) → part_sites s args ≡ parts_by s (pattern_count args)
 parts_are s args = grind (arith, common_steps)
 
 module _ (args parts : TypedPatterns) (same : pattern_count args ≡ pattern_count parts) where
   outputs_alike : (s : SiteTerm) (v : Visit) → outputs_opened s args v ≡ outputs_opened s parts v
-  outputs_alike s v = grind (arith, common_steps, outputs_are, parts_are)
+  outputs_alike s v = grind (arith, common_steps, parts_are)
 
   pub call_alike : (multi partial rec pure infallible : Bool) (call : SiteTerm) (v : Visit)
       → open_call (record { pure = true; multi = multi; partial = not infallible; rec = false }) infallible call args v ≡ open_call (record { pure = pure; multi = multi; partial = partial; rec = rec }) infallible call parts v
@@ -70,15 +66,8 @@ module _ {F S N : Type 0} (o : Follower F S N) (want : Option F) (ends : EndsOnT
   further : (s m : S) (r : Result (Unit {0}) F) (t : State) (v w : Visit) → Goes o s m v → ReachesOr m r t w → ReachesOr s r t w
   further s m r t v w g h = grind (arith, common_steps, goes_further)
 
-  stopped : (s : State) (r : Result (Unit {0}) F) (t : State) (v : Visit) → done tt s r t → o.Stands s.0 v → KnowsVars o s.0 s.1 v → ReachesOr s.0 r t v
-  stopped s r t v run h knows = grind (arith, common_steps, goes_nowhere)
-
-  -- a call that leaves the variables
-  knows_with : (s t : State) (v w : Visit) → Goes o s.0 t.0 w → w.vars ≡ v.vars → t.1 ≡ s.1 → KnowsVars o s.0 s.1 v → KnowsVars o t.0 t.1 w
-  knows_with s t v w g same stay knows = subst (λ vs. KnowsVars o t.0 vs w) (sym stay) (knows_stay o s.0 t.0 s.1 v w same g knows)
-
   called : (s t : State) (v w : Visit) (r : Result (Unit {0}) F) → w.vars ≡ v.vars → t.1 ≡ s.1 → KnowsVars o s.0 s.1 v → GoesOn o s.0 r t.0 w → ReachesOr s.0 r t w
-  called s t v w r same stay knows g = grind (arith, common_steps, knows_with)
+  called s t v w r same stay knows g = grind (arith, common_steps)
 
   pub names_stay : (s t : S) (v : Visit) (us : List SiteTerm) (ids : List N) → Goes o s t v → AllZip (o.Names s) us ids → AllZip (o.Names t) us ids
   names_stay s t v (u ∷ us) (n ∷ ids) g h = (g.kept u n h.0, names_stay s t v us ids g h.1)
@@ -137,16 +126,16 @@ module _ {F S N : Type 0} (o : Follower F S N) (want : Option F) (ends : EndsOnT
           (λ ids m step rest.
           let opens = term_opened s.0 m.0 (Ok ids) w u n term args ty (slice_get p.terms term) h named fits.0 step.0 in
           further s.0 m.0 r t a.visit last opens.0
-          (parts_follow args ids m r t a.visit a.inputs fits.1 rest opens.0.stands (knows_with s m w a.visit opens.0 (open_binds (kind p term) term u args w) step.1 knows) opens.1))
+          (parts_follow args ids m r t a.visit a.inputs fits.1 rest opens.0.stands (grind (arith, common_steps, knows_stay)) opens.1))
           (λ e step.
           ends.further t.0 a.visit last e (each_kept p (Continues a.visit) (tests_continue p a.visit) args a.inputs a.visit (continues_now a.visit))
           (term_opened s.0 t.0 (Err e) w u n term args ty (slice_get p.terms term) h named fits.0 step.0)) run
-      pattern_follows (match_any ty) n s r t w u fits run h knows named = stopped s r t w run h knows
+      pattern_follows (match_any ty) n s r t w u fits run h knows named = grind (arith, goes_nowhere)
       pattern_follows (match_and ty parts) n s r t w u fits run h knows named = each_follows parts n s r t w u fits run h knows named
 
       pub parts_follow : (qs : TypedPatterns) (ids : List N) (s : State) (r : Result (Unit {0}) F) (t : State) (w : Visit) (us : List SiteTerm) → FitAll p qs → PartsRun want v p.terms qs ids s r t
           → o.Stands s.0 w → KnowsVars o s.0 s.1 w → AllZip (o.Names s.0) us ids → ReachesOr s.0 r t (visit_each p qs us w)
-      parts_follow no_typed_pattern [] s r t w us fits run h knows named = stopped s r t w run h knows
+      parts_follow no_typed_pattern [] s r t w us fits run h knows named = grind (arith, goes_nowhere)
       parts_follow (typed_pattern_and q rest) (id ∷ ids) s r t w [] fits run h knows named = absurd named
       parts_follow (typed_pattern_and q rest) (id ∷ ids) s r t w (u ∷ us) fits run h knows named =
           let mid = visit_pattern p q u w in
@@ -161,7 +150,7 @@ module _ {F S N : Type 0} (o : Follower F S N) (want : Option F) (ends : EndsOnT
 
       pub each_follows : (qs : TypedPatterns) (n : N) (s : State) (r : Result (Unit {0}) F) (t : State) (w : Visit) (u : SiteTerm) → FitAll p qs → EachRun want v p.terms qs n s r t
           → o.Stands s.0 w → KnowsVars o s.0 s.1 w → o.Names s.0 u n → ReachesOr s.0 r t (visit_all p qs u w)
-      each_follows no_typed_pattern n s r t w u fits run h knows named = stopped s r t w run h knows
+      each_follows no_typed_pattern n s r t w u fits run h knows named = grind (arith, goes_nowhere)
       each_follows (typed_pattern_and q rest) n s r t w u fits run h knows named =
           let mid = visit_pattern p q u w in
           let last = visit_all p rest u mid in

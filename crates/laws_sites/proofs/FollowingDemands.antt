@@ -51,21 +51,15 @@ joint ks e = class_at ks e.0 ++ class_at ks e.1
 abbrev pub others : List (List SiteTerm) → SiteTerm × SiteTerm → List (List SiteTerm)
 others ks e = without_class_of (without_class_of ks e.0) e.1
 
-others_in : (ks : List (List SiteTerm)) (e : SiteTerm × SiteTerm) (l : List SiteTerm) → In (others ks e) l → In ks l × (In l e.0 → ⊥) × (In l e.1 → ⊥)
-others_in ks e l i = grind (arith, common_steps, without_in)
-
 -- a class of a site that shares a site with a class has that site
 pub class_shares : (ks : List (List SiteTerm)) → IsApart ks → (s : SiteTerm) (l : List SiteTerm) (x : SiteTerm) → In ks l → In l x → In (class_at ks s) x → In l s
 class_shares ks apart s l x i m n = grind (arith, common_steps, class_cases ks s, own_class ks s, In l, In (s ∷ []) x)
 
 pub joint_apart : (ks : List (List SiteTerm)) → IsApart ks → (e : SiteTerm × SiteTerm) (l : List SiteTerm) (x : SiteTerm) → In (others ks e) l → In l x → In (joint ks e) x → ⊥
-joint_apart ks apart e l x i m n = grind (arith, common_steps, others_in, in_either, class_shares)
+joint_apart ks apart e l x i m n = grind (arith, common_steps, in_either, class_shares, without_in)
 
 added_apart : (ks : List (List SiteTerm)) → IsApart ks → (e : SiteTerm × SiteTerm) → IsApart (joint ks e ∷ others ks e)
-added_apart ks apart e l m s h k x y = grind (arith, common_steps, joint_apart, others_in)
-
-merged_apart : (ks : List (List SiteTerm)) → IsApart ks → (e : SiteTerm × SiteTerm) → IsApart (merged_classes ks e)
-merged_apart ks apart e = grind (arith, common_steps, added_apart)
+added_apart ks apart e l m s h k x y = grind (arith, common_steps, joint_apart, without_in)
 
 added_keeps : (ks : List (List SiteTerm)) → IsApart ks → (e : SiteTerm × SiteTerm) (a b : SiteTerm) → InOne ks a b → InOne (joint ks e ∷ others ks e) a b
 added_keeps ks apart e a b o =
@@ -102,20 +96,20 @@ pub class_all : (P : SiteTerm → Type 0) (ks : List (List SiteTerm)) → AllIn 
 class_all P ks h s p x m = grind (arith, common_steps, class_cases)
 
 merged_all_in : (P : SiteTerm → Type 0) (ks : List (List SiteTerm)) → AllIn P ks → (e : SiteTerm × SiteTerm) → P e.0 → P e.1 → AllIn P (merged_classes ks e)
-merged_all_in P ks h e p q = grind (arith, in_either (class_at ks e.0) (class_at ks e.1), class_all P ks h e.0 p, class_all P ks h e.1 q, others_in ks e)
+merged_all_in P ks h e p q = grind (arith, in_either (class_at ks e.0) (class_at ks e.1), class_all P ks h e.0 p, class_all P ks h e.1 q, without_in)
 
 pub each_apart : (es : List (SiteTerm × SiteTerm)) (ks : List (List SiteTerm)) → IsApart ks → IsApart (merged_all ks es)
 each_apart [] ks h = h
-each_apart (e ∷ es) ks h = each_apart es (merged_classes ks e) (merged_apart ks h e)
+each_apart (e ∷ es) ks h = each_apart es (merged_classes ks e) (grind (arith, added_apart))
 
 pub each_keeps_one : (es : List (SiteTerm × SiteTerm)) (ks : List (List SiteTerm)) → IsApart ks → (a b : SiteTerm) → InOne ks a b → InOne (merged_all ks es) a b
 each_keeps_one [] ks h a b o = o
-each_keeps_one (e ∷ es) ks h a b o = each_keeps_one es (merged_classes ks e) (merged_apart ks h e) a b (merged_keeps ks h e a b o)
+each_keeps_one (e ∷ es) ks h a b o = each_keeps_one es (merged_classes ks e) (grind (arith, added_apart)) a b (merged_keeps ks h e a b o)
 
 pub each_joins_one : (es : List (SiteTerm × SiteTerm)) (ks : List (List SiteTerm)) → IsApart ks → (a b : SiteTerm) → In es (a, b) → (a ≡ b) ⊎ InOne (merged_all ks es) a b
 each_joins_one [] ks h a b i = absurd i
-each_joins_one (e ∷ es) ks h a b (inl p) = grind (arith, common_steps, merged_joins, each_keeps_one, merged_apart)
-each_joins_one (e ∷ es) ks h a b (inr i) = each_joins_one es (merged_classes ks e) (merged_apart ks h e) a b i
+each_joins_one (e ∷ es) ks h a b (inl p) = grind (arith, common_steps, merged_joins, each_keeps_one, added_apart)
+each_joins_one (e ∷ es) ks h a b (inr i) = each_joins_one es (merged_classes ks e) (grind (arith, added_apart)) a b i
 
 pub each_all_in : (P : SiteTerm → Type 0) (es : List (SiteTerm × SiteTerm)) (ks : List (List SiteTerm)) → AllIn P ks → ((e : SiteTerm × SiteTerm) → In es e → P e.0 × P e.1) → AllIn P (merged_all ks es)
 each_all_in P [] ks h f = h

@@ -1,10 +1,10 @@
 -- Gates stay demanded where more is demanded, and the calls that a value unwraps make the difference.
-use Rattle.std.proofs.Common.{ℕ, Bool, true, false, List, Contains, refl, subst, inl, inr, arith}
+use Rattle.std.proofs.Common.{Bool, true, false, List, Contains, refl, subst, inl, inr, arith}
 use Rattle.std.proofs.lemmas.Grind.{common_steps}
 use Rattle.model.specs.sites.Sites.{Constraint, is_variant, is_struct, is_present, SiteTerm, extractor_call, constructor_call, pick_of, variant_made, variant_field, struct_made, struct_field, some_made, some_part, tuple_part, SiteTerms, no_site_term, site_term_and}
 use Rattle.model.specs.visits.Demands.{Demands, unwraps, unwraps_all}
 use Rattle.model.specs.trees.Collects.{calls_in, calls_in_all}
-use Rattle.model.specs.sites.DemandedGates.{AsksAnswer, IsPureCall, GatesDemanded, AllGatesDemanded}
+use Rattle.model.specs.sites.DemandedGates.{GatesDemanded, AllGatesDemanded}
 use Rattle.model.proofs.Elements.{In, in_left, in_right, in_either}
 
 -- all of a list is in another one
@@ -26,9 +26,6 @@ pub record AsksMore (a b : Asking) : Type 0 where
   pub calls : AllIn a.calls b.calls
 
 module _ (less more : Asking) (grown : AsksMore less more) where
-  answer_stays : (asked : Bool) (s : SiteTerm) → AsksAnswer asked less.constraints s → AsksAnswer asked more.constraints s
-  answer_stays asked s h = grind (arith, common_steps)
-
   mutual
     pub gates_stay : (asked pure : Bool) (u : SiteTerm) → GatesDemanded asked pure less.constraints less.calls u → GatesDemanded asked pure more.constraints more.calls u
     gates_stay a p (extractor_call t u) h = gates_stay a p u h
@@ -41,7 +38,7 @@ module _ (less more : Asking) (grown : AsksMore less more) where
     gates_stay a p (struct_field u f) h =
         (record { ty = h.0.ty; fields = h.0.fields; asked = grown.constraints (u, is_struct h.0.ty h.0.fields) h.0.asked; many = h.0.many }, gates_stay a p u h.1)
     gates_stay a p (some_made u) h = gates_stay a p u h
-    gates_stay a p (some_part u) h = (answer_stays a u h.0, gates_stay a p u h.1)
+    gates_stay a p (some_part u) h = ((grind (arith, common_steps)), gates_stay a p u h.1)
     gates_stay a p (tuple_part u f) h = gates_stay a p u h
     gates_stay a p _ h = tt
 
@@ -50,14 +47,11 @@ module _ (less more : Asking) (grown : AsksMore less more) where
     all_stay a p (site_term_and u us) h = (gates_stay a p u h.0, all_stay a p us h.1)
 
 module _ (cs : List (SiteTerm × Constraint)) (calls : List SiteTerm) where
-  pure_weaker : (pure : Bool) (i : ℕ) → IsPureCall true i → IsPureCall pure i
-  pure_weaker pure i h = grind (arith, common_steps)
-
   -- impure calls needn't be ruled out
   mutual
     pub unpurified : (asked pure : Bool) (u : SiteTerm) → GatesDemanded asked true cs calls u → GatesDemanded asked pure cs calls u
     unpurified a p (extractor_call t u) h = unpurified a p u h
-    unpurified a p (constructor_call t args i) h = (pure_weaker p i h.0, all_unpurified a p args h.1)
+    unpurified a p (constructor_call t args i) h = ((grind (arith, common_steps)), all_unpurified a p args h.1)
     unpurified a p (pick_of u) h = (h.0, unpurified a p u h.1)
     unpurified a p (variant_made ty variant fields) h = all_unpurified a p fields h
     unpurified a p (variant_field u variant f) h = (h.0, unpurified a p u h.1)

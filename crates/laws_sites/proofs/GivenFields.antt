@@ -4,14 +4,14 @@ use Rattle.std.proofs.lemmas.Grind.{common_steps}
 use Rattle.model.specs.rules.Program.{Program}
 use Rattle.model.specs.rules.Typed.{TypedRule}
 use Rattle.model.specs.sites.Sites.{Constraint, is_present, SiteTerm, extractor_call, constructor_call, pick_of, variant_made, variant_field, struct_made, struct_field, some_made, some_part, tuple_part, no_site, SiteTerms, field_terms}
-use Rattle.model.specs.visits.Demands.{Demands, demands_of, Visit, making, asking, equating, iterating, calling, unwraps, unwraps_all, asking_all}
+use Rattle.model.specs.visits.Demands.{Demands, demands_of, Visit, asking, equating, iterating, calling, unwraps, unwraps_all, asking_all}
 use Rattle.model.specs.sites.Closure.{with_owners, spoken_of}
 use Rattle.model.proofs.Elements.{In, in_from_contains, contains_from_in, some_is, none_some, in_left, in_either, from_flat_map}
 use Rattle.laws_sites.specs.FieldLaws.{IsGiven, FieldsAreGiven}
 use Rattle.laws_sites.proofs.Classes.{with_sites_in}
 use Rattle.laws_sites.proofs.Owners.{owner_of, owner_of_field, owners_of_field, no_other_owner}
 use Rattle.laws_sites.proofs.Patterns.{by_field}
-use Rattle.laws_sites.proofs.AskedSites.{equated, at_left}
+use Rattle.laws_sites.proofs.AskedSites.{at_left}
 use Rattle.laws_sites.proofs.WithSites.{IsLeaf, by_leaf, by_equating, Onward, AtEach, KeptWithSites, unwrapped_at_each, no_step, then_onward, rule_given}
 
 -- 1. what is kept
@@ -47,9 +47,6 @@ field_given : (cs : List (SiteTerm × Constraint)) (c : Constraint) (s x : SiteT
 field_given cs c s x k i g u j = grind (arith, owners_of_field, some_is, owner_of_field, contains_from_in)
 
 -- 2. steps
-making_on : (ts : List SiteTerm) (v : Visit) → GivesFields v.demands → OnwardGiven v.demands (making ts v).demands
-making_on ts v h = record { holds = record { asked = h.asked; equal = h.equal; made = λ e i x j. in_left v.demands.made ts x (h.made e i x j) }; stays = λ s m. m }
-
 iterating_on : (s : SiteTerm) (v : Visit) → GivesFields v.demands → OnwardGiven v.demands (iterating s v).demands
 iterating_on s v h = record { holds = record { asked = h.asked; equal = h.equal; made = h.made }; stays = λ u m. m }
 
@@ -84,11 +81,8 @@ asking_all_on (s ∷ ss) v f h =
     let a = asking_on s is_present v (no_field_given v.demands.constraints s (f s (inl refl))) (λ x i. absurd i) h in
     then_onward GivesFields IsGivenSite v.demands w.demands (asking_all ss w).demands a (asking_all_on ss w (λ u i. f u (inr i)) a.holds)
 
-equated_on : (a b : SiteTerm) (v : Visit) → AreGivenBy v.demands.constraints a → AreGivenBy v.demands.constraints b → GivesFields v.demands → OnwardGiven v.demands (equated a b v).demands
-equated_on a b v m n h = grind (arith, common_steps, in_either)
-
 equating_on : (a b : SiteTerm) (v : Visit) → GivesFields v.demands → IsGivenSite v.demands a → IsGivenSite v.demands b → OnwardGiven v.demands (equating a b v).demands
-equating_on a b v h m n = by_equating (λ w. OnwardGiven v.demands w.demands) a b v (no_step GivesFields IsGivenSite v.demands h) (equated_on a b v m.0 n.0 h)
+equating_on a b v h m n = by_equating (λ w. OnwardGiven v.demands w.demands) a b v (no_step GivesFields IsGivenSite v.demands h) (grind (arith, common_steps, in_either))
 
 leaf_given : (d : Demands) (s : SiteTerm) → IsLeaf s → IsGivenSite d s
 leaf_given d = grind (arith, common_steps, by_leaf, no_field_given)
@@ -115,7 +109,7 @@ fields_kept p = record {
   pick = λ d t i ss c n m. (no_field_given d.constraints (pick_of (constructor_call t ss i)) refl, all_unwrapped d ss m);
   call = λ d t i ss flags b e f g n m. (no_field_given d.constraints (constructor_call t ss i) refl, all_unwrapped d ss m);
   counts = λ c v h. record { holds = record { asked = h.asked; equal = h.equal; made = h.made }; stays = λ s m. m };
-  makes = making_on;
+  makes = grind (arith, in_left);
   calls = λ s v h m. calling_on s v h;
   equates = equating_on;
   asks = λ s c v f h m. asking_on s c v m.0 f h;

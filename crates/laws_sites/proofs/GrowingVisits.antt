@@ -106,9 +106,6 @@ pub record Adds (v w : Visit) : Type 0 where
   pub constraints : w.demands.constraints ≡ v.demands.constraints
   pub equalities : w.demands.equalities ≡ v.demands.equalities
 
-adds_nothing : (v : Visit) → Adds v v
-adds_nothing v = record { grown = grown_by_none v; constraints = refl; equalities = refl }
-
 pub then_adds : (u v w : Visit) → Adds u v → Adds v w → Adds u w
 then_adds u v w a b = record { grown = then_grown u v w a.grown b.grown; constraints = b.constraints ∙ a.constraints; equalities = b.equalities ∙ a.equalities }
 
@@ -118,14 +115,8 @@ adds_making ts v = record { grown = grown_making ts v; constraints = refl; equal
 adds_iterating : (s : SiteTerm) (v : Visit) → Adds v (iterating s v)
 adds_iterating s v = record { grown = grown_iterating s v; constraints = refl; equalities = refl }
 
-adds_calling : (s : SiteTerm) (v : Visit) → Adds v (calling s v)
-adds_calling s v = record { grown = grown_calling s v; constraints = refl; equalities = refl }
-
-adds_binding : (x : ℕ) (s : SiteTerm) (v : Visit) → Adds v (binding x s v)
-adds_binding x s v = record { grown = grown_binding x s v; constraints = refl; equalities = refl }
-
 adds_call : (flags : Flags) (call : SiteTerm) (v : Visit) → Adds v (where_multi flags call (making (call_sites flags call) v))
-adds_call flags call v = grind (arith, common_steps, then_adds v, adds_making (call_sites flags call) v, either, adds_iterating call, adds_nothing)
+adds_call flags call v = grind (arith, common_steps, then_adds v, adds_making (call_sites flags call) v, either, adds_iterating call)
 
 call_adds : (pure multi partial rec : Bool) (t : ℕ) (args : SiteTerms) (v : Visit)
     → Adds v (visit_call (record { pure = pure; multi = multi; partial = partial; rec = rec }) t args v).visit
@@ -134,25 +125,25 @@ call_adds false multi partial rec t args v =
     let flags : Flags = record { pure = false; multi = multi; partial = partial; rec = rec } in
     let call = constructor_call t args (suc v.impure_calls) in
     let w = where_multi flags call (making (call_sites flags call) v) in
-    then_adds v w (calling (call_result flags call) w) (adds_call flags call v) (adds_calling (call_result flags call) w)
+    then_adds v w (calling (call_result flags call) w) (adds_call flags call v) (grind (arith, grown_calling))
 
 pub term_adds : (k : Kind) (t : ℕ) (a : ValuedAll) → Adds a.visit (visit_term k t a).visit
 term_adds (a_variant ty variant) t a = adds_making (variant_made ty variant a.sites ∷ []) a.visit
 term_adds (a_struct ty) t a = adds_making (struct_made ty a.sites ∷ []) a.visit
 term_adds (a_call flags infallible) t a = call_adds flags.pure flags.multi flags.partial flags.rec t a.sites a.visit
-term_adds unknown t a = adds_nothing a.visit
+term_adds unknown t a = grind (arith, common_steps, grown_by_none)
 
 values_add : (p : Program) (v : Visit) → KeptByValues p (Adds v)
-values_add p v = grind (arith, common_steps, then_adds, adds_binding, adds_making, term_adds)
+values_add p v = grind (arith, common_steps, then_adds, adds_making, term_adds)
 
 pub expr_adds : (p : Program) (x : TypedExpr) (v : Visit) → Adds v (visit_expr p x v).visit
-expr_adds p x v = expr_kept p (Adds v) (values_add p v) x v (adds_nothing v)
+expr_adds p x v = expr_kept p (Adds v) (values_add p v) x v (grind (arith, grown_by_none))
 
 pub exprs_add : (p : Program) (xs : TypedExprs) (v : Visit) → Adds v (visit_exprs p xs v).visit
-exprs_add p xs v = exprs_kept p (Adds v) (values_add p v) xs v (adds_nothing v)
+exprs_add p xs v = exprs_kept p (Adds v) (values_add p v) xs v (grind (arith, grown_by_none))
 
 pub lets_add : (p : Program) (ds : TypedLets) (v : Visit) → Adds v (visit_lets p ds v)
-lets_add p ds v = lets_kept p (Adds v) (values_add p v) ds v (adds_nothing v)
+lets_add p ds v = lets_kept p (Adds v) (values_add p v) ds v (grind (arith, grown_by_none))
 
 -- 3. if-lets, and the right side
 values_grow : (p : Program) (v : Visit) → KeptByValues p (Grown v)
@@ -165,7 +156,7 @@ pub args_grown : (p : Program) (i : ℕ) (qs : List TypedPattern) (v : Visit) �
 args_grown p i qs v = args_kept p (Grown v) (tests_grow p v) (values_grow p v).made i qs v (grown_by_none v)
 
 pub finished_adds : (b : Bool) (a : Valued) → Adds a.visit (finished b a).visit
-finished_adds false a = adds_nothing a.visit
+finished_adds false a = grind (arith, common_steps, grown_by_none)
 finished_adds true a = adds_making (some_made a.site ∷ []) a.visit
 
 -- what a rule's right side adds

@@ -1,5 +1,5 @@
 -- What variables are bound to while a visitor follows the visitor of sites: it goes on, and their ids stay those of their sites.
-use Rattle.std.proofs.Common.{◌≡◌, ℕ, ◌==◌, Bool, true, List, [], ◌∷◌, Option, Some, None, is_some, if◌then◌else◌, Result, Ok, Err, sym, ap, subst, ⊎_elim, arith}
+use Rattle.std.proofs.Common.{◌≡◌, ℕ, ◌==◌, true, List, [], ◌∷◌, Option, Some, None, is_some, if◌then◌else◌, Result, Ok, Err, sym, ap, subst, ⊎_elim, arith}
 use Rattle.std.specs.Prelude.{MatchResult}
 use Rattle.std.proofs.lemmas.Map.Lookups.{exact_unsigned}
 use Rattle.std.proofs.lemmas.Grind.{common_steps}
@@ -31,12 +31,9 @@ refusal want s r t run = grind (arith, common_steps)
 
 -- 2. variables by their numbers
 module _ {N : Type 0} where
-  same_twice : (c : Bool) (a b r : Option N) → (if c then a else r) ≡ (if c then a else (if c then b else r))
-  same_twice c a b r = grind (arith, common_steps)
-
   pub bound_once : (vs : BoundIds N) (x : ℕ) (n : N) (y : ℕ) → bound_at (with_bound vs x n) y ≡ (if x == y then Some n else bound_at vs y)
   bound_once [] x n y = ap (λ c. if c then Some n else None) (tied y x)
-  bound_once (b ∷ vs) x n y = grind (arith, common_steps, bound_once vs x n y, tied, exact_unsigned, same_twice)
+  bound_once (b ∷ vs) x n y = grind (arith, common_steps, bound_once vs x n y, tied, exact_unsigned)
 
   -- what is bound can be used
   abbrev pub InScope : BoundIds N → List (ℕ × ℕ) → Type 0

@@ -1,15 +1,14 @@
 -- A visitor of rules that lends itself runs patterns and expressions as its own, with the variables that it has.
-use Rattle.std.proofs.Common.{◌≡◌, ℕ, List, [], ◌∷◌, Option, Some, Result, Ok, Err, sym, subst, arith}
+use Rattle.std.proofs.Common.{◌≡◌, List, [], ◌∷◌, Option, Some, Result, Ok, Err, sym, subst, arith}
 use Rattle.std.specs.Prelude.{MatchResult}
 use Rattle.std.proofs.lemmas.Grind.{common_steps}
-use Rattle.model.specs.lists.Setting.{expr_type}
 use Rattle.model.specs.lists.Tables.{TermEntry}
 use Rattle.model.specs.rules.Typed.{TypedPattern, TypedExpr}
-use Rattle.model.specs.visits.Runs.{VisitRun, BoundIds, taking}
+use Rattle.model.specs.visits.Runs.{BoundIds}
 use Rattle.model.specs.visits.Visitors.{PatternSteps, ExprSteps, RuleSteps}
 use Rattle.model.specs.visits.PatternRuns.{PatternRun}
 use Rattle.model.specs.visits.ExprRuns.{ExprRun}
-use Rattle.model.specs.visits.RuleRuns.{lent_binding, lent_valuing, ExchangeRun, PatternCall, ExprCall, ValueRun}
+use Rattle.model.specs.visits.RuleRuns.{lent_binding, ExchangeRun, PatternCall, ExprCall, ValueRun}
 use Rattle.laws_sites.specs.Followers.{Follower, FollowsRules}
 use Rattle.laws_sites.proofs.KnownVars.{by_and_then, no_fault, one_answer, refusal}
 
@@ -25,21 +24,13 @@ module _ {F S N : Type 0} (o : Follower F S N) (want : Option F) (rules : RuleSt
   module _ (patterns : PatternSteps F S N) (exprs : ExprSteps F S N) (terms : List TermEntry) where
     -- 2. a pattern
     module _ (vs : BoundIds N) (s t : S) (r : Result (BoundIds N) F) where
-      given_back : (m : VisitRun F (S × BoundIds N) (Unit {0})) (a : Result (BoundIds N) F) (l k h : S) → l ≡ s → lent_binding m vs l a k
-          → MatchResult a (λ ws. taking (λ x y z u. rules.take_pattern_steps x y z u) k ws h r t) (λ e. rules.leave_pattern_steps k h t × (r ≡ Err e)) → lent_binding m vs s r t
-      given_back m a l k h lent run back = grind (arith, common_steps)
-
       pub pattern_called : (q : TypedPattern) (n : N) → PatternCall want rules patterns exprs terms q n vs s r t → lent_binding (PatternRun want patterns terms q n) vs s r t
-      pattern_called q n run = grind (arith, common_steps, no_fault, given_back, one_answer)
+      pattern_called q n run = grind (arith, common_steps, no_fault, one_answer)
 
     -- 3. an expression
     module _ (s t : S) (r : Result N F) (x : TypedExpr) where
-      handed_over : (m : VisitRun F S N) (a : Result (ℕ × N) F) (l k h : S) → l ≡ s → lent_valuing m (expr_type x) l a k
-          → MatchResult a (λ y. rules.take_expr_steps h k y.0 y.1 r t) (λ e. rules.leave_expr_steps k h t × (r ≡ Err e)) → m s r t
-      handed_over m a l k h lent run back = grind (arith, common_steps)
-
       expr_called : (vs : BoundIds N) → ExprCall want rules patterns exprs terms x vs s r t → ExprRun want exprs terms x vs s r t
-      expr_called vs run = grind (arith, common_steps, no_fault, handed_over, one_answer)
+      expr_called vs run = grind (arith, common_steps, no_fault, one_answer)
 
     -- under the variables, unless memory is refused before
     pub value_called : (x : TypedExpr) (vs : BoundIds N) (s : S) (r : Result N F) (t : S) (G : Result N F → Type 0) → ((z : Result N F) → ExprRun want exprs terms x vs s z t → G z) → ((e : F) → want ≡ Some e → G (Err e))

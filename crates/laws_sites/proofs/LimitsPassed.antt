@@ -1,5 +1,5 @@
 -- The limit that is met first is passed, and where a limit is passed one is met.
-use Rattle.std.proofs.Common.{◌≡◌, ℕ, Bool, true, false, nat_lt, if◌then◌else◌, List, [], ◌∷◌, length, map, Option, Some, None, refl, sym, ap, ◌∙◌, inl, inr, arith, lt-ltb}
+use Rattle.std.proofs.Common.{◌≡◌, ℕ, Bool, false, nat_lt, if◌then◌else◌, List, [], ◌∷◌, length, map, Option, Some, None, refl, sym, ap, ◌∙◌, inl, inr, arith, lt-ltb}
 use Rattle.std.proofs.lemmas.Bool.{cases_Bool, cond-true, cond-false, le-ltb}
 use Rattle.std.proofs.lemmas.Grind.{common_steps}
 use Rattle.model.specs.rules.Typed.{TypedRule}
@@ -10,16 +10,12 @@ use Rattle.model.specs.sites.Limits.{most_fields, most_outputs, most_arguments, 
 use Rattle.model.proofs.Elements.{In, in_from_contains, contains_from_in, some_is, none_some}
 
 -- 1. counts
--- where this holds, or where it doesn't, there is a limit
-by_test : (b : Bool) (k l : RuleLimit) → (if b then Some k else None) ≡ Some l → (b ≡ true) × (k ≡ l)
-by_test b k l e = grind (arith, common_steps, some_is, none_some)
-
 by_other_test : (b : Bool) (k l : RuleLimit) → (if b then None else Some k) ≡ Some l → (b ≡ false) × (k ≡ l)
 by_other_test b k l e = grind (arith, common_steps, none_some, some_is)
 
 -- a count of the rule that passes a limit
 count_passes : (p : Program) (before : List SiteTerm) (r : TypedRule) (c : Count) (l : RuleLimit) → In (counts_of_rule p r) c → passed_by c ≡ Some l → PassesLimit p before r l
-count_passes p before r c l i e = grind (arith, common_steps, by_test, contains_from_in, by_other_test)
+count_passes p before r c l i e = grind (arith, common_steps, contains_from_in, by_other_test)
 
 -- the first that passes one is among them, and there is one where some count passes a limit
 first_among : (cs : List (Count × ℕ)) (x : RuleLimit × ℕ) → first_passed cs ≡ Some x → (c : Count) × In (map (λ d. d.0) cs) c × (passed_by c ≡ Some x.0)
@@ -36,12 +32,8 @@ some_passed (d ∷ cs) c l i e = by (passed_by d.0) refl (λ j. some_passed cs c
     by None q later = elim i [ inl s ↦ absurd (none_some l (sym q ∙ ap passed_by s ∙ e)) | inr j ↦ later j ]
 
 -- 2. the first limit is passed
-limit_of_first : (o : Option (RuleLimit × ℕ)) (l : RuleLimit) → limit_of_passed o ≡ Some l → (made : ℕ) × (o ≡ Some (l, made))
-limit_of_first None l e = absurd (none_some l e)
-limit_of_first (Some x) l e = let s = some_is x.0 l e in (x.1, (λ i. Some (s i, x.1)))
-
 pub first_limit_is_passed_lem : (p : Program) (before : List SiteTerm) (r : TypedRule) (l : RuleLimit) → first_limit p before r ≡ Some l → PassesLimit p before r l
-first_limit_is_passed_lem p before r l e = grind (arith, common_steps, some_is, limit_of_first, first_among, count_passes)
+first_limit_is_passed_lem p before r l e = grind (arith, common_steps, some_is, first_among, count_passes)
 
 -- 3. a limit that is passed is met, or one before
 count_met : (p : Program) (before : List SiteTerm) (r : TypedRule) (c : Count) (l : RuleLimit) → In (counts_of_rule p r) c → passed_by c ≡ Some l → (m : RuleLimit) × (first_limit p before r ≡ Some m)

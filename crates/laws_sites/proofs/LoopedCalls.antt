@@ -87,18 +87,12 @@ is_before_right p r f h =
 abbrev AreCalled : Bool → List SiteTerm → Valued → Type 0
 AreCalled pure left a = (u : SiteTerm) → In a.visit.demands.iterators u → In left u ⊎ Good true pure a.visit u
 
-finished_called : (pure : Bool) (left : List SiteTerm) (b : Bool) (a : Valued) → AreCalled pure left a → AreCalled pure left (finished b a)
-finished_called pure left b a h = grind (arith, common_steps)
-
 finished_good : (pure b : Bool) (a : Valued) → Good true pure a.visit a.site → Good true pure (finished b a).visit (finished b a).site
 finished_good pure b a h = grind (arith, common_steps)
 
-finished_quiet : (b : Bool) (a : Valued) → (finished b a).visit.demands.impure ≡ [] → a.visit.demands.impure ≡ []
-finished_quiet b a h = grind (arith, common_steps)
-
 -- a rule that makes no impure call has a pure right side
 pub pure_right_side : (p : Program) (r : TypedRule) → (demands_of p r).impure ≡ [] → IsPureExpr p r.rhs
-pure_right_side p r h = (expr_quiet p r.rhs (before_right p r) (finished_quiet (is_partial p r.root_term) (visit_expr p r.rhs (before_right p r)) h)).0
+pure_right_side p r h = (expr_quiet p r.rhs (before_right p r) (grind arith)).0
 
 module _ (pure : Bool) (p : Program) (r : TypedRule) (typed : IsWellTypedRule p r) where
   known : IsBeforeRight p r
@@ -107,15 +101,12 @@ module _ (pure : Bool) (p : Program) (r : TypedRule) (typed : IsWellTypedRule p 
   variables : AreGood true pure known.vars (before_right p r)
   variables x k = unpurified (before_right p r).demands.constraints (before_right p r).demands.iterators true pure (var_site (before_right p r) x) (known.good x k)
 
-  weaken : (v : Visit) (u : SiteTerm) → MayTest v u → Good true pure v u
-  weaken v u g = unpurified v.demands.constraints v.demands.iterators true pure u g
-
   total_calls : (pure ≡ true → IsPureExpr p r.rhs) → CallsAlone (IsTotal p) r.rhs → AreCalled pure (calls_left_by p r) (visit_expr p r.rhs (before_right p r))
   total_calls right total u i =
       let v = before_right p r in
       let x = expr_valued_by true pure p r.rhs v known.vars known.formed right (λ q. total) variables in
       elim (x.calls u i) [
-        | inl j ↦ elim (known.calls u j) [ inl l ↦ inl l | inr m ↦ inr (good_stays v (visit_expr p r.rhs v).visit x.later true pure u (weaken v u m)) ]
+        | inl j ↦ elim (known.calls u j) [ inl l ↦ inl l | inr m ↦ inr (good_stays v (visit_expr p r.rhs v).visit x.later true pure u (grind (arith, unpurified))) ]
         | inr g ↦ inr g
       ]
 
@@ -125,14 +116,14 @@ module _ (pure : Bool) (p : Program) (r : TypedRule) (typed : IsWellTypedRule p 
       let x = expr_valued false p r.rhs v known.vars known.formed (λ q. absurd (false≢true q)) (less_good false known.vars v known.good) in
       elim (known.calls u (expr_single p r.rhs v single u i)) [
         | inl l ↦ inl l
-        | inr m ↦ inr (good_stays v (visit_expr p r.rhs v).visit x.later true pure u (weaken v u m))
+        | inr m ↦ inr (good_stays v (visit_expr p r.rhs v).visit x.later true pure u (grind (arith, unpurified)))
       ]
 
   -- where its right side calls no partial term, or no multi term, the gates of the calls that it goes over are demanded,
   -- but for those that are left
   pub rule_calls : (pure ≡ true → IsPureExpr p r.rhs) → CallsAlone (IsTotal p) r.rhs ⊎ CallsAlone (IsSingle p) r.rhs → (u : SiteTerm) → In (demands_of p r).iterators u
       → In (calls_left_by p r) u ⊎ GatesDemanded true pure (demands_of p r).constraints (demands_of p r).iterators u
-  rule_calls right h = grind (arith, common_steps, finished_called, total_calls, single_calls)
+  rule_calls right h = grind (arith, common_steps, total_calls, single_calls)
 
   -- where it calls no partial term, so are those of the result
   pub rule_result : (pure ≡ true → IsPureExpr p r.rhs) → CallsAlone (IsTotal p) r.rhs → GatesDemanded true pure (demands_of p r).constraints (demands_of p r).iterators (result_of p r)

@@ -1,5 +1,5 @@
 -- Names of classes: joining keeps what is joined, joins what it is given, and joins nothing else.
-use Rattle.std.proofs.Common.{◌≡◌, ℕ, zero, suc, true, if◌then◌else◌, List, [], ◌∷◌, ◌++◌, length, flat_map, refl, sym, ap, subst, inl, inr, arith}
+use Rattle.std.proofs.Common.{◌≡◌, ℕ, zero, suc, true, List, [], ◌∷◌, ◌++◌, length, flat_map, refl, sym, subst, inl, inr, arith}
 use Rattle.std.proofs.lemmas.Bool.{cases_Bool, cond-true, cond-false}
 use Rattle.std.specs.List.{zip}
 use Rattle.std.proofs.lemmas.Grind.{common_steps}
@@ -16,9 +16,6 @@ Renamings = List (SiteTerm × SiteTerm)
 abbrev pub SameName : Renamings → SiteTerm → SiteTerm → Type 0
 SameName rs a b = class_name rs a ≡ class_name rs b
 
-cons_keeps : (r : SiteTerm × SiteTerm) (rs : Renamings) (x y : SiteTerm) → SameName rs x y → SameName (r ∷ rs) x y
-cons_keeps r rs x y e = ap (λ n. if site_term_eq n r.0 then r.1 else n) e
-
 pub same_name : (rs : Renamings) (a b : SiteTerm) → same_class rs a b ≡ true → SameName rs a b
 same_name rs a b h = term_means (class_name rs a) (class_name rs b) h
 
@@ -26,16 +23,13 @@ pub name_same : (rs : Renamings) (a b : SiteTerm) → SameName rs a b → same_c
 name_same rs a b e = same_term (class_name rs a) (class_name rs b) e
 
 pub joining_keeps : (rs : Renamings) (a b x y : SiteTerm) → SameName rs x y → SameName (joining rs a b) x y
-joining_keeps rs a b x y e = grind (arith, common_steps, cons_keeps)
-
-cons_first : (rs : Renamings) (n m a : SiteTerm) → class_name rs a ≡ n → class_name ((n, m) ∷ rs) a ≡ m
-cons_first rs n m a e = cond-true (site_term_eq (class_name rs a) n) m (class_name rs a) (same_term (class_name rs a) n e)
+joining_keeps rs a b x y e = grind (arith, common_steps)
 
 cons_second : (rs : Renamings) (n m b : SiteTerm) → class_name rs b ≡ m → class_name ((n, m) ∷ rs) b ≡ m
 cons_second rs n m b e = grind (arith, common_steps)
 
 pub joining_joins : (rs : Renamings) (a b : SiteTerm) → SameName (joining rs a b) a b
-joining_joins rs a b = grind (arith, same_name, cons_first, cons_second)
+joining_joins rs a b = grind (arith, same_name, cons_second, same_term)
 
 pub each_keeps : (es : List (SiteTerm × SiteTerm)) (rs : Renamings) (x y : SiteTerm) → SameName rs x y → SameName (joining_each rs es) x y
 each_keeps [] rs x y e = e

@@ -1,6 +1,6 @@
 -- What patterns constrain and equate may be tested, and so may what their variables stand for, and the calls that they go
 -- over.
-use Rattle.std.proofs.Common.{◌≡◌, ℕ, zero, suc, ◌+◌, ◌==◌, ◌<◌, Bool, true, false, ◌&&◌, if◌then◌else◌, List, [], ◌∷◌, Some, None, is_some, slice_get, Contains, refl, sym, ap, subst, inl, inr, ◌∙◌, arith}
+use Rattle.std.proofs.Common.{◌≡◌, ℕ, zero, suc, ◌+◌, ◌==◌, ◌<◌, Bool, true, false, ◌&&◌, if◌then◌else◌, List, [], ◌∷◌, Some, None, is_some, slice_get, Contains, refl, sym, ap, subst, inl, inr, arith}
 use Rattle.std.proofs.lemmas.Grind.{common_steps}
 use Rattle.model.specs.rules.Outcome.{then_option}
 use Rattle.model.specs.lists.Ranges.{is_literal_of}
@@ -114,14 +114,11 @@ term_opened (a_struct ty) t s args v known m = grind (arith, common_steps, field
 term_opened (a_call flags infallible) t s args v known m = call_opened flags.pure flags.multi flags.partial flags.rec infallible t s args v m
 term_opened unknown t s args v known m = absurd (known refl)
 
-kind_known : (t : TermEntry) → kind_of t ≡ unknown → ⊥
-kind_known t e = grind (arith, common_steps)
-
 pub its_kind : (p : Program) (t : ℕ) (entry : TermEntry) → slice_get p.terms t ≡ Some entry → kind_of entry ≡ kind p t
 its_kind p t entry e = sym (ap (λ o. elim o as (λ _. Kind) [ None ↦ unknown | Some x ↦ kind_of x ]) e)
 
 pub term_known : (p : Program) (t : ℕ) (entry : TermEntry) → slice_get p.terms t ≡ Some entry → kind p t ≡ unknown → ⊥
-term_known p t entry e h = kind_known entry (its_kind p t entry e ∙ h)
+term_known p t entry e h = grind arith
 
 -- 3. patterns
 -- after a pattern: nothing less is asked, variables that could be used may be tested, and so may those that it bound and

@@ -3,8 +3,8 @@ use Rattle.std.proofs.Common.{◌≡◌, ℕ, suc, Bool, [], arith}
 use Rattle.std.proofs.lemmas.Grind.{common_steps}
 use Rattle.model.specs.rules.Program.{Program, Kind, a_call}
 use Rattle.model.specs.rules.Typed.{TypedPatterns, TypedRule}
-use Rattle.model.specs.sites.Sites.{SiteTerm, extractor_call, constructor_call, SiteTerms}
-use Rattle.model.specs.visits.Demands.{demands_of, site_term_eq, Visit, equating, iterating, open_call, open_term, ValuedAll, visit_call, visit_term}
+use Rattle.model.specs.sites.Sites.{SiteTerm, constructor_call}
+use Rattle.model.specs.visits.Demands.{demands_of, site_term_eq, Visit, equating, iterating, open_term, ValuedAll, visit_term}
 use Rattle.model.proofs.Elements.{In, in_either}
 use Rattle.laws_sites.proofs.GrowingVisits.{equated}
 use Rattle.model.proofs.Either.{either}
@@ -27,19 +27,12 @@ none_equating : (a b : SiteTerm) (v : Visit) → GoesOverNone v → GoesOverNone
 unfolding equated
 none_equating a b v h = either GoesOverNone (site_term_eq a b) v (equated a b v) h h
 
-extractor_none : (pure multi partial rec infallible : Bool) (t : ℕ) (s : SiteTerm) (args : TypedPatterns) (v : Visit) → GoesOverNone v
-    → GoesOverNone (open_call (record { pure = pure; multi = multi; partial = partial; rec = rec }) infallible (extractor_call t s) args v).visit
-extractor_none pure multi partial rec infallible t s args v h = grind (arith, common_steps, none_iterating)
-
 opened_none : (k : Kind) (t : ℕ) (s : SiteTerm) (args : TypedPatterns) (v : Visit) → GoesOverNone v → GoesOverNone (open_term k t s args v).visit
-opened_none (a_call flags infallible) t s args v h = extractor_none flags.pure flags.multi flags.partial flags.rec infallible t s args v h
+opened_none (a_call flags infallible) t s args v h = grind (arith, common_steps, none_iterating)
 opened_none _ t s args v h = h
 
-call_none : (pure multi partial rec : Bool) (t : ℕ) (args : SiteTerms) (v : Visit) → GoesOverNone v → GoesOverNone (visit_call (record { pure = pure; multi = multi; partial = partial; rec = rec }) t args v).visit
-call_none pure multi partial rec t args v h = grind (arith, common_steps, none_iterating, not_nothing)
-
 made_none : (k : Kind) (t : ℕ) (a : ValuedAll) → GoesOverNone a.visit → GoesOverNone (visit_term k t a).visit
-made_none (a_call flags infallible) t a h = call_none flags.pure flags.multi flags.partial flags.rec t a.sites a.visit h
+made_none (a_call flags infallible) t a h = grind (arith, common_steps, none_iterating, not_nothing)
 made_none _ t a h = h
 
 pub rule_goes_over_none : (p : Program) (r : TypedRule) → (demands_of p r).impure ≡ [] → (u : SiteTerm) → In (demands_of p r).iterators u → IsNoImpureCall u

@@ -5,7 +5,7 @@ use Rattle.std.specs.List.{list_any}
 use Rattle.std.proofs.lemmas.List.{append_assoc}
 use Rattle.std.proofs.lemmas.Grind.{common_steps}
 use Rattle.model.specs.sites.Sites.{Constraint, SiteTerm}
-use Rattle.model.specs.visits.Demands.{Demands, site_term_eq, constraint_eq}
+use Rattle.model.specs.visits.Demands.{Demands, constraint_eq}
 use Rattle.model.specs.sites.Closure.{IsUnreachable, same_class, class_names, differs_in_class, has_conflict, has_cycle, Unreachability, conflict, cycle, constraint_of, conflict_with, conflicts_met, in_site_order, first_differing, first_conflict, first_filled, with_constrained, reported}
 use Rattle.model.proofs.Elements.{In, in_from_contains, contains_from_in, some_is, none_some, in_any, or_split, from_flat_map, in_flat_map, map_in}
 use Rattle.model.proofs.SameSites.{same_term, constraint_means, same_constraint}
@@ -27,9 +27,6 @@ empty_first us vs e f = ap (λ xs. first_filled xs vs) e ∙ f
 -- a constraint that is the one a site had is no conflict
 no_clash : (o : Option Constraint) (c : Constraint) → ((b : Constraint) → o ≡ Some b → b ≡ c) → conflict_with o c ≡ []
 no_clash o c f = grind (arith, common_steps, same_constraint)
-
-clash_none : (o : Option Constraint) (c : Constraint) → conflict_with o c ≡ [] → (b : Constraint) → o ≡ Some b → b ≡ c
-clash_none o c e b f = grind (arith, common_steps, none_some, some_is, constraint_means, not_empty)
 
 none_met : (all : List (SiteTerm × Constraint)) → OneEach all → (had cs : List (SiteTerm × Constraint)) → ((x : SiteTerm × Constraint) → In had x → In all x) → ((x : SiteTerm × Constraint) → In cs x → In all x)
     → conflicts_met had cs ≡ []
@@ -59,12 +56,9 @@ constraint_of_right : (xs ys : List (SiteTerm × Constraint)) (s : SiteTerm) →
 constraint_of_right [] ys s e = refl
 constraint_of_right (x ∷ xs) ys s e = grind (arith, common_steps, constraint_of_right xs ys s, none_some)
 
-here : (c : SiteTerm × Constraint) (cs : List (SiteTerm × Constraint)) → constraint_of (c ∷ cs) c.0 ≡ Some c.1
-here c cs = cond-true (site_term_eq c.0 c.0) (Some c.1) (constraint_of cs c.0) (same_term c.0 c.0 refl)
-
 first_is : (had cs : List (SiteTerm × Constraint)) (c : SiteTerm × Constraint) (o : Option Constraint) → constraint_of had c.0 ≡ o → conflict_with o c.1 ≡ [] → constraint_of (had ++ c ∷ cs) c.0 ≡ Some c.1
-first_is had cs c None e f = constraint_of_right had (c ∷ cs) c.0 e ∙ here c cs
-first_is had cs c (Some b) e f = constraint_of_left had (c ∷ cs) c.0 b e ∙ ap Some (clash_none (Some b) c.1 f b refl)
+first_is had cs c None e f = constraint_of_right had (c ∷ cs) c.0 e ∙ (grind (arith, same_term))
+first_is had cs c (Some b) e f = constraint_of_left had (c ∷ cs) c.0 b e ∙ ap Some (grind (arith, common_steps, none_some, some_is, constraint_means, not_empty))
 
 -- where no conflict is met, each site's constraint is the first one
 each_first : (had cs : List (SiteTerm × Constraint)) → conflicts_met had cs ≡ [] → (x : SiteTerm × Constraint) → In cs x → constraint_of (had ++ cs) x.0 ≡ Some x.1
@@ -85,13 +79,8 @@ conflict_free_constraints_agree_lem d = (
       [] d.constraints (λ x i. absurd i) (λ x i. i),
 )
 
--- constrained sites in order
-at_site_in : (cs : List (SiteTerm × Constraint)) (s : SiteTerm) (o : Option Constraint) → constraint_of cs s ≡ o → (x : SiteTerm × Constraint)
-    → In (elim o as (λ _. List (SiteTerm × Constraint)) [ None ↦ [] | Some c ↦ (s, c) ∷ [] ]) x → In cs x
-at_site_in cs s o e x i = grind (arith, common_steps, found_constraint)
-
 ordered_in : (order : List SiteTerm) (cs : List (SiteTerm × Constraint)) (x : SiteTerm × Constraint) → In (in_site_order order cs) x → In cs x
-ordered_in order cs x i = grind (arith, common_steps, from_flat_map, at_site_in)
+ordered_in order cs x i = grind (arith, common_steps, from_flat_map, found_constraint)
 
 in_ordered : (order : List SiteTerm) (cs : List (SiteTerm × Constraint)) (x : SiteTerm × Constraint) → In order x.0 → constraint_of cs x.0 ≡ Some x.1 → In (in_site_order order cs) x
 in_ordered order cs x i e = grind (arith, common_steps, in_flat_map)

@@ -18,13 +18,10 @@ IsSingle p t = is_multi p t ≡ false
 abbrev GoesOverNoMore : Visit → Visit → Type 0
 GoesOverNoMore v w = (u : SiteTerm) → In w.demands.iterators u → In v.demands.iterators u
 
-term_single : (k : Kind) (t : ℕ) (a : ValuedAll) → (flags_of k).multi ≡ false → GoesOverNoMore a.visit (visit_term k t a).visit
-term_single k t a e = grind (arith, common_steps)
-
 module _ (p : Program) where
   mutual
     pub expr_single : (x : TypedExpr) (v : Visit) → CallsAlone (IsSingle p) x → GoesOverNoMore v (visit_expr p x v).visit
-    expr_single (make_term ty t args) v h = λ u i. exprs_single args v h.1 u (term_single (kind p t) t (visit_exprs p args v) h.0 u i)
+    expr_single (make_term ty t args) v h = λ u i. exprs_single args v h.1 u (grind (arith, common_steps))
     expr_single (make_let ty defs body) v h = λ u i. lets_single defs v h.0 u (expr_single body (visit_lets p defs v) h.1 u i)
     expr_single _ v h = λ u i. i
 

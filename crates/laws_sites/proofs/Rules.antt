@@ -29,9 +29,6 @@ pub record IsPast (v w : Visit) (more : List (ℕ × ℕ)) : Type 0 where
 then_is_past : (u v w : Visit) (more : List (ℕ × ℕ)) → Later u v → IsPast v w more → IsPast u w more
 then_is_past u v w more l r = record { later = then_later u v w l r.later; good = r.good }
 
-nothing_past : (v : Visit) (vars more : List (ℕ × ℕ)) → Some vars ≡ Some more → AreGood true true vars v → IsPast v v more
-nothing_past v vars more e g = record { later = now v; good = subst (λ vs. AreGood true true vs v) (some_is vars more e) g }
-
 pub args_after : (p : Program) (i : ℕ) (qs : List TypedPattern) (tys : List ℕ) (v : Visit) (vars more : List (ℕ × ℕ)) → formed_list p qs tys vars ≡ Some more → AreGood true true vars v → IsAfter v (visit_args p i qs v) more
 args_after p i (q ∷ qs) (ty ∷ tys) v vars more f g =
     let a = from_if (pattern_type q == ty) (then_option (formed_pattern p q vars) (λ after. formed_list p qs tys after)) more f in
@@ -106,7 +103,7 @@ module _ (p : Program) (of : IfLetMet p) where
       (then_is_past u w (visit_pattern p i.lhs s w) more asked_later (record { later = b.later; good = b.good }))
 
 pub iflets_are_past : (p : Program) (is : List TypedIfLet) (v : Visit) (vars more : List (ℕ × ℕ)) → formed_iflets p is vars ≡ Some more → ArePureIfLets p is → AreGood true true vars v → IsPast v (visit_iflets p is v) more
-iflets_are_past p [] v vars more f h g = nothing_past v vars more f g
+iflets_are_past p [] v vars more f h g = grind (arith, now, some_is)
 iflets_are_past p (i ∷ is) v vars more f h g =
     let a = iflet_parts p i is vars more f in
     let r = iflet_past p (record { iflet = i; visit = v; vars = vars; formed = a.value; pure = h.0; good = g }) a.mid a.pattern in

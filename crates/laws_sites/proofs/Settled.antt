@@ -1,10 +1,10 @@
 -- Rounds of joining come to their end: each round that joins anything lessens the number of sites that are their own
 -- class's name.
-use Rattle.std.proofs.Common.{◌≡◌, ◌≢◌, ◌↔◌, ℕ, zero, suc, ◌≤◌, Bool, true, false, ◌&&◌, if◌then◌else◌, List, [], ◌∷◌, ◌++◌, length, Some, Contains, slice_get, flat_map, refl, sym, ap, ◌∙◌, subst, inl, inr, arith}
+use Rattle.std.proofs.Common.{◌≡◌, ◌≢◌, ◌↔◌, ℕ, zero, suc, ◌≤◌, Bool, true, false, ◌&&◌, if◌then◌else◌, List, [], ◌∷◌, ◌++◌, length, Contains, flat_map, refl, sym, ap, ◌∙◌, subst, inl, inr, arith}
 use Rattle.std.proofs.lemmas.Bool.{cases_Bool, cond-true, cond-false, and_parts, false≢true}
 use Rattle.std.specs.List.{list_all}
 use Rattle.std.proofs.lemmas.Grind.{common_steps}
-use Rattle.model.specs.sites.Sites.{Constraint, SiteTerm, field_terms}
+use Rattle.model.specs.sites.Sites.{SiteTerm, field_terms}
 use Rattle.model.specs.visits.Demands.{Demands, site_term_eq}
 use Rattle.model.specs.sites.Closure.{class_name, same_class, joining, joining_each, due, joined_in, spoken_of, class_names, Joined, IsUnreachable, has_conflict, is_unreachable}
 use Rattle.model.proofs.Elements.{In, in_from_contains, in_left, in_right, in_slice, all_in, from_flat_map, in_flat_map, in_zip}
@@ -219,11 +219,8 @@ module _ (d : Demands) where
   abbrev all_sites : List SiteTerm
   all_sites = spoken_of d ++ flat_map (λ s. flat_map (λ c. field_terms c.1 s) d.constraints) (spoken_of d)
 
-  field_within : (s : SiteTerm) (c : SiteTerm × Constraint) (i : ℕ) (x : SiteTerm) → In (spoken_of d) s → In d.constraints c → slice_get (field_terms c.1 s) i ≡ Some x → In all_sites x
-  field_within s c i x m n e = grind (arith, common_steps, in_right, in_flat_map, in_slice)
-
   due_within : (rs : List (SiteTerm × SiteTerm)) → AllWithin all_sites (due rs d.constraints (spoken_of d))
-  due_within rs e i = grind (arith, from_flat_map, in_zip, field_within, asked_spoken)
+  due_within rs e i = grind (arith, from_flat_map, in_zip, asked_spoken, in_right, in_flat_map, in_slice)
 
   settled_where : (rs : List (SiteTerm × SiteTerm)) → NothingDue rs → IsSettled rs d
   settled_where rs h s c i x y m n e f g =
@@ -241,13 +238,10 @@ module _ (d : Demands) where
   first_names : AreNames all_sites []
   first_names = record { again = λ x. refl; stay = λ x i. i }
 
-  equal_within : AllWithin all_sites d.equalities
-  equal_within e i = grind (arith, common_steps, equal_spoken, in_left)
-
   -- the names of the closure are settled
   pub names_settled : IsSettled (class_names d) d
   names_settled =
-      settles (length all_sites) (joining_each [] d.equalities) (after_each all_sites d.equalities [] first_names equal_within).good
+      settles (length all_sites) (joining_each [] d.equalities) (after_each all_sites d.equalities [] first_names (λ e i. grind (arith, common_steps, equal_spoken, in_left))).good
       (counted_most (is_own (joining_each [] d.equalities)) all_sites)
 
 pub verdict_is_exact_lem : (d : Demands) → (is_unreachable d ≡ true) ↔ IsUnreachable d

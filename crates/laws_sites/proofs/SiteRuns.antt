@@ -1,14 +1,13 @@
 -- The run of the visitor of sites gives what the functions of the visit compute: it follows itself, whatever variables it has.
-use Rattle.std.proofs.Common.{◌≡◌, ℕ, Bool, List, [], ◌∷◌, length, None, Result, Ok, refl, sym, ap₂, subst, arith}
+use Rattle.std.proofs.Common.{◌≡◌, ℕ, List, [], ◌∷◌, length, None, Result, Ok, refl, sym, ap₂, subst, arith}
 use Rattle.std.specs.List.{AllZip}
 use Rattle.std.proofs.lemmas.Grind.{common_steps}
 use Rattle.model.specs.sites.Sites.{Constraint, is_present, SiteTerm, SiteTerms, site_term_and, is_bool, is_int, is_prim, is_variant, is_struct}
-use Rattle.model.specs.visits.Demands.{Visit, visit_start, asking, asking_all, equating, Opened, Valued, visit_call, fields_opened, value_made}
+use Rattle.model.specs.visits.Demands.{Visit, visit_start, asking, asking_all, Opened, Valued, fields_opened, value_made}
 use Rattle.model.specs.visits.Runs.{done}
 use Rattle.model.specs.visits.SiteVisitor.{extractor_opened, sites_of_inputs, site_patterns, site_exprs, site_rules}
 use Rattle.model.proofs.Elements.{none_some}
-use Rattle.laws_sites.proofs.AskedSites.{equated}
-use Rattle.laws_sites.specs.Followers.{Follower, GoesOn, GivesParts, Gives, NameInputs, FollowsSites, FollowsPatterns, FollowsExprs, FollowsRules, SiteRunsVisit}
+use Rattle.laws_sites.specs.Followers.{Follower, GoesOn, GivesParts, Gives, NameInputs, FollowsSites, FollowsPatterns, FollowsExprs, SiteRunsVisit}
 use Rattle.laws_sites.proofs.FollowedRules.{visits_follow_lem}
 
 -- 1. visits that are alike but for their variables
@@ -22,22 +21,12 @@ with_vars xs v = record { vars = xs; impure_calls = v.impure_calls; demands = v.
 by_vars : (P : Visit → Type 0) (s v : Visit) → Alike s v → P (with_vars s.vars v) → P s
 by_vars P s v h k = grind (arith, common_steps)
 
-equated_alike : (a b : SiteTerm) (s v : Visit) → Alike s v → Alike (equating a b s) (equating a b v)
-equated_alike a b s v h = grind (arith, by_vars, equated)
-
 -- what a term's pattern is opened to, and values
 abbrev AlikeOpened : Opened → Opened → Type 0
 AlikeOpened a b = (a.inputs ≡ b.inputs) × Alike a.visit b.visit
 
 abbrev AlikeValued : Valued → Valued → Type 0
 AlikeValued a b = (a.site ≡ b.site) × Alike a.visit b.visit
-
-opened_alike : (multi infallible : Bool) (term n : ℕ) (u : SiteTerm) (s v : Visit) → Alike s v → AlikeOpened (extractor_opened term n infallible multi u s) (extractor_opened term n infallible multi u v)
-opened_alike multi infallible term n u s v h = grind (arith, common_steps, by_vars)
-
-calling_alike : (pure multi partial rec : Bool) (term : ℕ) (us : SiteTerms) (s v : Visit) → Alike s v
-    → AlikeValued (visit_call (record { pure = pure; multi = multi; partial = partial; rec = rec }) term us s) (visit_call (record { pure = pure; multi = multi; partial = partial; rec = rec }) term us v)
-calling_alike pure multi partial rec term us s v h = grind (arith, common_steps, by_vars)
 
 asking_alike : (us : List SiteTerm) (s v : Visit) → Alike s v → Alike (asking_all us s) (asking_all us v)
 asking_alike [] s v h = h
@@ -69,7 +58,7 @@ inputs_are s k inputs h = grind (arith, common_steps)
 
 site_patterns_follow : FollowsPatterns site_follower site_patterns
 site_patterns_follow = record {
-  equal = grind (arith, common_steps, went, equated_alike);
+  equal = grind (arith, common_steps, went);
   bool = λ s w u n ty b r t h e step. asked s w u n (is_bool b ty) r t h e step;
   int = λ s w u n ty z r t h e step. asked s w u n (is_int z ty) r t h e step;
   prim = λ s w u n ty name r t h e step. asked s w u n (is_prim name) r t h e step;
@@ -77,7 +66,7 @@ site_patterns_follow = record {
   struct = λ s w u n ty tys r t h e step. fields s w u n (is_struct ty (length tys)) (length tys) r t h e step;
   extractor = λ s w u n ty tys term infallible multi r t h e step.
       let parts = λ (z : SiteTerm). extractor_opened term (length tys) infallible multi z in
-      opens s t (parts n s) (parts u w) r (subst (λ z. AlikeOpened (parts z s) (parts u w)) (sym e) (opened_alike multi infallible term (length tys) u s w h)) step;
+      opens s t (parts n s) (parts u w) r (subst (λ z. AlikeOpened (parts z s) (parts u w)) (sym e) (grind (arith, by_vars))) step;
 }
   where
     asked : (s w : Visit) (u n : SiteTerm) (c : Constraint) (r : Result (Unit {0}) ⊥) (t : Visit) → Alike s w → n ≡ u → done tt (asking n c s) r t → GoesOn site_follower s r t (asking u c w)
@@ -92,13 +81,10 @@ making_alike : (a : SiteTerm) (s v : Visit) → Alike s v → AlikeValued (value
 making_alike a s v h = (refl, by_vars (λ z. Alike (value_made a z).visit (value_made a v).visit) s v h (refl, refl))
 
 site_exprs_follow : FollowsExprs site_follower site_exprs
-site_exprs_follow = grind (arith, common_steps, gives, making_alike, inputs_are, calling_alike)
-
-site_rules_follow : FollowsRules site_follower site_rules
-site_rules_follow = grind (arith, common_steps, gives, by_vars, asking_alike)
+site_exprs_follow = grind (arith, common_steps, gives, making_alike, inputs_are)
 
 site_follows : FollowsSites site_follower None site_rules site_patterns site_exprs
-site_follows = grind (arith, common_steps, site_patterns_follow, site_exprs_follow, site_rules_follow, none_some)
+site_follows = grind (arith, common_steps, site_patterns_follow, site_exprs_follow, none_some, gives, by_vars, asking_alike)
 
 -- 4. so for a rule
 pub site_runs_visit_lem : SiteRunsVisit

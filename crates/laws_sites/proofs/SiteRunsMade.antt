@@ -1,5 +1,5 @@
 -- Each rule that hangs together has a run of the visitor of sites.
-use Rattle.std.proofs.Common.{◌≡◌, ℕ, suc, ◌==◌, ◌&&◌, Bool, true, not, if◌then◌else◌, List, [], ◌∷◌, length, Option, Some, None, is_some, slice_get, Ok, refl, sym, ◌∙◌, subst, inl, inr, eq-eqb, arith}
+use Rattle.std.proofs.Common.{◌≡◌, ℕ, suc, ◌==◌, ◌&&◌, true, not, if◌then◌else◌, List, [], ◌∷◌, length, Option, Some, None, is_some, slice_get, Ok, refl, sym, ◌∙◌, subst, inl, inr, eq-eqb, arith}
 use Rattle.std.proofs.lemmas.Bool.{and_parts, cond-true, false≢true}
 use Rattle.std.proofs.lemmas.Grind.{common_steps}
 use Rattle.model.specs.lists.Formed.{pattern_type, var_type, with_new, is_type, formed_pattern, formed_parts, formed_each, is_formed_expr, are_formed_args, formed_lets, formed_list, formed_iflets}
@@ -9,7 +9,7 @@ use Rattle.model.specs.rules.Outcome.{then_option}
 use Rattle.model.specs.rules.Program.{Program, always_answers}
 use Rattle.model.specs.rules.Typed.{TypedPattern, match_bind, match_var, match_bool, match_int, match_prim, match_term, match_any, match_and, TypedPatterns, no_typed_pattern, typed_pattern_and, TypedExpr, make_term, make_var, make_bool, make_int, make_prim, make_let, TypedExprs, no_typed_expr, typed_expr_and, TypedLets, no_typed_let, typed_let_and, TypedIfLet}
 use Rattle.model.specs.sites.Sites.{is_bool, is_int, is_prim, is_struct, is_variant, SiteTerm, argument, bool_term, extractor_call, int_term, prim_term, struct_field, struct_made, variant_field, variant_made, fields_from}
-use Rattle.model.specs.visits.Demands.{Visit, visit_start, asking, asking_all, equating, pattern_count, Opened, open_call, taking_argument, unwraps, visit_call, fields_opened, value_made}
+use Rattle.model.specs.visits.Demands.{Visit, visit_start, asking, asking_all, equating, pattern_count, Opened, taking_argument, unwraps, visit_call, fields_opened, value_made}
 use Rattle.model.specs.visits.Runs.{BoundIds, bound_at, with_bound}
 use Rattle.model.specs.visits.SiteVisitor.{any_parts, extractor_opened, sites_of_inputs, site_patterns, site_exprs, site_rules}
 use Rattle.model.specs.visits.PatternRuns.{part_types, OpensKind, Opens, PatternRun, PartsRun, EachRun}
@@ -47,9 +47,6 @@ stays_bound vs x s y h = grind (arith, common_steps, bound_now vs x s y, bound_o
 new_bound : (vs : Bound) (vars : List (ℕ × ℕ)) (x ty : ℕ) → IsBound vs x → AreBound vs vars → AreBound vs ((x, ty) ∷ vars)
 new_bound vs vars x ty new bound y h = grind (arith, common_steps)
 
-one_more_bound : (vs : Bound) (vars : List (ℕ × ℕ)) (x ty : ℕ) (s : SiteTerm) → AreBound vs vars → AreBound (with_bound vs x s) ((x, ty) ∷ vars)
-one_more_bound vs vars x ty s bound y h = grind (arith, common_steps, bound_now, stays_bound)
-
 -- 2. patterns
 abbrev VisitState : Type 0
 VisitState = Visit × Bound
@@ -65,13 +62,6 @@ record EndsBound (R : VisitState → Type 0) (vs : Bound) (more : List (ℕ × �
 ends_here : (R : VisitState → Type 0) (v : Visit) (vs : Bound) (vars more : List (ℕ × ℕ)) → vars ≡ more → R (v, vs) → AreBound vs vars → EndsBound R vs more
 ends_here R v vs vars more e run bound = record { last = (v, vs); run = run; bound = subst (AreBound vs) e bound; kept = λ y h. h }
 
--- as many sites as parts
-open_count : (multi infallible pure partial rec : Bool) (call : SiteTerm) (args : TypedPatterns) (v : Visit) → AsManySites (open_call (record { pure = pure; multi = multi; partial = partial; rec = rec }) infallible call args v).inputs args
-open_count multi infallible pure partial rec call args v = grind (arith, common_steps, output_count)
-
-many_fields : (f : ℕ → SiteTerm) (args : TypedPatterns) (n : ℕ) → n ≡ pattern_count args → AsManySites (fields_from f 0 n) args
-many_fields f args n e = subst (λ m. AsManySites (fields_from f 0 m) args) (sym e) (as_many_sites f 0 args)
-
 module _ (ty term : ℕ) (args : TypedPatterns) (u : SiteTerm) where
   -- a term's pattern is opened
   abbrev IsOpenedBy : (Visit → List SiteTerm → Type 0) → Type 0
@@ -82,11 +72,11 @@ module _ (ty term : ℕ) (args : TypedPatterns) (u : SiteTerm) where
   kind_opened w e (variant_term variant) h count =
       let n = length e.arg_tys in
       let a = fields_opened (is_variant ty variant n) n u w in
-      (a.inputs, a.visit, (refl, refl), many_fields (variant_field u variant) args n count)
+      (a.inputs, a.visit, (refl, refl), (subst (λ m. AsManySites (fields_from (variant_field u variant) 0 m) args) (sym count) (as_many_sites (variant_field u variant) 0 args)))
   kind_opened w e struct_term h count =
       let n = length e.arg_tys in
       let a = fields_opened (is_struct ty n) n u w in
-      (a.inputs, a.visit, (refl, refl), many_fields (struct_field u) args n count)
+      (a.inputs, a.visit, (refl, refl), (subst (λ m. AsManySites (fields_from (struct_field u) 0 m) args) (sym count) (as_many_sites (struct_field u) 0 args)))
   kind_opened w e (declared_term flags c None) h count = absurd (false≢true h)
   kind_opened w e (declared_term flags c (Some x)) h count =
       let n = length (part_types args) in
@@ -94,7 +84,7 @@ module _ (ty term : ℕ) (args : TypedPatterns) (u : SiteTerm) where
       let call = extractor_call term u in
       let a = extractor_opened term n always flags.multi u w in
       let same = call_alike (any_parts n) args (any_count n ∙ types_count args) flags.multi flags.partial flags.rec flags.pure always call w in
-      (a.inputs, a.visit, inr (refl, refl), subst (λ (b : Opened). AsManySites b.inputs args) (sym same) (open_count flags.multi always flags.pure flags.partial flags.rec call args w))
+      (a.inputs, a.visit, inr (refl, refl), subst (λ (b : Opened). AsManySites b.inputs args) (sym same) (grind (arith, common_steps, output_count)))
 
   term_opened : (w : Visit) (o : Option TermEntry) (e : TermEntry) → o ≡ Some e → has_extractor e.kind ≡ true → length e.arg_tys ≡ pattern_count args
       → IsOpenedBy (λ m ids. Opens None site_patterns ty term (part_types args) u o w (Ok ids) m)
@@ -204,7 +194,7 @@ module _ (p : Program) where
     lets_made (typed_let_and x ty value rest) vs vars more s f bound =
         let g = from_let p x ty value rest vars more f in
         let a = expr_made value vs vars s g.1 bound in
-        let r = lets_made rest (with_bound vs x a.0) ((x, ty) ∷ vars) more a.1 g.3 (one_more_bound vs vars x ty a.0 bound) in
+        let r = lets_made rest (with_bound vs x a.0) ((x, ty) ∷ vars) more a.1 g.3 (grind (arith, common_steps, bound_now, stays_bound)) in
         (r.0, r.1, inl (a.0, a.1, a.2, inr r.2), r.3)
 
   -- 4. rules

@@ -1,12 +1,10 @@
 -- The sites that a rule's visit equates are made by it, but for variables that nothing binds.
 use Rattle.std.proofs.Common.{◌≡◌, ◌⊎◌, List, [], ◌∷◌, Contains, refl, inl, inr, arith}
-use Rattle.std.proofs.lemmas.Grind.{common_steps}
 use Rattle.model.specs.rules.Program.{Program}
 use Rattle.model.specs.sites.Sites.{is_present, SiteTerm, no_site}
 use Rattle.model.specs.rules.Typed.{TypedRule}
-use Rattle.model.specs.visits.Demands.{Demands, demands_of, Visit, making, asking, unwraps, asking_all}
+use Rattle.model.specs.visits.Demands.{Demands, demands_of, Visit, asking, unwraps, asking_all}
 use Rattle.model.proofs.Elements.{In, in_from_contains, contains_from_in, in_left, in_either}
-use Rattle.laws_sites.proofs.AskedSites.{equated}
 use Rattle.laws_sites.proofs.WithSites.{by_equating, Onward, KeptWithSites, no_step, rule_given}
 
 -- a site that is made, or none
@@ -21,12 +19,6 @@ abbrev OnwardMade : Demands → Demands → Type 0
 OnwardMade = Onward MakesEqual IsMade
 
 -- 1. steps
-making_on : (ts : List SiteTerm) (v : Visit) → MakesEqual v.demands → OnwardMade v.demands (making ts v).demands
-making_on ts v h = grind (arith, common_steps, in_left)
-
-equated_on : (a b : SiteTerm) (v : Visit) → MakesEqual v.demands → IsMade v.demands a → IsMade v.demands b → OnwardMade v.demands (equated a b v).demands
-equated_on a b v h m n = grind (arith, common_steps, in_either)
-
 -- a step that makes and equates nothing
 asking_all_on : (ss : List SiteTerm) (v : Visit) → MakesEqual v.demands → OnwardMade v.demands (asking_all ss v).demands
 asking_all_on [] v h = no_step MakesEqual IsMade v.demands h
@@ -47,9 +39,9 @@ equal_kept p = record {
   pick = λ d t i ss c n m. inl n;
   call = λ d t i ss flags b e f g n m. inl n;
   counts = λ c v h. record { holds = h; stays = λ s m. m };
-  makes = making_on;
+  makes = grind (arith, in_left);
   calls = λ s v h m. record { holds = h; stays = λ u m. m };
-  equates = λ a b v h m n. by_equating (λ w. OnwardMade v.demands w.demands) a b v (no_step MakesEqual IsMade v.demands h) (equated_on a b v h m n);
+  equates = λ a b v h m n. by_equating (λ w. OnwardMade v.demands w.demands) a b v (no_step MakesEqual IsMade v.demands h) (grind (arith, in_either));
   asks = λ s c v f h m. record { holds = h; stays = λ u n. n };
   asks_all = λ s v h m. asking_all_on (unwraps s) v h;
   asks_call = λ t s v flags e f c n h m. record { onward = record { holds = h; stays = λ u q. q }; site = inl n };

@@ -4,9 +4,9 @@ use Rattle.std.proofs.lemmas.Grind.{common_steps}
 use Rattle.model.specs.rules.Meaning.{look}
 use Rattle.model.specs.lists.Tables.{Flags}
 use Rattle.model.specs.rules.Program.{Program, Kind, a_variant, a_struct, a_call, unknown, kind}
-use Rattle.model.specs.sites.Sites.{is_present, SiteTerm, constructor_call, variant_made, struct_made, bool_term, int_term, prim_term, SiteTerms}
+use Rattle.model.specs.sites.Sites.{is_present, SiteTerm, constructor_call, SiteTerms}
 use Rattle.model.specs.rules.Typed.{TypedPattern, match_bind, match_var, match_bool, match_int, match_prim, match_term, match_any, match_and, TypedPatterns, no_typed_pattern, typed_pattern_and, TypedExpr, make_term, make_var, make_bool, make_int, make_prim, make_let, TypedExprs, no_typed_expr, typed_expr_and, TypedLets, no_typed_let, typed_let_and}
-use Rattle.model.specs.visits.Demands.{Visit, making, asking, equating, binding, or_no_site, var_site, Opened, open_term, visit_pattern, visit_each, visit_all, Valued, ValuedAll, valued, call_result, call_sites, where_multi, visit_call, visit_term, visit_expr, visit_exprs, visit_lets, asking_all}
+use Rattle.model.specs.visits.Demands.{Visit, making, asking, equating, binding, or_no_site, var_site, Opened, visit_pattern, visit_each, visit_all, Valued, ValuedAll, call_result, call_sites, where_multi, visit_call, visit_term, visit_expr, visit_exprs, visit_lets, asking_all}
 use Rattle.model.proofs.Elements.{In, in_left, in_right, in_either}
 use Rattle.laws_sites.proofs.AskedSites.{equated}
 
@@ -14,12 +14,6 @@ use Rattle.laws_sites.proofs.AskedSites.{equated}
 pub record AreAlike (v w : Visit) : Type 0 where
   pub vars : v.vars ≡ w.vars
   pub impure_calls : v.impure_calls ≡ w.impure_calls
-
-same_site : (v w : Visit) → AreAlike v w → (x : ℕ) → var_site v x ≡ var_site w x
-same_site v w a x = ap (λ vs. or_no_site (look (λ k. k == x) vs)) a.vars
-
-alike_binding : (x : ℕ) (s t : SiteTerm) (v w : Visit) → AreAlike v w → s ≡ t → AreAlike (binding x s v) (binding x t w)
-alike_binding x s t v w a e = record { vars = λ i. (x, e i) ∷ a.vars i; impure_calls = a.impure_calls }
 
 -- asking and equating bind nothing and call nothing
 pub asked_alike : (ss : List SiteTerm) (v w : Visit) → AreAlike v w → AreAlike (asking_all ss v) w
@@ -42,19 +36,16 @@ record AreOpened (o q : Opened) : Type 0 where
   inputs : o.inputs ≡ q.inputs
   after : AreAlike o.visit q.visit
 
-term_alike : (k : Kind) (t : ℕ) (s : SiteTerm) (args : TypedPatterns) (v w : Visit) → AreAlike v w → AreOpened (open_term k t s args v) (open_term k t s args w)
-term_alike k t s args v w a = grind (arith, common_steps)
-
 module _ (p : Program) where
   mutual
     pub pattern_alike : (q : TypedPattern) (s : SiteTerm) (v w : Visit) → AreAlike v w → AreAlike (visit_pattern p q s v) (visit_pattern p q s w)
-    pattern_alike (match_bind ty x sub) s v w a = pattern_alike sub s (binding x s v) (binding x s w) (alike_binding x s s v w a refl)
+    pattern_alike (match_bind ty x sub) s v w a = pattern_alike sub s (binding x s v) (binding x s w) (grind arith)
     pattern_alike (match_var ty x) s v w a =
         equating_alike s (var_site v x) v (equating s (var_site w x) w) (alike_turned (equating s (var_site w x) w) v (equating_alike s (var_site w x) w v (alike_turned v w a)))
     pattern_alike (match_bool ty b) s v w a = record { vars = a.vars; impure_calls = a.impure_calls }
     pattern_alike (match_int ty z) s v w a = record { vars = a.vars; impure_calls = a.impure_calls }
     pattern_alike (match_prim ty name) s v w a = record { vars = a.vars; impure_calls = a.impure_calls }
-    pattern_alike (match_term ty t args) s v w a = grind (arith, common_steps, each_alike args, term_alike)
+    pattern_alike (match_term ty t args) s v w a = grind (arith, common_steps, each_alike args)
     pattern_alike (match_any ty) s v w a = a
     pattern_alike (match_and ty subs) s v w a = all_alike subs s v w a
 
@@ -107,28 +98,22 @@ called_alike false multi partial rec t xs ys v w e a =
       same = record { after = record { vars = g.after.vars; impure_calls = ap suc g.after.impure_calls }; calls = g.calls; kept = g.kept };
     }
 
-made_alike : (f : SiteTerms → SiteTerm) (a b : ValuedAll) (v w : Visit) → AreAllAlike v w a b → AreValuedAlike v w (valued (f a.sites) (making (f a.sites ∷ []) a.visit)) (valued (f b.sites) (making (f b.sites ∷ []) b.visit))
-made_alike f a b v w h = grind (arith, common_steps)
-
 term_valued_alike : (k : Kind) (t : ℕ) (a b : ValuedAll) (v w : Visit) → AreAllAlike v w a b → AreValuedAlike v w (visit_term k t a) (visit_term k t b)
-term_valued_alike (a_variant ty variant) t a b v w h = made_alike (variant_made ty variant) a b v w h
-term_valued_alike (a_struct ty) t a b v w h = made_alike (struct_made ty) a b v w h
+term_valued_alike (a_variant ty variant) t a b v w h = grind arith
+term_valued_alike (a_struct ty) t a b v w h = grind arith
 term_valued_alike (a_call flags infallible) t a b v w h =
     let c = called_alike flags.pure flags.multi flags.partial flags.rec t a.sites b.sites a.visit b.visit h.sites h.same.after in
     record { site = c.site; same = then_goes v a.visit (visit_call flags t a.sites a.visit).visit w b.visit (visit_call flags t b.sites b.visit).visit h.same c.same }
 term_valued_alike unknown t a b v w h = record { site = refl; same = h.same }
 
-literal_alike : (s : SiteTerm) (v w : Visit) → AreAlike v w → AreValuedAlike v w (valued s (making (s ∷ []) v)) (valued s (making (s ∷ []) w))
-literal_alike s v w a = record { site = refl; same = record { after = record { vars = a.vars; impure_calls = a.impure_calls }; calls = λ u i. inl i; kept = λ u i. i } }
-
 module _ (p : Program) where
   mutual
     pub expr_alike : (x : TypedExpr) (v w : Visit) → AreAlike v w → AreValuedAlike v w (visit_expr p x v) (visit_expr p x w)
     expr_alike (make_term ty t args) v w a = term_valued_alike (kind p t) t (visit_exprs p args v) (visit_exprs p args w) v w (exprs_alike args v w a)
-    expr_alike (make_var ty x) v w a = record { site = same_site v w a x; same = goes_over_none v w a }
-    expr_alike (make_bool ty b) v w a = literal_alike (bool_term b ty) v w a
-    expr_alike (make_int ty z) v w a = literal_alike (int_term z ty) v w a
-    expr_alike (make_prim ty name) v w a = literal_alike (prim_term name) v w a
+    expr_alike (make_var ty x) v w a = record { site = (ap (λ vs. or_no_site (look (λ k. k == x) vs)) a.vars); same = goes_over_none v w a }
+    expr_alike (make_bool ty b) v w a = grind arith
+    expr_alike (make_int ty z) v w a = grind arith
+    expr_alike (make_prim ty name) v w a = grind arith
     expr_alike (make_let ty defs body) v w a = grind (arith, common_steps, lets_alike defs v w a, expr_alike body (visit_lets p defs v) (visit_lets p defs w), then_goes)
 
     exprs_alike : (xs : TypedExprs) (v w : Visit) → AreAlike v w → AreAllAlike v w (visit_exprs p xs v) (visit_exprs p xs w)
@@ -137,4 +122,4 @@ module _ (p : Program) where
 
     lets_alike : (ds : TypedLets) (v w : Visit) → AreAlike v w → GoesOverSame v (visit_lets p ds v) w (visit_lets p ds w)
     lets_alike no_typed_let v w a = goes_over_none v w a
-    lets_alike (typed_let_and x ty value rest) v w a = grind (arith, common_steps, expr_alike value v w a, lets_alike rest, alike_binding, then_goes)
+    lets_alike (typed_let_and x ty value rest) v w a = grind (arith, common_steps, expr_alike value v w a, lets_alike rest, then_goes)

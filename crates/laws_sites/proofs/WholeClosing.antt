@@ -1,10 +1,10 @@
 -- Closing keeps all that follows from the demands within reach; where it ends, all of it is asked.
-use Rattle.std.proofs.Common.{◌≡◌, ◌≢◌, ℕ, true, List, [], ◌∷◌, ◌++◌, map, filter, flat_map, refl, sym, ◌∙◌, subst, inl, inr, arith}
+use Rattle.std.proofs.Common.{◌≡◌, ℕ, true, List, [], ◌∷◌, ◌++◌, map, filter, flat_map, refl, sym, ◌∙◌, subst, inl, inr, arith}
 use Rattle.std.proofs.lemmas.Bool.{cases_Bool, false≢true}
 use Rattle.std.proofs.lemmas.Grind.{common_steps}
 use Rattle.model.specs.sites.Sites.{Constraint, SiteTerm, field_terms}
 use Rattle.model.specs.visits.Demands.{Demands, has_site, with_sites}
-use Rattle.model.specs.sites.Closure.{Joined, given, itself, turned, chained, at_field, HasConstraint, IsUnreachable, IsFree, Closed, ClosedIsWhole, class_at, without_class_of, merged_all, ascending, field_equalities, taken, closing, before_closing, begins_with, in_order, most_closing_steps, closed}
+use Rattle.model.specs.sites.Closure.{Joined, given, itself, turned, chained, at_field, HasConstraint, IsUnreachable, Closed, ClosedIsWhole, class_at, without_class_of, merged_all, ascending, field_equalities, taken, closing, before_closing, begins_with, in_order, most_closing_steps, closed}
 use Rattle.laws_sites.specs.VisitLaws.{EqualSitesAreMade}
 use Rattle.laws_sites.specs.ClosureLaws.{HasEnded}
 use Rattle.model.proofs.Elements.{In, in_from_contains, contains_from_in, some_is, in_right, in_either, any_in, in_map, map_in, from_flat_map, in_flat_map, in_filter, filter_from, passed_filter}
@@ -60,14 +60,8 @@ module _ (d : Demands) (reachable : IsUnreachable d → ⊥) where
     after_follows : FollowsSoFar d after
     after_follows = taken_follows d k w.follows c m
 
-    member_class : (s : SiteTerm) → In members s → In (class_at k.classes c.0) s
-    member_class s i = has_in (class_at k.classes c.0) s (passed_filter (has_site (class_at k.classes c.0)) k.made s i)
-
     member_joined : (s : SiteTerm) → In members s → Joined d c.0 s
-    member_joined s i = in_class_joined d k.classes w.follows.classes c.0 s (member_class s i)
-
-    member_has : (s : SiteTerm) → In members s → HasConstraint d s c.1
-    member_has s i = constraint_carried d c.0 s c.1 (member_joined s i) (w.follows.constraints c m)
+    member_joined s i = in_class_joined d k.classes w.follows.classes c.0 s (grind (arith, has_in, passed_filter))
 
     left_apart : IsApart (without_class_of k.classes c.0)
     left_apart l n s i j x y = w.apart l n s (without_in k.classes c.0 l i).0 (without_in k.classes c.0 n j).0 x y
@@ -76,7 +70,7 @@ module _ (d : Demands) (reachable : IsUnreachable d → ⊥) where
     member_asked : (s : SiteTerm) → In members s → In after.constraints (s, c.1)
     member_asked s i =
         let g = gets_constraint k.constraints (map (λ u. (u, c.1)) members) (s, c.1) (map_in (λ (u : SiteTerm). (u, c.1)) members s i) in
-        let same = one_demanded d reachable s g.0 c.1 (after_follows.constraints (s, g.0) g.1) (member_has s i) in
+        let same = one_demanded d reachable s g.0 c.1 (after_follows.constraints (s, g.0) g.1) (constraint_carried d c.0 s c.1 (member_joined s i) (w.follows.constraints c m)) in
         subst (λ b. In after.constraints (s, b)) same g.1
 
     -- the classes before are joined after
@@ -102,9 +96,6 @@ module _ (d : Demands) (reachable : IsUnreachable d → ⊥) where
     new_taken : (a b : SiteTerm) → In (pairs_of members) (a, b) → IsTaken after.constraints after.classes history_after a b
     new_taken a b i = grind (arith, common_steps, pair_members c.1 members a b i, member_asked a, member_asked b, field_joined)
 
-    old_taken : (a b : SiteTerm) → In h (a, b) → IsTaken after.constraints after.classes history_after a b
-    old_taken a b i = grind (arith, common_steps, keeps_all, carried)
-
     made_field : (s x : SiteTerm) → In members s → In (field_terms c.1 s) x → In after.made x
     made_field s x i j = in_with_sites k.made (flat_map (field_terms c.1) members) x (inr (in_flat_map (field_terms c.1) members s x i j))
 
@@ -117,7 +108,7 @@ module _ (d : Demands) (reachable : IsUnreachable d → ⊥) where
           (λ l s i j. in_with_sites k.made (flat_map (field_terms c.1) members) s (inl (w.within l s (without_in k.classes c.0 l i).0 j)))
           (λ e i. let q = equality_members c.1 members e i in (made_field q.0 e.0 q.2 q.4, made_field q.1 e.1 q.3 q.5));
       equal = λ a b i. carried a b (w.equal a b i);
-      history = λ a b i. elim (in_either (pairs_of members) h (a, b) i) [ inl j ↦ new_taken a b j | inr j ↦ old_taken a b j ];
+      history = λ a b i. elim (in_either (pairs_of members) h (a, b) i) [ inl j ↦ new_taken a b j | inr j ↦ grind (arith, keeps_all, carried) ];
     }
 
   abbrev Standing : Closed → Type 0
@@ -217,9 +208,6 @@ module _ (d : Demands) (reachable : IsUnreachable d → ⊥) where
     chain_ends a b (back j) = back_ends b a (chain_ends b a j)
     chain_ends a b (then_on {b = m} i j) = on_ends a m b (chain_ends a m i) (chain_ends m b j)
 
-    free_class : (a b : SiteTerm) → a ≢ b → IsFree d a → Ends a b → InOne k.classes a b
-    free_class a b n f h = grind (arith, common_steps)
-
     -- the classes in order are the classes
     abbrev ordered : List (List SiteTerm)
     ordered = (in_order k).classes
@@ -263,7 +251,7 @@ module _ (d : Demands) (reachable : IsUnreachable d → ⊥) where
               free = λ c q. class_free o.class a c o.there o.first (constraint_asked a c q);
             },
         λ q.
-            let o = in_ordered a b (free_class a b q.different q.free (chain_ends a b (joined_chain a b q.joined))) in
+            let o = in_ordered a b (grind (arith, common_steps, chain_ends a b (joined_chain a b q.joined), q.different, q.free)) in
             (q.different, (o.class, contains_from_in ordered o.class o.there, contains_from_in o.class a o.first, contains_from_in o.class b o.second)),
       );
     }

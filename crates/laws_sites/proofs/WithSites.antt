@@ -7,7 +7,7 @@ use Rattle.model.specs.rules.Meaning.{look}
 use Rattle.model.specs.rules.Program.{Program, Kind, a_variant, a_struct, a_call, unknown, kind}
 use Rattle.model.specs.rules.Typed.{TypedPattern, match_bind, match_var, match_bool, match_int, match_prim, match_term, match_any, match_and, TypedPatterns, no_typed_pattern, typed_pattern_and, TypedExpr, make_term, make_var, make_bool, make_int, make_prim, make_let, TypedExprs, no_typed_expr, typed_expr_and, TypedLets, no_typed_let, typed_let_and, TypedIfLet, TypedRule}
 use Rattle.model.specs.sites.Sites.{Constraint, is_variant, is_struct, is_bool, is_int, is_prim, is_present, SiteTerm, bool_term, int_term, prim_term, argument, extractor_call, constructor_call, pick_of, variant_made, struct_made, some_made, some_part, tuple_part, no_site, SiteTerms, no_site_term, site_term_and, field_terms}
-use Rattle.model.specs.visits.Demands.{fields_opened, Count, fields_matched, outputs_taken, argument_taken, counting, Demands, Visit, visit_start, making, asking, equating, iterating, calling, binding, pattern_count, output_sites, part_sites, call_result, call_sites, where_multi, unwraps_all, or_no_site, var_site, Opened, open_call, open_term, visit_pattern, visit_each, visit_all, Valued, ValuedAll, valued, visit_call, visit_term, visit_expr, visit_exprs, visit_lets, unwraps, asking_all, visit_args, visit_iflets, finished, visit_rule, taking_argument, outputs_opened}
+use Rattle.model.specs.visits.Demands.{fields_opened, Count, fields_matched, outputs_taken, argument_taken, counting, Demands, Visit, visit_start, making, asking, equating, iterating, calling, binding, pattern_count, output_sites, part_sites, call_result, call_sites, where_multi, unwraps_all, or_no_site, var_site, Opened, open_call, open_term, visit_pattern, visit_each, visit_all, Valued, ValuedAll, valued, visit_term, visit_expr, visit_exprs, visit_lets, unwraps, asking_all, visit_args, visit_iflets, visit_rule, taking_argument, outputs_opened}
 use Rattle.model.proofs.Elements.{In, in_right, in_either}
 use Rattle.laws_sites.proofs.Patterns.{in_fields}
 use Rattle.laws_sites.proofs.AskedSites.{equated, equating_binds, asked_binds, at_right}
@@ -241,14 +241,10 @@ module _ (p : Program) (R : Demands → Type 0) (Q : Demands → SiteTerm → Ty
             site = k.call w.demands t i ss (flags false false) infallible f refl refl (in_right v.demands.made (c ∷ []) c (inl refl)) (each_stays R Q v.demands w.demands a.stays ss m);
           }
 
-  call_valued : (pure multi partial rec infallible : Bool) (t : ℕ) (ss : SiteTerms) (v : Visit) → kind p t ≡ a_call (record { pure = pure; multi = multi; partial = partial; rec = rec }) infallible → R v.demands → AtEach R Q v.demands ss
-      → IsValued R Q v.demands (visit_call (record { pure = pure; multi = multi; partial = partial; rec = rec }) t ss v)
-  call_valued pure multi partial rec infallible t ss v e h m = grind (arith, common_steps, call_given, then_onward)
-
   term_valued : (n : Kind) (t : ℕ) (a : ValuedAll) → kind p t ≡ n → R a.visit.demands → AtEach R Q a.visit.demands a.sites → IsValued R Q a.visit.demands (visit_term n t a)
   term_valued (a_variant ty variant) t a e h m = grind (arith, common_steps, in_right a.visit.demands.made, each_stays R Q a.visit.demands)
   term_valued (a_struct ty) t a e h m = grind (arith, common_steps, in_right a.visit.demands.made, each_stays R Q a.visit.demands)
-  term_valued (a_call flags infallible) t a e h m = call_valued flags.pure flags.multi flags.partial flags.rec infallible t a.sites a.visit e h m
+  term_valued (a_call flags infallible) t a e h m = grind (arith, common_steps, call_given, then_onward)
   term_valued unknown t a e h m = record { onward = no_step R Q a.visit.demands h; site = k.unbound a.visit.demands }
 
 -- 4. visits
@@ -359,10 +355,6 @@ module _ (p : Program) (R : Demands → Type 0) (Q : Demands → SiteTerm → Ty
       then_past R Q v u (visit_iflets p is z) a.past
       (then_past R Q u w (visit_iflets p is z) b (then_past R Q w z (visit_iflets p is z) c (iflets_past is z c.at)))
 
-  -- in a partial term the result is made last
-  finished_given : (b : Bool) (a : Valued) → R a.visit.demands → Q a.visit.demands a.site → IsValued R Q a.visit.demands (finished b a)
-  finished_given b a h m = grind (arith, common_steps, no_step, in_right)
-
   -- so a rule's whole visit keeps both, and the fact of sites holds of the result
   pub rule_given : (r : TypedRule) → R visit_start.demands → R (visit_rule p r).visit.demands × Q (visit_rule p r).visit.demands (visit_rule p r).site
-  rule_given r start = grind (arith, common_steps, args_past, iflets_past, expr_given, finished_given)
+  rule_given r start = grind (arith, common_steps, args_past, iflets_past, expr_given, no_step, in_right)

@@ -89,12 +89,6 @@ module _ (f : Facts) where
   moved : (vars : List (ℕ × ℕ)) (v w : Visit) → Same vars v w → AreOf vars v → AreOf vars w
   moved vars v w s d x ty i = subst (λ u. f.site u ty) (sym (s x (ap is_some i))) (d x ty i)
 
-  unmoved : (vars : List (ℕ × ℕ)) (v w : Visit) → w.vars ≡ v.vars → AreOf vars v → AreOf vars w
-  unmoved vars v w e = moved vars v w (λ x h. ap (λ vs. or_no_site (look (λ y. y == x) vs)) e)
-
-  with_var : (x ty : ℕ) (vars : List (ℕ × ℕ)) (v : Visit) → f.site (var_site v x) ty → AreOf vars v → AreOf ((x, ty) ∷ vars) v
-  with_var x ty vars v h d y t i = grind (arith, common_steps, some_is)
-
   just_bound : (x : ℕ) (s : SiteTerm) (v : Visit) → var_site (binding x s v) x ≡ s
   just_bound x s v = ap or_no_site (cond-true (x == x) (Some s) (look (λ z. z == x) v.vars) (eq-eqb x x refl))
 
@@ -108,11 +102,11 @@ module _ (f : Facts) where
   then_past_typed mid more u v w within a b = record { demands = b.demands; vars = b.vars; kept = λ x n. b.kept x n ∙ a.kept x (outside mid more within x n) }
 
   same_past : (v w : Visit) (vars more : List (ℕ × ℕ)) → Some vars ≡ Some more → w.vars ≡ v.vars → f.demands w.demands → AreOf vars v → PastTyped more v w
-  same_past v w vars more e same h d = grind (arith, common_steps, some_is, unmoved)
+  same_past v w vars more e same h d = grind (arith, common_steps, some_is)
 
   -- a binding, before what is bound in its pattern
   bind_past : (x ty : ℕ) (s : SiteTerm) (mid : List (ℕ × ℕ)) (v w : Visit) → is_some (var_type mid x) ≡ false → f.site s ty → PastTyped mid (binding x s v) w → PastTyped ((x, ty) ∷ mid) v w
-  bind_past x ty s mid v w new h b = grind (arith, common_steps, with_var, just_bound)
+  bind_past x ty s mid v w new h b = grind (arith, common_steps, just_bound)
 
 module _ (p : Program) (f : Facts) (k : KeptWithTypes f p) where
   abbrev AllMatched : List Use → Type 0
@@ -141,7 +135,7 @@ module _ (p : Program) (f : Facts) (k : KeptWithTypes f p) where
         let o = open_term (kind p t) t s args v in
         let same = open_binds (kind p t) t s args v in
         let u = k.opens t a.entry a.there a.matched (m (a_term t) (inl refl)) s (subst (f.site s) (sym a.ret) h) args (as_many p args a.entry.arg_tys vars more a.formed) v g in
-        let r = each_past args o.inputs a.entry.arg_tys o.visit vars more a.formed (λ x i. m x (inr i)) u.1 u.0 (unmoved f vars v o.visit same d) in
+        let r = each_past args o.inputs a.entry.arg_tys o.visit vars more a.formed (λ x i. m x (inr i)) u.1 u.0 (grind (arith, common_steps, moved)) in
         record { demands = r.demands; vars = r.vars; kept = λ x n. r.kept x n ∙ ap (λ vs. or_no_site (look (λ y. y == x) vs)) same }
     pattern_past (match_any ty) s v vars more e m h g d = same_past f v v vars more e refl g d
     pattern_past (match_and ty subs) s v vars more e m h g d = all_past subs s ty v vars more e m h g d
@@ -195,7 +189,7 @@ module _ (p : Program) (f : Facts) (k : KeptWithTypes f p) where
         let r = expr_given value v vars a.1 (λ y i. m y (in_left (expr_uses value) (lets_uses rest) y i)) g d in
         let here : f.site (var_site w x) ty = subst (λ u. f.site u ty) (sym (just_bound f x b.site b.visit)) (subst (f.site b.site) a.0 r.0) in
         let others = moved f vars b.visit w (same_binding vars x b.site b.visit a.2) (moved f vars v b.visit (expr_keeps p value v vars a.1) d) in
-        lets_past rest w ((x, ty) ∷ vars) more a.3 (λ y i. m y (in_right (expr_uses value) (lets_uses rest) y i)) r.1 (with_var f x ty vars w here others)
+        lets_past rest w ((x, ty) ∷ vars) more a.3 (λ y i. m y (in_right (expr_uses value) (lets_uses rest) y i)) r.1 (grind (arith, some_is))
 
   -- 4. rules
   -- arguments from i on, at their types
@@ -227,7 +221,7 @@ module _ (p : Program) (f : Facts) (k : KeptWithTypes f p) where
       let r = expr_given i.rhs v vars a.value (λ x j. c x (in_left (expr_uses i.rhs) called x j)) g d in
       let s = pattern_past i.lhs b.site u vars a.mid a.pattern (λ x j. m x (in_left (pattern_uses i.lhs) matched x j))
       (subst (f.site b.site) (sym (eqb-true (pattern_type i.lhs) (expr_type i.rhs) a.typed)) r.0) (k.asks_all (unwraps b.site) b.visit r.1)
-      (unmoved f vars b.visit u (asked_binds (unwraps b.site) b.visit) (moved f vars v b.visit (expr_keeps p i.rhs v vars a.value) d)) in
+      (grind (arith, common_steps, moved, asked_binds (unwraps b.site) b.visit, moved f vars v b.visit (expr_keeps p i.rhs v vars a.value) d, b.visit)) in
       iflets_past_typed is (visit_pattern p i.lhs b.site u) a.mid more a.rest (λ x j. m x (in_right (pattern_uses i.lhs) matched x j)) (λ x j. c x (in_right (expr_uses i.rhs) called x j)) s.demands s.vars
 
   finished_keeps : (b : Bool) (a : Valued) (ty : ℕ) → IsGiven f a ty → f.demands (finished b a).visit.demands

@@ -9,7 +9,7 @@ use Rattle.model.specs.sites.Sites.{Constraint, Site, SetRule, SiteSet, SiteTerm
 use Rattle.model.specs.visits.Demands.{demands_of, with_sites}
 use Rattle.model.specs.sites.Closure.{Closed, closed, is_unreachable, reported}
 use Rattle.model.specs.sites.Limits.{RuleLimit, first_limit, most_sites, sites_after_rule, sites_after_rules, sites_reached, sites_wanted}
-use Rattle.model.specs.sites.Overlap.{BuiltRule, RuleReport, limit_passed, not_reached, built_from, built_rule, is_built, build_reports_of}
+use Rattle.model.specs.sites.Overlap.{BuiltRule, not_reached, built_from, built_rule, is_built}
 use Rattle.model.specs.sites.RuleSets.{AreRulesOfSet, AsksFor, Equates, GoesOver, IsRuleOf, StandFor}
 use Rattle.model.proofs.Members.{all_members, nothing_in}
 use Rattle.std.proofs.lemmas.Grind.{common_steps}
@@ -91,14 +91,8 @@ module _ (p : Program) (before : List SiteTerm) (r : TypedRule) (none : first_li
   all_kept : sites_after_rule p before r ≡ sites_wanted p before r
   all_kept = take_all most_sites (sites_reached p before r) (let l = ltb-false most_sites (length (sites_reached p before r)) (has_room p before r none) in omega (arith, l)) ∙ all_wanted p before r none
 
-  reports_none : build_reports_of p before r ≡ map (λ why. not_reached why r.at) (reported (sites_wanted p before r) (demands_of p r))
-  reports_none = ap (λ o. elim o as (λ _. List RuleReport) [ Some l ↦ limit_passed l r.at ∷ [] | None ↦ map (λ why. not_reached why r.at) (reported (sites_wanted p before r) (demands_of p r)) ]) none
-
   is_built_by : (b : Bool) → is_unreachable (demands_of p r) ≡ b → is_built p before r ≡ not b
   is_built_by b e = (λ i. is_none (none i) && not (e i))
-
-reports_limit : (p : Program) (before : List SiteTerm) (r : TypedRule) (l : RuleLimit) → first_limit p before r ≡ Some l → build_reports_of p before r ≡ limit_passed l r.at ∷ []
-reports_limit p before r l e = ap (λ o. elim o as (λ _. List RuleReport) [ Some l ↦ limit_passed l r.at ∷ [] | None ↦ map (λ why. not_reached why r.at) (reported (sites_wanted p before r) (demands_of p r)) ]) e
 
 not_built : (p : Program) (before : List SiteTerm) (r : TypedRule) (l : RuleLimit) → first_limit p before r ≡ Some l → is_built p before r ≡ false
 not_built p before r l e = ap (λ o. is_none o && not (is_unreachable (demands_of p r))) e
@@ -130,9 +124,9 @@ sets_go_past_rules_lem p done r old new said h (rule_unreachable g none cant sta
     let before = sites_after_rules p [] done in
     let wanted = cond-true (is_unreachable (demands_of p r)) (with_sites before (demands_of p r).made) (closed before (demands_of p r)).made cant in (
       left p done r old new h g (is_built_by p before r none true cant) (subst (StandFor new.sites) (sym (all_kept p before r none ∙ wanted)) stand) rules,
-      ap (λ s. map (λ why. not_reached why r.at) (reported s (demands_of p r))) (sym wanted) ∙ sym (reports_none p before r none),
+      ap (λ s. map (λ why. not_reached why r.at) (reported s (demands_of p r))) (sym wanted) ∙ sym (grind arith),
     )
-sets_go_past_rules_lem p done r old new said h (limit_met l g passed stand rules) = grind (arith, common_steps, left p done r old new h g, not_built p, reports_limit p)
+sets_go_past_rules_lem p done r old new said h (limit_met l g passed stand rules) = grind (arith, common_steps, left p done r old new h g, not_built p)
 
 -- 5. the start and the end
 pub sets_start_empty_lem : SetsStartEmpty

@@ -1,7 +1,7 @@
 -- The sets of all terms go past one more rule of the program, and the reports go on.
 use Rattle.std.proofs.Common.{◌≡◌, ◌≢◌, ◌==◌, ◌||◌, ℕ, Bool, true, false, List, [], ◌∷◌, ◌++◌, Option, Some, None, is_some, refl, sym, ap, ◌∙◌, subst, inl, inr, eqb-true, eq-eqb, arith}
 use Rattle.std.specs.List.{list_any}
-use Rattle.std.proofs.lemmas.Bool.{cases_Bool, cond-true, false≢true}
+use Rattle.std.proofs.lemmas.Bool.{cases_Bool, false≢true}
 use Rattle.std.proofs.lemmas.List.{append-nil, append_assoc}
 use Rattle.std.proofs.lemmas.List.Elements.{filter-append, All-contains}
 use Rattle.std.proofs.lemmas.Option.{none-some, same_Some}
@@ -24,12 +24,6 @@ reports_more p done [] r = grind (arith, common_steps, append-nil)
 reports_more p done (q ∷ rs) r = grind (arith, common_steps, reports_more p (done ++ q ∷ []) rs r, append_assoc)
 
 -- 2. rules of one term
-with_own : (t : ℕ) (done : List TypedRule) (r : TypedRule) → (r.root_term == t) ≡ true → of_one_term t (done ++ r ∷ []) ≡ of_one_term t done ++ r ∷ []
-with_own t done r h = filter-append (λ q. q.root_term == t) done (r ∷ []) ∙ ap (λ l. of_one_term t done ++ l) (cond-true (r.root_term == t) (r ∷ []) [] h)
-
-without_other : (t : ℕ) (done : List TypedRule) (r : TypedRule) → (r.root_term == t) ≡ false → of_one_term t (done ++ r ∷ []) ≡ of_one_term t done
-without_other t done r h = grind (arith, common_steps, filter-append, append-nil)
-
 any_more : (t : ℕ) (done : List TypedRule) (r : TypedRule) → (b : Bool) → (r.root_term == t) ≡ b
     → list_any (λ q. q.root_term == t) (done ++ r ∷ []) ≡ list_any (λ q. q.root_term == t) done || b
 any_more t [] r true e = ap (λ x. x || false) e
@@ -58,10 +52,10 @@ building_goes_on_lem p done r old new reports said h b = record {
   each = λ t set e. elim (cases_Bool (r.root_term == t)) [
     | inl y ↦
         let same = eqb-true r.root_term t y in
-        subst (λ rs. StandsAfter p rs set) (sym (with_own t done r y))
+        subst (λ rs. StandsAfter p rs set) (sym (grind (arith, filter-append)))
         (subst (λ u. StandsAfter p (of_one_term u done ++ r ∷ []) set) same
         (subst (StandsAfter p (of_one_term r.root_term done ++ r ∷ [])) (same_Some b.set set (sym b.here ∙ subst (λ u. new u ≡ Some set) (sym same) e)) past.0))
-    | inr n ↦ subst (λ rs. StandsAfter p rs set) (sym (without_other t done r n)) (h.each t set (sym (b.others t (apart t n)) ∙ e))
+    | inr n ↦ subst (λ rs. StandsAfter p rs set) (sym (grind (arith, filter-append, append-nil))) (h.each t set (sym (b.others t (apart t n)) ∙ e))
   ];
   reported =
       (λ i. h.reported i ++ past.1 i) ∙ sym (reports_more p [] done r);

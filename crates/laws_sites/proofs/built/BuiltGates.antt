@@ -125,9 +125,6 @@ pub record IsGood (asked pure : Bool) (sites : List Site) (r : SetRule) (s : ℕ
 gate_there : (asked : Bool) (r : SetRule) (o : Option Site) → gate_demanded r o ≡ true → HasGate asked r o
 gate_there asked r o h = grind (arith, common_steps)
 
-pure_there : (pure : Bool) (b : Site) → IsPureSite b → IsPureWhere pure b
-pure_there pure b h = grind (arith, common_steps)
-
 pub site_there : {X : Type 0} (xs : List X) (k : ℕ) → k < length xs → (x : X) × (slice_get xs k ≡ Some x)
 site_there [] k l = absurd (omega arith)
 site_there (x ∷ xs) zero l = (x, refl)
@@ -197,7 +194,7 @@ module _ (s : BuiltSet) (x : RuleOfSet s) (asked pure : Bool) where
   layer_gate (match_tuple_site source field) f g = gate_there asked r (Some (match_tuple_site source field)) refl
 
   layer_pure : (s : Site) → Good (layer at s) → IsPureWhere pure s
-  layer_pure s g = grind (arith, common_steps, pure_there)
+  layer_pure s g = grind (arith, common_steps)
 
   each_good : (ss : List ℕ) → AllGatesDemanded asked pure b.demands.constraints (demands_of p b.rule).iterators (each_term at ss) → (a : ℕ) → In ss a → Good (at a)
   each_good [] g a i = absurd i

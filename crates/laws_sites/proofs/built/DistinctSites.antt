@@ -36,11 +36,8 @@ once_wanted p before r h =
     either_way IsDistinct (is_unreachable (demands_of p r)) (with_sites before (demands_of p r).made) (closed before (demands_of p r)).made
     (once_with before (demands_of p r).made h) (once_closed before (demands_of p r) h)
 
-once_reached : (p : Program) (before : List SiteTerm) (r : TypedRule) → IsDistinct before → IsDistinct (sites_reached p before r)
-once_reached p before r h = grind (arith, common_steps, once_with before, once_wanted p before r h)
-
 pub once_after_rule : (p : Program) (before : List SiteTerm) (r : TypedRule) → IsDistinct before → IsDistinct (sites_after_rule p before r)
-once_after_rule p before r h = distinct_taken most_sites (sites_reached p before r) (once_reached p before r h)
+once_after_rule p before r h = distinct_taken most_sites (sites_reached p before r) (grind (arith, common_steps, once_with before, once_wanted p before r h))
 
 pub once_after : (p : Program) (before : List SiteTerm) (rs : List TypedRule) → IsDistinct before → IsDistinct (sites_after_rules p before rs)
 once_after p before [] h = h

@@ -1,5 +1,5 @@
 -- A visit goes over calls of multi terms, and constrains no such call, nor does the closing of its demands.
-use Rattle.std.proofs.Common.{◌≡◌, ℕ, Bool, true, false, List, [], ◌∷◌, Contains, refl, sym, ap, subst, inl, inr, ◌∙◌, arith}
+use Rattle.std.proofs.Common.{◌≡◌, ℕ, Bool, true, false, List, [], ◌∷◌, Contains, sym, ap, subst, inl, inr, ◌∙◌, arith}
 use Rattle.std.proofs.lemmas.Bool.{false≢true}
 use Rattle.std.proofs.lemmas.Grind.{common_steps}
 use Rattle.model.specs.lists.Tables.{Flags}
@@ -16,7 +16,6 @@ use Rattle.laws_sites.proofs.built.BuiltGates.{set_rule, was_built}
 use Rattle.laws_sites.proofs.Closing.{closing_is_sound_lem}
 use Rattle.model.specs.sites.DemandedGates.{IsMultiCall, HasNoPartialMulti, GoesOverMultiCalls}
 use Rattle.laws_sites.proofs.Patterns.{by_field}
-use Rattle.laws_sites.proofs.AskedSites.{equated}
 use Rattle.laws_sites.proofs.WithSites.{IsLeaf, by_leaf, by_equating, Onward, AtEach, KeptWithSites, unwrapped_at_each, rule_given}
 
 module _ (p : Program) (neither : HasNoPartialMulti p) where
@@ -47,15 +46,9 @@ module _ (p : Program) (neither : HasNoPartialMulti p) where
   after_iterating : (s : SiteTerm) (v : Visit) → MultiCallsApart v.demands → IsMultiCall p s → MultiCallsApart (iterating s v).demands
   after_iterating s v h m = grind (arith, common_steps, in_either)
 
-  after_asking : (s : SiteTerm) (c : Constraint) (v : Visit) → MultiCallsApart v.demands → IsOther s → MultiCallsApart (asking s c v).demands
-  after_asking s c v h o = grind (arith, common_steps, in_either)
-
   after_asking_all : (ss : List SiteTerm) (v : Visit) → MultiCallsApart v.demands → ((s : SiteTerm) → In ss s → IsOther s) → MultiCallsApart (asking_all ss v).demands
   after_asking_all [] v h f = h
-  after_asking_all (s ∷ ss) v h f = after_asking_all ss (asking s is_present v) (after_asking s is_present v h (f s (inl refl))) (λ t i. f t (inr i))
-
-  after_equated : (a b : SiteTerm) (v : Visit) → MultiCallsApart v.demands → IsOther a → IsOther b → MultiCallsApart (equated a b v).demands
-  after_equated a b v h m n = grind (arith, common_steps, in_either)
+  after_asking_all (s ∷ ss) v h f = after_asking_all ss (asking s is_present v) (grind (arith, common_steps, in_either)) (λ t i. f t (inr i))
 
   leaf_plain : (s : SiteTerm) → IsLeaf s → IsPlain s
   leaf_plain = by_leaf IsPlain (λ i. (λ m. m, λ s k. absurd k)) (λ b ty. (λ m. m, λ s k. absurd k)) (λ z ty. (λ m. m, λ s k. absurd k)) (λ name. (λ m. m, λ s k. absurd k))
@@ -67,12 +60,8 @@ module _ (p : Program) (neither : HasNoPartialMulti p) where
   part_plain : (call : SiteTerm) → IsOther call → ((s : SiteTerm) → In (unwraps call) s → IsOther s) → IsPlain (some_part call)
   part_plain call o deep = (λ m. m, λ s i. elim i [ inl q ↦ subst IsOther q o | inr j ↦ deep s j ])
 
-  -- what a term of this kind is
-  its_multi : (t : ℕ) (flags : Flags) (infallible : Bool) → kind p t ≡ a_call flags infallible → is_multi p t ≡ flags.multi
-  its_multi t flags infallible e = ap (λ k. (flags_of k).multi) e
-
   not_multi : (t : ℕ) (flags : Flags) (infallible : Bool) → kind p t ≡ a_call flags infallible → flags.multi ≡ false → is_multi p t ≡ true → ⊥
-  not_multi t flags infallible e f m = false≢true (sym (its_multi t flags infallible e ∙ f) ∙ m)
+  not_multi t flags infallible e f m = false≢true (sym ((ap (λ k. (flags_of k).multi) e) ∙ f) ∙ m)
 
   apart_kept : KeptWithSites MultiCallsApart StaysPlain p
   apart_kept = record {
@@ -90,12 +79,12 @@ module _ (p : Program) (neither : HasNoPartialMulti p) where
     counts = λ c v h. onward v.demands (counting c v).demands (record { asked = h.asked; equal = h.equal; calls = h.calls });
     makes = λ ts v h. onward v.demands (making ts v).demands (record { asked = h.asked; equal = h.equal; calls = h.calls });
     calls = λ s v h m. onward v.demands (calling s v).demands (record { asked = h.asked; equal = h.equal; calls = h.calls });
-    equates = λ a b v h m n. onward v.demands (equating a b v).demands (by_equating (λ w. MultiCallsApart w.demands) a b v h (after_equated a b v h m.0 n.0));
-    asks = λ s c v f h m. onward v.demands (asking s c v).demands (after_asking s c v h m.0);
+    equates = λ a b v h m n. onward v.demands (equating a b v).demands (by_equating (λ w. MultiCallsApart w.demands) a b v h (grind (arith, common_steps, in_either)));
+    asks = λ s c v f h m. onward v.demands (asking s c v).demands (grind (arith, common_steps, in_either));
     asks_all = λ s v h m. onward v.demands (asking_all (unwraps s) v).demands (after_asking_all (unwraps s) v h m.1);
-    asks_call = grind (arith, common_steps, not_multi, onward, after_asking, part_plain);
-    iterates_extractor = grind (arith, common_steps, onward, after_iterating, its_multi);
-    iterates_constructor = grind (arith, common_steps, onward, after_iterating, its_multi);
+    asks_call = grind (arith, common_steps, not_multi, onward, part_plain, in_either);
+    iterates_extractor = grind (arith, common_steps, onward, after_iterating);
+    iterates_constructor = grind (arith, common_steps, onward, after_iterating);
   }
 
   rule_apart : (r : TypedRule) → MultiCallsApart (demands_of p r)

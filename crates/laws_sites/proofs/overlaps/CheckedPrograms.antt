@@ -20,9 +20,6 @@ use Rattle.laws_sites.proofs.overlaps.ReportedOverlaps.{wrong_means, wrong_there
 use Rattle.model.proofs.Mapped.{nothing_mapped}
 use Rattle.model.proofs.FewElements.{nothing_if_none, none_in, not_empty}
 
-tails : {X : Type 0} (x y : X) (xs ys : List X) → (x ∷ xs) ≡ (y ∷ ys) → xs ≡ ys
-tails x y xs ys e = cc
-
 no_parts : {X : Type 0} (xs ys : List X) → (xs ++ ys) ≡ [] → (xs ≡ []) × (ys ≡ [])
 no_parts [] ys e = (refl, e)
 no_parts (x ∷ xs) ys e = absurd (not_empty x (xs ++ ys) e)
@@ -60,7 +57,7 @@ module _ (p : Program) where
   kept_all before (r ∷ rs) e =
       let rest : List TypedRule = rules_in (built_from p (sites_after_rule p before r) rs) in
       elim (cases_Bool (is_built p before r)) [
-        | inl t ↦ (t, kept_all (sites_after_rule p before r) rs (tails r r (rules_in (built_from p (sites_after_rule p before r) rs)) rs (sym (ap rules_in (built_on before r rs t)) ∙ e)))
+        | inl t ↦ (t, kept_all (sites_after_rule p before r) rs (grind arith))
         | inr f ↦ grind (arith, common_steps, no_more (sites_after_rule p before r) rs, left_out before r rs f)
       ]
 

@@ -77,17 +77,13 @@ module _ (p : Program) where
         | inr b ↦ back (done ++ r ∷ []) rs (append_assoc done (r ∷ []) rs ∙ h) x b
       ]
 
-  -- they say of rules that are left out, and nothing else
-  left_out_of : (before : List SiteTerm) (r : TypedRule) (o : Option RuleLimit) (x : RuleReport) → In (reports_by before r o) x → is_left_out x ≡ true
-  left_out_of before r o x i = grind (arith, common_steps, in_map)
-
   -- those of one rule stand at it
   pub reports_of_rule : (before : List SiteTerm) (r : TypedRule) (x : RuleReport) → In (build_reports_of p before r) x → (is_left_out x ≡ true) × (report_position x ≡ r.at)
-  reports_of_rule before r x i = (left_out_of before r (first_limit p before r) x i, (own before r (first_limit p before r) x i).0)
+  reports_of_rule before r x i = ((grind (arith, common_steps, in_map)), (own before r (first_limit p before r) x i).0)
 
   all_left_out : (done rs : List TypedRule) (x : RuleReport) → In (build_reports_after p done rs) x → is_left_out x ≡ true
   all_left_out done [] x i = absurd i
-  all_left_out done (r ∷ rs) x i = grind (arith, common_steps, all_left_out (done ++ r ∷ []) rs x, in_either, left_out_of)
+  all_left_out done (r ∷ rs) x i = grind (arith, common_steps, all_left_out (done ++ r ∷ []) rs x, in_either, in_map)
 
   pub build_reports_are_left_out : (x : RuleReport) → In (build_reports p) x → is_left_out x ≡ true
   build_reports_are_left_out x i = all_left_out [] p.rules x i

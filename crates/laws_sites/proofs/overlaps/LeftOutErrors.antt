@@ -12,7 +12,7 @@ use Rattle.model.specs.sites.Sites.{SiteTerm}
 use Rattle.model.specs.visits.Demands.{demands_of}
 use Rattle.model.specs.sites.Closure.{reported}
 use Rattle.model.specs.sites.Limits.{RuleLimit, PassesLimit, first_limit, sites_wanted, sites_after_rules}
-use Rattle.model.specs.sites.Overlap.{HasDistinctPositions, RuleReport, limit_passed, not_reached, report_position, position_eq, build_reports_of, build_reports_after, build_reports}
+use Rattle.model.specs.sites.Overlap.{HasDistinctPositions, RuleReport, limit_passed, not_reached, report_position, build_reports_of, build_reports_after, build_reports}
 use Rattle.model.specs.claims.Refusals.{refusal_of, sites_before}
 use Rattle.model.specs.claims.Layers.{is_left_out, CheckReports}
 use Rattle.model.proofs.Elements.{In, contains_from_in, in_slice}
@@ -24,24 +24,15 @@ use Rattle.laws_sites.proofs.overlaps.ListedOverlaps.{position_means, position_s
 use Rattle.laws_sites.proofs.overlaps.Masks.{Apart, distinct_apart}
 use Rattle.laws_sites.proofs.overlaps.Pairs.{none_pass, times_append, times_map}
 
-one_plus : (k : ℕ) → 1 + k ≡ suc k
-one_plus k = omega arith
-
-no_more : (k : ℕ) → k + 0 ≡ k
-no_more k = omega arith
-
 all_pass : {X : Type 0} (t : X → Bool) (xs : List X) → ((x : X) → In xs x → t x ≡ true) → times t xs ≡ length xs
 all_pass t [] f = refl
-all_pass t (x ∷ xs) f = ap (λ b. one_if b + times t xs) (f x (inl refl)) ∙ one_plus (times t xs) ∙ ap suc (all_pass t xs (λ y i. f y (inr i)))
+all_pass t (x ∷ xs) f = ap (λ b. one_if b + times t xs) (f x (inl refl)) ∙ (omega arith) ∙ ap suc (all_pass t xs (λ y i. f y (inr i)))
 
 -- 1. reports of one rule
 module _ (at : Position) where
   -- a report says that the rule at the position is left out
   abbrev pub is_of : RuleReport → Bool
   is_of x = says_left_out at (refusal_of x)
-
-  counted_as : (x : RuleReport) → is_left_out x ≡ true → is_of x ≡ position_eq (report_position x) at
-  counted_as x e = grind (arith, common_steps)
 
   not_counted : (x : RuleReport) → is_left_out x ≡ false → is_of x ≡ true → ⊥
   not_counted x h e = grind (arith, common_steps)
@@ -52,14 +43,14 @@ module _ (p : Program) where
 
   module _ (at : Position) where
     here : (before : List SiteTerm) (r : TypedRule) → r.at ≡ at → times (is_of at) (build_reports_of p before r) ≡ length (build_reports_of p before r)
-    here before r e = grind (arith, common_steps, all_pass, reports_of_rule, counted_as, position_same)
+    here before r e = grind (arith, common_steps, all_pass, reports_of_rule, position_same)
 
     elsewhere : (before : List SiteTerm) (r : TypedRule) → (r.at ≡ at → ⊥) → times (is_of at) (build_reports_of p before r) ≡ 0
     elsewhere before r n =
         none_pass (is_of at) (build_reports_of p before r)
         (λ k x e t.
         let w = reports_of_rule p before r x (in_slice (build_reports_of p before r) k x e) in
-        n (sym w.1 ∙ position_means (report_position x) at (sym (counted_as at x w.0) ∙ t)))
+        n (sym w.1 ∙ position_means (report_position x) at (sym (grind (arith, common_steps)) ∙ t)))
 
     none_after : (done rs : List TypedRule) → ((q : TypedRule) → In rs q → q.at ≡ at → ⊥) → times (is_of at) (build_reports_after p done rs) ≡ 0
     none_after done [] f = refl
@@ -72,7 +63,7 @@ module _ (p : Program) where
   counted : (done rs : List TypedRule) → Apart (λ q. q.at) rs → (i : ℕ) (r : TypedRule) → slice_get rs i ≡ Some r
       → times (is_of r.at) (build_reports_after p done rs) ≡ length (build_reports_of p (sites_for r (done ++ take i rs)) r)
   counted done [] a i r e = absurd (none-some r e)
-  counted done (q ∷ rs) a zero r e = grind (arith, common_steps, same_Some, here, none_after, times_append, no_more, append-nil)
+  counted done (q ∷ rs) a zero r e = grind (arith, common_steps, same_Some, here, none_after, times_append, append-nil)
   counted done (q ∷ rs) a (suc i) r e =
       let first = elsewhere r.at (sites_for q done) q (λ n. a.0 r (in_slice rs i r e) (sym n)) in
       let rest = counted (done ++ q ∷ []) rs a.1 i r e in
@@ -92,7 +83,7 @@ module _ (p : Program) (reports : List RuleReport) (c : CheckReports p reports) 
       ∙ ap (times (is_of r.at)) c.all
       ∙ times_append (is_of r.at) (build_reports p) c.later
       ∙ (λ k. first k + rest k)
-      ∙ no_more (length (build_reports_of p (sites_before p i r) r))
+      ∙ (omega arith)
 
   abbrev by_limit : ℕ → TypedRule → Option RuleLimit → List RuleReport
   by_limit i r o = elim o [ Some l ↦ limit_passed l r.at ∷ [] | None ↦ map (λ why. not_reached why r.at) (reported (sites_wanted p (sites_before p i r) r) (demands_of p r)) ]

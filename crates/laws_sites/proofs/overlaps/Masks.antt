@@ -66,24 +66,18 @@ built_stand_apart p before [] a = tt
 built_stand_apart p before (r ∷ rs) a = grind (arith, common_steps, built_stand_apart p (sites_after_rule p before r) rs a.1, apart_append, built_of)
 
 module _ (p : Program) (distinct : HasDistinctPositions p) where
-  rules_apart : Apart (λ r. r.at) p.rules
-  rules_apart = distinct_apart (λ r. r.at) p.rules distinct
-
   compared_apart : (t : ℕ) → Apart (λ b. b.rule.at) (compared p t)
   compared_apart t =
       elim (cases_Bool (is_multi p t)) [
         | inl m ↦ subst (Apart (λ b. b.rule.at)) (sym (cond-true (is_multi p t) [] (built_rules p t) m)) tt
         | inr f ↦
             subst (Apart (λ b. b.rule.at)) (sym (cond-false (is_multi p t) [] (built_rules p t) f))
-            (built_stand_apart p [] (rules_of p t) (apart_filter (λ r. r.at) (λ q. q.root_term == t) p.rules rules_apart))
+            (built_stand_apart p [] (rules_of p t) (apart_filter (λ r. r.at) (λ q. q.root_term == t) p.rules (distinct_apart (λ r. r.at) p.rules distinct)))
       ]
 
   -- the mask of a report of a term
   report_mask : (m : BuiltRule) (l : List BuiltRule) (s : ShadowReport) → In (shadow_report m l) s → s.mask ≡ m.rule.at
   report_mask m l s i = grind (arith, common_steps)
-
-  one_report : (m : BuiltRule) (l : List BuiltRule) → Apart (λ s. s.mask) (shadow_report m l)
-  one_report m l = grind (arith, common_steps)
 
   -- a rule of a term's report
   record OfTerm (t : ℕ) (s : ShadowReport) : Type 0 where
@@ -101,9 +95,9 @@ module _ (p : Program) (distinct : HasDistinctPositions p) where
       (apart_filter (λ (t : ℕ). t) (λ t. list_any (λ r. r.root_term == t) p.rules) (numbers_from 0 p.terms) (numbers_apart 0 p.terms))
       (λ t i.
       apart_each (λ b. b.rule.at) (λ s. s.mask) (λ q. shadow_report q (filter (shadows q) (compared p t))) (compared p t) (compared_apart t)
-      (λ m j. one_report m (filter (shadows m) (compared p t)))
+      (λ m j. grind (arith, common_steps))
       (λ m n a b u v x y e. sym (report_mask n (filter (shadows n) (compared p t)) b y) ∙ e ∙ report_mask m (filter (shadows m) (compared p t)) a x))
-      (λ t u a b i j x y e. grind (arith, common_steps, of_term t a x, of_term u b y, apart_same (λ r. r.at) p.rules rules_apart))
+      (λ t u a b i j x y e. grind (arith, common_steps, of_term t a x, of_term u b y, apart_same (λ r. r.at) p.rules (distinct_apart (λ r. r.at) p.rules distinct)))
 
 pub masks_are_reported_once_lem : (p : Program) → RulesHaveTerms p → HasDistinctPositions p → (t : ℕ) (m r : BuiltRule) → is_multi p t ≡ false
     → Contains (built_rules p t) m → Contains (built_rules p t) r → Shadows m r

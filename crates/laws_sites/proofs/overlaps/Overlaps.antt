@@ -40,17 +40,11 @@ differ_means as' bs h =
       two = λ e. false≢true (sym (not-true (constraint_eq a.0.1 b.0.1) p.1) ∙ same_constraint a.0.1 b.0.1 e);
     }
 
-unequal : (a b : Constraint) → a ≢ b → not (constraint_eq a b) ≡ true
-unequal a b n = grind (arith, common_steps, constraint_means)
-
 pub differ_from : (as' bs : List (SiteTerm × Constraint)) → Differing as' bs → differ as' bs ≡ true
-differ_from as' bs d = grind (arith, common_steps, any_in, and_from, term_same, unequal)
-
-turned_differing : (as' bs : List (SiteTerm × Constraint)) → Differing as' bs → Differing bs as'
-turned_differing as' bs d = record { site = d.site; first = d.second; second = d.first; in_first = d.in_second; in_second = d.in_first; two = λ e. d.two (sym e) }
+differ_from as' bs d = grind (arith, common_steps, any_in, and_from, term_same)
 
 pub differ_symmetric : (as' bs : List (SiteTerm × Constraint)) → differ as' bs ≡ differ bs as'
-differ_symmetric as' bs = grind (arith, common_steps, bool_same, differ_from, turned_differing, differ_means)
+differ_symmetric as' bs = grind (arith, common_steps, bool_same, differ_from, differ_means)
 
 pub overlaps_symmetric_lem : (a b : Closed) → overlaps a b ≡ overlaps b a
 overlaps_symmetric_lem a b = ap not (differ_symmetric a.constraints b.constraints)

@@ -18,15 +18,6 @@ use Rattle.laws_sites.proofs.overlaps.ListedOverlaps.{position_means, position_s
 zero_suc : (k : ℕ) → 0 ≡ suc k → ⊥
 zero_suc k e = omega (arith, e)
 
-less_one : (n k : ℕ) → suc n ≡ suc k → n ≡ k
-less_one n k e = omega (arith, e)
-
-swapped : (m n k : ℕ) → m + (n + k) ≡ n + (m + k)
-swapped m n k = omega arith
-
-grouped : (m n k : ℕ) → m + (n + k) ≡ (m + n) + k
-grouped m n k = omega arith
-
 module _ {X : Type 0} (t : X → Bool) where
   pub none_pass : (xs : List X) → ((n : ℕ) (y : X) → slice_get xs n ≡ Some y → t y ≡ true → ⊥) → times t xs ≡ 0
   none_pass [] f = refl
@@ -37,12 +28,12 @@ module _ {X : Type 0} (t : X → Bool) where
   one_passes (y ∷ ys) zero x e h only = grind (arith, common_steps, same_Some y x e, none_pass ys (λ n z f g. zero_suc n (sym (only (suc n) z f g))), zero_suc)
   one_passes (y ∷ ys) (suc k) x e h only = elim (cases_Bool (t y)) [
     | inl g ↦ absurd (zero_suc k (only 0 y refl g))
-    | inr g ↦ ap (λ b. one_if b + times t ys) g ∙ zero-add (times t ys) ∙ one_passes ys k x e h (λ n z f c. less_one n k (only (suc n) z f c))
+    | inr g ↦ ap (λ b. one_if b + times t ys) g ∙ zero-add (times t ys) ∙ one_passes ys k x e h (λ n z f c. (omega (arith, (only (suc n) z f c))))
   ]
 
   pub times_append : (xs ys : List X) → times t (xs ++ ys) ≡ times t xs + times t ys
   times_append [] ys = sym (zero-add (times t ys))
-  times_append (x ∷ xs) ys = ap (λ k. one_if (t x) + k) (times_append xs ys) ∙ grouped (one_if (t x)) (times t xs) (times t ys)
+  times_append (x ∷ xs) ys = ap (λ k. one_if (t x) + k) (times_append xs ys) ∙ (omega arith)
 
 pub times_map : {X Y : Type 0} (t : Y → Bool) (f : X → Y) (xs : List X) → times t (map f xs) ≡ times (λ x. t (f x)) xs
 times_map t f [] = refl
@@ -56,7 +47,7 @@ never (x ∷ xs) = zero-add (times (λ y. false) xs) ∙ never xs
 module _ (t : RuleReport → Bool) where
   times_with : (a : RuleReport) (bs : List RuleReport) → times t (with_report a bs) ≡ one_if (t a) + times t bs
   times_with a [] = refl
-  times_with a (b ∷ bs) = grind (arith, common_steps, times_with a bs, swapped)
+  times_with a (b ∷ bs) = grind (arith, common_steps, times_with a bs)
 
   pub times_sorted : (rs : List RuleReport) → times t (by_position rs) ≡ times t rs
   times_sorted [] = refl
@@ -89,17 +80,11 @@ in_has b [] i = absurd i
 in_has b (x ∷ xs) (inl e) = or_left (position_eq x b) (has_place b xs) (position_same x b e)
 in_has b (x ∷ xs) (inr i) = or_right (position_eq x b) (has_place b xs) (in_has b xs i)
 
-one_way : (a b : Position) (r : OverlapReport) → (position_eq r.first a && has_place b r.others) ≡ true → (r.first ≡ a) × Contains r.others b
-one_way a b r h = let q = and_parts (position_eq r.first a) (has_place b r.others) h in (position_means r.first a q.0, contains_from_in r.others b (has_in b r.others q.1))
-
 back_way : (a b : Position) (r : OverlapReport) → (r.first ≡ a) × Contains r.others b → (position_eq r.first a && has_place b r.others) ≡ true
 back_way a b r h = and_from (position_eq r.first a) (has_place b r.others) (position_same r.first a h.0) (in_has b r.others (in_from_contains r.others b h.1))
 
 both_means : (a b : Position) (r : OverlapReport) → both_in a b r ≡ true → ListsBoth r a b
-both_means a b r h = grind (arith, common_steps, or_split, one_way)
-
-both_from : (a b : Position) (r : OverlapReport) → ListsBoth r a b → both_in a b r ≡ true
-both_from a b r h = grind (arith, common_steps, or_left, back_way)
+both_means a b r h = grind (arith, common_steps, or_split, and_parts, position_means, contains_from_in, has_in)
 
 -- 4. the reports of building list no overlap
 abbrev is_overlap : RuleReport → Bool
@@ -128,7 +113,7 @@ wrong_pairs_stand_once_lem p terms t i j o =
     ∙ times_append (lists_both a b) (map rules_overlap overlaps) (map rule_shadows shadows)
     ∙ ap (λ k. k + times (lists_both a b) (map rule_shadows shadows))
     (times_map (lists_both a b) rules_overlap overlaps
-    ∙ one_passes (both_in a b) overlaps once.place once.report once.here (both_from a b once.report once.lists) (λ n y e h. once.only n y e (both_means a b y h)))
+    ∙ one_passes (both_in a b) overlaps once.place once.report once.here (grind (arith, common_steps, or_left, back_way)) (λ n y e h. once.only n y e (both_means a b y h)))
     ∙ ap (λ k. 1 + k) (times_map (lists_both a b) rule_shadows shadows ∙ never shadows)
 
 -- an overlap report of checking is one of the wrong overlaps

@@ -37,9 +37,6 @@ two_in {X = X} (x ∷ xs) (suc i) (suc j) a b lt e f = in_right (map (λ (y : X)
 pub compared_means : (p : Program) (t : ℕ) (b : BuiltRule) → In (compared p t) b → (is_multi p t ≡ false) × (compared p t ≡ built_rules p t)
 compared_means p t b i = grind (arith, common_steps)
 
-compared_all : (p : Program) (t : ℕ) → is_multi p t ≡ false → compared p t ≡ built_rules p t
-compared_all p t f = cond-false (is_multi p t) [] (built_rules p t) f
-
 -- a built rule is one of the term's
 pub built_of : (p : Program) (before : List SiteTerm) (rs : List TypedRule) (b : BuiltRule) → In (built_from p before rs) b → In rs b.rule
 built_of p before [] b i = absurd i
@@ -96,7 +93,7 @@ pub wrong_there : (p : Program) → RulesHaveTerms p → (t i j : ℕ) (o : Over
 wrong_there p terms t i j o =
     in_flat_map (λ u. wrong_in (compared p u)) (terms_with_rules p) t (o.first.rule.at, o.second.rule.at)
     (term_there p terms t o.first (in_slice (built_rules p t) i o.first o.here))
-    (subst (λ l. In (wrong_in l) (o.first.rule.at, o.second.rule.at)) (sym (compared_all p t o.one_result))
+    (subst (λ l. In (wrong_in l) (o.first.rule.at, o.second.rule.at)) (sym (cond-false (is_multi p t) [] (built_rules p t) o.one_result))
     (map_in (λ (q : BuiltRule × BuiltRule). (q.0.rule.at, q.1.rule.at)) (filter (λ (q : BuiltRule × BuiltRule). clash q.0 q.1) (each_two (built_rules p t))) (o.first, o.second)
     (grind (arith, common_steps, filter_from, two_in, clash_decides))))
 
@@ -108,9 +105,6 @@ shadowed_some : (m : BuiltRule) (l : List BuiltRule) (s : ShadowReport) → In (
 shadowed_some m [] s i = absurd i
 shadowed_some m (r ∷ rs) s (inl e) = ((r, inl refl), sym e)
 shadowed_some m (r ∷ rs) s (inr n) = absurd n
-
-some_shadowed : (m : BuiltRule) (l : List BuiltRule) (r : BuiltRule) → In l r → In (shadow_report m l) (report_of m l)
-some_shadowed m l r i = grind (arith, common_steps)
 
 -- what a shadow report is of
 pub record Masked (p : Program) (s : ShadowReport) : Type 0 where
@@ -131,6 +125,6 @@ pub masked_there : (p : Program) → RulesHaveTerms p → (t : ℕ) (m r : Built
 masked_there p terms t m r one i j h =
     in_flat_map (λ u. shadow_reports_in (compared p u)) (terms_with_rules p) t (report_of m (filter (shadows m) (built_rules p t)))
     (term_there p terms t m i)
-    (subst (λ l. In (shadow_reports_in l) (report_of m (filter (shadows m) (built_rules p t)))) (sym (compared_all p t one))
+    (subst (λ l. In (shadow_reports_in l) (report_of m (filter (shadows m) (built_rules p t)))) (sym (cond-false (is_multi p t) [] (built_rules p t) one))
     (in_flat_map (λ q. shadow_report q (filter (shadows q) (built_rules p t))) (built_rules p t) m (report_of m (filter (shadows m) (built_rules p t))) i
-    (some_shadowed m (filter (shadows m) (built_rules p t)) r (filter_from (shadows m) (built_rules p t) r j ((shadows_decides m r).1 h)))))
+    (grind (arith, common_steps, filter_from (shadows m) (built_rules p t) r j ((shadows_decides m r).1 h)))))

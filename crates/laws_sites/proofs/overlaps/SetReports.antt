@@ -1,5 +1,5 @@
 -- What is reported of built sets is what is reported of their program: their rules stand for the built rules, one by one.
-use Rattle.std.proofs.Common.{◌≡◌, ℕ, suc, Bool, true, false, if◌then◌else◌, List, [], ◌∷◌, ◌++◌, map, filter, Some, slice_get, refl, sym, ap, ◌∙◌, subst, inl, inr, arith}
+use Rattle.std.proofs.Common.{◌≡◌, ℕ, suc, Bool, if◌then◌else◌, List, [], ◌∷◌, ◌++◌, map, filter, Some, slice_get, refl, sym, ap, ◌∙◌, subst, inl, inr, arith}
 use Rattle.std.proofs.lemmas.Bool.{cases_Bool}
 use Rattle.std.specs.List.{AllZip, flat_map}
 use Rattle.std.proofs.lemmas.Grind.{common_steps}
@@ -7,7 +7,7 @@ use Rattle.model.specs.rules.Program.{Program, is_multi}
 use Rattle.model.specs.sites.Sites.{SetRule, SiteSet}
 use Rattle.model.specs.sites.Overlap.{BuiltRule, overlaps, is_subset_pair, clash, shadows, each_two, compared, wrong_in, shadow_report, shadow_reports_in, overlap_reports, rules_overlap, rule_shadows, by_position}
 use Rattle.model.specs.sites.RuleSets.{AreRulesOfSet, IsBuilt}
-use Rattle.model.specs.sites.SetRules.{RuleOverlap, no_overlap, some_overlap, overlap_between, may_both_match, is_subset, overlap_wrongly, is_mask_of, wrong_among, shadow_report_of, shadows_among, compared_in}
+use Rattle.model.specs.sites.SetRules.{overlap_between, may_both_match, is_subset, overlap_wrongly, is_mask_of, wrong_among, shadow_report_of, shadows_among, compared_in}
 use Rattle.model.specs.claims.SetMeanings.{AreOneRule}
 use Rattle.model.proofs.Elements.{In}
 use Rattle.laws_sites.specs.SetReportLaws.{BuiltSetsAreReported}
@@ -35,13 +35,10 @@ module _ {A B : Type 0} (R : A → B → Type 0) where
   zip_append (a ∷ as') (b ∷ bs) cs ds z w = (z.0, zip_append as' bs cs ds z.1 w)
   zip_append h k cs ds z w = grind (arith, common_steps)
 
-  zip_if : (a : A) (b : B) → R a b → (as' : List A) (bs : List B) → AllZip R as' bs → (t : Bool) → AllZip R (if t then a ∷ as' else as') (if t then b ∷ bs else bs)
-  zip_if a b h as' bs z t = grind (arith, common_steps)
-
   zip_filter : (f : A → Bool) (g : B → Bool) → ((a : A) (b : B) → R a b → f a ≡ g b) → (as' : List A) (bs : List B) → AllZip R as' bs → AllZip R (filter f as') (filter g bs)
   zip_filter f g h [] [] z = tt
   zip_filter f g h (a ∷ as') (b ∷ bs) z =
-      subst (λ t. AllZip R (filter f (a ∷ as')) (if t then b ∷ filter g bs else filter g bs)) (h a b z.0) (zip_if a b z.0 (filter f as') (filter g bs) (zip_filter f g h as' bs z.1) (f a))
+      subst (λ t. AllZip R (filter f (a ∷ as')) (if t then b ∷ filter g bs else filter g bs)) (h a b z.0) (grind (arith, common_steps, zip_filter f g h as' bs z.1, f a, z.0))
   zip_filter f g h _ _ z = absurd z
 
 zip_with : {A B : Type 0} (R : A → B → Type 0) (a : A) (b : B) → R a b → (as' : List A) (bs : List B) → AllZip R as' bs
@@ -57,12 +54,6 @@ zip_each_two R (a ∷ as') [] z = absurd z
 zip_each_two {A = A} {B = B} R (a ∷ as') (b ∷ bs) z = grind (arith, common_steps, zip_each_two R as' bs z.1, zip_append, zip_with)
 
 -- 2. what is told of two rules
-not_both : (o : RuleOverlap) → may_both_match o ≡ false → o ≡ no_overlap
-not_both o e = grind (arith, common_steps)
-
-subset_told : (o : RuleOverlap) → is_subset o ≡ true → o ≡ some_overlap true
-subset_told o e = grind (arith, common_steps)
-
 -- 3. the rules of one built set stand for the built rules of its term
 module _ (p : Program) (t : ℕ) (set : SiteSet) (h : IsBuilt p t set) where
   abbrev One : BuiltRule → SetRule → Type 0
@@ -71,9 +62,6 @@ module _ (p : Program) (t : ℕ) (set : SiteSet) (h : IsBuilt p t set) where
   same_at : (b : BuiltRule) (r : SetRule) → One b r → b.rule.at ≡ r.at
   same_at b r o = sym (one_rule p t set b r h o).at
 
-  same_prio : (b : BuiltRule) (r : SetRule) → One b r → b.rule.prio ≡ r.prio
-  same_prio b r o = sym (one_rule p t set b r h o).prio
-
   same_overlap : (a b : BuiltRule) (r s : SetRule) → One a r → One b s → overlaps a.demands b.demands ≡ may_both_match (overlap_between r s)
   same_overlap a b r s o w =
       let told = set_rules_overlap_as_their_demands_lem p t set h a b r s o w in
@@ -81,7 +69,7 @@ module _ (p : Program) (t : ℕ) (set : SiteSet) (h : IsBuilt p t set) where
       bool_same (overlaps a.demands b.demands) (may_both_match (overlap_between r s))
       (λ e. elim (cases_Bool (may_both_match (overlap_between r s))) [
         | inl y ↦ y
-        | inr n ↦ absurd (told.none.0 (not_both (overlap_between r s) n) (test.0 e))
+        | inr n ↦ absurd (told.none.0 (grind arith) (test.0 e))
       ])
       (λ e. grind (arith, common_steps))
 
@@ -91,21 +79,18 @@ module _ (p : Program) (t : ℕ) (set : SiteSet) (h : IsBuilt p t set) where
       let test = subset_pair_decides a.demands b.demands in
       bool_same (is_subset_pair a.demands b.demands) (is_subset (overlap_between r s))
       (λ e. ap is_subset (told.subset.1 (test.0 e)))
-      (λ e. test.1 (told.subset.0 (subset_told (overlap_between r s) e)))
+      (λ e. test.1 (told.subset.0 (grind arith)))
 
   same_clash : (a b : BuiltRule) (r s : SetRule) → One a r → One b s → clash a b ≡ overlap_wrongly r s
-  same_clash a b r s o w = grind (arith, common_steps, same_prio, same_overlap)
+  same_clash a b r s o w = grind (arith, common_steps, same_overlap, one_rule)
 
   same_shadows : (a b : BuiltRule) (r s : SetRule) → One a r → One b s → shadows a b ≡ is_mask_of r s
-  same_shadows a b r s o w = grind (arith, common_steps, same_prio, same_subset, set_rules_constrain_as_their_demands_lem)
+  same_shadows a b r s o w = grind (arith, common_steps, same_subset, set_rules_constrain_as_their_demands_lem, one_rule)
 
   placed : (bs : List BuiltRule) (rs : List SetRule) → AreRulesOfSet p set.sites bs rs
       → ((i : ℕ) (b : BuiltRule) (r : SetRule) → slice_get bs i ≡ Some b → slice_get rs i ≡ Some r → One b r) → AllZip One bs rs
   placed (b ∷ bs) (r ∷ rs) q f = (f 0 b r refl refl, placed bs rs q.1 (λ i c s e g. f (suc i) c s e g))
   placed h k q f = grind (arith, common_steps)
-
-  same_compared : AllZip One (compared p t) (compared_in (is_multi p) (t, set))
-  same_compared = grind (arith, common_steps, placed)
 
   wrong_same : (bs : List BuiltRule) (rs : List SetRule) → AllZip One bs rs → wrong_in bs ≡ wrong_among rs
   wrong_same bs rs z =
@@ -124,10 +109,10 @@ module _ (p : Program) (t : ℕ) (set : SiteSet) (h : IsBuilt p t set) where
       bs rs z
 
   pub wrong_of_term : wrong_in (compared p t) ≡ wrong_among (compared_in (is_multi p) (t, set))
-  wrong_of_term = wrong_same (compared p t) (compared_in (is_multi p) (t, set)) same_compared
+  wrong_of_term = wrong_same (compared p t) (compared_in (is_multi p) (t, set)) (grind (arith, common_steps, placed))
 
   pub shadows_of_term : shadow_reports_in (compared p t) ≡ shadows_among (compared_in (is_multi p) (t, set))
-  shadows_of_term = shadows_same (compared p t) (compared_in (is_multi p) (t, set)) same_compared
+  shadows_of_term = shadows_same (compared p t) (compared_in (is_multi p) (t, set)) (grind (arith, common_steps, placed))
 
 -- 4. all terms
 over_terms : {X : Type 0} (f : ℕ → List X) (g : ℕ × SiteSet → List X) (sets : List (ℕ × SiteSet)) → ((s : ℕ × SiteSet) → In sets s → f s.0 ≡ g s)

@@ -1,12 +1,10 @@
 -- Overlap of two rules of a set is symmetric, and in a built set it is that of their closed demands.
-use Rattle.std.proofs.Common.{◌≡◌, ◌≤◌, ℕ, ◌==◌, Bool, true, false, not, ◌&&◌, ◌||◌, if◌then◌else◌, List, [], ◌∷◌, length, Contains, All, refl, sym, ap, ◌∙◌, subst, inl, inr, arith, eq-eqb}
+use Rattle.std.proofs.Common.{◌≡◌, ◌≤◌, ℕ, ◌==◌, Bool, true, false, ◌&&◌, ◌||◌, if◌then◌else◌, List, [], ◌∷◌, length, Contains, All, refl, sym, ap, ◌∙◌, subst, inl, inr, arith, eq-eqb}
 use Rattle.std.proofs.lemmas.Bool.{cases_Bool, cond-true, cond-false, and_parts, and_from, false≢true, not-true}
 use Rattle.std.proofs.lemmas.Grind.{common_steps}
-use Rattle.model.specs.rules.Program.{Program}
 use Rattle.model.specs.sites.Sites.{Constraint, SetRule, SiteSet, SiteTerm, unfold_site}
-use Rattle.model.specs.visits.Demands.{constraint_eq}
 use Rattle.model.specs.sites.Closure.{Closed, in_order}
-use Rattle.model.specs.sites.Overlap.{Overlaps, AreAmong, IsSubsetPair, BuiltRule, built_rules}
+use Rattle.model.specs.sites.Overlap.{Overlaps, AreAmong, IsSubsetPair, BuiltRule}
 use Rattle.model.specs.sites.RuleSets.{IsRuleOf}
 use Rattle.model.specs.sites.SetRules.{sites_differ, all_agree, equates_none, is_subset_of_sites, no_overlap, some_overlap, overlap_between}
 use Rattle.model.specs.trees.Places.{is_in, joins_in}
@@ -31,32 +29,20 @@ record DifferingAt (as' bs : List (ℕ × Constraint)) : Type 0 where
 differing : (as' bs : List (ℕ × Constraint)) → sites_differ as' bs ≡ true → DifferingAt as' bs
 differing as' bs h = grind (arith, common_steps, in_any, and_parts, not-true, same_constraint)
 
-unlike : (a b : Constraint) → (a ≡ b → ⊥) → not (constraint_eq a b) ≡ true
-unlike a b n = elim (cases_Bool (constraint_eq a b)) [ inl t ↦ absurd (n (constraint_means a b t)) | inr f ↦ ap not f ]
-
 differ_at : (as' bs : List (ℕ × Constraint)) → DifferingAt as' bs → sites_differ as' bs ≡ true
-differ_at as' bs d = grind (arith, common_steps, any_in, and_from, unlike)
+differ_at as' bs d = grind (arith, common_steps, any_in, and_from)
 
 turned : (as' bs : List (ℕ × Constraint)) → DifferingAt as' bs → DifferingAt bs as'
 turned as' bs d = record { site = d.site; first = d.second; second = d.first; in_first = d.in_second; in_second = d.in_first; two = λ e. d.two (sym e) }
-
-agree_means : (as' bs : List (ℕ × Constraint)) → all_agree as' bs ≡ true → (d : ℕ × Constraint) → In as' d → In bs d
-agree_means as' bs h d i = grind (arith, common_steps, in_any, all_in, and_parts, constraint_means)
 
 agree_from : (as' bs : List (ℕ × Constraint)) → ((d : ℕ × Constraint) → In as' d → In bs d) → all_agree as' bs ≡ true
 agree_from as' bs h = grind (arith, common_steps, all_from, any_in, and_from, same_constraint)
 
 -- 2. symmetry
-and_turned : (a b c d : Bool) → (a && b && (c || d)) ≡ (b && a && (d || c))
-and_turned a b c d = grind (arith, common_steps)
-
 pub overlap_of_set_rules_is_symmetric_lem : OverlapOfSetRulesIsSymmetric
-overlap_of_set_rules_is_symmetric_lem r s = grind (arith, common_steps, bool_same, differ_at, turned, differing, and_turned)
+overlap_of_set_rules_is_symmetric_lem r s = grind (arith, common_steps, bool_same, differ_at, turned, differing)
 
 -- 3. what is told
-told_none : (b c : Bool) → (if b then no_overlap else some_overlap c) ≡ no_overlap → b ≡ true
-told_none b c e = grind (arith, common_steps)
-
 told_subset : (b c : Bool) → (if b then no_overlap else some_overlap c) ≡ some_overlap true → (b ≡ false) × (c ≡ true)
 told_subset b c e = grind (arith, common_steps)
 
@@ -65,13 +51,10 @@ told_subset b c e = grind (arith, common_steps)
 class_filled : (k : Closed) (l : List SiteTerm) → In (in_order k).classes l → (u : SiteTerm) × In l u
 class_filled k l i = grind (arith, common_steps, from_flat_map, passed_filter)
 
-built_filled : (p : Program) (t : ℕ) (b : BuiltRule) → In (built_rules p t) b → (l : List SiteTerm) → In b.demands.classes l → (u : SiteTerm) × In l u
-built_filled p t b i = grind (arith, common_steps, was_built, class_filled)
-
 -- a rule of a built set has no class exactly where its closed demands have none
 module _ (of : BuiltSet) (x : RuleOfSet of) where
   none_closed : x.rule.classes ≡ [] → x.typed.demands.classes ≡ []
-  none_closed e = filled x.typed.demands.classes (built_filled of.program of.term x.typed x.listed) (λ l u i m. all l u i m)
+  none_closed e = filled x.typed.demands.classes (grind (arith, common_steps, was_built, class_filled)) (λ l u i m. all l u i m)
     where
       all : (l : List SiteTerm) (u : SiteTerm) → In x.typed.demands.classes l → In l u → ⊥
       all l u i m =
@@ -158,7 +141,7 @@ module _ (of : BuiltSet) (first second : RuleOfSet of) where
 pub set_rules_overlap_as_their_demands_lem : SetRulesOverlapAsTheirDemands
 set_rules_overlap_as_their_demands_lem p t set h a b r s one other = record {
   none = (
-    λ e o. apart_above of first second (differing r.constraints s.constraints (told_none (sites_differ r.constraints s.constraints) (is_subset_of_sites r s) e)) o,
+    λ e o. apart_above of first second (differing r.constraints s.constraints (grind arith)) o,
     λ n. elim (cases_Bool (sites_differ r.constraints s.constraints)) [
       | inl y ↦ cond-true (sites_differ r.constraints s.constraints) no_overlap (some_overlap (is_subset_of_sites r s)) y
       | inr f ↦ absurd (n (overlap_above of first second f))
@@ -186,8 +169,8 @@ set_rules_overlap_as_their_demands_lem p t set h a b r s one other = record {
           first_has_none = none_closed of first ((none_listed r.classes).0 y.0);
           second_has_none = none_closed of second ((none_listed s.classes).0 y.1);
           among = elim (or_split (all_agree r.constraints s.constraints) (all_agree s.constraints r.constraints) x.1) [
-            | inl z ↦ inl (among_above of first second (agree_means r.constraints s.constraints z))
-            | inr z ↦ inr (among_above of second first (agree_means s.constraints r.constraints z))
+            | inl z ↦ inl (among_above of first second (grind (arith, common_steps, in_any, all_in, and_parts, constraint_means)))
+            | inr z ↦ inr (among_above of second first (grind (arith, common_steps, in_any, all_in, and_parts, constraint_means)))
           ];
         }
 

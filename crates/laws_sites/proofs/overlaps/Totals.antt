@@ -13,7 +13,6 @@ use Rattle.model.specs.sites.Closure.{Closed, class_at, without_class_of, merged
 use Rattle.model.specs.sites.Limits.{sites_after_rule}
 use Rattle.model.specs.sites.Overlap.{BuiltRule, is_built, built_rule, built_from}
 use Rattle.model.specs.sites.RuleSets.{IsRuleOf}
-use Rattle.model.specs.trees.Places.{joins_in}
 use Rattle.model.proofs.DistinctCounts.{no_more_distinct}
 use Rattle.model.proofs.DistinctJoined.{distinct_cons, distinct_tail, not_in_tail, distinct_append, distinct_filter, distinct_map}
 use Rattle.model.proofs.Elements.{In, in_from_contains, contains_from_in, in_either, in_filter, passed_filter, in_map, map_in, in_flat_map, from_flat_map, any_in, in_any}
@@ -209,23 +208,17 @@ module _ (of : BuiltSet) (x : RuleOfSet of) where
       (k.0, map_in (λ (d : ℕ × Constraint). d.0) r.constraints (k.0, m.0.1) (in_from_contains r.constraints (k.0, m.0.1) k.1), k.2 ∙ m.2))
       ∙ length-map b.demands.constraints (λ (d : SiteTerm × Constraint). d.0)
 
-  member_joined : (n : ℕ) → In (flat_map (λ (c : List ℕ). c) r.classes) n → joins_in r.classes n n ≡ true
-  member_joined n i = grind (arith, common_steps, from_flat_map, any_in, and_from)
-
-  joined_member : (n k : ℕ) → joins_in r.classes n k ≡ true → In (flat_map (λ (c : List ℕ). c) r.classes) n
-  joined_member n k j = grind (arith, common_steps, in_any, and_parts, in_flat_map)
-
   members_count : length (flat_map (λ (c : List ℕ). c) r.classes) ≡ length (flat_map (λ (c : List SiteTerm). c) b.demands.classes)
   members_count =
       as_many (flat_map (λ (c : List ℕ). c) r.classes) (flat_map (λ (c : List SiteTerm). c) b.demands.classes) q.classes.once (flat_distinct b.demands.classes once.classes)
       (λ n i.
-      let k = q.classes.joined n n (member_joined n i) in
+      let k = q.classes.joined n n (grind (arith, from_flat_map, any_in, and_from)) in
       (k.0, in_flat_map (λ (c : List SiteTerm). c) b.demands.classes k.2 (unfold_site set.sites n) (in_from_contains b.demands.classes k.2 k.3) (in_from_contains k.2 (unfold_site set.sites n) k.4)))
       (λ u i.
       let m = from_flat_map (λ (c : List SiteTerm). c) b.demands.classes u i in
       let c = contains_from_in m.0 u m.2 in
       let k = q.classes.all_joined m.0 u u (contains_from_in b.demands.classes m.0 m.1) c c in
-      (k.0, joined_member k.0 k.1 k.2, k.3))
+      (k.0, (grind (arith, common_steps, in_any, and_parts, in_flat_map)), k.3))
 
 pub set_rules_constrain_as_their_demands_lem : SetRulesConstrainAsTheirDemands
 set_rules_constrain_as_their_demands_lem p t set h b r one =
