@@ -6,7 +6,7 @@ use Rattle.model.specs.sites.Sites.{Constraint, is_present, SiteTerm, extractor_
 use Rattle.model.specs.visits.Demands.{Demands, Visit, asking, equating, unwraps, unwraps_all, asking_all}
 use Rattle.model.proofs.Elements.{In, in_from_contains, in_either}
 use Rattle.laws_sites.proofs.Patterns.{by_field}
-use Rattle.laws_sites.proofs.WithSites.{IsLeaf, by_leaf, by_equating, Onward, AtEach, KeptWithSites, unwrapped_at_each}
+use Rattle.laws_sites.proofs.WithSites.{by_leaf, by_equating, Onward, AtEach, KeptWithSites, unwrapped_at_each}
 use Rattle.laws_sites.specs.Followers.{AsksNothingElse}
 
 -- whether a call of a term of this kind may answer nothing, in a pattern and in an expression
@@ -43,9 +43,6 @@ module _ (p : Program) where
   after_asking_all [] v h = h
   after_asking_all (s ∷ ss) v h = after_asking_all ss (asking s is_present v) (grind (arith, in_either))
 
-  leaf_plain : (d : Demands) (s : SiteTerm) → IsLeaf s → IsPlain d s
-  leaf_plain d = by_leaf (IsPlain d) (λ i. (refl, λ s k. absurd k)) (λ b ty. (refl, λ s k. absurd k)) (λ z ty. (refl, λ s k. absurd k)) (λ name. (refl, λ s k. absurd k))
-
   -- each call that these unwrap may answer nothing, and so does one whose answer is taken
   all_unwrapped : (d : Demands) (us : SiteTerms) → AtEach IsQuiet IsPlain d us → (s : SiteTerm) → In (unwraps_all us) s → may_lack s ≡ true
   all_unwrapped d = unwrapped_at_each IsQuiet IsPlain (λ s. may_lack s ≡ true) d (λ u m. m.1)
@@ -56,7 +53,7 @@ module _ (p : Program) where
   pub quiet_kept : KeptWithSites IsQuiet IsPlain p
   quiet_kept = record {
     unbound = λ d. (refl, λ s i. absurd i);
-    leaf = λ d s l n. leaf_plain d s l;
+    leaf = λ d s l n. by_leaf (IsPlain d) (λ i. (refl, λ s k. absurd k)) (λ b ty. (refl, λ s k. absurd k)) (λ z ty. (refl, λ s k. absurd k)) (λ name. (refl, λ s k. absurd k)) s l;
     variant = λ d ty variant us n m. (refl, all_unwrapped d us m);
     struct = λ d ty us n m. (refl, all_unwrapped d us m);
     result = λ d s n m. (refl, m.1);

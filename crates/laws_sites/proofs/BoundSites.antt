@@ -9,12 +9,11 @@ use Rattle.model.specs.visits.Demands.{Demands, demands_of, Visit, asking, open_
 use Rattle.model.proofs.Elements.{In, in_from_contains, in_either}
 use Rattle.laws_sites.specs.VisitLaws.{FormedRulesMakeEqualSites}
 use Rattle.laws_sites.proofs.VisitedRules.{visits_make_lem}
-use Rattle.laws_sites.proofs.PatternParts.{AsMany}
 use Rattle.laws_sites.proofs.Patterns.{term_known}
 use Rattle.laws_sites.proofs.RuleParts.{rule_parts}
 use Rattle.laws_sites.proofs.AskedSites.{equated}
 use Rattle.laws_sites.proofs.WithSites.{by_equating}
-use Rattle.laws_sites.proofs.WithTypes.{Facts, AtEachTyped, IsGiven, KeptWithTypes, all_fields_each, outputs_each, rule_kept_typed}
+use Rattle.laws_sites.proofs.WithTypes.{Facts, IsGiven, KeptWithTypes, all_fields_each, outputs_each, rule_kept_typed}
 
 abbrev IsSite : SiteTerm → Type 0
 IsSite u = u ≡ no_site → ⊥
@@ -35,10 +34,6 @@ after_asking_all [] v h = h
 after_asking_all (s ∷ ss) v h = after_asking_all ss (asking s is_present v) h
 
 -- 1. patterns
-call_opens : (pure multi partial rec infallible : Bool) (call : SiteTerm) (args : TypedPatterns) (tys : List ℕ) (v : Visit) → AsMany args tys → IsSite call
-    → AtEachTyped sites (open_call (record { pure = pure; multi = multi; partial = partial; rec = rec }) infallible call args v).inputs tys
-call_opens pure multi partial rec infallible call args tys v n m = grind (arith, common_steps, outputs_each)
-
 call_equates : (pure multi partial rec infallible : Bool) (call : SiteTerm) (args : TypedPatterns) (v : Visit) → EqualsSites v.demands → EqualsSites (open_call (record { pure = pure; multi = multi; partial = partial; rec = rec }) infallible call args v).visit.demands
 call_equates pure multi partial rec infallible call args v h = grind (arith, common_steps)
 
@@ -48,7 +43,7 @@ term_is_site k t a ty known h = grind (arith, common_steps)
 
 -- 3. rules
 sites_kept : (p : Program) → KeptWithTypes sites p
-sites_kept p = grind (arith, by_equating, after_equated, term_known, term_is_site, after_asking_all, all_fields_each, call_equates, call_opens)
+sites_kept p = grind (arith, by_equating, after_equated, term_known, term_is_site, after_asking_all, all_fields_each, call_equates, outputs_each)
 
 only_made : (v : Visit) (s : SiteTerm) → Contains v.demands.made s ⊎ (s ≡ no_site) → IsSite s → Contains v.demands.made s
 only_made v s h n = elim h [ inl i ↦ i | inr e ↦ absurd (n e) ]

@@ -25,9 +25,6 @@ module _ (p : Program) (before : List SiteTerm) (r : TypedRule) (none : first_li
 
 -- of a built rule
 module _ (p : Program) (before : List SiteTerm) (r : TypedRule) (built : is_built p before r ≡ true) where
-  no_limit : first_limit p before r ≡ None
-  no_limit = grind arith
-
   pub is_reached : is_unreachable (demands_of p r) ≡ false
   is_reached = not-true (is_unreachable (demands_of p r)) (and_parts (is_none (first_limit p before r)) (not (is_unreachable (demands_of p r))) built).1
 
@@ -37,4 +34,4 @@ module _ (p : Program) (before : List SiteTerm) (r : TypedRule) (built : is_buil
 
   -- there are no more of these than there may be
   pub few_made : length (closed before (demands_of p r)).made ≤ most_sites
-  few_made = let l = ltb-false most_sites (length (sites_reached p before r)) (has_room p before r no_limit) in let e = ap length reached_closed in omega (arith, l, e)
+  few_made = let l = ltb-false most_sites (length (sites_reached p before r)) (has_room p before r (grind arith)) in let e = ap length reached_closed in omega (arith, l, e)

@@ -177,12 +177,8 @@ constrained_there rs [] n c i e = absurd i
 constrained_there rs (d ∷ ds) n c i e =
     elim (cases_Bool (site_term_eq (class_name rs d.0) n)) [
       | inl t ↦ (d, cond-true (site_term_eq (class_name rs d.0) n) (Some d) (constrained_in rs ds n) t)
-      | inr f ↦ grind (arith, common_steps, constrained_there rs ds n c, rest f i)
+      | inr f ↦ grind (arith, common_steps, constrained_there rs ds n c, same_term)
     ]
-  where
-    rest : site_term_eq (class_name rs d.0) n ≡ false → In (d ∷ ds) c → In ds c
-    rest f (inl q) = absurd (false≢true (sym f ∙ same_term (class_name rs d.0) n (ap (λ (u : SiteTerm × Constraint). class_name rs u.0) q ∙ e)))
-    rest f (inr j) = j
 
 -- no class has two constraints
 abbrev pub HasNoConflict : List (SiteTerm × SiteTerm) → Demands → Type 0

@@ -25,9 +25,6 @@ bit b = cond b 1 0
 abbrev owners_by : (SiteTerm → Bool) → SiteTerm → ℕ
 owners_by p s = count_by p (with_owners s)
 
-counted_alone : (p : SiteTerm → Bool) (s : SiteTerm) → with_owners s ≡ s ∷ [] → owners_by p s ≡ bit (p s)
-counted_alone p s e = ap (count_by p) e ∙ sum_by-cons (λ x. bit (p x)) s [] ∙ omega arith
-
 counted_field : (p : SiteTerm → Bool) (s a : SiteTerm) → with_owners s ≡ s ∷ with_owners a → owners_by p s ≡ bit (p s) + owners_by p a
 counted_field p s a e = ap (count_by p) e ∙ sum_by-cons (λ x. bit (p x)) s (with_owners a)
 
@@ -41,7 +38,7 @@ module _ (took after was : SiteTerm → Bool) (of : TakesOwners took after was) 
   lessened : (u : SiteTerm) → bit (took u) + owners_by after u ≤ owners_by was u
   lessened =
       by_owners (λ u. bit (took u) + owners_by after u ≤ owners_by was u)
-      (λ s o e. grind (arith, common_steps, counted_alone, none_some))
+      (λ s o e. grind (arith, common_steps, none_some))
       (λ s a o e h. grind (arith, common_steps, counted_field, some_is))
 
 -- 2. a site has no more owners among sites than there are
@@ -77,7 +74,7 @@ module _ (y : SiteTerm) where
   not_owner : (s : SiteTerm) → depth s < depth y → owners_by (site_term_eq y) s ≡ 0
   not_owner =
       by_owners (λ s. depth s < depth y → owners_by (site_term_eq y) s ≡ 0)
-      (λ s o e l. grind (arith, common_steps, depth_same, counted_alone))
+      (λ s o e l. grind (arith, common_steps, depth_same))
       (λ s a o e h l.
       let d = depth_of_field s a o in
       elim (cases_Bool (site_term_eq y s)) [
@@ -89,7 +86,7 @@ module _ (y : SiteTerm) where
   owner_once : (s : SiteTerm) → owners_by (site_term_eq y) s ≤ 1
   owner_once =
       by_owners (λ s. owners_by (site_term_eq y) s ≤ 1)
-      (λ s o e. grind (arith, common_steps, counted_alone))
+      (λ s o e. grind (arith, common_steps))
       (λ s a o e h.
       let x = counted_field (site_term_eq y) s a e in
       elim (cases_Bool (site_term_eq y s)) [
@@ -106,14 +103,14 @@ module _ (y : SiteTerm) where
 either_passes : (p q r : SiteTerm → Bool) → ((x : SiteTerm) → p x ≡ true → (q x ≡ true) ⊎ (r x ≡ true)) → (s : SiteTerm) → owners_by p s ≤ owners_by q s + owners_by r s
 either_passes p q r h =
     by_owners (λ s. owners_by p s ≤ owners_by q s + owners_by r s)
-    (λ s o e. grind (arith, common_steps, one s, counted_alone))
+    (λ s o e. grind (arith, common_steps, one s))
     (λ s a o e k. grind (arith, common_steps, one s, counted_field))
   where
     one : (s : SiteTerm) → bit (p s) ≤ bit (q s) + bit (r s)
     one s = grind (arith, common_steps)
 
 none_owned : (p : SiteTerm → Bool) → ((x : SiteTerm) → p x ≡ true → ⊥) → (s : SiteTerm) → owners_by p s ≡ 0
-none_owned p h = grind (arith, common_steps, by_owners (λ s. owners_by p s ≡ 0), counted_alone p, counted_field p)
+none_owned p h = grind (arith, common_steps, by_owners (λ s. owners_by p s ≡ 0), counted_field p)
 
 owners_among : (us : List SiteTerm) (p : SiteTerm → Bool) → ((x : SiteTerm) → p x ≡ true → In us x) → (s : SiteTerm) → owners_by p s ≤ length us
 owners_among [] p h s = let e = none_owned p h s in omega (arith, e)
@@ -195,20 +192,11 @@ module _ (us : List SiteTerm) (step : StepAmong us) where
   abbrev classes_after : List (List SiteTerm)
   classes_after = merged_all (without_class_of k.classes c.0) (field_equalities c.1 (ascending k.made (class_at k.classes c.0)))
 
-  after_apart : IsApart classes_after
-  after_apart = each_apart (field_equalities c.1 members) left (λ l n s i j x y. apart l n s (without_in k.classes c.0 l i).0 (without_in k.classes c.0 n j).0 x y)
-
-  member_class : (x : SiteTerm) → In members x → In class x
-  member_class x i = has_in class x (passed_filter (has_site class) k.made x i)
-
-  next_member : In members c.0
-  next_member = filter_from (has_site class) k.made c.0 next.made_site (in_has class c.0 (own_class k.classes c.0))
-
   member_held : (x : SiteTerm) → has_site members x ≡ true → is_held us k.classes x ≡ true
   member_held x t =
       let i = has_in members x t in
       and_from (has_site us x) (is_in_class k.classes x) (in_has us x (within x (grind (arith, in_filter))))
-      (any_in (λ l. has_site l x) k.classes class (grind (arith, common_steps, in_any, class_found, has_in)) (in_has class x (member_class x i)))
+      (any_in (λ l. has_site l x) k.classes class (grind (arith, common_steps, in_any, class_found, has_in)) (in_has class x (grind (arith, has_in, passed_filter))))
 
   -- a site in a class after the step was in one that is left, or is a member's field
   abbrev Comes : SiteTerm → Type 0
@@ -229,7 +217,7 @@ module _ (us : List SiteTerm) (step : StepAmong us) where
               and_from (has_site us x) (is_in_class k.classes x) h.0 (any_in (λ l. has_site l x) k.classes w.0 k_in.0 (in_has w.0 x w.2)),
               elim (cases_Bool (has_site members x)) [
                 | inl y ↦
-                    let same = apart w.0 class x k_in.0 (grind (arith, common_steps, in_any, class_found, has_in)) w.2 (member_class x (has_in members x y)) in
+                    let same = apart w.0 class x k_in.0 (grind (arith, common_steps, in_any, class_found, has_in)) w.2 (grind (arith, common_steps, has_in, passed_filter, has_in members x y)) in
                     absurd (k_in.1 (subst (λ l. In l c.0) (sym same) (own_class k.classes c.0)))
                 | inr f ↦ f
               ],
@@ -242,7 +230,7 @@ module _ (us : List SiteTerm) (step : StepAmong us) where
       let less = lessened (has_site members) (is_held us classes_after) (is_held us k.classes) (record { from = member_held; new = held_after }) in
       less_in_one (owners_by (is_held us classes_after)) (owners_by (is_held us k.classes))
       (λ u. let l = less u in omega (arith, l)) us c.0 (within c.0 next.made_site)
-      (let l = less c.0 in let t = ap bit (in_has members c.0 next_member) in omega (arith, l, t))
+      (let l = less c.0 in let t = ap bit (in_has members c.0 (filter_from (has_site class) k.made c.0 next.made_site (in_has class c.0 (own_class k.classes c.0)))) in omega (arith, l, t))
 
 -- 5. the closing
 -- sites stay made
@@ -269,7 +257,7 @@ ends_within us (suc n) k apart within few = go_on (next_constrained k.classes k.
         let made : (x : SiteTerm) → In k.made x → In us x = λ x i. w x (made_stay n after x (in_with_sites k.made (flat_map (field_terms c.1) (ascending k.made (class_at k.classes c.0))) x (inl i))) in
         let step : StepAmong us = record { closing = k; apart = apart; within = made; constraint = c; next = next } in
         let l = step_lessens us step in
-        later after (after_apart us step) w (omega (arith, l, few))
+        later after (grind (arith, each_apart, without_in)) w (omega (arith, l, few))
 
 -- and there are, where no more sites than there may be are made
 pub few_made_end : (before : List SiteTerm) (d : Demands) → length (closing most_closing_steps (before_closing before d)).made ≤ most_sites

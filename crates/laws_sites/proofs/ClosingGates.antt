@@ -67,11 +67,8 @@ module _ (d : Demands) (reachable : IsUnreachable d → ⊥) (tested : CanBeTest
           gates_stay (record { constraints = k.constraints; calls = d.iterators }) (record { constraints = with_constraints k.constraints each; calls = d.iterators })
           (record { constraints = λ x j. contains_from_in (with_constraints k.constraints each) x (keeps_all k.constraints each x (in_from_contains k.constraints x j)); calls = λ x j. j }) true true
 
-      in_class : (m : SiteTerm) → In (ascending k.made (class_at k.classes c.0)) m → In (class_at k.classes c.0) m
-      in_class m j = has_in (class_at k.classes c.0) m (passed_filter (has_site (class_at k.classes c.0)) k.made m j)
-
       member : (m : SiteTerm) → In (ascending k.made (class_at k.classes c.0)) m → GatesDemanded true true (with_constraints k.constraints each) d.iterators m
-      member m j = stays m (in_class_at (GatesDemanded true true k.constraints d.iterators) k.classes f.equal c.0 (f.asked c i) m (in_class m j))
+      member m j = stays m (in_class_at (GatesDemanded true true k.constraints d.iterators) k.classes f.equal c.0 (f.asked c i) m (grind (arith, has_in, passed_filter)))
 
       due : (x : SiteTerm × Constraint) → In (k.constraints ++ each) x → HasConstraint d x.0 x.1
       due x j =
@@ -80,7 +77,7 @@ module _ (d : Demands) (reachable : IsUnreachable d → ⊥) (tested : CanBeTest
             | inr r ↦
                 let m = in_map (λ (u : SiteTerm). (u, c.1)) (ascending k.made (class_at k.classes c.0)) x r in
                 subst (λ (y : SiteTerm × Constraint). HasConstraint d y.0 y.1) m.2
-                (constraint_carried d c.0 m.0 c.1 (in_class_joined d k.classes f.follows.classes c.0 m.0 (in_class m.0 m.1)) (f.follows.constraints c i))
+                (constraint_carried d c.0 m.0 c.1 (in_class_joined d k.classes f.follows.classes c.0 m.0 (grind (arith, common_steps, has_in, passed_filter))) (f.follows.constraints c i))
           ]
 
       once : OneEach (k.constraints ++ each)

@@ -22,12 +22,9 @@ none_there : (cs : List (SiteTerm × Constraint)) (s : SiteTerm) → constraint_
 none_there [] s e c i = i
 none_there (x ∷ cs) s e c i = grind (arith, common_steps, none_there cs s, none_some, same_term)
 
-one_once : (cs : List (SiteTerm × Constraint)) (x : SiteTerm × Constraint) → StandOnce cs → StandOnce (with_constraint cs x)
-one_once cs x h = grind (arith, common_steps, push_once, none_there)
-
 each_once : (cs ds : List (SiteTerm × Constraint)) → StandOnce cs → StandOnce (with_constraints cs ds)
 each_once cs [] h = h
-each_once cs (x ∷ ds) h = each_once (with_constraint cs x) ds (one_once cs x h)
+each_once cs (x ∷ ds) h = each_once (with_constraint cs x) ds (grind (arith, common_steps, push_once, none_there))
 
 closing_once : (n : ℕ) (k : Closed) → StandOnce k.constraints → StandOnce (closing n k).constraints
 closing_once = closing_keeps (λ k. StandOnce k.constraints) (λ k h c e. each_once k.constraints (map (λ m. (m, c.1)) (ascending k.made (class_at k.classes c.0))) h)

@@ -7,8 +7,8 @@ use Rattle.std.proofs.Math.Seq.{take-append_seam}
 use Rattle.std.proofs.lemmas.Grind.{common_steps}
 use Rattle.model.specs.rules.Program.{Program}
 use Rattle.model.specs.rules.Typed.{TypedPatterns}
-use Rattle.model.specs.sites.Sites.{Constraint, is_present, SiteTerm, pick_of, some_part, field_terms}
-use Rattle.model.specs.visits.Demands.{fields_opened, Count, fields_matched, Visit, site_term_eq, making, counting, asking, iterating, equating, outputs_opened, open_call}
+use Rattle.model.specs.sites.Sites.{is_present, SiteTerm, pick_of, some_part}
+use Rattle.model.specs.visits.Demands.{Count, Visit, site_term_eq, making, counting, asking, iterating, equating, outputs_opened, open_call}
 use Rattle.model.specs.sites.Limits.{first_passed}
 use Rattle.model.proofs.Elements.{none_some}
 use Rattle.model.proofs.Either.{either}
@@ -51,11 +51,8 @@ call_continues pure false partial rec false call args v w k =
     let a = making (call ∷ (some_part call ∷ [])) w in
     outputs_continue (some_part call) args v (asking call is_present a) (continues_alike v a (asking call is_present a) refl refl (continues_making (call ∷ (some_part call ∷ [])) v w k))
 
-fields_continue : (c : Constraint) (n : ℕ) (s : SiteTerm) (v w : Visit) → Continues v w → Continues v (fields_opened c n s w).visit
-fields_continue c n s v w k = grind (arith, common_steps, continues_alike v, continues_making (field_terms c s) v, continues_counting (fields_matched n) v w k)
-
 pub tests_continue : (p : Program) (v : Visit) → KeptByTests p (Continues v)
-tests_continue p v = grind (arith, common_steps, continues_alike, continues_equating, continues_counting, fields_continue, call_continues)
+tests_continue p v = grind (arith, common_steps, continues_alike, continues_equating, continues_counting, call_continues)
 
 pub values_continue : (p : Program) (v : Visit) → KeptByValues p (Continues v)
 values_continue p v = grind (arith, common_steps, continues_alike, continues_making)

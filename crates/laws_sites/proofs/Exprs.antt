@@ -82,11 +82,7 @@ call_valued asked false false m q r t args v h k g =
     let c = gone_over asked false false m q r (constructor_call t args (suc v.impure_calls)) v k (tt, g) in
     let w = where_multi (record { pure = false; multi = m; partial = q; rec = r }) (constructor_call t args (suc v.impure_calls)) (making (call_sites (record { pure = false; multi = m; partial = q; rec = r }) (constructor_call t args (suc v.impure_calls))) v) in
     let s = call_result (record { pure = false; multi = m; partial = q; rec = r }) (constructor_call t args (suc v.impure_calls)) in
-    record { later = then_later v w (calling s w) c.later (later_calling s w (less_asked asked s w c.site)); binds = c.binds; site = c.site; calls = c.calls }
-  where
-    less_asked : (asked : Bool) (s : SiteTerm) (w : Visit) → Good asked false w s → Good false false w s
-    less_asked true s w g = unasked w.demands.constraints w.demands.iterators false s g
-    less_asked false s w g = g
+    record { later = then_later v w (calling s w) c.later (later_calling s w (grind (arith, common_steps, unasked))); binds = c.binds; site = c.site; calls = c.calls }
 
 term_valued : (asked pure : Bool) (k : Kind) (t : ℕ) (a : ValuedAll) → (pure ≡ true → (flags_of k).pure ≡ true) → (asked ≡ true → (flags_of k).partial ≡ false) → AllGood asked pure a.visit a.sites
     → IsCalled asked pure a.visit (visit_term k t a)
@@ -128,10 +124,10 @@ module _ (asked pure : Bool) (p : Program) where
           site = c.site;
           calls = then_calls asked pure v w z c.later r.calls c.calls;
         }
-    expr_valued_by (make_var ty x) v vars f h k g = record { later = now v; same = (λ x h. refl); site = g x (has_type (var_type vars x) ty f); calls = no_call asked pure v }
-    expr_valued_by (make_bool ty b) v vars f h k g = record { later = later_making (bool_term b ty ∷ []) v; same = (λ x h. refl); site = tt; calls = no_call asked pure v }
-    expr_valued_by (make_int ty z) v vars f h k g = record { later = later_making (int_term z ty ∷ []) v; same = (λ x h. refl); site = tt; calls = no_call asked pure v }
-    expr_valued_by (make_prim ty name) v vars f h k g = record { later = later_making (prim_term name ∷ []) v; same = (λ x h. refl); site = tt; calls = no_call asked pure v }
+    expr_valued_by (make_var ty x) v vars f h k g = record { later = now v; same = λ x h. refl; site = g x (has_type (var_type vars x) ty f); calls = no_call asked pure v }
+    expr_valued_by (make_bool ty b) v vars f h k g = record { later = later_making (bool_term b ty ∷ []) v; same = λ x h. refl; site = tt; calls = no_call asked pure v }
+    expr_valued_by (make_int ty z) v vars f h k g = record { later = later_making (int_term z ty ∷ []) v; same = λ x h. refl; site = tt; calls = no_call asked pure v }
+    expr_valued_by (make_prim ty name) v vars f h k g = record { later = later_making (prim_term name ∷ []) v; same = λ x h. refl; site = tt; calls = no_call asked pure v }
     expr_valued_by (make_let ty defs body) v vars f h k g =
         let a = from_vars (formed_lets p defs vars) (λ more. (expr_type body == ty) && is_formed_expr p body more) f in
         let b = and_parts (expr_type body == ty) (is_formed_expr p body a.0) a.2 in
@@ -148,7 +144,7 @@ module _ (asked pure : Bool) (p : Program) where
 
     exprs_valued : (es : TypedExprs) (v : Visit) (tys : List ℕ) (vars : List (ℕ × ℕ)) → are_formed_args p es tys vars ≡ true → (pure ≡ true → ArePureExprs p es) → (asked ≡ true → CallAlone (IsTotal p) es)
         → AreGood asked pure vars v → AreValued asked pure vars v (visit_exprs p es v)
-    exprs_valued no_typed_expr v [] vars f h k g = record { later = now v; same = (λ x h. refl); sites = tt; calls = no_call asked pure v }
+    exprs_valued no_typed_expr v [] vars f h k g = record { later = now v; same = λ x h. refl; sites = tt; calls = no_call asked pure v }
     exprs_valued (typed_expr_and e es) v (ty ∷ tys) vars f h k g =
         let b = and_parts (is_formed_expr p e vars) (are_formed_args p es tys vars) (and_parts (expr_type e == ty) (is_formed_expr p e vars && are_formed_args p es tys vars) f).1 in
         let r = expr_valued_by e v vars b.0 (λ q. (h q).0) (λ q. (k q).0) g in

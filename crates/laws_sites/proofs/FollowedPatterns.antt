@@ -7,7 +7,7 @@ use Rattle.model.specs.lists.Tables.{TermKindEntry, variant_term, struct_term, d
 use Rattle.model.specs.rules.Program.{Program, Kind, unknown, always_answers, kind, kind_of}
 use Rattle.model.specs.rules.Typed.{TypedPattern, match_bind, match_var, match_bool, match_int, match_prim, match_term, match_any, match_and, TypedPatterns, no_typed_pattern, typed_pattern_and}
 use Rattle.model.specs.sites.Sites.{is_bool, is_int, is_prim, SiteTerm, extractor_call, tuple_part, fields_from}
-use Rattle.model.specs.visits.Demands.{Visit, asking, equating, binding, var_site, pattern_count, part_sites, outputs_opened, open_call, open_term, visit_pattern, visit_each, visit_all}
+use Rattle.model.specs.visits.Demands.{Visit, asking, equating, binding, var_site, pattern_count, outputs_opened, open_call, open_term, visit_pattern, visit_each, visit_all}
 use Rattle.model.specs.visits.Runs.{BoundIds, with_bound, binds, finds, calls_visitor, on_variables}
 use Rattle.model.specs.visits.Visitors.{PatternSteps}
 use Rattle.model.specs.visits.SiteVisitor.{any_parts}
@@ -39,12 +39,9 @@ parts_by s zero = []
 parts_by s (suc zero) = []
 parts_by s (suc (suc n)) = fields_from (tuple_part s) 0 (suc (suc n))
 
-parts_are : (s : SiteTerm) (args : TypedPatterns) → part_sites s args ≡ parts_by s (pattern_count args)
-parts_are s args = grind (arith, common_steps)
-
 module _ (args parts : TypedPatterns) (same : pattern_count args ≡ pattern_count parts) where
   outputs_alike : (s : SiteTerm) (v : Visit) → outputs_opened s args v ≡ outputs_opened s parts v
-  outputs_alike s v = grind (arith, common_steps, parts_are)
+  outputs_alike s v = grind (arith, common_steps)
 
   pub call_alike : (multi partial rec pure infallible : Bool) (call : SiteTerm) (v : Visit)
       → open_call (record { pure = true; multi = multi; partial = not infallible; rec = false }) infallible call args v ≡ open_call (record { pure = pure; multi = multi; partial = partial; rec = rec }) infallible call parts v

@@ -1,6 +1,6 @@
 -- Where closing ends, all that follows from demands that can be met is asked.
 use Rattle.std.proofs.Common.{◌≡◌, ◌⊎◌, ℕ, true, false, not, if◌then◌else◌, List, [], ◌∷◌, ◌++◌, map, Option, Some, None, slice_get, refl, sym, ap, ◌∙◌, subst, inl, inr, arith}
-use Rattle.std.proofs.lemmas.Bool.{cases_Bool, cond-true, cond-false, false≢true, not-true}
+use Rattle.std.proofs.lemmas.Bool.{cases_Bool, cond-true, cond-false, not-true}
 use Rattle.std.specs.List.{zip}
 use Rattle.std.proofs.lemmas.Grind.{common_steps}
 use Rattle.model.specs.sites.Sites.{Constraint, SiteTerm, field_terms}
@@ -71,9 +71,6 @@ added_keeps ks apart e a b o =
     moved : (x : SiteTerm) → ((s : SiteTerm) → In (class_at ks x) s → In (joint ks e) s) → has_site o.class x ≡ true → InOne (joint ks e ∷ others ks e) a b
     moved x into t = grind (arith, common_steps, class_is ks apart o.class x o.there (has_in o.class x t), has_in o.class x t)
 
-merged_keeps : (ks : List (List SiteTerm)) → IsApart ks → (e : SiteTerm × SiteTerm) (a b : SiteTerm) → InOne ks a b → InOne (merged_classes ks e) a b
-merged_keeps ks apart e a b o = grind (arith, common_steps, added_keeps)
-
 merged_joins : (ks : List (List SiteTerm)) (e : SiteTerm × SiteTerm) → (e.0 ≡ e.1) ⊎ InOne (merged_classes ks e) e.0 e.1
 merged_joins ks e =
     elim (cases_Bool (has_site (class_at ks e.0) e.1)) [
@@ -104,7 +101,7 @@ each_apart (e ∷ es) ks h = each_apart es (merged_classes ks e) (grind (arith, 
 
 pub each_keeps_one : (es : List (SiteTerm × SiteTerm)) (ks : List (List SiteTerm)) → IsApart ks → (a b : SiteTerm) → InOne ks a b → InOne (merged_all ks es) a b
 each_keeps_one [] ks h a b o = o
-each_keeps_one (e ∷ es) ks h a b o = each_keeps_one es (merged_classes ks e) (grind (arith, added_apart)) a b (merged_keeps ks h e a b o)
+each_keeps_one (e ∷ es) ks h a b o = each_keeps_one es (merged_classes ks e) (grind (arith, added_apart)) a b (grind (arith, added_keeps))
 
 pub each_joins_one : (es : List (SiteTerm × SiteTerm)) (ks : List (List SiteTerm)) → IsApart ks → (a b : SiteTerm) → In es (a, b) → (a ≡ b) ⊎ InOne (merged_all ks es) a b
 each_joins_one [] ks h a b i = absurd i
@@ -185,12 +182,8 @@ constraint_there [] s c i = absurd i
 constraint_there (d ∷ ds) s c i =
     elim (cases_Bool (site_term_eq d.0 s)) [
       | inl t ↦ (d.1, cond-true (site_term_eq d.0 s) (Some d.1) (constraint_of ds s) t)
-      | inr f ↦ let r = constraint_there ds s c (later i f) in (r.0, cond-false (site_term_eq d.0 s) (Some d.1) (constraint_of ds s) f ∙ r.1)
+      | inr f ↦ let r = constraint_there ds s c (grind (arith, same_term)) in (r.0, cond-false (site_term_eq d.0 s) (Some d.1) (constraint_of ds s) f ∙ r.1)
     ]
-  where
-    later : In (d ∷ ds) (s, c) → site_term_eq d.0 s ≡ false → In ds (s, c)
-    later (inl e) f = absurd (false≢true (sym f ∙ same_term d.0 s (ap (λ (w : SiteTerm × Constraint). w.0) e)))
-    later (inr j) f = j
 
 abbrev next_of : List (List SiteTerm) → SiteTerm → Option (SiteTerm × Constraint) → Option Constraint → Option (SiteTerm × Constraint)
 next_of ks s later o = elim o as (λ _. Option (SiteTerm × Constraint)) [ None ↦ later | Some c ↦ if is_in_class ks s then Some (s, c) else later ]

@@ -4,7 +4,7 @@ use Rattle.std.proofs.lemmas.Grind.{common_steps}
 use Rattle.model.specs.rules.Program.{Program}
 use Rattle.model.specs.rules.Typed.{TypedRule}
 use Rattle.model.specs.sites.Sites.{Constraint, is_present, SiteTerm, extractor_call, constructor_call, pick_of, variant_made, variant_field, struct_made, struct_field, some_made, some_part, tuple_part, no_site, SiteTerms, field_terms}
-use Rattle.model.specs.visits.Demands.{Demands, demands_of, Visit, asking, equating, iterating, calling, unwraps, unwraps_all, asking_all}
+use Rattle.model.specs.visits.Demands.{Demands, demands_of, Visit, asking, iterating, calling, unwraps, unwraps_all, asking_all}
 use Rattle.model.specs.sites.Closure.{with_owners, spoken_of}
 use Rattle.model.proofs.Elements.{In, in_from_contains, contains_from_in, some_is, none_some, in_left, in_either, from_flat_map}
 use Rattle.laws_sites.specs.FieldLaws.{IsGiven, FieldsAreGiven}
@@ -81,9 +81,6 @@ asking_all_on (s ∷ ss) v f h =
     let a = asking_on s is_present v (no_field_given v.demands.constraints s (f s (inl refl))) (λ x i. absurd i) h in
     then_onward GivesFields IsGivenSite v.demands w.demands (asking_all ss w).demands a (asking_all_on ss w (λ u i. f u (inr i)) a.holds)
 
-equating_on : (a b : SiteTerm) (v : Visit) → GivesFields v.demands → IsGivenSite v.demands a → IsGivenSite v.demands b → OnwardGiven v.demands (equating a b v).demands
-equating_on a b v h m n = by_equating (λ w. OnwardGiven v.demands w.demands) a b v (no_step GivesFields IsGivenSite v.demands h) (grind (arith, common_steps, in_either))
-
 leaf_given : (d : Demands) (s : SiteTerm) → IsLeaf s → IsGivenSite d s
 leaf_given d = grind (arith, common_steps, by_leaf, no_field_given)
 
@@ -111,7 +108,7 @@ fields_kept p = record {
   counts = λ c v h. record { holds = record { asked = h.asked; equal = h.equal; made = h.made }; stays = λ s m. m };
   makes = grind (arith, in_left);
   calls = λ s v h m. calling_on s v h;
-  equates = equating_on;
+  equates = λ a b v h m n. by_equating (λ w. OnwardGiven v.demands w.demands) a b v (no_step GivesFields IsGivenSite v.demands h) (grind (arith, common_steps, in_either));
   asks = λ s c v f h m. asking_on s c v m.0 f h;
   asks_all = λ s v h m. asking_all_on (unwraps s) v m.1 h;
   asks_call = λ t s v flags e f c n h m.

@@ -133,17 +133,14 @@ term_adds (a_struct ty) t a = adds_making (struct_made ty a.sites ∷ []) a.visi
 term_adds (a_call flags infallible) t a = call_adds flags.pure flags.multi flags.partial flags.rec t a.sites a.visit
 term_adds unknown t a = grind (arith, common_steps, grown_by_none)
 
-values_add : (p : Program) (v : Visit) → KeptByValues p (Adds v)
-values_add p v = grind (arith, common_steps, then_adds, adds_making, term_adds)
-
 pub expr_adds : (p : Program) (x : TypedExpr) (v : Visit) → Adds v (visit_expr p x v).visit
-expr_adds p x v = expr_kept p (Adds v) (values_add p v) x v (grind (arith, grown_by_none))
+expr_adds p x v = expr_kept p (Adds v) (grind (arith, then_adds, adds_making, term_adds)) x v (grind (arith, grown_by_none))
 
 pub exprs_add : (p : Program) (xs : TypedExprs) (v : Visit) → Adds v (visit_exprs p xs v).visit
-exprs_add p xs v = exprs_kept p (Adds v) (values_add p v) xs v (grind (arith, grown_by_none))
+exprs_add p xs v = exprs_kept p (Adds v) (grind (arith, then_adds, adds_making, term_adds)) xs v (grind (arith, grown_by_none))
 
 pub lets_add : (p : Program) (ds : TypedLets) (v : Visit) → Adds v (visit_lets p ds v)
-lets_add p ds v = lets_kept p (Adds v) (values_add p v) ds v (grind (arith, grown_by_none))
+lets_add p ds v = lets_kept p (Adds v) (grind (arith, then_adds, adds_making, term_adds)) ds v (grind (arith, grown_by_none))
 
 -- 3. if-lets, and the right side
 values_grow : (p : Program) (v : Visit) → KeptByValues p (Grown v)

@@ -1,5 +1,5 @@
 -- The limit that is met first is passed, and where a limit is passed one is met.
-use Rattle.std.proofs.Common.{◌≡◌, ℕ, Bool, false, nat_lt, if◌then◌else◌, List, [], ◌∷◌, length, map, Option, Some, None, refl, sym, ap, ◌∙◌, inl, inr, arith, lt-ltb}
+use Rattle.std.proofs.Common.{◌≡◌, ℕ, nat_lt, List, [], ◌∷◌, length, map, Option, Some, None, refl, sym, ap, ◌∙◌, inl, inr, arith, lt-ltb}
 use Rattle.std.proofs.lemmas.Bool.{cases_Bool, cond-true, cond-false, le-ltb}
 use Rattle.std.proofs.lemmas.Grind.{common_steps}
 use Rattle.model.specs.rules.Typed.{TypedRule}
@@ -10,12 +10,9 @@ use Rattle.model.specs.sites.Limits.{most_fields, most_outputs, most_arguments, 
 use Rattle.model.proofs.Elements.{In, in_from_contains, contains_from_in, some_is, none_some}
 
 -- 1. counts
-by_other_test : (b : Bool) (k l : RuleLimit) → (if b then None else Some k) ≡ Some l → (b ≡ false) × (k ≡ l)
-by_other_test b k l e = grind (arith, common_steps, none_some, some_is)
-
 -- a count of the rule that passes a limit
 count_passes : (p : Program) (before : List SiteTerm) (r : TypedRule) (c : Count) (l : RuleLimit) → In (counts_of_rule p r) c → passed_by c ≡ Some l → PassesLimit p before r l
-count_passes p before r c l i e = grind (arith, common_steps, contains_from_in, by_other_test)
+count_passes p before r c l i e = grind (arith, common_steps, contains_from_in)
 
 -- the first that passes one is among them, and there is one where some count passes a limit
 first_among : (cs : List (Count × ℕ)) (x : RuleLimit × ℕ) → first_passed cs ≡ Some x → (c : Count) × In (map (λ d. d.0) cs) c × (passed_by c ≡ Some x.0)

@@ -25,11 +25,8 @@ name_same rs a b e = same_term (class_name rs a) (class_name rs b) e
 pub joining_keeps : (rs : Renamings) (a b x y : SiteTerm) → SameName rs x y → SameName (joining rs a b) x y
 joining_keeps rs a b x y e = grind (arith, common_steps)
 
-cons_second : (rs : Renamings) (n m b : SiteTerm) → class_name rs b ≡ m → class_name ((n, m) ∷ rs) b ≡ m
-cons_second rs n m b e = grind (arith, common_steps)
-
 pub joining_joins : (rs : Renamings) (a b : SiteTerm) → SameName (joining rs a b) a b
-joining_joins rs a b = grind (arith, same_name, cons_second, same_term)
+joining_joins rs a b = grind (arith, same_name, same_term)
 
 pub each_keeps : (es : List (SiteTerm × SiteTerm)) (rs : Renamings) (x y : SiteTerm) → SameName rs x y → SameName (joining_each rs es) x y
 each_keeps [] rs x y e = e

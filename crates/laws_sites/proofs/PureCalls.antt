@@ -1,10 +1,10 @@
 -- A rule that makes no impure call goes over none.
-use Rattle.std.proofs.Common.{◌≡◌, ℕ, suc, Bool, [], arith}
+use Rattle.std.proofs.Common.{◌≡◌, ℕ, suc, [], arith}
 use Rattle.std.proofs.lemmas.Grind.{common_steps}
 use Rattle.model.specs.rules.Program.{Program, Kind, a_call}
-use Rattle.model.specs.rules.Typed.{TypedPatterns, TypedRule}
+use Rattle.model.specs.rules.Typed.{TypedRule}
 use Rattle.model.specs.sites.Sites.{SiteTerm, constructor_call}
-use Rattle.model.specs.visits.Demands.{demands_of, site_term_eq, Visit, equating, iterating, open_term, ValuedAll, visit_term}
+use Rattle.model.specs.visits.Demands.{demands_of, site_term_eq, Visit, equating, iterating, ValuedAll, visit_term}
 use Rattle.model.proofs.Elements.{In, in_either}
 use Rattle.laws_sites.proofs.GrowingVisits.{equated}
 use Rattle.model.proofs.Either.{either}
@@ -27,13 +27,9 @@ none_equating : (a b : SiteTerm) (v : Visit) → GoesOverNone v → GoesOverNone
 unfolding equated
 none_equating a b v h = either GoesOverNone (site_term_eq a b) v (equated a b v) h h
 
-opened_none : (k : Kind) (t : ℕ) (s : SiteTerm) (args : TypedPatterns) (v : Visit) → GoesOverNone v → GoesOverNone (open_term k t s args v).visit
-opened_none (a_call flags infallible) t s args v h = grind (arith, common_steps, none_iterating)
-opened_none _ t s args v h = h
-
 made_none : (k : Kind) (t : ℕ) (a : ValuedAll) → GoesOverNone a.visit → GoesOverNone (visit_term k t a).visit
 made_none (a_call flags infallible) t a h = grind (arith, common_steps, none_iterating, not_nothing)
 made_none _ t a h = h
 
 pub rule_goes_over_none : (p : Program) (r : TypedRule) → (demands_of p r).impure ≡ [] → (u : SiteTerm) → In (demands_of p r).iterators u → IsNoImpureCall u
-rule_goes_over_none p r = grind (arith, rule_kept p GoesOverNone, opened_none, made_none)
+rule_goes_over_none p r = grind (arith, rule_kept p GoesOverNone, made_none, none_iterating)

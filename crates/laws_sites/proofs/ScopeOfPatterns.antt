@@ -18,15 +18,12 @@ use Rattle.laws_sites.proofs.KnownVars.{InScope, bound_once, no_fault, refusal}
 abbrev InScopeBut : {N : Type 0} → (ℕ → Type 0) → BoundIds N → List (ℕ × ℕ) → Type 0
 InScopeBut {N} K vs vars = (y : ℕ) (n : N) → bound_at vs y ≡ Some n → (is_some (var_type vars y) ≡ true) ⊎ K y
 
-has_old : (x ty : ℕ) (vars : List (ℕ × ℕ)) (y : ℕ) → is_some (var_type vars y) ≡ true → is_some (var_type ((x, ty) ∷ vars) y) ≡ true
-has_old x ty vars y h = grind (arith, common_steps)
-
 module _ {N : Type 0} (K : ℕ → Type 0) where
   but_more : (vs : BoundIds N) (vars : List (ℕ × ℕ)) (x : ℕ) (n : N) → InScopeBut K vs vars → InScopeBut (λ y. K y ⊎ ((x == y) ≡ true)) (with_bound vs x n) vars
   but_more vs vars x n scope y m e = grind (arith, common_steps, bound_once)
 
   but_less : (vs : BoundIds N) (vars : List (ℕ × ℕ)) (x ty : ℕ) → InScopeBut (λ y. K y ⊎ ((x == y) ≡ true)) vs vars → InScopeBut K vs ((x, ty) ∷ vars)
-  but_less vs vars x ty scope y m e = grind (arith, common_steps, has_old)
+  but_less vs vars x ty scope y m e = grind (arith, common_steps)
 
   alike : (vs ws : BoundIds N) (vars more : List (ℕ × ℕ)) → ws ≡ vs → vars ≡ more → InScopeBut K vs vars → InScopeBut K ws more
   alike vs ws vars more e f scope = subst (λ l. InScopeBut K l more) (sym e) (subst (InScopeBut K vs) f scope)

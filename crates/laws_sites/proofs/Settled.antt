@@ -1,6 +1,6 @@
 -- Rounds of joining come to their end: each round that joins anything lessens the number of sites that are their own
 -- class's name.
-use Rattle.std.proofs.Common.{◌≡◌, ◌≢◌, ◌↔◌, ℕ, zero, suc, ◌≤◌, Bool, true, false, ◌&&◌, if◌then◌else◌, List, [], ◌∷◌, ◌++◌, length, Contains, flat_map, refl, sym, ap, ◌∙◌, subst, inl, inr, arith}
+use Rattle.std.proofs.Common.{◌≡◌, ◌≢◌, ◌↔◌, ℕ, zero, suc, ◌≤◌, Bool, true, false, if◌then◌else◌, List, [], ◌∷◌, ◌++◌, length, Contains, flat_map, refl, sym, ap, ◌∙◌, subst, inl, inr, arith}
 use Rattle.std.proofs.lemmas.Bool.{cases_Bool, cond-true, cond-false, and_parts, false≢true}
 use Rattle.std.specs.List.{list_all}
 use Rattle.std.proofs.lemmas.Grind.{common_steps}
@@ -186,7 +186,7 @@ module _ (us : List SiteTerm) where
         | inl t ↦
             let same : joining rs e.0 e.1 ≡ rs = cond-true (same_class rs e.0 e.1) rs ((class_name rs e.0, class_name rs e.1) ∷ rs) t in
             subst (λ l. suc (counted (is_own (joining_each l es)) us) ≤ counted (is_own rs) us) (sym same)
-            (fewer_each es rs good (λ x i. w x (inr i)) (rest_false (same_class rs e.0 e.1) (list_all (λ x. same_class rs x.0 x.1) es) t h))
+            (fewer_each es rs good (λ x i. w x (inr i)) (grind arith))
         | inr f ↦
             let one = after_joining rs good e.0 e.1 p.0 p.1 in
             let rest = after_each es (joining rs e.0 e.1) one.good (λ x i. w x (inr i)) in
@@ -194,10 +194,6 @@ module _ (us : List SiteTerm) where
             let y = rest.no_more in
             omega (arith, x, y)
       ]
-    where
-      rest_false : (x y : Bool) → x ≡ true → (x && y) ≡ false → y ≡ false
-      rest_false true y e g = g
-      rest_false false y e g = absurd (false≢true e)
 
 unchanged : (rs es : List (SiteTerm × SiteTerm)) → list_all (λ e. same_class rs e.0 e.1) es ≡ true → joining_each rs es ≡ rs
 unchanged rs [] h = refl

@@ -3,7 +3,7 @@ use Rattle.std.proofs.Common.{◌≡◌, ℕ, List, [], ◌∷◌, length, None,
 use Rattle.std.specs.List.{AllZip}
 use Rattle.std.proofs.lemmas.Grind.{common_steps}
 use Rattle.model.specs.sites.Sites.{Constraint, is_present, SiteTerm, SiteTerms, site_term_and, is_bool, is_int, is_prim, is_variant, is_struct}
-use Rattle.model.specs.visits.Demands.{Visit, visit_start, asking, asking_all, Opened, Valued, fields_opened, value_made}
+use Rattle.model.specs.visits.Demands.{Visit, visit_start, asking, asking_all, Opened, Valued, fields_opened}
 use Rattle.model.specs.visits.Runs.{done}
 use Rattle.model.specs.visits.SiteVisitor.{extractor_opened, sites_of_inputs, site_patterns, site_exprs, site_rules}
 use Rattle.model.proofs.Elements.{none_some}
@@ -43,9 +43,6 @@ zip_same [] = tt
 zip_same (u ∷ us) = (refl, zip_same us)
 
 module _ (s t : Visit) where
-  went : (a w : Visit) (r : Result (Unit {0}) ⊥) → Alike a w → done tt a r t → GoesOn site_follower s r t w
-  went a w r h step = grind (arith, common_steps)
-
   opens : (a b : Opened) (r : Result (List SiteTerm) ⊥) → AlikeOpened a b → done a.inputs a.visit r t → GivesParts site_follower s r t b
   opens a b r h step = grind (arith, common_steps, zip_same)
 
@@ -58,7 +55,7 @@ inputs_are s k inputs h = grind (arith, common_steps)
 
 site_patterns_follow : FollowsPatterns site_follower site_patterns
 site_patterns_follow = record {
-  equal = grind (arith, common_steps, went);
+  equal = grind (arith, common_steps);
   bool = λ s w u n ty b r t h e step. asked s w u n (is_bool b ty) r t h e step;
   int = λ s w u n ty z r t h e step. asked s w u n (is_int z ty) r t h e step;
   prim = λ s w u n ty name r t h e step. asked s w u n (is_prim name) r t h e step;
@@ -70,18 +67,14 @@ site_patterns_follow = record {
 }
   where
     asked : (s w : Visit) (u n : SiteTerm) (c : Constraint) (r : Result (Unit {0}) ⊥) (t : Visit) → Alike s w → n ≡ u → done tt (asking n c s) r t → GoesOn site_follower s r t (asking u c w)
-    asked s w u n c r t h e step = grind (arith, went, by_vars)
+    asked s w u n c r t h e step = grind (arith, by_vars)
 
     fields : (s w : Visit) (u n : SiteTerm) (c : Constraint) (m : ℕ) (r : Result (List SiteTerm) ⊥) (t : Visit) → Alike s w → n ≡ u
         → done (fields_opened c m n s).inputs (fields_opened c m n s).visit r t → GivesParts site_follower s r t (fields_opened c m u w)
     fields s w u n c m r t h e step = grind (arith, common_steps, opens s t (fields_opened c m n s) (fields_opened c m u w) r, by_vars)
 
--- a value that is made as one site
-making_alike : (a : SiteTerm) (s v : Visit) → Alike s v → AlikeValued (value_made a s) (value_made a v)
-making_alike a s v h = (refl, by_vars (λ z. Alike (value_made a z).visit (value_made a v).visit) s v h (refl, refl))
-
 site_exprs_follow : FollowsExprs site_follower site_exprs
-site_exprs_follow = grind (arith, common_steps, gives, making_alike, inputs_are)
+site_exprs_follow = grind (arith, common_steps, gives, inputs_are)
 
 site_follows : FollowsSites site_follower None site_rules site_patterns site_exprs
 site_follows = grind (arith, common_steps, site_patterns_follow, site_exprs_follow, none_some, gives, by_vars, asking_alike)

@@ -1,5 +1,5 @@
 -- Visits from one place, whatever was demanded before: they meet the same sites, and go over the same calls.
-use Rattle.std.proofs.Common.{◌≡◌, ◌⊎◌, ℕ, suc, Bool, true, false, List, [], ◌∷◌, ◌==◌, refl, sym, ap, ap₂, inl, arith}
+use Rattle.std.proofs.Common.{◌≡◌, ◌⊎◌, ℕ, suc, Bool, true, false, List, [], ◌∷◌, ◌==◌, refl, sym, ap, ap₂, arith}
 use Rattle.std.proofs.lemmas.Grind.{common_steps}
 use Rattle.model.specs.rules.Meaning.{look}
 use Rattle.model.specs.lists.Tables.{Flags}
@@ -64,12 +64,6 @@ pub record GoesOverSame (v v' w w' : Visit) : Type 0 where
   pub calls : (u : SiteTerm) → In v'.demands.iterators u → In v.demands.iterators u ⊎ In w'.demands.iterators u
   pub kept : (u : SiteTerm) → In w.demands.iterators u → In w'.demands.iterators u
 
-goes_over_none : (v w : Visit) → AreAlike v w → GoesOverSame v v w w
-goes_over_none v w a = record { after = a; calls = λ u i. inl i; kept = λ u i. i }
-
-then_goes : (v v' v'' w w' w'' : Visit) → GoesOverSame v v' w w' → GoesOverSame v' v'' w' w'' → GoesOverSame v v'' w w''
-then_goes v v' v'' w w' w'' a b = grind (arith, common_steps)
-
 pub record AreValuedAlike (v w : Visit) (a b : Valued) : Type 0 where
   pub site : a.site ≡ b.site
   pub same : GoesOverSame v a.visit w b.visit
@@ -103,23 +97,23 @@ term_valued_alike (a_variant ty variant) t a b v w h = grind arith
 term_valued_alike (a_struct ty) t a b v w h = grind arith
 term_valued_alike (a_call flags infallible) t a b v w h =
     let c = called_alike flags.pure flags.multi flags.partial flags.rec t a.sites b.sites a.visit b.visit h.sites h.same.after in
-    record { site = c.site; same = then_goes v a.visit (visit_call flags t a.sites a.visit).visit w b.visit (visit_call flags t b.sites b.visit).visit h.same c.same }
+    record { site = c.site; same = grind (arith, common_steps) }
 term_valued_alike unknown t a b v w h = record { site = refl; same = h.same }
 
 module _ (p : Program) where
   mutual
     pub expr_alike : (x : TypedExpr) (v w : Visit) → AreAlike v w → AreValuedAlike v w (visit_expr p x v) (visit_expr p x w)
     expr_alike (make_term ty t args) v w a = term_valued_alike (kind p t) t (visit_exprs p args v) (visit_exprs p args w) v w (exprs_alike args v w a)
-    expr_alike (make_var ty x) v w a = record { site = (ap (λ vs. or_no_site (look (λ k. k == x) vs)) a.vars); same = goes_over_none v w a }
+    expr_alike (make_var ty x) v w a = record { site = (ap (λ vs. or_no_site (look (λ k. k == x) vs)) a.vars); same = grind arith }
     expr_alike (make_bool ty b) v w a = grind arith
     expr_alike (make_int ty z) v w a = grind arith
     expr_alike (make_prim ty name) v w a = grind arith
-    expr_alike (make_let ty defs body) v w a = grind (arith, common_steps, lets_alike defs v w a, expr_alike body (visit_lets p defs v) (visit_lets p defs w), then_goes)
+    expr_alike (make_let ty defs body) v w a = grind (arith, common_steps, lets_alike defs v w a, expr_alike body (visit_lets p defs v) (visit_lets p defs w))
 
     exprs_alike : (xs : TypedExprs) (v w : Visit) → AreAlike v w → AreAllAlike v w (visit_exprs p xs v) (visit_exprs p xs w)
-    exprs_alike no_typed_expr v w a = record { sites = refl; same = goes_over_none v w a }
-    exprs_alike (typed_expr_and x xs) v w a = grind (arith, common_steps, expr_alike x v w a, exprs_alike xs, then_goes)
+    exprs_alike no_typed_expr v w a = record { sites = refl; same = grind arith }
+    exprs_alike (typed_expr_and x xs) v w a = grind (arith, common_steps, expr_alike x v w a, exprs_alike xs)
 
     lets_alike : (ds : TypedLets) (v w : Visit) → AreAlike v w → GoesOverSame v (visit_lets p ds v) w (visit_lets p ds w)
-    lets_alike no_typed_let v w a = goes_over_none v w a
-    lets_alike (typed_let_and x ty value rest) v w a = grind (arith, common_steps, expr_alike value v w a, lets_alike rest, then_goes)
+    lets_alike no_typed_let v w a = grind arith
+    lets_alike (typed_let_and x ty value rest) v w a = grind (arith, common_steps, expr_alike value v w a, lets_alike rest)

@@ -1,7 +1,6 @@
 -- What each step of a visit keeps of its demands, and of the sites that it stands at, binds and values with their types,
 -- the visit of a rule that hangs together keeps.
-use Rattle.std.proofs.Common.{◌≡◌, ℕ, ℤ, suc, ◌+◌, ◌==◌, Bool, true, false, List, [], ◌∷◌, Some, is_some, slice_get, flat_map, refl, sym, ap, subst, ◌∙◌, inl, inr, eqb-true, eq-eqb, arith}
-use Rattle.std.proofs.lemmas.Bool.{cond-true}
+use Rattle.std.proofs.Common.{◌≡◌, ℕ, ℤ, suc, ◌+◌, ◌==◌, Bool, true, false, List, [], ◌∷◌, Some, is_some, slice_get, flat_map, refl, sym, ap, subst, ◌∙◌, inl, inr, eqb-true, arith}
 use Rattle.std.proofs.lemmas.Grind.{common_steps}
 use Rattle.model.specs.lists.Tables.{TermEntry}
 use Rattle.model.specs.lists.Ranges.{is_literal_of}
@@ -89,9 +88,6 @@ module _ (f : Facts) where
   moved : (vars : List (ℕ × ℕ)) (v w : Visit) → Same vars v w → AreOf vars v → AreOf vars w
   moved vars v w s d x ty i = subst (λ u. f.site u ty) (sym (s x (ap is_some i))) (d x ty i)
 
-  just_bound : (x : ℕ) (s : SiteTerm) (v : Visit) → var_site (binding x s v) x ≡ s
-  just_bound x s v = ap or_no_site (cond-true (x == x) (Some s) (look (λ z. z == x) v.vars) (eq-eqb x x refl))
-
   -- after a visit; a variable that can't be used yet stands for what it stood for
   record PastTyped (more : List (ℕ × ℕ)) (v w : Visit) : Type 0 where
     demands : f.demands w.demands
@@ -106,7 +102,7 @@ module _ (f : Facts) where
 
   -- a binding, before what is bound in its pattern
   bind_past : (x ty : ℕ) (s : SiteTerm) (mid : List (ℕ × ℕ)) (v w : Visit) → is_some (var_type mid x) ≡ false → f.site s ty → PastTyped mid (binding x s v) w → PastTyped ((x, ty) ∷ mid) v w
-  bind_past x ty s mid v w new h b = grind (arith, common_steps, just_bound)
+  bind_past x ty s mid v w new h b = grind (arith, common_steps)
 
 module _ (p : Program) (f : Facts) (k : KeptWithTypes f p) where
   abbrev AllMatched : List Use → Type 0
@@ -187,7 +183,7 @@ module _ (p : Program) (f : Facts) (k : KeptWithTypes f p) where
         let b = visit_expr p value v in
         let w = binding x b.site b.visit in
         let r = expr_given value v vars a.1 (λ y i. m y (in_left (expr_uses value) (lets_uses rest) y i)) g d in
-        let here : f.site (var_site w x) ty = subst (λ u. f.site u ty) (sym (just_bound f x b.site b.visit)) (subst (f.site b.site) a.0 r.0) in
+        let here : f.site (var_site w x) ty = subst (λ u. f.site u ty) (sym (grind (arith, common_steps))) (subst (f.site b.site) a.0 r.0) in
         let others = moved f vars b.visit w (same_binding vars x b.site b.visit a.2) (moved f vars v b.visit (expr_keeps p value v vars a.1) d) in
         lets_past rest w ((x, ty) ∷ vars) more a.3 (λ y i. m y (in_right (expr_uses value) (lets_uses rest) y i)) r.1 (grind (arith, some_is))
 

@@ -1,5 +1,5 @@
 -- The set of a term goes past one more rule: what was built before stays, and the rule is added or left out.
-use Rattle.std.proofs.Common.{◌≡◌, ℕ, ◌<◌, Bool, true, false, not, ◌&&◌, is_none, List, [], ◌∷◌, ◌++◌, map, length, Some, None, All, Contains, refl, sym, ap, ◌∙◌, subst, arith}
+use Rattle.std.proofs.Common.{◌≡◌, ℕ, ◌<◌, Bool, true, false, not, ◌&&◌, is_none, List, [], ◌∷◌, ◌++◌, map, length, None, All, Contains, refl, sym, ap, ◌∙◌, subst, arith}
 use Rattle.std.proofs.lemmas.Bool.{cond-true, cond-false, ltb-false}
 use Rattle.std.proofs.lemmas.List.{append-nil, append_assoc, take_all}
 use Rattle.std.proofs.lemmas.List.Elements.{All-head, All-tail}
@@ -8,7 +8,7 @@ use Rattle.model.specs.rules.Program.{Program}
 use Rattle.model.specs.sites.Sites.{Constraint, Site, SetRule, SiteSet, SiteTerm, unfold_site}
 use Rattle.model.specs.visits.Demands.{demands_of, with_sites}
 use Rattle.model.specs.sites.Closure.{Closed, closed, is_unreachable, reported}
-use Rattle.model.specs.sites.Limits.{RuleLimit, first_limit, most_sites, sites_after_rule, sites_after_rules, sites_reached, sites_wanted}
+use Rattle.model.specs.sites.Limits.{first_limit, most_sites, sites_after_rule, sites_after_rules, sites_reached, sites_wanted}
 use Rattle.model.specs.sites.Overlap.{BuiltRule, not_reached, built_from, built_rule, is_built}
 use Rattle.model.specs.sites.RuleSets.{AreRulesOfSet, AsksFor, Equates, GoesOver, IsRuleOf, StandFor}
 use Rattle.model.proofs.Members.{all_members, nothing_in}
@@ -94,9 +94,6 @@ module _ (p : Program) (before : List SiteTerm) (r : TypedRule) (none : first_li
   is_built_by : (b : Bool) → is_unreachable (demands_of p r) ≡ b → is_built p before r ≡ not b
   is_built_by b e = (λ i. is_none (none i) && not (e i))
 
-not_built : (p : Program) (before : List SiteTerm) (r : TypedRule) (l : RuleLimit) → first_limit p before r ≡ Some l → is_built p before r ≡ false
-not_built p before r l e = ap (λ o. is_none o && not (is_unreachable (demands_of p r))) e
-
 -- 4. the set goes on
 module _ (p : Program) (done : List TypedRule) (r : TypedRule) where
   abbrev then_sites : List SiteTerm
@@ -126,7 +123,7 @@ sets_go_past_rules_lem p done r old new said h (rule_unreachable g none cant sta
       left p done r old new h g (is_built_by p before r none true cant) (subst (StandFor new.sites) (sym (all_kept p before r none ∙ wanted)) stand) rules,
       ap (λ s. map (λ why. not_reached why r.at) (reported s (demands_of p r))) (sym wanted) ∙ sym (grind arith),
     )
-sets_go_past_rules_lem p done r old new said h (limit_met l g passed stand rules) = grind (arith, common_steps, left p done r old new h g, not_built p)
+sets_go_past_rules_lem p done r old new said h (limit_met l g passed stand rules) = grind (arith, common_steps, left p done r old new h g)
 
 -- 5. the start and the end
 pub sets_start_empty_lem : SetsStartEmpty

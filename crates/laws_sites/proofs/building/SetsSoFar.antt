@@ -1,7 +1,7 @@
 -- The sets of all terms go past one more rule of the program, and the reports go on.
-use Rattle.std.proofs.Common.{◌≡◌, ◌≢◌, ◌==◌, ◌||◌, ℕ, Bool, true, false, List, [], ◌∷◌, ◌++◌, Option, Some, None, is_some, refl, sym, ap, ◌∙◌, subst, inl, inr, eqb-true, eq-eqb, arith}
+use Rattle.std.proofs.Common.{◌≡◌, ◌==◌, ◌||◌, ℕ, Bool, true, false, List, [], ◌∷◌, ◌++◌, Option, Some, None, is_some, refl, sym, ap, ◌∙◌, subst, inl, inr, eqb-true, arith}
 use Rattle.std.specs.List.{list_any}
-use Rattle.std.proofs.lemmas.Bool.{cases_Bool, false≢true}
+use Rattle.std.proofs.lemmas.Bool.{cases_Bool}
 use Rattle.std.proofs.lemmas.List.{append-nil, append_assoc}
 use Rattle.std.proofs.lemmas.List.Elements.{filter-append, All-contains}
 use Rattle.std.proofs.lemmas.Option.{none-some, same_Some}
@@ -55,7 +55,7 @@ building_goes_on_lem p done r old new reports said h b = record {
         subst (λ rs. StandsAfter p rs set) (sym (grind (arith, filter-append)))
         (subst (λ u. StandsAfter p (of_one_term u done ++ r ∷ []) set) same
         (subst (StandsAfter p (of_one_term r.root_term done ++ r ∷ [])) (same_Some b.set set (sym b.here ∙ subst (λ u. new u ≡ Some set) (sym same) e)) past.0))
-    | inr n ↦ subst (λ rs. StandsAfter p rs set) (sym (grind (arith, filter-append, append-nil))) (h.each t set (sym (b.others t (apart t n)) ∙ e))
+    | inr n ↦ subst (λ rs. StandsAfter p rs set) (sym (grind (arith, filter-append, append-nil))) (h.each t set (sym (b.others t (grind arith)) ∙ e))
   ];
   reported =
       (λ i. h.reported i ++ past.1 i) ∙ sym (reports_more p [] done r);
@@ -63,9 +63,6 @@ building_goes_on_lem p done r old new reports said h b = record {
   where
     past : StandsAfter p (of_one_term r.root_term done ++ r ∷ []) b.set × (said ≡ build_reports_of p (sites_after_rules p [] (of_one_term r.root_term done)) r)
     past = sets_go_past_rules_lem p (of_one_term r.root_term done) r (or_nothing_built (old r.root_term)) b.set said (stands p done old reports h r.root_term) b.goes
-
-    apart : (t : ℕ) → (r.root_term == t) ≡ false → t ≢ r.root_term
-    apart t n e = false≢true (sym n ∙ eq-eqb r.root_term t (sym e))
 
 pub building_ends_lem : BuildingEnds
 building_ends_lem p set_of sets reports h found = (

@@ -1,14 +1,14 @@
 -- A visit goes over calls of multi terms, and constrains no such call, nor does the closing of its demands.
-use Rattle.std.proofs.Common.{◌≡◌, ℕ, Bool, true, false, List, [], ◌∷◌, Contains, sym, ap, subst, inl, inr, ◌∙◌, arith}
+use Rattle.std.proofs.Common.{◌≡◌, ℕ, Bool, true, false, List, [], ◌∷◌, Contains, sym, ap, subst, inr, ◌∙◌, arith}
 use Rattle.std.proofs.lemmas.Bool.{false≢true}
 use Rattle.std.proofs.lemmas.Grind.{common_steps}
 use Rattle.model.specs.lists.Tables.{Flags}
 use Rattle.model.specs.rules.Program.{Program, a_call, kind, flags_of, is_multi, rules_of}
-use Rattle.model.specs.sites.Sites.{Constraint, is_present, SiteTerm, some_part, SiteTerms, unfold_site, field_terms}
+use Rattle.model.specs.sites.Sites.{Constraint, is_present, SiteTerm, SiteTerms, unfold_site, field_terms}
 use Rattle.model.specs.sites.Overlap.{BuiltRule, built_rule}
 use Rattle.model.specs.sites.RuleSets.{IsRuleOf}
 use Rattle.model.specs.rules.Typed.{TypedRule}
-use Rattle.model.specs.visits.Demands.{Demands, demands_of, Visit, making, asking, equating, iterating, calling, unwraps, unwraps_all, asking_all, counting}
+use Rattle.model.specs.visits.Demands.{Demands, demands_of, Visit, making, asking, equating, calling, unwraps, unwraps_all, asking_all, counting}
 use Rattle.model.specs.sites.Closure.{Joined, given, itself, turned, chained, at_field, closed}
 use Rattle.model.proofs.Elements.{In, in_from_contains, in_either, in_slice}
 use Rattle.laws_sites.specs.GateLaws.{NoRuleAsksAndGoesOver}
@@ -16,7 +16,7 @@ use Rattle.laws_sites.proofs.built.BuiltGates.{set_rule, was_built}
 use Rattle.laws_sites.proofs.Closing.{closing_is_sound_lem}
 use Rattle.model.specs.sites.DemandedGates.{IsMultiCall, HasNoPartialMulti, GoesOverMultiCalls}
 use Rattle.laws_sites.proofs.Patterns.{by_field}
-use Rattle.laws_sites.proofs.WithSites.{IsLeaf, by_leaf, by_equating, Onward, AtEach, KeptWithSites, unwrapped_at_each, rule_given}
+use Rattle.laws_sites.proofs.WithSites.{by_leaf, by_equating, Onward, AtEach, KeptWithSites, unwrapped_at_each, rule_given}
 
 module _ (p : Program) (neither : HasNoPartialMulti p) where
   -- no multi call
@@ -43,22 +43,13 @@ module _ (p : Program) (neither : HasNoPartialMulti p) where
   onward : (d e : Demands) → MultiCallsApart e → OnwardApart d e
   onward d e h = record { holds = h; stays = λ s o. o }
 
-  after_iterating : (s : SiteTerm) (v : Visit) → MultiCallsApart v.demands → IsMultiCall p s → MultiCallsApart (iterating s v).demands
-  after_iterating s v h m = grind (arith, common_steps, in_either)
-
   after_asking_all : (ss : List SiteTerm) (v : Visit) → MultiCallsApart v.demands → ((s : SiteTerm) → In ss s → IsOther s) → MultiCallsApart (asking_all ss v).demands
   after_asking_all [] v h f = h
   after_asking_all (s ∷ ss) v h f = after_asking_all ss (asking s is_present v) (grind (arith, common_steps, in_either)) (λ t i. f t (inr i))
 
-  leaf_plain : (s : SiteTerm) → IsLeaf s → IsPlain s
-  leaf_plain = by_leaf IsPlain (λ i. (λ m. m, λ s k. absurd k)) (λ b ty. (λ m. m, λ s k. absurd k)) (λ z ty. (λ m. m, λ s k. absurd k)) (λ name. (λ m. m, λ s k. absurd k))
-
   -- none of these unwraps a multi call, nor does the answer of another call
   all_unwrapped : (d : Demands) (us : SiteTerms) → AtEach MultiCallsApart StaysPlain d us → (s : SiteTerm) → In (unwraps_all us) s → IsOther s
   all_unwrapped d = unwrapped_at_each MultiCallsApart StaysPlain IsOther d (λ u m. m.1)
-
-  part_plain : (call : SiteTerm) → IsOther call → ((s : SiteTerm) → In (unwraps call) s → IsOther s) → IsPlain (some_part call)
-  part_plain call o deep = (λ m. m, λ s i. elim i [ inl q ↦ subst IsOther q o | inr j ↦ deep s j ])
 
   not_multi : (t : ℕ) (flags : Flags) (infallible : Bool) → kind p t ≡ a_call flags infallible → flags.multi ≡ false → is_multi p t ≡ true → ⊥
   not_multi t flags infallible e f m = false≢true (sym ((ap (λ k. (flags_of k).multi) e) ∙ f) ∙ m)
@@ -66,14 +57,14 @@ module _ (p : Program) (neither : HasNoPartialMulti p) where
   apart_kept : KeptWithSites MultiCallsApart StaysPlain p
   apart_kept = record {
     unbound = λ d. (λ m. m, λ s i. absurd i);
-    leaf = λ d s l n. leaf_plain s l;
+    leaf = λ d s l n. by_leaf IsPlain (λ i. (λ m. m, λ s k. absurd k)) (λ b ty. (λ m. m, λ s k. absurd k)) (λ z ty. (λ m. m, λ s k. absurd k)) (λ name. (λ m. m, λ s k. absurd k)) s l;
     variant = λ d ty variant us n m. (λ k. k, all_unwrapped d us m);
     struct = λ d ty us n m. (λ k. k, all_unwrapped d us m);
     result = λ d s n m. (λ k. k, m.1);
     tuple = λ d s i n m. (λ k. k, m.1);
     field = λ d c s x n a i m. by_field IsPlain s (λ variant j. (λ k. k, m.1)) (λ j. (λ k. k, m.1)) c x i;
     extracted = λ d t s flags e f n m. (not_multi t flags true e f, m.1);
-    answer = grind (arith, common_steps, part_plain, all_unwrapped);
+    answer = grind (arith, common_steps, all_unwrapped);
     pick = λ d t i us c n m. (λ k. k, all_unwrapped d us m);
     call = λ d t i us flags b e f g n m. (not_multi t flags b e g, all_unwrapped d us m);
     counts = λ c v h. onward v.demands (counting c v).demands (record { asked = h.asked; equal = h.equal; calls = h.calls });
@@ -82,9 +73,9 @@ module _ (p : Program) (neither : HasNoPartialMulti p) where
     equates = λ a b v h m n. onward v.demands (equating a b v).demands (by_equating (λ w. MultiCallsApart w.demands) a b v h (grind (arith, common_steps, in_either)));
     asks = λ s c v f h m. onward v.demands (asking s c v).demands (grind (arith, common_steps, in_either));
     asks_all = λ s v h m. onward v.demands (asking_all (unwraps s) v).demands (after_asking_all (unwraps s) v h m.1);
-    asks_call = grind (arith, common_steps, not_multi, onward, part_plain, in_either);
-    iterates_extractor = grind (arith, common_steps, onward, after_iterating);
-    iterates_constructor = grind (arith, common_steps, onward, after_iterating);
+    asks_call = grind (arith, common_steps, not_multi, onward, in_either);
+    iterates_extractor = grind (arith, common_steps, onward, in_either);
+    iterates_constructor = grind (arith, common_steps, onward, in_either);
   }
 
   rule_apart : (r : TypedRule) → MultiCallsApart (demands_of p r)

@@ -159,16 +159,13 @@ each_of_set s P f = all_from_in P s.set.rules (λ r i. f (set_rule s r i))
 pub gates_of : (s : BuiltSet) → IsWellTypedProgram s.program → (x : RuleOfSet s) → BuiltGates s.program x.typed
 gates_of s h x = built_gates s.program s.term x.typed h x.listed
 
-goes_over_none : (set : SiteSet) → All (λ r. r.iterators ≡ []) set.rules → (r : SetRule) → In set.rules r → r.iterators ≡ []
-goes_over_none set none r i = in_from_all (λ (x : SetRule). x.iterators ≡ []) set.rules none r i
-
 pub built_sets_are_well_built_lem : BuiltSetsAreWellBuilt
 built_sets_are_well_built_lem p t set h b none =
     let s : BuiltSet = record { program = p; term = t; set = set; built = b } in
     record {
       sources = b.sources;
       sites_once = sites_stand_once_lem p t set b;
-      each = λ i r k. (let j = in_slice set.rules i r k in let x = set_rule s r j in well_built s x (gates_of s h x) (goes_over_none set none r j));
+      each = λ i r k. let j = in_slice set.rules i r k in let x = set_rule s r j in well_built s x (gates_of s h x) (in_from_all (λ (x : SetRule). x.iterators ≡ []) set.rules none r j);
     }
 
 pub built_sets_are_tested_lem : BuiltSetsAreTested
@@ -177,7 +174,7 @@ built_sets_are_tested_lem p t set h b single none =
     record {
       once = sites_stand_once_lem p t set b;
       sources = b.sources;
-      rules = all_from_in (IsTestedRule set.sites) set.rules (λ r j. let x = set_rule s r j in is_tested s x (gates_of s h x) (goes_over_none set none r j));
+      rules = all_from_in (IsTestedRule set.sites) set.rules (λ r j. let x = set_rule s r j in is_tested s x (gates_of s h x) (in_from_all (λ (x : SetRule). x.iterators ≡ []) set.rules none r j));
     }
 
 pub built_rules_demand_gates_lem : BuiltRulesDemandGates

@@ -32,15 +32,12 @@ differing as' bs h = grind (arith, common_steps, in_any, and_parts, not-true, sa
 differ_at : (as' bs : List (ℕ × Constraint)) → DifferingAt as' bs → sites_differ as' bs ≡ true
 differ_at as' bs d = grind (arith, common_steps, any_in, and_from)
 
-turned : (as' bs : List (ℕ × Constraint)) → DifferingAt as' bs → DifferingAt bs as'
-turned as' bs d = record { site = d.site; first = d.second; second = d.first; in_first = d.in_second; in_second = d.in_first; two = λ e. d.two (sym e) }
-
 agree_from : (as' bs : List (ℕ × Constraint)) → ((d : ℕ × Constraint) → In as' d → In bs d) → all_agree as' bs ≡ true
 agree_from as' bs h = grind (arith, common_steps, all_from, any_in, and_from, same_constraint)
 
 -- 2. symmetry
 pub overlap_of_set_rules_is_symmetric_lem : OverlapOfSetRulesIsSymmetric
-overlap_of_set_rules_is_symmetric_lem r s = grind (arith, common_steps, bool_same, differ_at, turned, differing)
+overlap_of_set_rules_is_symmetric_lem r s = grind (arith, common_steps, bool_same, differ_at, differing)
 
 -- 3. what is told
 told_subset : (b c : Bool) → (if b then no_overlap else some_overlap c) ≡ some_overlap true → (b ≡ false) × (c ≡ true)

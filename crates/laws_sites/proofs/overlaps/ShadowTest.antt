@@ -6,11 +6,8 @@ use Rattle.std.proofs.lemmas.Grind.{common_steps}
 use Rattle.model.specs.sites.Overlap.{BuiltRule, Shadows, shadows}
 use Rattle.laws_sites.proofs.overlaps.Overlaps.{subset_pair_decides}
 
-above_means : (a b : ℤ) → int_lt a b ≡ true → a <ℤ b
-above_means a b e = record { lt = grind arith }
-
 above_from : (a b : ℤ) → a <ℤ b → int_lt a b ≡ true
 above_from a b h = grind (arith, common_steps)
 
 pub shadows_decides : (a b : BuiltRule) → Decides (shadows a b) (Shadows a b)
-shadows_decides a b = grind (arith, common_steps, and_parts, above_means, subset_pair_decides, and_from, above_from)
+shadows_decides a b = grind (arith, common_steps, and_parts, subset_pair_decides, and_from, above_from)

@@ -72,19 +72,16 @@ class_distinct ks h s = grind (arith, common_steps, class_cases, each_distinct, 
 two_apart : (ks : List (List SiteTerm)) → ClassesOnce ks → (a b x : SiteTerm) → has_site (class_at ks a) b ≡ false → In (class_at ks a) x → In (class_at ks b) x → ⊥
 two_apart ks h a b x f i j =
     elim (class_cases ks a) [
-      | inl c ↦ lacked (class_shares ks (once_apart ks h) b (class_at ks a) x c i j)
+      | inl c ↦ grind (arith, common_steps, in_has, class_shares ks (once_apart ks h) b (class_at ks a) x c i j)
       | inr e ↦
           elim (class_cases ks b) [
             | inl d ↦
                 let c = class_found ks (class_at ks b) a d (subst (In (class_at ks b)) (sym (alone a (class_at ks a) e x i)) j) in
-                lacked (class_shares ks (once_apart ks h) b (class_at ks a) x c i j)
-            | inr d ↦ lacked (subst (In (class_at ks a)) (sym (alone b (class_at ks b) d x j)) i)
+                grind (arith, common_steps, in_has, class_shares ks (once_apart ks h) b (class_at ks a) x c i j)
+            | inr d ↦ grind (arith, in_has)
           ]
     ]
   where
-    lacked : In (class_at ks a) b → ⊥
-    lacked m = false≢true (sym f ∙ in_has (class_at ks a) b m)
-
     alone : (s : SiteTerm) (l : List SiteTerm) → l ≡ s ∷ [] → (y : SiteTerm) → In l y → s ≡ y
     alone s l e y m = elim (subst (λ q. In q y) e m) [ inl p ↦ p | inr n ↦ absurd n ]
 
