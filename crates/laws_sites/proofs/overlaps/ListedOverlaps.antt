@@ -127,6 +127,10 @@ lists_overlap n pairs r a b i (inr q) = grind (arith, common_steps, reports_mean
 same_end : (at : Position) (e x : Position × Position) → AreEnds x e.0 e.1 → has_end at e ≡ true → has_end at x ≡ true
 same_end at e x k h = grind (arith, common_steps, or_split, first_end, position_means, second_end)
 
+-- a report that lists two rules has one of them first
+first_of_both : (r : OverlapReport) (e : Position × Position) → ListsBoth r e.0 e.1 → has_end r.first e ≡ true
+first_of_both r e h = grind (arith, common_steps, first_end)
+
 once : (n : ℕ) (pairs : List (Position × Position)) → length pairs ≤ n → (e : Position × Position) → In pairs e → IsListedOnce (overlap_reports_in n pairs) e.0 e.1
 once n [] le e i = absurd i
 once zero (x ∷ xs) le e i = absurd (omega (arith, le))
@@ -155,7 +159,7 @@ once (suc n) (x ∷ xs) le e i = elim (cases_Bool (has_end (rule_first x xs) e))
     later f w = record { place = suc w.place; report = w.report; here = w.here; lists = w.lists; only = only }
       where
         only : (k : ℕ) (r : OverlapReport) → slice_get (overlap_reports_in (suc n) (x ∷ xs)) k ≡ Some r → ListsBoth r e.0 e.1 → k ≡ suc w.place
-        only zero r h l = grind (arith, common_steps, some_is, first_end)
+        only zero r h l = grind (arith, some_is, first_of_both)
         only (suc k) r h l = ap suc (w.only k r h l)
 
 pub overlaps_are_listed_once_lem : (p : Program) → RulesHaveTerms p → (t i j : ℕ) (o : OverlapsWrongly p t i j) → IsListedOnce (overlap_reports (wrong_overlaps p)) o.first.rule.at o.second.rule.at
