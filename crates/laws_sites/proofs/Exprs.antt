@@ -13,7 +13,7 @@ use Rattle.model.specs.visits.Demands.{Visit, making, iterating, calling, bindin
 use Rattle.model.specs.lists.Setting.{expr_type, has_constructor}
 use Rattle.model.specs.lists.Formed.{var_type, with_new, is_formed_expr, are_formed_args, formed_lets}
 use Rattle.model.proofs.Elements.{some_is}
-use Rattle.model.specs.sites.DemandedGates.{AsksAnswer, IsPureCall, AllGatesDemanded, IsPureExpr, ArePureExprs, ArePureLets}
+use Rattle.model.specs.sites.DemandedGates.{AllGatesDemanded, IsPureExpr, ArePureExprs, ArePureLets}
 use Rattle.model.specs.rules.CalledTerms.{CallsAlone, CallAlone, LetsCallAlone}
 use Rattle.laws_sites.proofs.Calls.{NewCalls, no_call, then_calls, one_call}
 use Rattle.laws_sites.proofs.Gates.{unasked}
@@ -45,19 +45,12 @@ record AreValued (asked pure : Bool) (vars : List (ℕ × ℕ)) (v : Visit) (a :
   sites : AllGood asked pure a.visit a.sites
   calls : NewCalls asked pure v a.visit
 
-unchanged : (vars : List (ℕ × ℕ)) (v : Visit) → Same vars v v
-unchanged vars v x h = refl
-
 -- what a call gives, where the call is good and gone over if it is multi
 record IsCalled (asked pure : Bool) (v : Visit) (a : Valued) : Type 0 where
   later : Later v a.visit
   binds : a.visit.vars ≡ v.vars
   site : Good asked pure a.visit a.site
   calls : NewCalls asked pure v a.visit
-
--- no answer matters
-no_answer : (asked : Bool) (w : Visit) (call : SiteTerm) → (asked ≡ true → true ≡ false) → AsksAnswer asked w.demands.constraints call
-no_answer asked w call h = grind (arith, common_steps)
 
 -- a call that is gone over, and what its answers are taken by
 taken_over : (asked pure : Bool) (call result : SiteTerm) (sites : List SiteTerm) (v : Visit) → Good asked pure v call
@@ -75,18 +68,15 @@ taken_over asked pure call result sites v g taken =
 
 gone_over : (asked pure p m q r : Bool) (call : SiteTerm) (v : Visit) → (asked ≡ true → q ≡ false) → Good asked pure v call
     → IsCalled asked pure v (valued (call_result (record { pure = p; multi = m; partial = q; rec = r }) call) (where_multi (record { pure = p; multi = m; partial = q; rec = r }) call (making (call_sites (record { pure = p; multi = m; partial = q; rec = r }) call) v)))
-gone_over asked pure p true true r call v h g = grind (arith, common_steps, taken_over asked pure call (some_part call), no_answer asked)
+gone_over asked pure p true true r call v h g = grind (arith, common_steps, taken_over asked pure call (some_part call))
 gone_over asked pure p true false r call v h g =
     taken_over asked pure call (pick_of call) (call ∷ (pick_of call ∷ [])) v g (λ good. (at_right v.demands.iterators call, good))
-gone_over asked pure p false true r call v h g = grind (arith, common_steps, later_making, no_answer, no_call)
+gone_over asked pure p false true r call v h g = grind (arith, common_steps, later_making, no_call)
 gone_over asked pure p false false r call v h g = record { later = later_making (call ∷ []) v; binds = refl; site = g; calls = no_call asked pure v }
-
-pure_call : (pure : Bool) → IsPureCall pure 0
-pure_call pure = grind (arith, common_steps)
 
 call_valued : (asked pure p m q r : Bool) (t : ℕ) (args : SiteTerms) (v : Visit) → (pure ≡ true → p ≡ true) → (asked ≡ true → q ≡ false) → AllGood asked pure v args
     → IsCalled asked pure v (visit_call (record { pure = p; multi = m; partial = q; rec = r }) t args v)
-call_valued asked pure true m q r t args v h k g = gone_over asked pure true m q r (constructor_call t args 0) v k (pure_call pure, g)
+call_valued asked pure true m q r t args v h k g = gone_over asked pure true m q r (constructor_call t args 0) v k (grind (arith, common_steps), g)
 call_valued asked true false m q r t args v h k g = absurd (false≢true (h refl))
 call_valued asked false false m q r t args v h k g =
     let c = gone_over asked false false m q r (constructor_call t args (suc v.impure_calls)) v k (tt, g) in
@@ -141,10 +131,10 @@ module _ (asked pure : Bool) (p : Program) where
           site = c.site;
           calls = then_calls asked pure v w z c.later r.calls c.calls;
         }
-    expr_valued_by (make_var ty x) v vars f h k g = record { later = now v; same = unchanged vars v; site = g x (has_type (var_type vars x) ty f); calls = no_call asked pure v }
-    expr_valued_by (make_bool ty b) v vars f h k g = record { later = later_making (bool_term b ty ∷ []) v; same = unchanged vars v; site = tt; calls = no_call asked pure v }
-    expr_valued_by (make_int ty z) v vars f h k g = record { later = later_making (int_term z ty ∷ []) v; same = unchanged vars v; site = tt; calls = no_call asked pure v }
-    expr_valued_by (make_prim ty name) v vars f h k g = record { later = later_making (prim_term name ∷ []) v; same = unchanged vars v; site = tt; calls = no_call asked pure v }
+    expr_valued_by (make_var ty x) v vars f h k g = record { later = now v; same = λ x h. refl; site = g x (has_type (var_type vars x) ty f); calls = no_call asked pure v }
+    expr_valued_by (make_bool ty b) v vars f h k g = record { later = later_making (bool_term b ty ∷ []) v; same = λ x h. refl; site = tt; calls = no_call asked pure v }
+    expr_valued_by (make_int ty z) v vars f h k g = record { later = later_making (int_term z ty ∷ []) v; same = λ x h. refl; site = tt; calls = no_call asked pure v }
+    expr_valued_by (make_prim ty name) v vars f h k g = record { later = later_making (prim_term name ∷ []) v; same = λ x h. refl; site = tt; calls = no_call asked pure v }
     expr_valued_by (make_let ty defs body) v vars f h k g =
         let a = from_vars (formed_lets p defs vars) (λ more. (expr_type body == ty) && is_formed_expr p body more) f in
         let b = and_parts (expr_type body == ty) (is_formed_expr p body a.0) a.2 in
@@ -161,7 +151,7 @@ module _ (asked pure : Bool) (p : Program) where
 
     exprs_valued : (es : TypedExprs) (v : Visit) (tys : List ℕ) (vars : List (ℕ × ℕ)) → are_formed_args p es tys vars ≡ true → (pure ≡ true → ArePureExprs p es) → (asked ≡ true → CallAlone (IsTotal p) es)
         → AreGood asked pure vars v → AreValued asked pure vars v (visit_exprs p es v)
-    exprs_valued no_typed_expr v [] vars f h k g = record { later = now v; same = unchanged vars v; sites = tt; calls = no_call asked pure v }
+    exprs_valued no_typed_expr v [] vars f h k g = record { later = now v; same = λ x h. refl; sites = tt; calls = no_call asked pure v }
     exprs_valued (typed_expr_and e es) v (ty ∷ tys) vars f h k g =
         let b = and_parts (is_formed_expr p e vars) (are_formed_args p es tys vars) (and_parts (expr_type e == ty) (is_formed_expr p e vars && are_formed_args p es tys vars) f).1 in
         let r = expr_valued_by e v vars b.0 (λ q. (h q).0) (λ q. (k q).0) g in
@@ -178,7 +168,7 @@ module _ (asked pure : Bool) (p : Program) where
 
     lets_defined : (ds : TypedLets) (v : Visit) (vars more : List (ℕ × ℕ)) → formed_lets p ds vars ≡ Some more → (pure ≡ true → ArePureLets p ds) → (asked ≡ true → LetsCallAlone (IsTotal p) ds)
         → AreGood asked pure vars v → AreDefined asked pure vars more v (visit_lets p ds v)
-    lets_defined no_typed_let v vars more f h k g = grind (arith, common_steps, some_is, now, unchanged, no_call)
+    lets_defined no_typed_let v vars more f h k g = grind (arith, common_steps, some_is, now, no_call)
     lets_defined (typed_let_and x ty value rest) v vars more f h k g =
         let a = from_if ((expr_type value == ty) && is_formed_expr p value vars) (then_option (with_new x ty vars) (λ after. formed_lets p rest after)) more f in
         let b = from_then (with_new x ty vars) (λ after. formed_lets p rest after) more a.1 in
