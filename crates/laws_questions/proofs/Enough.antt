@@ -1,9 +1,9 @@
 -- Where no question about a condition can be satisfied, the condition is valid.
-use Rattle.std.proofs.Common.{◌≡◌, ◌⊎◌, ◌+◌, ℕ, Bool, true, false, List, [], ◌∷◌, ◌++◌, map, Option, Some, None, slice_get, is_some, All, Contains, IsTrue, flat_map, append_assoc, refl, sym, ap, ◌∙◌, subst, inl, inr, arith}
+use Rattle.std.proofs.Common.{if◌then◌else◌, ◌≡◌, ◌⊎◌, ◌+◌, ℕ, Bool, true, false, List, [], ◌∷◌, ◌++◌, map, Option, Some, None, slice_get, is_some, All, Contains, IsTrue, flat_map, append_assoc, refl, sym, ap, ◌∙◌, subst, inl, inr, arith}
 use Rattle.std.proofs.lemmas.Grind.{common_steps}
 use Rattle.std.proofs.lemmas.List.Elements.{All-nil, All-cons}
 use Rattle.model.specs.rules.Program.{Program, arg_types}
-use Rattle.model.specs.sites.Sites.{Constraint, is_variant, is_bool, is_int, is_prim, SiteTerm, bool_term, int_term, prim_term, argument, extractor_call, constructor_call, pick_of, variant_made, variant_field, struct_made, struct_field, some_made, some_part, tuple_part, no_site, SiteTerms}
+use Rattle.model.specs.sites.Sites.{Constraint, is_variant, is_struct, is_bool, is_int, is_prim, is_present, SiteTerm, bool_term, int_term, prim_term, argument, extractor_call, constructor_call, pick_of, variant_made, variant_field, struct_made, struct_field, some_made, some_part, tuple_part, no_site, SiteTerms}
 use Rattle.model.specs.sites.Serves.{term_args}
 use Rattle.model.proofs.Elements.{In, in_map, map_in, contains_from_in, none_some}
 use Rattle.laws_sites.proofs.built.WellBuiltSets.{in_from_all}
@@ -12,13 +12,13 @@ use Rattle.laws_specs.specs.Specs.{SpecExpr, Specs, spec_of, IsSaid, IsRequired,
 use Rattle.laws_specs.specs.Conditions.{ToldContent, told, told_just, told_many, answered_as, result_as, Valuation, denoted_at_each, IsMetAs, IsConstructedAsSaid, IsExtractedAsSaid, call_of, IsTypedAs, Condition, IsAssumed, IsCallMade, IsShown}
 use Rattle.model_questions.specs.Formulas.{Place, argument_at, output_at, Fact}
 use Rattle.model_questions.specs.Forms.{Form, Forms, no_form, form_and}
-use Rattle.model_questions.specs.Steps.{Said, Step, told_as, told_same, assumed, assumed_under, shown, Event, tests, equals_at, calls, gives_at, events_of, told_in, told_in_each, result_in, fresh, tested_in, args_in, requires_of, provides_of, split_form, split_each, is_pure_made, is_answered, form_at, forms_at, result_form, constructed, outputs_at, extracted, picked, answer_steps, required_steps, steps_from, args_of, steps_of}
+use Rattle.model_questions.specs.Steps.{Said, Step, told_same, assumed, assumed_under, shown, Event, tests, equals_at, calls, gives_at, events_of, told_in, told_in_each, result_in, fresh, is_argument, is_output_of, is_form_below, told_fields, told_form, told_splits, field_splits, tested_in, args_in, requires_of, provides_of, split_form, split_each, is_pure_made, is_answered, form_at, forms_at, result_form, constructed, outputs_at, extracted, picked, answer_steps, required_steps, told_steps, steps_from, args_of, steps_of}
 use Rattle.model_questions.specs.Questions.{nothing_known, questions, IsUnsatisfiable}
 use Rattle.model_questions.proofs.Opening.{fields_stand}
 use Rattle.model_questions.proofs.Shown.{FitsSaid, IsHeld, AllHeld, AllSaidFit, IsToldAs, AreShown, steps_shown}
 use Rattle.model_questions.proofs.Standing.{model_of, AreKnown, stands, Fits, AllFit}
 use Rattle.laws_questions.proofs.Values.{value_at, or_false, coherent, values_formed}
-use Rattle.laws_questions.proofs.SiteForms.{Is, AreAll, output_is_at, AreDone, typed_answer, said_answer, typed_pick, said_pick, told_is, each_is, result_is}
+use Rattle.laws_questions.proofs.SiteForms.{Is, AreAll, output_is_at, AreDone, typed_answer, said_answer, told_fields_fit, typed_pick, said_pick, told_is, each_is, result_is}
 use Rattle.laws_questions.proofs.Answered.{in_fresh, IsAnswer, AreAnswers, told_answers, each_answers, result_answers, tested_answers}
 use Rattle.laws_questions.specs.EnoughLaws.{QuestionsAskEnough}
 
@@ -101,6 +101,50 @@ module _ (p : Program) (specs : Specs) (c : Condition) (args : DenotedList) (f :
           (λ e i. subst (λ y. IsSaid specs.unknowns xs (Some y) e) is.0
           (subst (λ ys. IsSaid specs.unknowns ys (Some (stands v specs.unknowns r)) e) all.0 (h (said_on gs (Some r) e) (map_in (said_on gs (Some r)) (spec_of specs t).provide e i))))
 
+  -- fields of variants that are told
+  abbrev none_done : AreDone p specs c args f a []
+  none_done w i = absurd i
+
+  told_all_fit : (s : SiteTerm) (k : Constraint) → IsMetAs specs f s k → AllFit p.types specs v (told_fields p (told_form p specs c s) k)
+  told_all_fit s (is_variant ty variant n) h = told_fields_fit p specs c args f a (told_form p specs c s) ty variant n h.0 (told_is p specs c args f a [] none_done s (variant_of ty variant h.0) h.1)
+  told_all_fit s (is_struct ty n) h = no_fields (told_form p specs c s)
+    where
+      no_fields : (g : Form) → AllFit p.types specs v (told_fields p g (is_struct ty n))
+      no_fields g = grind (arith, common_steps)
+  told_all_fit s (is_bool b ty) h = no_fields (told_form p specs c s)
+    where
+      no_fields : (g : Form) → AllFit p.types specs v (told_fields p g (is_bool b ty))
+      no_fields g = grind (arith, common_steps)
+  told_all_fit s (is_int z ty) h = no_fields (told_form p specs c s)
+    where
+      no_fields : (g : Form) → AllFit p.types specs v (told_fields p g (is_int z ty))
+      no_fields g = grind (arith, common_steps)
+  told_all_fit s (is_prim name) h = no_fields (told_form p specs c s)
+    where
+      no_fields : (g : Form) → AllFit p.types specs v (told_fields p g (is_prim name))
+      no_fields g = grind (arith, common_steps)
+  told_all_fit s is_present h = no_fields (told_form p specs c s)
+    where
+      no_fields : (g : Form) → AllFit p.types specs v (told_fields p g is_present)
+      no_fields g = grind (arith, common_steps)
+
+  splits_next : (plan root : Place → Bool) (s : SiteTerm) (k : Constraint) (rest : List Step) → IsMetAs specs f s k → Shown (told_splits p specs c plan root s k ++ rest) → Shown rest
+  splits_next plan root s k rest met h = by (is_form_below root (told_form p specs c s)) h
+    where
+      by : (b : Bool) → Shown ((if b then split_each plan (told_fields p (told_form p specs c s) k) else []) ++ rest) → Shown rest
+      by false g = g
+      by true g = split_all plan (told_fields p (told_form p specs c s) k) rest (told_all_fit s k met) g
+
+  all_splits_next : (plan root : Place → Bool) (ks : List (SiteTerm × Constraint)) (rest : List Step) → ((s : SiteTerm) (k : Constraint) → In ks (s, k) → IsMetAs specs f s k)
+      → Shown (field_splits p specs c plan root ks ++ rest) → Shown rest
+  all_splits_next plan root [] rest met h = h
+  all_splits_next plan root (k ∷ ks) rest met h =
+      all_splits_next plan root ks rest (λ s q i. met s q (inr i))
+      (splits_next plan root k.0 k.1 (field_splits p specs c plan root ks ++ rest) (met k.0 k.1 (inl refl)) (subst Shown (append_assoc (told_splits p specs c plan root k.0 k.1) (field_splits p specs c plan root ks) rest) h))
+
+  all_met : (s : SiteTerm) (k : Constraint) → In c.constraints (s, k) → IsMetAs specs f s k
+  all_met s k i = a.constraints s k (contains_from_in c.constraints (s, k) i)
+
   -- 3. answers of calls
   module _ (done : List SiteTerm) (are_done : AreDone p specs c args f a done) (plan : Place → Bool) where
     constructed_next : (typed : Bool) (t : ℕ) (ss : SiteTerms) (n : ℕ) (u : SiteTerm) (x : Denoted) (xs : DenotedList) (h : ToldContent) (rest : List Step)
@@ -123,14 +167,16 @@ module _ (p : Program) (specs : Specs) (c : Condition) (args : DenotedList) (f :
         let gs = outputs_at p specs c done t u in
         let all : AreAll p specs c args f a gs xs =
         fields_stand p.types specs v specs.unknowns (output_at u) 0 (term_args (slice_get p.terms t)) xs
-        (λ n y r. ap (λ i. v (output_at u i)) (let z : 0 + n ≡ n = omega arith in z) ∙ output_is_at p specs c args f a u h xs n y there q r) ((known refl).0 xs q) in
+        (λ n y r. ap (λ i. v (output_at u i)) (let z : 0 + n ≡ n = omega arith in z) ∙ output_is_at p specs c args f a u h xs n y there q r) ((known refl).0.0 xs q) in
         let is = told_is p specs c args f a done are_done s x e in
         let said = (known refl).1 xs q in
-        let rest2 = map assumed (provides_of specs t gs (form_at p specs c done s)) ++ rest in
-        let first = split_all plan gs (map assumed (requires_of specs t gs) ++ rest2) all.1
-        (subst (λ l. Shown (split_each plan gs ++ l)) (append_assoc (map assumed (requires_of specs t gs)) (map assumed (provides_of specs t gs (form_at p specs c done s))) rest)
-        (subst Shown (append_assoc (split_each plan gs) (map assumed (requires_of specs t gs) ++ map assumed (provides_of specs t gs (form_at p specs c done s))) rest) k)) in
-        let second = assume_all (requires_of specs t gs) rest2 (λ r i. (required_fit t gs xs all r i, required_held t gs xs all said.0 r i)) first in
+        let provided = map assumed (provides_of specs t gs (form_at p specs c done s)) in
+        let required = map assumed (requires_of specs t gs) in
+        let splits = field_splits p specs c plan (is_output_of u) c.constraints in
+        let rest2 = provided ++ rest in
+        let first = split_all plan gs ((splits ++ (required ++ provided)) ++ rest) all.1 (subst Shown (append_assoc (split_each plan gs) (splits ++ (required ++ provided)) rest) k) in
+        let between = all_splits_next plan (is_output_of u) c.constraints ((required ++ provided) ++ rest) all_met (subst Shown (append_assoc splits (required ++ provided) rest) first) in
+        let second = assume_all (requires_of specs t gs) rest2 (λ r i. (required_fit t gs xs all r i, required_held t gs xs all said.0 r i)) (subst Shown (append_assoc required provided rest) between) in
         assume_all (provides_of specs t gs (form_at p specs c done s)) rest (λ r i. (provided_fit t gs xs all (form_at p specs c done s) x is r i, provided_held t gs xs all (form_at p specs c done s) x is said.1 r i)) second
 
     picked_next : (w : SiteTerm) (rest : List Step) → IsAnswer p specs c args f a (pick_of w) → Shown (picked p specs c done plan w ++ rest) → Shown rest
@@ -202,10 +248,13 @@ module _ (p : Program) (specs : Specs) (c : Condition) (args : DenotedList) (f :
     told_as_is done are_done s k h = tt
 
     tests_next : (done : List SiteTerm) (are_done : AreDone p specs c args f a done) (seen : List SiteTerm) (s : SiteTerm) (k : Constraint) (es : List Event) → IsMetAs specs f s k
-        → Shown (Steps seen done (tests s k ∷ es)) → Shown (Steps (tested_in specs s k ++ seen) done es)
+        → Shown (Steps seen done (tests s k ∷ es)) → Shown (Steps (tested_in p specs c s k ++ seen) done es)
     tests_next done are_done seen s k es met h =
-        (fresh_next done are_done plan seen (tested_in specs s k) (told_as (form_at p specs c done s) k ∷ Steps (tested_in specs s k ++ seen) done es) (tested_answers p specs c args f a s k met) h
-        (told_as_is done are_done s k met)).1
+        fresh_next done are_done plan seen (tested_in p specs c s k) (Steps (tested_in p specs c s k ++ seen) done es) (tested_answers p specs c args f a s k met) h
+
+    tell_all : (ks : List (SiteTerm × Constraint)) (rest : List Step) → ((s : SiteTerm) (k : Constraint) → In ks (s, k) → IsMetAs specs f s k) → Shown (told_steps p specs c ks ++ rest) → Shown rest
+    tell_all [] rest met h = h
+    tell_all (k ∷ ks) rest met h = tell_all ks rest (λ s q i. met s q (inr i)) (h (told_as_is [] (λ w i. absurd i) k.0 k.1 (met k.0 k.1 (inl refl)))).1
 
     equals_next : (done : List SiteTerm) (are_done : AreDone p specs c args f a done) (seen : List SiteTerm) (s t : SiteTerm) (x : Denoted) (es : List Event) → f s ≡ Some (told x) → f t ≡ Some (told x)
         → Shown (Steps seen done (equals_at s t ∷ es)) → Shown (Steps ((told_in s ++ told_in t) ++ seen) done es)
@@ -288,7 +337,7 @@ module _ (p : Program) (specs : Specs) (c : Condition) (args : DenotedList) (f :
 
     all_tests_next : (ks : List (SiteTerm × Constraint)) (seen : List SiteTerm) (es : List Event) → ((s : SiteTerm) (k : Constraint) → In ks (s, k) → IsMetAs specs f s k) → Shown (Steps seen [] (map (λ e. tests e.0 e.1) ks ++ es))
         → (after : List SiteTerm) × Shown (Steps after [] es)
-    all_tests_next (k ∷ ks) seen es met h = grind (arith, common_steps, all_tests_next ks (tested_in specs k.0 k.1 ++ seen) es, tests_next [], tests_next)
+    all_tests_next (k ∷ ks) seen es met h = grind (arith, common_steps, all_tests_next ks (tested_in p specs c k.0 k.1 ++ seen) es, tests_next [], tests_next)
     all_tests_next [] seen es met h = (seen, h)
 
     all_equals_next : (ks : List (SiteTerm × SiteTerm)) (seen : List SiteTerm) (es : List Event) → ((s t : SiteTerm) → In ks (s, t) → (x : Denoted) × (f s ≡ Some (told x)) × (f t ≡ Some (told x)))
@@ -332,10 +381,10 @@ module _ (p : Program) (specs : Specs) (c : Condition) (args : DenotedList) (f :
     given_next done are_done seen h x e q k =
         let is = result_is p specs c args f a done are_done c.result h x e q in
         let r = result_form p specs c done c.result in
-        let first = fresh_next done are_done plan seen (result_in c.result) (map shown (provides_of specs c.term (args_of p specs c) r) ++ Steps (result_in c.result ++ seen) done [])
-        (result_answers p specs c args f a c.result h x e q) k in
+        let first = fresh_next done are_done plan seen (result_in p specs c done c.result) (map shown (provides_of specs c.term (args_of p specs c) r) ++ Steps (result_in p specs c done c.result ++ seen) done [])
+        (result_answers p specs c args f a done are_done c.result h x e q) k in
         provided_back c.term (args_of p specs c) args args_are r x is
-        (show_all (provides_of specs c.term (args_of p specs c) r) (Steps (result_in c.result ++ seen) done []) (provided_fit c.term (args_of p specs c) args args_are r x is) first).0
+        (show_all (provides_of specs c.term (args_of p specs c) r) (Steps (result_in p specs c done c.result ++ seen) done []) (provided_fit c.term (args_of p specs c) args args_are r x is) first).0
 
     abbrev impure_events : List Event
     impure_events = map calls c.impure ++ gives_at c.result ∷ []
@@ -345,9 +394,12 @@ module _ (p : Program) (specs : Specs) (c : Condition) (args : DenotedList) (f :
     start h =
         let gs = args_of p specs c in
         let tail = Steps [] [] (events_of c) in
-        let first = split_all plan gs (map assumed (requires_of specs c.term gs) ++ tail) args_are.1 h in
-        let second = assume_all (requires_of specs c.term gs) tail (λ s i. (required_fit c.term gs args args_are s i, required_held c.term gs args args_are a.required s i)) first in
-        let third = all_tests_next c.constraints [] (map (λ e. equals_at e.0 e.1) c.equalities ++ impure_events) (λ s k i. a.constraints s k (contains_from_in c.constraints (s, k) i)) second in
+        let later = map assumed (requires_of specs c.term gs) ++ tail in
+        let first = split_all plan gs (told_steps p specs c c.constraints ++ (field_splits p specs c plan is_argument c.constraints ++ later)) args_are.1 h in
+        let told = tell_all c.constraints (field_splits p specs c plan is_argument c.constraints ++ later) all_met first in
+        let split = all_splits_next plan is_argument c.constraints later all_met told in
+        let second = assume_all (requires_of specs c.term gs) tail (λ s i. (required_fit c.term gs args args_are s i, required_held c.term gs args args_are a.required s i)) split in
+        let third = all_tests_next c.constraints [] (map (λ e. equals_at e.0 e.1) c.equalities ++ impure_events) all_met second in
         all_equals_next c.equalities third.0 impure_events (λ s t i. a.equalities s t (contains_from_in c.equalities (s, t) i)) third.1
 
     pub shown_is : Shown (steps_of p specs c plan) → IsShown p specs c args f

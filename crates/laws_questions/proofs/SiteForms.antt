@@ -1,12 +1,12 @@
 -- What sites stand for by forms is what they hold.
-use Rattle.std.proofs.Common.{◌≡◌, ℕ, suc, Bool, true, false, not, List, [], ◌∷◌, Option, Some, None, slice_get, Contains, refl, sym, ap, ◌∙◌, subst, inl, inr, arith}
+use Rattle.std.proofs.Common.{if◌then◌else◌, ◌≡◌, ℕ, suc, Bool, true, false, not, List, [], ◌∷◌, ◌+◌, Option, Some, None, slice_get, Contains, refl, sym, ap, ◌∙◌, subst, inl, inr, arith}
 use Rattle.std.proofs.lemmas.Grind.{common_steps}
 use Rattle.std.proofs.lemmas.Bool.{and_parts, false≢true}
 use Rattle.model.specs.lists.Tables.{TypeEntry, TermEntry}
 use Rattle.model.specs.rules.Outcome.{then_option}
 use Rattle.model.specs.rules.Program.{Program, arg_types}
 use Rattle.model.specs.rules.Values.{variant_types, struct_types}
-use Rattle.model.specs.sites.Sites.{SiteTerm, bool_term, int_term, prim_term, argument, extractor_call, constructor_call, pick_of, variant_made, variant_field, struct_made, struct_field, some_made, some_part, tuple_part, no_site, SiteTerms, no_site_term, site_term_and}
+use Rattle.model.specs.sites.Sites.{is_variant, SiteTerm, bool_term, int_term, prim_term, argument, extractor_call, constructor_call, pick_of, variant_made, variant_field, struct_made, struct_field, some_made, some_part, tuple_part, no_site, SiteTerms, no_site_term, site_term_and}
 use Rattle.model.specs.sites.Serves.{term_args, term_results}
 use Rattle.model.specs.visits.Demands.{site_term_eq, has_site}
 use Rattle.model.proofs.Elements.{In, or_split, contains_from_in, some_is, none_some}
@@ -15,9 +15,9 @@ use Rattle.laws_specs.specs.Words.{Denoted, a_truth, variant_of, struct_of, Deno
 use Rattle.laws_specs.specs.Specs.{Specs, constant_of, literal_of}
 use Rattle.laws_specs.specs.Conditions.{ToldContent, told, told_parts, told_nothing, told_just, told_many, answered_as, as_denoted, result_as, Valuation, denoted_at_each, IsAnsweredAsSaid, is_impure_call, is_of_type, are_of_types, IsTypedAs, Condition, IsAssumed}
 use Rattle.model_questions.specs.Formulas.{Place, argument_at, site_at, output_at, variant_field_at, struct_field_at}
-use Rattle.model_questions.specs.Forms.{Form, variant_by, struct_by, any_of, some_at, Forms, form_list}
-use Rattle.model_questions.specs.Steps.{or_form, typed_at, written_or, any_if, type_at, first_of, variant_field_form, struct_field_form, is_pure_made, is_answered, answer_form, output_form, form_at, forms_at, part_form, outputs_form, part_outputs_form, result_form}
-use Rattle.model_questions.proofs.Opening.{IsOf, type_says, and_last_false}
+use Rattle.model_questions.specs.Forms.{Form, a_fact, an_integer_by, a_word_by, variant_by, struct_by, any_of, some_at, Forms, form_list}
+use Rattle.model_questions.specs.Steps.{or_form, typed_at, written_or, any_if, type_at, first_of, variant_field_form, struct_field_form, is_pure_made, is_answered, answer_form, output_form, form_at, forms_at, part_form, outputs_form, part_outputs_form, is_unwrapped, result_form, fields_if, told_fields}
+use Rattle.model_questions.proofs.Opening.{IsOf, type_says, and_last_false, fields_stand}
 use Rattle.model_questions.proofs.Standing.{stands, stand_each, written_stands, Fits, AllFit, written_fits, AreDescribed, forms_described}
 use Rattle.laws_questions.proofs.Values.{or_false, variant_fields, struct_fields, part_of, value_at}
 
@@ -87,6 +87,9 @@ module _ (p : Program) (specs : Specs) (c : Condition) (args : DenotedList) (f :
   pure_made : (w : SiteTerm) → is_pure_made p specs c w ≡ true → Contains c.made w × (is_impure_call w ≡ false)
   pure_made w e = let q = and_parts (has_site c.made w) (not (is_impure_call w)) e in (contains_from_in c.made w (has_in c.made w q.0), not_false_is (is_impure_call w) q.1)
 
+  pub typed_made : (w : SiteTerm) → is_pure_made p specs c w ≡ true → (h : ToldContent) → f w ≡ Some h → IsTypedAs p specs w h
+  typed_made w e h q = let k = pure_made w e in a.typed w h k.0 k.1 q
+
   pub typed_pick : (w : SiteTerm) → is_pure_made p specs c w ≡ true → (h : ToldContent) → f (pick_of w) ≡ Some h → IsTypedAs p specs w h
   typed_pick w e h q = let k = pure_made w e in a.typed_picks w h k.0 k.1 q
 
@@ -99,6 +102,27 @@ module _ (p : Program) (specs : Specs) (c : Condition) (args : DenotedList) (f :
 
     pub said_answer : (w : SiteTerm) → is_answered p specs c done w ≡ true → IsAnsweredAsSaid specs f w w
     said_answer w e = grind (arith, common_steps, or_split (is_pure_made p specs c w) (has_site done w) e, pure_made w, has_in done w, or_split, pure_made, has_in)
+
+    -- what is unwrapped of a constructor's answer is its result
+    pub unwrapped_is : (s : SiteTerm) (h : ToldContent) (x : Denoted) → is_unwrapped p specs c done s ≡ true → f s ≡ Some (told_just h) → result_as h ≡ Some x → h ≡ told x
+    unwrapped_is (constructor_call t ss n) h x m e q = let k = (typed_answer (constructor_call t ss n) m (told_just h) e).1 h refl in one_result h k.0 k.1 q
+      where
+        one_result : (g : ToldContent) (y : Denoted) → as_denoted g ≡ Some y → result_as g ≡ Some x → g ≡ told x
+        one_result g y r v = grind (arith, common_steps, none_some, some_is)
+    unwrapped_is (extractor_call t s) h x m e q = absurd (false≢true m)
+    unwrapped_is (pick_of s) h x m e q = absurd (false≢true m)
+    unwrapped_is (bool_term b ty) h x m e q = absurd (false≢true m)
+    unwrapped_is (int_term z ty) h x m e q = absurd (false≢true m)
+    unwrapped_is (prim_term name) h x m e q = absurd (false≢true m)
+    unwrapped_is (argument i) h x m e q = absurd (false≢true m)
+    unwrapped_is (variant_made ty variant ss) h x m e q = absurd (false≢true m)
+    unwrapped_is (variant_field s variant i) h x m e q = absurd (false≢true m)
+    unwrapped_is (struct_made ty ss) h x m e q = absurd (false≢true m)
+    unwrapped_is (struct_field s i) h x m e q = absurd (false≢true m)
+    unwrapped_is (some_made s) h x m e q = absurd (false≢true m)
+    unwrapped_is (some_part s) h x m e q = absurd (false≢true m)
+    unwrapped_is (tuple_part s i) h x m e q = absurd (false≢true m)
+    unwrapped_is no_site h x m e q = absurd (false≢true m)
 
   -- 1. places of sites
   some_is_at : (s : SiteTerm) (h : ToldContent) (x : Denoted) → f s ≡ Some h → result_as h ≡ Some x → vs (site_at s) ≡ x
@@ -117,7 +141,7 @@ module _ (p : Program) (specs : Specs) (c : Condition) (args : DenotedList) (f :
   constructed_is : (typed : Bool) (t : ℕ) (ss : SiteTerms) (n : ℕ) (u : SiteTerm) (h : ToldContent) (x : Denoted) → f u ≡ Some h → result_as h ≡ Some x
       → (typed ≡ true → IsTypedAs p specs (constructor_call t ss n) h) → Is (answer_form p specs c typed (constructor_call t ss n) u) x
   constructed_is false t ss n u h x e q k = (some_is_at u h x e q, tt)
-  constructed_is true t ss n u h x e q k = by (slice_get p.terms t) (k refl x q)
+  constructed_is true t ss n u h x e q k = by (slice_get p.terms t) ((k refl).0 x q)
     where
       by : (o : Option TermEntry) → are_of_types p.types specs (Some (term_results o)) (denoted_and x no_denoted) ≡ true → Is (typed_at (first_of (term_results o)) (site_at u)) x
       by None g = (some_is_at u h x e q, tt)
@@ -132,13 +156,13 @@ module _ (p : Program) (specs : Specs) (c : Condition) (args : DenotedList) (f :
   extracted_is false t s u h x e q k = (some_is_at u h x e q, tt)
   extracted_is true t s u h x e q k =
       let alone = result_alone h x q in
-      typed_output_is (term_args (slice_get p.terms t)) 0 (output_at u 0) (site_at u) (denoted_and x no_denoted) x (k refl (denoted_and x no_denoted) alone) refl (output_is_at u h (denoted_and x no_denoted) 0 x e alone refl)
+      typed_output_is (term_args (slice_get p.terms t)) 0 (output_at u 0) (site_at u) (denoted_and x no_denoted) x ((k refl).0 (denoted_and x no_denoted) alone) refl (output_is_at u h (denoted_and x no_denoted) 0 x e alone refl)
 
   output_is : (typed : Bool) (t : ℕ) (s u : SiteTerm) (i : ℕ) (place : Place) (h : ToldContent) (xs : DenotedList) (x : Denoted) → f u ≡ Some h → answered_as h ≡ Some xs
       → slice_get (denoted_list xs) i ≡ Some x → vs place ≡ x → (typed ≡ true → IsTypedAs p specs (extractor_call t s) h) → Is (output_form p specs c typed (extractor_call t s) u i place) x
   output_is false t s u i place h xs x e q r v k = (v, tt)
   output_is true t s u i place h xs x e q r v k =
-      typed_output_is (term_args (slice_get p.terms t)) i (output_at u i) place xs x (k refl xs q) r (output_is_at u h xs i x e q r)
+      typed_output_is (term_args (slice_get p.terms t)) i (output_at u i) place xs x ((k refl).0 xs q) r (output_is_at u h xs i x e q r)
 
   -- the answer that is picked
   picked_is : (w : SiteTerm) (h : ToldContent) (x : Denoted) → f (pick_of w) ≡ Some h → result_as h ≡ Some x → Is (answer_form p specs c (is_pure_made p specs c w) w (pick_of w)) x
@@ -189,6 +213,23 @@ module _ (p : Program) (specs : Specs) (c : Condition) (args : DenotedList) (f :
       subst (λ z. Is z x) k.4
       (any_is k.1 (struct_field_at at t i) x (ap (λ y. part_of i (struct_fields y)) h.0 ∙ ap or_false q) (typed_get p.types specs k.0 xs made i k.1 x k.3 q))
   struct_field_is _ ty xs i x h q g e = absurd (none_some g e)
+
+  -- the fields of a variant, all of them
+  pub told_fields_fit : (b : Form) (t variant n : ℕ) (xs : DenotedList) → Is b (variant_of t variant xs) → AllFit p.types specs vs (told_fields p b (is_variant t variant n))
+  told_fields_fit (any_of ty at) t variant n xs h = by (variant_types (slice_get p.types ty) variant) refl
+    where
+      by : (o : Option (List ℕ)) → variant_types (slice_get p.types ty) variant ≡ o → AllFit p.types specs vs (fields_if (variant_field_at at ty variant) o)
+      by None e = tt
+      by (Some tys) e =
+          let made = variant_typed p.types specs ty (slice_get p.types ty) t variant xs tys (subst (λ y. IsOf p.types specs ty (slice_get p.types ty) y) h.0 (type_says p.types specs ty (vs at) h.1)) e in
+          (fields_stand p.types specs vs specs.unknowns (variant_field_at at ty variant) 0 tys xs
+          (λ i y q. ap (λ l. vs (variant_field_at at ty variant l)) (let z : 0 + i ≡ i = omega arith in z) ∙ ap (λ y. part_of i (variant_fields y)) h.0 ∙ ap or_false q) made).1
+  told_fields_fit (a_fact g) t variant n xs h = tt
+  told_fields_fit (an_integer_by z) t variant n xs h = tt
+  told_fields_fit (a_word_by w y) t variant n xs h = tt
+  told_fields_fit (variant_by ty i gs) t variant n xs h = tt
+  told_fields_fit (struct_by ty gs) t variant n xs h = tt
+  told_fields_fit (some_at at) t variant n xs h = tt
 
   or_form_is : (s : SiteTerm) (o : Option Form) (x : Denoted) → f s ≡ Some (told x) → ((g : Form) → o ≡ Some g → Is g x) → Is (or_form (some_at (site_at s)) o) x
   or_form_is s o x e h = grind (arith, common_steps, some_is_at)
@@ -293,7 +334,11 @@ module _ (p : Program) (specs : Specs) (c : Condition) (args : DenotedList) (f :
         only told_nothing r = absurd (none_some x r)
         only (told_just g) r = absurd (none_some x r)
         only told_many r = absurd (none_some x r)
-    result_is (some_part s) h x e q = (some_is_at (some_part s) h x e q, tt)
+    result_is (some_part s) h x e q = by (is_unwrapped p specs c done s) refl
+      where
+        by : (b : Bool) → is_unwrapped p specs c done s ≡ b → Is (if b then form_at p specs c done (some_part s) else some_at (site_at (some_part s))) x
+        by false n = (some_is_at (some_part s) h x e q, tt)
+        by true n = told_is (some_part s) x (e ∙ ap Some (unwrapped_is done are_done s h x n (a.held (some_part s) h e) q))
     result_is (extractor_call t s) h x e q = call_extracted_is t s h x e q
     result_is (constructor_call t ss n) h x e q = call_constructed_is t ss n h x e q
     result_is (pick_of s) h x e q = picked_is s h x e q

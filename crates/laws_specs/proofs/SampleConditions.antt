@@ -14,7 +14,7 @@ use Rattle.model.proofs.Options.{then_some}
 use Rattle.model.proofs.SameSites.{term_means}
 use Rattle.laws_specs.specs.Words.{Denoted, a_truth, a_word, DenotedList, no_denoted, denoted_and, equals}
 use Rattle.laws_specs.specs.Specs.{SpecExpr, its_argument, its_result, the_same, operation, Specs, IsSaid, IsRequired, IsProvided, no_unknown}
-use Rattle.laws_specs.specs.Conditions.{ToldContent, told, as_denoted, result_as, are_of_entries, IsAnsweredAsSaid, IsTypedAs, Valuation, denoted_at, denoted_at_each, is_told_formed, IsHeldAs, IsAssumed, AreMade, condition}
+use Rattle.laws_specs.specs.Conditions.{ToldContent, told, told_just, as_denoted, result_as, are_of_entries, IsAnsweredAsSaid, IsTypedAs, Valuation, denoted_at, denoted_at_each, is_told_formed, IsHeldAs, IsAssumed, AreMade, condition}
 use Rattle.laws_specs.specs.Samples.{of_two, two, byte, is_sum, x, adding, noting, rule_of, program_with, specs_with, doubled, below_itself, IsRight, SumsAreRight, CallsAreRequired}
 
 -- 1. valuations that are listed
@@ -135,8 +135,11 @@ called = listed_as with_call
 never_below : (xs : DenotedList) → Some (two (byte 1) (byte 1)) ≡ Some xs → IsRequired failing 1 xs → ⊥
 never_below xs e r = false≢true (truths_same false true (only_one (IsSaid no_unknown (two (byte 1) (byte 1)) None) below_itself (subst (IsRequired failing 1) (sym (some_is (two (byte 1) (byte 1)) xs e)) r)))
 
+not_wrapped : (y : Denoted) (g : ToldContent) → told y ≡ told_just g → (z : Denoted) × (as_denoted g ≡ Some z)
+not_wrapped y g w = cc
+
 call_typed : (h : ToldContent) → Some (told (byte 7)) ≡ Some h → IsTypedAs (program_with (adding x x)) failing sum_call h
-call_typed h e = subst (IsTypedAs (program_with (adding x x)) failing sum_call) (some_is (told (byte 7)) h e) (λ y q. subst (λ z. are_of_entries (program_with (adding x x)) failing (1 ∷ []) (denoted_and z no_denoted) ≡ true) (some_is (byte 7) y q) refl)
+call_typed h e = subst (IsTypedAs (program_with (adding x x)) failing sum_call) (some_is (told (byte 7)) h e) (λ y q. subst (λ z. are_of_entries (program_with (adding x x)) failing (1 ∷ []) (denoted_and z no_denoted) ≡ true) (some_is (byte 7) y q) refl, λ g w. not_wrapped (byte 7) g w)
 
 call_assumed : Assumed (adding x x) failing one_argument called
 call_assumed = record {

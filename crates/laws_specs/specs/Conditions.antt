@@ -143,9 +143,16 @@ abbrev mutual
 abbrev pub are_of_entries : Program → Specs → List ℕ → DenotedList → Bool
 are_of_entries p specs tys xs = are_of_types p.types specs (Some tys) xs
 
+-- what is unwrapped of an answer is what the call gives: outputs, or the one result
+abbrev pub HasOutputs : ToldContent → Type 0
+HasOutputs h = (g : ToldContent) → h ≡ told_just g → (xs : DenotedList) × (told_outputs g ≡ Some xs)
+
+abbrev pub HasResult : ToldContent → Type 0
+HasResult h = (g : ToldContent) → h ≡ told_just g → (x : Denoted) × (as_denoted g ≡ Some x)
+
 abbrev pub IsTypedAs : Program → Specs → SiteTerm → ToldContent → Type 0
-IsTypedAs p specs (extractor_call t s) h = (xs : DenotedList) → answered_as h ≡ Some xs → IsTrue (are_of_entries p specs (term_args (slice_get p.terms t)) xs)
-IsTypedAs p specs (constructor_call t ss n) h = (x : Denoted) → result_as h ≡ Some x → IsTrue (are_of_entries p specs (term_results (slice_get p.terms t)) (denoted_and x no_denoted))
+IsTypedAs p specs (extractor_call t s) h = ((xs : DenotedList) → answered_as h ≡ Some xs → IsTrue (are_of_entries p specs (term_args (slice_get p.terms t)) xs)) × HasOutputs h
+IsTypedAs p specs (constructor_call t ss n) h = ((x : Denoted) → result_as h ≡ Some x → IsTrue (are_of_entries p specs (term_results (slice_get p.terms t)) (denoted_and x no_denoted))) × HasResult h
 IsTypedAs p specs (prim_term name) h = (ty : ℕ) (x : Denoted) → constant_type p name ≡ Some ty → h ≡ told x → IsTrue (is_of_type p.types specs ty x)
 IsTypedAs p specs _ h = Unit {0}
 

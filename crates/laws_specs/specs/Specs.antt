@@ -48,6 +48,9 @@ mutual
     the_same : (x : Denoted) → SpecExpr
     operation : (o : Operator) (of : SpecExprs) → SpecExpr
     unknown : (f : ℕ) (of : SpecExprs) → SpecExpr
+    -- a variant or a struct, made of its fields
+    variant_said : (ty variant : ℕ) (of : SpecExprs) → SpecExpr
+    struct_said : (ty : ℕ) (of : SpecExprs) → SpecExpr
     -- the expression is bound in the body
     let_in : (e body : SpecExpr) → SpecExpr
     -- the first case of an equal value
@@ -85,6 +88,8 @@ module _ (unknowns : Unknowns) (args : DenotedList) (result : Option Denoted) wh
     says (the_same x) bound = Some x
     says (operation o of) bound = then_option (says_each of bound) (applied_to o)
     says (unknown f of) bound = then_option (says_each of bound) (λ xs. Some (unknowns f xs))
+    says (variant_said ty variant of) bound = then_option (says_each of bound) (λ xs. Some (variant_of ty variant xs))
+    says (struct_said ty of) bound = then_option (says_each of bound) (λ xs. Some (struct_of ty xs))
     says (let_in e body) bound = then_option (says e bound) (λ x. says body (x ∷ bound))
     says (switch_on e cases) bound = then_option (says e bound) (λ x. says_case cases x bound)
     says (match_on e arms) bound = then_option (says e bound) (λ x. says_arm arms x bound)

@@ -1,10 +1,11 @@
 -- Cases that describe what is said: each that is taken gives it, and one is taken where something is said, or the rest is so.
 use Rattle.std.proofs.Common.{◌≡◌, ◌⊎◌, Bool, true, false, not, List, [], ◌∷◌, Option, Some, None, refl, sym, ap, ◌∙◌, subst, inl, inr, arith}
+use Rattle.std.proofs.lemmas.Bool.{false≢true}
 use Rattle.std.proofs.lemmas.Grind.{common_steps}
 use Rattle.model.specs.rules.Outcome.{then_option}
 use Rattle.model.proofs.Elements.{In, in_left, in_right, in_either, some_is, none_some}
 use Rattle.model_questions.specs.Formulas.{Fact, known, Model, is_so, both_of, one_of, none_of}
-use Rattle.model_questions.specs.Forms.{Case, Cases, nothing_said, one_case, anything, each_under, under, joined_cases, from_each, then_cases}
+use Rattle.model_questions.specs.Forms.{Case, Cases, nothing_said, one_case, anything, each_under, under, joined_cases, without_rest, from_each, then_cases}
 use Rattle.model_questions.proofs.FactsSo.{none_so, both_from, both_parts, one_left, one_right, none_from}
 
 abbrev pub IsTaken : {X : Type 0} → Model → List (Case X) → Type 0
@@ -27,6 +28,10 @@ module _ (m : Model) (X Y : Type 0) (stands : X → Y) (Fits : X → Type 0) whe
     where
       by : (c : Case X) → In (one_case x).cases c → is_so m c.guard ≡ true → (Some y ≡ Some (stands c.gives)) × Fits c.gives
       by c h g = grind (arith, common_steps)
+
+  -- one is taken, and no rest is needed
+  pub rest_back : (cs : Cases X) (o : Option Y) → Describes m X Y stands Fits (without_rest cs) o → Describes m X Y stands Fits cs o
+  rest_back cs o d = record { sound = d.sound; full = λ y e. elim (d.full y e) [ inl t ↦ inl t | inr z ↦ absurd (false≢true z) ] }
 
   -- under a guard
   under_in : (g : Fact) (xs : List (Case X)) (c : Case X) → In (each_under g xs) c → (u : Case X) × In xs u × (c ≡ record { guard = both_of g u.guard; gives = u.gives })

@@ -1,5 +1,5 @@
 -- What an expression comes to by formulas is what it says of values.
-use Rattle.std.proofs.Common.{◌≡◌, ℕ, pos, suc, Bool, true, false, List, [], ◌∷◌, ◌++◌, Option, Some, None, cond, slice_get, refl, sym, subst, inl, inr, lt-ltb, arith}
+use Rattle.std.proofs.Common.{◌≡◌, ℕ, pos, suc, Bool, true, false, not, ◌&&◌, List, [], ◌∷◌, ◌++◌, Option, Some, None, if◌then◌else◌, cond, slice_get, refl, sym, subst, inl, inr, lt-ltb, arith}
 use Rattle.std.proofs.lemmas.Grind.{common_steps}
 use Rattle.std.specs.Bool.{◌==◌}
 use Rattle.std.proofs.lemmas.Bool.Decides.{Decides-int_eq}
@@ -8,15 +8,15 @@ use Rattle.model.specs.lists.Tables.{TypeEntry}
 use Rattle.model.specs.rules.Meaning.{look}
 use Rattle.model.specs.rules.Outcome.{then_option}
 use Rattle.model.proofs.Elements.{In, or_split, some_is, none_some}
-use Rattle.laws_specs.specs.Words.{Denoted, a_truth, an_integer, a_word, variant_of, DenotedList, no_denoted, denoted_and, denoted_list, same_sort, denoted_eq, is_formed, are_formed, Operator, equals, field, applied_to}
-use Rattle.laws_specs.specs.Specs.{SpecExpr, operation, unknown, let_in, switch_on, match_on, SpecExprs, no_spec_expr, spec_expr_and, SpecCases, no_case, case_and, SpecArms, spec_arm_and, struct_arm, arm_else, Sort, truths, integers, words, is_of_sort, are_of_sorts, AreUnknownsSorted, Specs, Unknowns, says, says_each, says_case, says_arm}
+use Rattle.laws_specs.specs.Words.{Denoted, a_truth, an_integer, a_word, variant_of, struct_of, is_plain, DenotedList, no_denoted, denoted_and, denoted_list, same_sort, denoted_eq, is_formed, are_formed, Operator, equals, field, applied_to}
+use Rattle.laws_specs.specs.Specs.{SpecExpr, operation, unknown, variant_said, struct_said, let_in, switch_on, match_on, SpecExprs, no_spec_expr, spec_expr_and, SpecCases, no_case, case_and, SpecArms, no_spec_arm, spec_arm_and, struct_arm, arm_else, Sort, truths, integers, words, is_of_sort, are_of_sorts, AreUnknownsSorted, Specs, Unknowns, says, says_each, says_case, says_arm}
 use Rattle.model_questions.specs.Formulas.{Place, Word, number_of, Integer, written_integer, integer_of, Operands, fact_and, integer_and, word_and, Model, number_in, integer_in, truth_in, is_so, operands_in, both_of}
-use Rattle.model_questions.specs.Forms.{Form, a_fact, an_integer_by, a_word_by, variant_by, struct_by, Forms, no_form, form_and, form_list, form_of, Case, Cases, nothing_said, one_case, anything, or_nothing, then_cases, truth_of, is_true, surely, possible_truth, may_be_true, perhaps}
-use Rattle.model_questions.specs.Evaluated.{Known, Result, no_result, truth_result, integer_result, word_result, unknown_result, result, came_to, widths_of, is_size, each_size, by_size, followed, literals, literal_case, folded, operands, is_surely_formed, are_operands_of, answer_of_sort, answered_of, by_operands, fitted, by_fact, opened, opened_each, evaluated, evaluated_each, evaluated_case, evaluated_arm}
+use Rattle.model_questions.specs.Forms.{Form, a_fact, an_integer_by, a_word_by, variant_by, struct_by, Forms, no_form, form_and, form_list, form_of, Case, Cases, nothing_said, one_case, anything, without_rest, or_nothing, then_cases, truth_of, is_true, surely, possible_truth, may_be_true, perhaps}
+use Rattle.model_questions.specs.Evaluated.{Known, Result, no_result, truth_result, integer_result, word_result, unknown_result, result, came_to, widths_of, is_size, each_size, by_size, followed, literals, literal_case, folded, operands, is_surely_formed, are_operands_of, answer_of_sort, answered_of, by_operands, fitted, by_fact, takes_others, has_variants, opened, matched, opened_each, evaluated, evaluated_each, evaluated_case, evaluated_arm}
 use Rattle.model_questions.proofs.FactsSo.{one_so, both_from, both_parts, one_left, one_right}
 use Rattle.model_questions.proofs.Described.{Describes, nothing_described, anything_described, one_described, then_described, choice_described}
 use Rattle.model_questions.proofs.Merging.{merged_described}
-use Rattle.model_questions.proofs.Opening.{opened_described, opened_each_described}
+use Rattle.model_questions.proofs.Opening.{opened_described, IsApart, opened_apart, opened_each_described}
 use Rattle.model_questions.proofs.Results.{ComesTo, result_comes, fact_from_so, integer_from_is, literals_are}
 use Rattle.model_questions.proofs.Standing.{model_of, IsCoherent, AreKnown, stands, stand_each, written_stands, Fits, AllFit, written_fits, number_formed, AreDescribed, forms_described, more_described}
 
@@ -193,6 +193,37 @@ module _ (types : List TypeEntry) (specs : Specs) (vs : Place → Denoted) (u : 
         same : (q : Option Denoted) → then_option q (λ x. Some x) ≡ q
         same q = grind (arith, common_steps)
 
+    -- arms that look at a form
+    plain_arms : (arms : SpecArms) (x : Denoted) (bx : List Denoted) → takes_others arms ≡ false → is_plain x ≡ true → says_arm u (stand_each vs u args) (stands_if result) arms x bx ≡ None
+    plain_arms no_spec_arm x bx e q = refl
+    plain_arms (spec_arm_and ty variant body rest) x bx e q = grind (arith, common_steps, plain_arms rest x bx)
+    plain_arms (struct_arm ty body) x bx e q = grind (arith, common_steps)
+    plain_arms (arm_else body) x bx e q = absurd (false≢true (sym e))
+
+    matched_described : (arms : SpecArms) (bf : List Form) (bx : List Denoted)
+        → ((g : Form) → Fits types specs vs g → Describe (evaluated_arm types specs k args result arms g bf) (says_arm u (stand_each vs u args) (stands_if result) arms (stands vs u g) bx))
+        → (f : Form) → Fits types specs vs f → Describe (then_cases (matched types specs k arms f) (λ y. evaluated_arm types specs k args result arms y bf)) (says_arm u (stand_each vs u args) (stands_if result) arms (stands vs u f) bx)
+    matched_described arms bf bx each f ff = by (has_variants types f && not (takes_others arms)) refl
+      where
+        go : Form → Cases Form
+        go y = evaluated_arm types specs k args result arms y bf
+
+        say : Denoted → Option Denoted
+        say x = says_arm u (stand_each vs u args) (stands_if result) arms x bx
+
+        apart : IsApart types specs vs u coherent k told (opened types specs k f) (stands vs u f) → takes_others arms ≡ false → Describe (then_cases (without_rest (opened types specs k f)) go) (say (stands vs u f))
+        apart (o, d, inl e) n = subst (λ q. Describe (then_cases (without_rest (opened types specs k f)) go) (then_option q say)) e (bind (without_rest (opened types specs k f)) o go say d each)
+        apart (o, d, inr e) n =
+            subst (Describe (then_cases (without_rest (opened types specs k f)) go)) (sym (plain_arms arms (stands vs u f) bx n e.1))
+            (subst (λ q. Describe (then_cases (without_rest (opened types specs k f)) go) (then_option q say)) e.0 (bind (without_rest (opened types specs k f)) o go say d each))
+
+        by : (b : Bool) → (has_variants types f && not (takes_others arms)) ≡ b → Describe (then_cases (if b then without_rest (opened types specs k f) else opened types specs k f) go) (say (stands vs u f))
+        by false e = bind (opened types specs k f) (Some (stands vs u f)) go say (opened_described types specs vs u coherent k told f ff) each
+        by true e = let q = and_parts (has_variants types f) (not (takes_others arms)) e in apart (opened_apart types specs vs u coherent k told f ff q.0) (not_true (takes_others arms) q.1)
+          where
+            not_true : (b : Bool) → not b ≡ true → b ≡ false
+            not_true b r = grind (arith, common_steps)
+
     mutual
       pub evaluated_described : (e : SpecExpr) (bf : List Form) (bx : List Denoted) → AreDescribed types specs vs u bf bx → Describe (of_expr e bf) (said e bx)
       evaluated_described (operation o of) bf bx d =
@@ -208,11 +239,15 @@ module _ (types : List TypeEntry) (specs : Specs) (vs : Place → Denoted) (u : 
       evaluated_described (switch_on e cases) bf bx d =
           bind (of_expr e bf) (said e bx) (λ x. evaluated_case types specs k args result cases x bf) (λ x. says_case u (stand_each vs u args) (stands_if result) cases x bx) (evaluated_described e bf bx d)
           (λ f ff. cases_described cases f ff bf bx d)
+      evaluated_described (variant_said ty variant of) bf bx d =
+          bind_each (evaluated_each types specs k args result of bf) (says_each u (stand_each vs u args) (stands_if result) of bx) (λ fs. one_case (variant_by ty variant fs)) (λ xs. Some (variant_of ty variant xs))
+          (each_described of bf bx d) (λ fs ffs. one_described m Form Denoted (stands vs u) (Fits types specs vs) (variant_by ty variant fs) (variant_of ty variant (stand_each vs u fs)) refl ffs)
+      evaluated_described (struct_said ty of) bf bx d =
+          bind_each (evaluated_each types specs k args result of bf) (says_each u (stand_each vs u args) (stands_if result) of bx) (λ fs. one_case (struct_by ty fs)) (λ xs. Some (struct_of ty xs))
+          (each_described of bf bx d) (λ fs ffs. one_described m Form Denoted (stands vs u) (Fits types specs vs) (struct_by ty fs) (struct_of ty (stand_each vs u fs)) refl ffs)
       evaluated_described (match_on e arms) bf bx d =
-          bind (of_expr e bf) (said e bx) (λ x. then_cases (opened types specs k x) (λ y. evaluated_arm types specs k args result arms y bf)) (λ x. says_arm u (stand_each vs u args) (stands_if result) arms x bx)
-          (evaluated_described e bf bx d)
-          (λ f ff. bind (opened types specs k f) (Some (stands vs u f)) (λ y. evaluated_arm types specs k args result arms y bf) (λ x. says_arm u (stand_each vs u args) (stands_if result) arms x bx)
-          (opened_described types specs vs u coherent k told f ff) (λ g fg. arms_described arms g fg bf bx d))
+          bind (of_expr e bf) (said e bx) (λ x. then_cases (matched types specs k arms x) (λ y. evaluated_arm types specs k args result arms y bf)) (λ x. says_arm u (stand_each vs u args) (stands_if result) arms x bx)
+          (evaluated_described e bf bx d) (λ f ff. matched_described arms bf bx (λ g fg. arms_described arms g fg bf bx d) f ff)
       evaluated_described e bf bx d = grind (arith, common_steps, got_described, stand_each, forms_described, result_described, written_is)
 
       each_described : (es : SpecExprs) (bf : List Form) (bx : List Denoted) → AreDescribed types specs vs u bf bx

@@ -11,10 +11,10 @@ use Rattle.laws_specs.specs.Words.{Denoted, a_truth, an_integer, a_word, variant
 use Rattle.laws_specs.specs.Specs.{Sort, truths, integers, words, words_among, is_of_sort, Specs, sort_of, Unknowns}
 use Rattle.laws_specs.specs.Conditions.{is_modelled_as, is_atom_as, is_of_type, are_of_types}
 use Rattle.model_questions.specs.Formulas.{Place, variant_field_at, struct_field_at, word_at, Fact, known, as_wide, is_kind, Model, is_so, both_of, none_of}
-use Rattle.model_questions.specs.Forms.{Form, a_word_by, struct_by, Forms, no_form, form_and, Case, Cases, one_case, then_cases}
-use Rattle.model_questions.specs.Evaluated.{Known, found, fields_at, wide_case, at_each, at_widths, at_sort, variant_at, each_variant, is_no_variant, one_variant, variant_known, at_variants, at_enum, at_type, opened, opened_each}
+use Rattle.model_questions.specs.Forms.{Form, a_fact, an_integer_by, a_word_by, variant_by, struct_by, any_of, some_at, Forms, no_form, form_and, Case, Cases, one_case, without_rest, then_cases}
+use Rattle.model_questions.specs.Evaluated.{Known, found, fields_at, wide_case, at_each, at_widths, at_sort, variant_at, each_variant, is_no_variant, one_variant, variant_known, at_variants, is_closed, at_enum, at_type, is_enum_of_variants, has_variants, opened, opened_each}
 use Rattle.model_questions.proofs.FactsSo.{none_so, both_from, both_parts, none_from}
-use Rattle.model_questions.proofs.Described.{Describes, IsTaken, anything_described, one_described, then_described}
+use Rattle.model_questions.proofs.Described.{Describes, IsTaken, anything_described, one_described, rest_back, then_described}
 use Rattle.model_questions.proofs.Standing.{model_of, number_if, width_in, kind_in, IsCoherent, AreKnown, stands, stand_each, Fits, AllFit}
 
 pub same_is : (n : ℕ) → (n == n) ≡ true
@@ -209,9 +209,9 @@ module _ (types : List TypeEntry) (specs : Specs) (vs : Place → Denoted) (u : 
           by false y more (zero, v, p, t) = absurd (false≢true (sym y ∙ is_kind_from j (p ∙ sym (at_first j))))
           by false y more (suc d, v, p, t) = let r = more (both_from m g (none_of (is_kind at j)) z (none_from m (is_kind at j) y)) (d, v, p ∙ sym (at_next j d), t) in (r.0, inr r.1, r.2)
 
-      variants_described : (is_extern : Bool) (ws : List VariantEntry) (v : VariantEntry) → slice_get ws i ≡ Some v → are_of_types types specs (Some (field_types v.fields)) xs ≡ true
-          → (o : Option ℕ) → ((j : ℕ) → o ≡ Some j → m.kinds at ≡ suc j) → Describe (at_variants is_extern ty at ws o) (Some x)
-      variants_described is_extern ws v t a None k = by is_extern
+      variants_apart : (is_extern : Bool) (ws : List VariantEntry) (v : VariantEntry) → slice_get ws i ≡ Some v → are_of_types types specs (Some (field_types v.fields)) xs ≡ true
+          → (o : Option ℕ) → ((j : ℕ) → o ≡ Some j → m.kinds at ≡ suc j) → Describe (without_rest (at_variants is_extern ty at ws o)) (Some x)
+      variants_apart is_extern ws v t a None k = by is_extern
         where
           there : (d : ℕ) → i ≡ 0 + d → i ≡ d
           there d p = omega arith
@@ -222,14 +222,18 @@ module _ (types : List TypeEntry) (specs : Specs) (vs : Place → Denoted) (u : 
           start : i ≡ 0 + i
           start = omega arith
 
-          by : (b : Bool) → Describe (at_variants b ty at ws None) (Some x)
+          by : (b : Bool) → Describe (without_rest (at_variants b ty at ws None)) (Some x)
           by true = record { sound = each_sound 0 ws typed; full = λ y r. inl (each_full 0 ws i v start t) }
           by false = record { sound = one_sound 0 (known true) ws typed (λ z. (i, v, start, t)); full = λ y r. inl (one_full 0 (known true) ws refl (i, v, start, t)) }
-      variants_described is_extern ws v t a (Some j) k =
+      variants_apart is_extern ws v t a (Some j) k =
           let here : suc i ≡ suc j = ap kind_in (sym e) ∙ k j refl in
           let same : i ≡ j = omega arith in
-          subst (λ o. Describe (variant_known ty at j o) (Some x)) (sym t ∙ ap (slice_get ws) same)
+          subst (λ o. Describe (without_rest (variant_known ty at j o)) (Some x)) (sym t ∙ ap (slice_get ws) same)
           (let r = variant_gives ty at s i j v xs e q same a in one_is (variant_at ty at j v) x (sym (some_is x (stands vs u (variant_at ty at j v)) r.0)) r.1)
+
+      variants_described : (is_extern : Bool) (ws : List VariantEntry) (v : VariantEntry) → slice_get ws i ≡ Some v → are_of_types types specs (Some (field_types v.fields)) xs ≡ true
+          → (o : Option ℕ) → ((j : ℕ) → o ≡ Some j → m.kinds at ≡ suc j) → Describe (at_variants is_extern ty at ws o) (Some x)
+      variants_described is_extern ws v t a o k = rest_back m Form Denoted (stands vs u) (Fits types specs vs) (at_variants is_extern ty at ws o) (Some x) (variants_apart is_extern ws v t a o k)
 
     -- of an extern enum something else may stand there
     no_kind_so : (at : Place) → kind_in (vs at) ≡ 0 → (j : ℕ) (ws : List VariantEntry) → is_so m (is_no_variant at j ws) ≡ true
@@ -250,6 +254,27 @@ module _ (types : List TypeEntry) (specs : Specs) (vs : Place → Denoted) (u : 
         apart : 0 ≡ suc j → ⊥
         apart z = omega arith
 
+    -- and of that no variant stands for anything
+    others_apart : (ty : ℕ) (at : Place) (x : Denoted) → vs at ≡ x → is_plain x ≡ true → (ws : List VariantEntry) (o : Option ℕ) → ((j : ℕ) → o ≡ Some j → m.kinds at ≡ suc j)
+        → Describe (without_rest (at_variants true ty at ws o)) None
+    others_apart ty at x e plain ws None k = let none : kind_in (vs at) ≡ 0 = ap kind_in e ∙ plain_has_no_kind x plain in record { sound = no_kind_taken ty at None none 0 ws; full = λ y r. absurd (none_some y r) }
+    others_apart ty at x e plain ws (Some j) k = let none : kind_in (vs at) ≡ 0 = ap kind_in e ∙ plain_has_no_kind x plain in absurd (apart (sym none ∙ k j refl))
+      where
+        apart : 0 ≡ suc j → ⊥
+        apart z = omega arith
+
+    open_sort : (s : Option Sort) (x : Denoted) → is_modelled_as s x ≡ true → is_closed s ≡ false
+    open_sort (Some (words_among [])) (a_word w n) h = absurd (false≢true h)
+    open_sort (Some (words_among [])) (a_truth b) h = absurd (false≢true h)
+    open_sort (Some (words_among [])) (an_integer z) h = absurd (false≢true h)
+    open_sort (Some (words_among [])) (variant_of t i xs) h = absurd (false≢true h)
+    open_sort (Some (words_among [])) (struct_of t xs) h = absurd (false≢true h)
+    open_sort (Some (words_among (w ∷ ws))) x h = refl
+    open_sort (Some (words w)) x h = refl
+    open_sort (Some truths) x h = refl
+    open_sort (Some integers) x h = refl
+    open_sort None x h = refl
+
     -- 4. a type
     module _ (k : Known) (told : AreKnown m k) where
       enum_described : (ty : ℕ) (at : Place) (name id : ℕ) (is_extern is_nodebug : Bool) (ws : List VariantEntry) (place : _) (x : Denoted) → vs at ≡ x
@@ -257,15 +282,55 @@ module _ (types : List TypeEntry) (specs : Specs) (vs : Place → Denoted) (u : 
       enum_described ty at name id is_extern is_nodebug [] place x e (inl h) = grind (arith, common_steps, sort_described, and_parts)
       enum_described ty at name id is_extern is_nodebug [] place x e (inr h) = grind (arith, common_steps, nothing_made)
       enum_described ty at name id true is_nodebug (w ∷ ws) place x e (inl h) =
-          others_described ty at x e (and_parts (is_modelled_as (sort_of specs ty) x) (is_plain x) h).1 (w ∷ ws) (found k.kinds at) (told.kinds at)
+          let parts = and_parts (is_modelled_as (sort_of specs ty) x) (is_plain x) h in
+          subst (λ b. Describe (at_variants (not b) ty at (w ∷ ws) (found k.kinds at)) (Some x)) (sym (open_sort (sort_of specs ty) x parts.0)) (others_described ty at x e parts.1 (w ∷ ws) (found k.kinds at) (told.kinds at))
       enum_described ty at name id false is_nodebug (w ∷ ws) place x e (inl h) = absurd (false≢true h)
       enum_described ty at name id is_extern is_nodebug (w ∷ ws) place (variant_of s i xs) e (inr h) =
           let v = variant_there types specs (slice_get (w ∷ ws) i) xs h.1 in
-          variants_described ty at s i xs e h.0 is_extern (w ∷ ws) v.0 v.1 v.2 (found k.kinds at) (told.kinds at)
+          variants_described ty at s i xs e h.0 (is_extern && not (is_closed (sort_of specs ty))) (w ∷ ws) v.0 v.1 v.2 (found k.kinds at) (told.kinds at)
       enum_described ty at name id is_extern is_nodebug (w ∷ ws) place (struct_of s xs) e (inr h) = absurd (none_of_types types specs xs h.1)
       enum_described ty at name id is_extern is_nodebug (w ∷ ws) place (a_truth b) e (inr h) = absurd h
       enum_described ty at name id is_extern is_nodebug (w ∷ ws) place (an_integer z) e (inr h) = absurd h
       enum_described ty at name id is_extern is_nodebug (w ∷ ws) place (a_word v n) e (inr h) = absurd h
+
+      -- where no arm takes an atom, nothing is said of it
+      abbrev pub IsApart : Cases Form → Denoted → Type 0
+      IsApart cs x = (o : Option Denoted) × Describe (without_rest cs) o × ((o ≡ Some x) ⊎ ((o ≡ None) × (is_plain x ≡ true)))
+
+      enum_apart : (ty : ℕ) (at : Place) (name id : ℕ) (is_extern is_nodebug : Bool) (w : VariantEntry) (ws : List VariantEntry) (place : _) (x : Denoted) → vs at ≡ x
+          → IsOf types specs ty (Some (enum_type name id is_extern is_nodebug (w ∷ ws) place)) x → IsApart (at_enum specs k is_extern ty at (w ∷ ws)) x
+      enum_apart ty at name id true is_nodebug w ws place x e (inl h) =
+          let parts = and_parts (is_modelled_as (sort_of specs ty) x) (is_plain x) h in (
+            None,
+            subst (λ b. Describe (without_rest (at_variants (not b) ty at (w ∷ ws) (found k.kinds at))) None) (sym (open_sort (sort_of specs ty) x parts.0))
+                (others_apart ty at x e parts.1 (w ∷ ws) (found k.kinds at) (told.kinds at)),
+            inr (refl, parts.1),
+          )
+      enum_apart ty at name id false is_nodebug w ws place x e (inl h) = absurd (false≢true h)
+      enum_apart ty at name id is_extern is_nodebug w ws place (variant_of s i xs) e (inr h) =
+          let v = variant_there types specs (slice_get (w ∷ ws) i) xs h.1 in
+          (Some (variant_of s i xs), variants_apart ty at s i xs e h.0 (is_extern && not (is_closed (sort_of specs ty))) (w ∷ ws) v.0 v.1 v.2 (found k.kinds at) (told.kinds at), inl refl)
+      enum_apart ty at name id is_extern is_nodebug w ws place (struct_of s xs) e (inr h) = absurd (none_of_types types specs xs h.1)
+      enum_apart ty at name id is_extern is_nodebug w ws place (a_truth b) e (inr h) = absurd h
+      enum_apart ty at name id is_extern is_nodebug w ws place (an_integer z) e (inr h) = absurd h
+      enum_apart ty at name id is_extern is_nodebug w ws place (a_word v n) e (inr h) = absurd h
+
+      type_apart : (ty : ℕ) (at : Place) (x : Denoted) → vs at ≡ x → (o : Option TypeEntry) → is_enum_of_variants o ≡ true → IsOf types specs ty o x → IsApart (at_type specs k ty at o) x
+      type_apart ty at x e (Some (enum_type name id is_extern is_nodebug (w ∷ ws) place)) n h = enum_apart ty at name id is_extern is_nodebug w ws place x e h
+      type_apart ty at x e (Some (enum_type name id is_extern is_nodebug [] place)) n h = absurd (false≢true n)
+      type_apart ty at x e (Some (builtin_type b)) n h = absurd (false≢true n)
+      type_apart ty at x e (Some (primitive_type id name place)) n h = absurd (false≢true n)
+      type_apart ty at x e (Some (struct_type name id is_extern is_nodebug fields place)) n h = absurd (false≢true n)
+      type_apart ty at x e None n h = absurd (false≢true n)
+
+      pub opened_apart : (f : Form) → Fits types specs vs f → has_variants types f ≡ true → IsApart (opened types specs k f) (stands vs u f)
+      opened_apart (any_of ty at) fits n = type_apart ty at (vs at) refl (slice_get types ty) n (type_says types specs ty (vs at) fits)
+      opened_apart (a_fact f) fits n = absurd (false≢true n)
+      opened_apart (an_integer_by z) fits n = absurd (false≢true n)
+      opened_apart (a_word_by w t) fits n = absurd (false≢true n)
+      opened_apart (variant_by ty i fs) fits n = absurd (false≢true n)
+      opened_apart (struct_by ty fs) fits n = absurd (false≢true n)
+      opened_apart (some_at at) fits n = absurd (false≢true n)
 
       type_described : (ty : ℕ) (at : Place) (x : Denoted) → vs at ≡ x → (o : Option TypeEntry) → IsOf types specs ty o x → Describe (at_type specs k ty at o) (Some x)
       type_described ty at x e None h = grind (arith, anything_described, stands)

@@ -8,9 +8,9 @@ use Rattle.model.specs.rules.Meaning.{look}
 use Rattle.model.specs.rules.Outcome.{then_option}
 use Rattle.model.specs.rules.Values.{field_types}
 use Rattle.laws_specs.specs.Words.{Denoted, a_truth, DenotedList, no_denoted, denoted_and, a_word, an_integer, Operator, equals, both, one_of as either, negation, implied, less, less_or_equal, plus, minus, times, word_plus, word_minus, word_times, word_quotient, word_remainder, signed_quotient, signed_remainder, word_and as bit_conjunction, word_or, word_xor, word_not, word_negated, shifted_left, shifted_right, shifted_right_signed, rotated_left, rotated_right, word_less, word_less_or_equal, signed_less, signed_less_or_equal, joined, bits, widened, widened_signed, as_word, as_integer, width_of, field, applied_to}
-use Rattle.laws_specs.specs.Specs.{Sort, truths, integers, words, words_among, SpecExpr, its_argument, its_result, variable, the_same, operation, unknown, let_in, switch_on, match_on, SpecExprs, no_spec_expr, spec_expr_and, SpecCases, no_case, case_and, SpecArms, no_spec_arm, spec_arm_and, struct_arm, arm_else, UnknownSort, Specs, sort_of}
+use Rattle.laws_specs.specs.Specs.{Sort, truths, integers, words, words_among, SpecExpr, its_argument, its_result, variable, the_same, operation, unknown, variant_said, struct_said, let_in, switch_on, match_on, SpecExprs, no_spec_expr, spec_expr_and, SpecCases, no_case, case_and, SpecArms, no_spec_arm, spec_arm_and, struct_arm, arm_else, UnknownSort, Specs, sort_of}
 use Rattle.model_questions.specs.Formulas.{Place, place_eq, variant_field_at, struct_field_at, Word, written, word_at, word_by, word_answered, Integer, written_integer, integer_at, integer_by, integer_answered, Fact, known, truth_at, as_wide, is_kind, fact_by, fact_answered, same_facts, Operands, no_operand, fact_and, integer_and, word_and, both_of, one_of, none_of}
-use Rattle.model_questions.specs.Forms.{Form, a_fact, an_integer_by, a_word_by, variant_by, struct_by, any_of, some_at, Forms, no_form, form_and, form_list, form_of, Case, Cases, nothing_said, one_case, anything, under, joined_cases, or_nothing, then_cases, merged}
+use Rattle.model_questions.specs.Forms.{Form, a_fact, an_integer_by, a_word_by, variant_by, struct_by, any_of, some_at, Forms, no_form, form_and, form_list, form_of, Case, Cases, nothing_said, one_case, anything, under, joined_cases, without_rest, or_nothing, then_cases, merged}
 
 -- 1. what is told of places: widths of words, integers, and which variants stand there
 pub record Known : Type 0 where
@@ -256,9 +256,14 @@ at_variants is_extern ty at vs (Some i) = variant_known ty at i (slice_get vs i)
 at_variants true ty at vs None = record { cases = each_variant ty at 0 vs; rest = is_no_variant at 0 vs }
 at_variants false ty at vs None = record { cases = one_variant (known true) ty at 0 vs; rest = known false }
 
+-- no atom is of a type whose sort has no words
+abbrev pub is_closed : Option Sort → Bool
+is_closed (Some (words_among [])) = true
+is_closed _ = false
+
 abbrev pub at_enum : Specs → Known → Bool → ℕ → Place → List VariantEntry → Cases Form
 at_enum specs k is_extern ty at [] = at_sort k at (sort_of specs ty)
-at_enum specs k is_extern ty at (v ∷ vs) = at_variants is_extern ty at (v ∷ vs) (found k.kinds at)
+at_enum specs k is_extern ty at (v ∷ vs) = at_variants (is_extern && not (is_closed (sort_of specs ty))) ty at (v ∷ vs) (found k.kinds at)
 
 abbrev pub at_type : Specs → Known → ℕ → Place → Option TypeEntry → Cases Form
 at_type specs k ty at None = anything
@@ -267,6 +272,20 @@ at_type specs k ty at (Some (builtin_type (suc n))) = at_sort k at (sort_of spec
 at_type specs k ty at (Some (primitive_type id name place)) = at_sort k at (sort_of specs ty)
 at_type specs k ty at (Some (enum_type name id is_extern is_nodebug vs place)) = at_enum specs k is_extern ty at vs
 at_type specs k ty at (Some (struct_type name id is_extern is_nodebug fields place)) = one_case (struct_by ty (fields_at (struct_field_at at ty) 0 (field_types fields)))
+
+abbrev pub takes_others : SpecArms → Bool
+takes_others no_spec_arm = false
+takes_others (spec_arm_and ty variant body rest) = takes_others rest
+takes_others (struct_arm ty body) = false
+takes_others (arm_else body) = true
+
+abbrev pub is_enum_of_variants : Option TypeEntry → Bool
+is_enum_of_variants (Some (enum_type name id is_extern is_nodebug (v ∷ vs) place)) = true
+is_enum_of_variants _ = false
+
+abbrev pub has_variants : List TypeEntry → Form → Bool
+has_variants types (any_of ty at) = is_enum_of_variants (slice_get types ty)
+has_variants types f = false
 
 module _ (types : List TypeEntry) (specs : Specs) (k : Known) where
   abbrev pub opened : Form → Cases Form
@@ -278,8 +297,9 @@ module _ (types : List TypeEntry) (specs : Specs) (k : Known) where
   opened_each no_form = one_case no_form
   opened_each (form_and f rest) = then_cases (opened f) (λ g. then_cases (opened_each rest) (λ gs. one_case (form_and g gs)))
 
-  abbrev pub opened_then : Form → (Form → Cases Form) → Cases Form
-  opened_then f go = then_cases (opened f) go
+  -- what arms look at: of an atom of an enum they say nothing, unless one takes what is no variant
+  abbrev pub matched : SpecArms → Form → Cases Form
+  matched arms f = if has_variants types f && not (takes_others arms) then without_rest (opened f) else opened f
 
   -- 4. an expression, on arguments and a result
   module _ (args : Forms) (result : Option Form) where
@@ -291,9 +311,11 @@ module _ (types : List TypeEntry) (specs : Specs) (k : Known) where
       evaluated (the_same x) bound = one_case (form_of x)
       evaluated (operation o of) bound = then_cases (evaluated_each of bound) (λ fs. then_cases (opened_each fs) (fitted (widths_of specs) o))
       evaluated (unknown f of) bound = then_cases (evaluated_each of bound) (λ fs. then_cases (opened_each fs) (λ gs. answered_of f (look (λ n. n == f) specs.unknown_sorts) (operands gs)))
+      evaluated (variant_said ty variant of) bound = then_cases (evaluated_each of bound) (λ fs. one_case (variant_by ty variant fs))
+      evaluated (struct_said ty of) bound = then_cases (evaluated_each of bound) (λ fs. one_case (struct_by ty fs))
       evaluated (let_in e body) bound = then_cases (evaluated e bound) (λ x. evaluated body (x ∷ bound))
       evaluated (switch_on e cases) bound = then_cases (evaluated e bound) (λ x. evaluated_case cases x bound)
-      evaluated (match_on e arms) bound = then_cases (evaluated e bound) (λ x. opened_then x (λ y. evaluated_arm arms y bound))
+      evaluated (match_on e arms) bound = then_cases (evaluated e bound) (λ x. then_cases (matched arms x) (λ y. evaluated_arm arms y bound))
 
       pub evaluated_each : SpecExprs → List Form → Cases Forms
       evaluated_each no_spec_expr bound = one_case no_form

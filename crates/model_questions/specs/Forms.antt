@@ -67,6 +67,9 @@ module _ {X : Type 0} where
   abbrev pub joined_cases : Cases X → Cases X → Cases X
   joined_cases a b = record { cases = a.cases ++ b.cases; rest = one_of a.rest b.rest }
 
+  abbrev pub without_rest : Cases X → Cases X
+  without_rest cs = record { cases = cs.cases; rest = known false }
+
   abbrev pub or_nothing : Option X → Cases X
   or_nothing None = nothing_said
   or_nothing (Some x) = one_case x

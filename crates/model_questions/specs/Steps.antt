@@ -3,9 +3,9 @@ use Rattle.std.specs.Prelude.{ℕ, Bool, true, false, not, ◌&&◌, ◌||◌, L
 use Rattle.std.specs.List.{flat_map}
 use Rattle.model.specs.rules.Program.{Program, arg_types}
 use Rattle.model.specs.rules.Values.{variant_types, struct_types}
-use Rattle.model.specs.sites.Sites.{Constraint, is_int, is_prim, is_present, SiteTerm, bool_term, int_term, prim_term, argument, extractor_call, constructor_call, pick_of, variant_made, variant_field, struct_made, struct_field, some_made, some_part, tuple_part, SiteTerms, no_site_term, site_term_and}
+use Rattle.model.specs.sites.Sites.{Constraint, is_variant, is_int, is_prim, is_present, SiteTerm, bool_term, int_term, prim_term, argument, extractor_call, constructor_call, pick_of, variant_made, variant_field, struct_made, struct_field, some_made, some_part, tuple_part, SiteTerms, no_site_term, site_term_and}
 use Rattle.model.specs.sites.Serves.{term_args, term_results}
-use Rattle.model.specs.visits.Demands.{has_site}
+use Rattle.model.specs.visits.Demands.{site_term_eq, has_site}
 use Rattle.laws_specs.specs.Words.{Denoted}
 use Rattle.laws_specs.specs.Specs.{SpecExpr, Specs, spec_of, constant_of, literal_of}
 use Rattle.laws_specs.specs.Conditions.{Condition, is_impure_call, call_of}
@@ -113,37 +113,25 @@ abbrev mutual
   part_outputs_in (pick_of s) = picked_in s
   part_outputs_in _ = []
 
--- the result, unwrapped where the term is partial
-abbrev pub result_in : SiteTerm → List SiteTerm
-result_in (some_made s) = told_in s
-result_in (some_part s) = []
-result_in s = told_in s
-
 -- those that weren't seen before
 abbrev pub fresh : List SiteTerm → List SiteTerm → List SiteTerm
 fresh seen [] = []
 fresh seen (s ∷ rest) = if has_site seen s then fresh seen rest else s ∷ fresh (s ∷ seen) rest
+
+-- a call whose answer is unwrapped is one of the calls
+abbrev pub present_in : SiteTerm → List SiteTerm
+present_in (extractor_call t s) = told_in (extractor_call t s)
+present_in (constructor_call t ss n) = told_in (constructor_call t ss n)
+present_in s = sources_in s
 
 -- a constant without a value says nothing of a site
 abbrev pub where_known : Option Denoted → List SiteTerm → List SiteTerm
 where_known None sites = []
 where_known (Some x) sites = sites
 
-abbrev pub tested_in : Specs → SiteTerm → Constraint → List SiteTerm
-tested_in specs s (is_int z ty) = where_known (literal_of specs z ty) (told_in s)
-tested_in specs s (is_prim name) = where_known (constant_of specs name) (told_in s)
-tested_in specs s is_present = sources_in s
-tested_in specs s k = told_in s
-
 abbrev pub args_in : SiteTerm → List SiteTerm
 args_in (constructor_call t ss n) = told_in_each ss
 args_in _ = []
-
-abbrev pub event_sites : Specs → Event → List SiteTerm
-event_sites specs (tests s k) = tested_in specs s k
-event_sites specs (equals_at a b) = told_in a ++ told_in b
-event_sites specs (calls u) = args_in (call_of u)
-event_sites specs (gives_at s) = result_in s
 
 -- an impure call was made
 abbrev pub made_after : Event → List SiteTerm → List SiteTerm
@@ -165,6 +153,33 @@ split_form plan _ = []
 abbrev pub split_each : (Place → Bool) → Forms → List Step
 split_each plan no_form = []
 split_each plan (form_and f rest) = split_form plan f ++ split_each plan rest
+
+-- arguments and outputs of a call, and what is below them
+abbrev pub is_argument : Place → Bool
+is_argument (argument_at i) = true
+is_argument _ = false
+
+abbrev pub is_output_of : SiteTerm → Place → Bool
+is_output_of u (output_at s i) = site_term_eq s u
+is_output_of u _ = false
+
+abbrev pub is_below : (Place → Bool) → Place → Bool
+is_below root (variant_field_at at ty variant i) = is_below root at
+is_below root (struct_field_at at ty i) = is_below root at
+is_below root at = root at
+
+abbrev pub is_form_below : (Place → Bool) → Form → Bool
+is_form_below root (any_of ty at) = is_below root at
+is_form_below root _ = false
+
+-- the fields of what a constraint tells to be a variant
+abbrev pub fields_if : (ℕ → Place) → Option (List ℕ) → Forms
+fields_if at None = no_form
+fields_if at (Some tys) = fields_at at 0 tys
+
+abbrev pub told_fields : Program → Form → Constraint → Forms
+told_fields p (any_of ty at) (is_variant t variant n) = fields_if (variant_field_at at ty variant) (variant_types (slice_get p.types ty) variant)
+told_fields p _ _ = no_form
 
 -- what a field of a form is, where that is known
 abbrev pub variant_field_form : Program → ℕ → ℕ → Form → Option Form
@@ -242,14 +257,49 @@ module _ (p : Program) (specs : Specs) (c : Condition) where
       part_outputs_form (pick_of s) i place = output_form (is_pure_made s) s (pick_of s) i place
       part_outputs_form s i place = some_at place
 
+    -- what is unwrapped of a call is its one result
+    abbrev pub is_unwrapped : SiteTerm → Bool
+    is_unwrapped (constructor_call t ss n) = is_answered done (constructor_call t ss n)
+    is_unwrapped _ = false
+
     abbrev pub result_form : SiteTerm → Form
     result_form (some_made s) = form_at s
-    result_form (some_part s) = some_at (site_at (some_part s))
+    result_form (some_part s) = if is_unwrapped s then form_at (some_part s) else some_at (site_at (some_part s))
     result_form s = form_at s
 
+    -- the calls that the result is made of, unwrapped where the term is partial
+    abbrev pub result_in : SiteTerm → List SiteTerm
+    result_in (some_made s) = told_in s
+    result_in (some_part s) = if is_unwrapped s then told_in (some_part s) else []
+    result_in s = told_in s
+
+  -- what is told by the demands, before any impure call
+  abbrev pub told_form : SiteTerm → Form
+  told_form s = form_at [] s
+
+  -- fields of variants that are told are split too
+  abbrev pub told_splits : (Place → Bool) → (Place → Bool) → SiteTerm → Constraint → List Step
+  told_splits plan root s k = if is_form_below root (told_form s) then split_each plan (told_fields p (told_form s) k) else []
+
+  abbrev pub field_splits : (Place → Bool) → (Place → Bool) → List (SiteTerm × Constraint) → List Step
+  field_splits plan root ks = flat_map (λ e. told_splits plan root e.0 e.1) ks
+
+  abbrev pub tested_in : SiteTerm → Constraint → List SiteTerm
+  tested_in s (is_int z ty) = where_known (literal_of specs z ty) (told_in s)
+  tested_in s (is_prim name) = where_known (constant_of specs name) (told_in s)
+  tested_in s is_present = if is_pure_made s then present_in s else sources_in s
+  tested_in s k = told_in s
+
+  abbrev pub event_sites : List SiteTerm → Event → List SiteTerm
+  event_sites done (tests s k) = tested_in s k
+  event_sites done (equals_at a b) = told_in a ++ told_in b
+  event_sites done (calls u) = args_in (call_of u)
+  event_sites done (gives_at s) = result_in done s
+
+  module _ (done : List SiteTerm) where
     -- a constructor's answer is what its term provides where its require holds
     abbrev pub constructed : (Place → Bool) → Bool → ℕ → SiteTerms → SiteTerm → List Step
-    constructed plan true t ss u = split_form plan (form_at u) ++ map (assumed_under (requires_of specs t (forms_at ss))) (provides_of specs t (forms_at ss) (form_at u))
+    constructed plan true t ss u = split_form plan (form_at done u) ++ map (assumed_under (requires_of specs t (forms_at done ss))) (provides_of specs t (forms_at done ss) (form_at done u))
     constructed plan false t ss u = []
 
     -- what an extractor looks at is its term's result, its outputs are the arguments
@@ -257,7 +307,8 @@ module _ (p : Program) (specs : Specs) (c : Condition) where
     outputs_at t u = fields_at (output_at u) 0 (term_args (slice_get p.terms t))
 
     abbrev pub extracted : (Place → Bool) → Bool → ℕ → SiteTerm → SiteTerm → List Step
-    extracted plan true t s u = split_each plan (outputs_at t u) ++ (map assumed (requires_of specs t (outputs_at t u)) ++ map assumed (provides_of specs t (outputs_at t u) (form_at s)))
+    extracted plan true t s u =
+        split_each plan (outputs_at t u) ++ (field_splits plan (is_output_of u) c.constraints ++ (map assumed (requires_of specs t (outputs_at t u)) ++ map assumed (provides_of specs t (outputs_at t u) (form_at done s))))
     extracted plan false t s u = []
 
     abbrev pub picked : (Place → Bool) → SiteTerm → List Step
@@ -273,23 +324,28 @@ module _ (p : Program) (specs : Specs) (c : Condition) where
 
     -- the require of an impure call is shown, and what the term provides with its result
     abbrev pub required_steps : SiteTerm → List Step
-    required_steps (constructor_call t ss n) = map shown (requires_of specs t (forms_at ss))
+    required_steps (constructor_call t ss n) = map shown (requires_of specs t (forms_at done ss))
     required_steps _ = []
 
     abbrev pub event_steps : Forms → Event → List Step
-    event_steps args (tests s k) = told_as (form_at s) k ∷ []
-    event_steps args (equals_at a b) = told_same (form_at a) (form_at b) ∷ []
+    event_steps args (tests s k) = []
+    event_steps args (equals_at a b) = told_same (form_at done a) (form_at done b) ∷ []
     event_steps args (calls u) = required_steps (call_of u)
-    event_steps args (gives_at s) = map shown (provides_of specs c.term args (result_form s))
+    event_steps args (gives_at s) = map shown (provides_of specs c.term args (result_form done s))
 
   abbrev pub steps_from : (Place → Bool) → Forms → List SiteTerm → List SiteTerm → List Event → List Step
   steps_from plan args seen done [] = []
   steps_from plan args seen done (e ∷ es) =
-      flat_map (answer_steps done plan) (fresh seen (event_sites specs e)) ++ (event_steps done args e ++ steps_from plan args (event_sites specs e ++ seen) (made_after e done) es)
+      flat_map (answer_steps done plan) (fresh seen (event_sites done e)) ++ (event_steps done args e ++ steps_from plan args (event_sites done e ++ seen) (made_after e done) es)
 
-  -- arguments of the term's types under its require, then what happens
+  -- arguments of the term's types, what constraints tell, so that specs are asked of known variants and numbers, the term's require, and
+  -- then what happens
   abbrev pub args_of : Forms
   args_of = fields_at argument_at 0 (arg_types p c.term)
 
+  abbrev pub told_steps : List (SiteTerm × Constraint) → List Step
+  told_steps ks = map (λ e. told_as (told_form e.0) e.1) ks
+
   abbrev pub steps_of : (Place → Bool) → List Step
-  steps_of plan = split_each plan args_of ++ (map assumed (requires_of specs c.term args_of) ++ steps_from plan args_of [] [] (events_of c))
+  steps_of plan =
+      split_each plan args_of ++ (told_steps c.constraints ++ (field_splits plan is_argument c.constraints ++ (map assumed (requires_of specs c.term args_of) ++ steps_from plan args_of [] [] (events_of c))))

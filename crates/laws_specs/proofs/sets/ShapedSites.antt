@@ -105,17 +105,17 @@ module _ (k : Assuming) where
   extracted_outputs : (t : ℕ) (u : SiteTerm) → GivesOutputs (extractor_call t u) (term_args (slice_get p.terms t))
   extracted_outputs t u calls h xs e q =
       let call = extractor_call t u in
-      of_types_shaped p.types k.specs (Some (term_args (slice_get p.terms t))) xs (a.typed call h (contains_from_in k.condition.made call calls.0.0) calls.0.1 e xs (outputs_answered h xs q))
+      of_types_shaped p.types k.specs (Some (term_args (slice_get p.terms t))) xs ((a.typed call h (contains_from_in k.condition.made call calls.0.0) calls.0.1 e).0 xs (outputs_answered h xs q))
 
   unwrapped_outputs : (t : ℕ) (u : SiteTerm) → GivesOutputs (some_part (extractor_call t u)) (term_args (slice_get p.terms t))
   unwrapped_outputs t u calls h xs e q =
       let call = extractor_call t u in
-      of_types_shaped p.types k.specs (Some (term_args (slice_get p.terms t))) xs (a.typed call (told_just h) (contains_from_in k.condition.made call calls.0.0) calls.0.1 (a.held (some_part call) h e) xs q)
+      of_types_shaped p.types k.specs (Some (term_args (slice_get p.terms t))) xs ((a.typed call (told_just h) (contains_from_in k.condition.made call calls.0.0) calls.0.1 (a.held (some_part call) h e)).0 xs q)
 
   picked_outputs : (t : ℕ) (u : SiteTerm) → GivesOutputs (pick_of (extractor_call t u)) (term_args (slice_get p.terms t))
   picked_outputs t u calls h xs e q =
       let call = extractor_call t u in
-      of_types_shaped p.types k.specs (Some (term_args (slice_get p.terms t))) xs (a.typed_picks call h (contains_from_in k.condition.made call calls.0.0) calls.0.1 e xs (outputs_answered h xs q))
+      of_types_shaped p.types k.specs (Some (term_args (slice_get p.terms t))) xs ((a.typed_picks call h (contains_from_in k.condition.made call calls.0.0) calls.0.1 e).0 xs (outputs_answered h xs q))
 
   output_shaped : (s : SiteTerm) (tys : List ℕ) (ty : ℕ) → GivesOutputs s tys → tys ≡ ty ∷ [] → IsShapedAt s ty
   output_shaped s tys ty g e calls x q =
@@ -200,17 +200,17 @@ module _ (k : Assuming) where
   call_shaped : (t n ty : ℕ) (ss : SiteTerms) → term_results (slice_get p.terms t) ≡ ty ∷ [] → IsShapedAt (constructor_call t ss n) ty
   call_shaped t n ty ss e calls x q =
       let call = constructor_call t ss n in
-      result_shaped t ty x e (a.typed call (told x) (contains_from_in k.condition.made call calls.0.0) calls.0.1 q x refl)
+      result_shaped t ty x e ((a.typed call (told x) (contains_from_in k.condition.made call calls.0.0) calls.0.1 q).0 x refl)
 
   answer_shaped : (t n ty : ℕ) (ss : SiteTerms) → term_results (slice_get p.terms t) ≡ ty ∷ [] → IsShapedAt (some_part (constructor_call t ss n)) ty
   answer_shaped t n ty ss e calls x q =
       let call = constructor_call t ss n in
-      result_shaped t ty x e (a.typed call (told_just (told x)) (contains_from_in k.condition.made call calls.0.0) calls.0.1 (a.held (some_part call) (told x) q) x refl)
+      result_shaped t ty x e ((a.typed call (told_just (told x)) (contains_from_in k.condition.made call calls.0.0) calls.0.1 (a.held (some_part call) (told x) q)).0 x refl)
 
   pick_shaped : (t n ty : ℕ) (ss : SiteTerms) → term_results (slice_get p.terms t) ≡ ty ∷ [] → IsShapedAt (pick_of (constructor_call t ss n)) ty
   pick_shaped t n ty ss e calls x q =
       let call = constructor_call t ss n in
-      result_shaped t ty x e (a.typed_picks call (told x) (contains_from_in k.condition.made call calls.0.0) calls.0.1 q x refl)
+      result_shaped t ty x e ((a.typed_picks call (told x) (contains_from_in k.condition.made call calls.0.0) calls.0.1 q).0 x refl)
 
   call_given : (pure multi partial rec : Bool) (t ty : ℕ) (ss : SiteTerms) (v : Visit) → term_results (slice_get p.terms t) ≡ ty ∷ [] → AreAsked v.demands
       → IsGiven facts (visit_call (record { pure = pure; multi = multi; partial = partial; rec = rec }) t ss v) ty
