@@ -1,5 +1,6 @@
 mod Answered
 mod Asked
+mod AskedForms
 mod Chosen
 mod ConstEqRespected
 mod Expansions

@@ -1,5 +1,6 @@
 pub mod Answered
 pub mod Asked
+pub mod AskedForms
 pub mod Chosen
 pub mod ConstEq
 pub mod Cycle

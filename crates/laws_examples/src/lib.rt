@@ -9,6 +9,7 @@ ghost use Rattle.model.specs.rules.Meaning.{nothing, one};
 ghost use Rattle.model.specs.rules.Outcome.{ended, failed, no_rule};
 ghost use Rattle.model.specs.trees.Collects.{LeavesNoCallUnused};
 ghost use Rattle.laws_examples.specs.Answered.{ExtractIsAnswered, LeftOverIsAnswered};
+ghost use Rattle.laws_examples.specs.AskedForms.{FormsAreAsked};
 ghost use Rattle.laws_examples.specs.Asked.{AllPremisesHold};
 ghost use Rattle.laws_examples.specs.ReadingSamples.{ReadingsAreJudged};
 ghost use Rattle.laws_examples.specs.RulesBetween.{between_sample};
@@ -649,4 +650,9 @@ pub fn text_premises_hold()
 #[tactic(auto, using(crate::proofs::ReadingSamples::readings_are_judged_lem))]
 pub fn readings_are_judged()
     ensures { ReadingsAreJudged }
+{}
+
+/// What is asked of fields of variants, of enums with and without atoms, and of an answer that has to be there.
+pub fn forms_are_asked()
+    ensures { FormsAreAsked }
 {}

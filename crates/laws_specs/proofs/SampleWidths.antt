@@ -7,7 +7,7 @@ use Rattle.model.proofs.Elements.{in_from_contains, or_split, some_is, none_some
 use Rattle.laws_specs.specs.Words.{Denoted, a_word, DenotedList, no_denoted, denoted_and}
 use Rattle.laws_specs.specs.WordOperators.{word_of}
 use Rattle.laws_specs.specs.Specs.{Sort, words_among, is_of_sort, sort_of, literal_of, IsSaid, no_unknown}
-use Rattle.laws_specs.specs.Conditions.{ToldContent, told, result_as, is_of_type, IsPartHeld, Valuation, IsAssumed, condition}
+use Rattle.laws_specs.specs.Conditions.{ToldContent, told, result_as, is_of_type, is_without_atoms, IsPartHeld, Valuation, IsAssumed, condition}
 use Rattle.laws_specs.specs.Meets.{IsDenotation}
 use Rattle.laws_specs.specs.Samples.{x, rule_of, program_with}
 use Rattle.laws_specs.specs.SampleCalls.{bytes_as}
@@ -60,6 +60,9 @@ byte_listed ty n s e = grind (arith, common_steps, none_some s, some_is, none_so
 none_numbered : (ty : ℕ) (z : ℤ) (y : Denoted) → literal_of (among (8 ∷ (16 ∷ []))) z ty ≡ Some y → bytes_as ty z ≡ y
 none_numbered ty z y e = grind (arith, common_steps, none_some y, none_some)
 
+not_without : (ty : ℕ) → is_without_atoms (program_with x).types (among (8 ∷ (16 ∷ []))) ty ≡ true → ⊥
+not_without ty h = grind (arith, common_steps, none_some)
+
 pub widths_are_listed_lem : WidthsAreListed
 widths_are_listed_lem = record {
   listed = refl;
@@ -68,6 +71,6 @@ widths_are_listed_lem = record {
   none_listed = refl;
   right = byte_right;
   wrong = wide_wrong;
-  bytes = record { formed = λ ty z. byte_formed z; sorted = λ ty z s e. byte_listed ty (word_of 8 z) s e; numbers = λ ty z y own e. none_numbered ty z y e; plain = λ ty z h. refl; unknowns = λ g s xs e sorted formed. absurd (none_some s e) };
-  no_bytes = λ (d : IsDenotation (program_with x) (among (16 ∷ [])) bytes_as). false≢true (d.sorted 1 (pos 0) (words_among (16 ∷ [])) refl);
+  bytes = record { formed = λ ty z. byte_formed z; sorted = λ ty z s e n. byte_listed ty (word_of 8 z) s e; numbers = λ ty z y own e. none_numbered ty z y e; plain = λ ty z h n. refl; made = λ ty z h. absurd (not_without ty h); unknowns = λ g s xs e sorted formed. absurd (none_some s e) };
+  no_bytes = λ (d : IsDenotation (program_with x) (among (16 ∷ [])) bytes_as). false≢true (d.sorted 1 (pos 0) (words_among (16 ∷ [])) refl refl);
 }

@@ -1,9 +1,9 @@
 -- What the sites of a run stand for: values, fields, answers and results, by their parts.
-use Rattle.std.proofs.Common.{◌≡◌, ℕ, ℤ, suc, ◌&&◌, true, List, ◌∷◌, Option, Some, slice_get, refl, sym, ap, subst, ◌∙◌, arith}
+use Rattle.std.proofs.Common.{Bool, false, ◌≡◌, ℕ, ℤ, suc, ◌&&◌, true, List, ◌∷◌, Option, Some, slice_get, refl, sym, ap, subst, ◌∙◌, arith}
 use Rattle.std.proofs.lemmas.Grind.{common_steps}
 use Rattle.std.proofs.lemmas.Bool.{and_parts, and_from, eqb-true}
 use Rattle.model.specs.lists.Tables.{TypeEntry}
-use Rattle.model.specs.rules.Values.{Value, truth, atom, of_variant, of_struct, Values, no_value, value_and, listed, of_list, well_typed, all_well_typed, is_truth_type, variant_types, struct_types}
+use Rattle.model.specs.rules.Values.{Value, truth, atom, of_variant, of_struct, Values, no_value, value_and, listed, of_list, well_typed, all_well_typed, is_truth_type, has_atoms, variant_types, struct_types}
 use Rattle.model.specs.rules.Meaning.{Content, one, parts, just, Meaning, constant_value, extractor_answer}
 use Rattle.model.specs.rules.Outcome.{Call, then_option}
 use Rattle.model.specs.rules.Program.{Program}
@@ -15,7 +15,7 @@ use Rattle.model.proofs.Options.{then_some}
 use Rattle.laws_trees.proofs.picks.HeldContents.{is_just}
 use Rattle.laws_specs.specs.Words.{Denoted, DenotedList, denoted_list, is_formed, are_formed}
 use Rattle.laws_specs.specs.Specs.{Specs, sort_of}
-use Rattle.laws_specs.specs.Conditions.{ToldContent, told, is_told_formed, as_denoted, denoted_at_each, IsPartHeld, IsHeldAs, is_atom_as, is_of_type, are_of_types}
+use Rattle.laws_specs.specs.Conditions.{ToldContent, told, is_told_formed, as_denoted, denoted_at_each, IsPartHeld, IsHeldAs, is_atom_as, is_of_type, are_of_types, is_without_atoms}
 use Rattle.laws_specs.specs.Meets.{Atoms, stands_for, stand_for, content_as, IsDenotation, MeetsSpecs}
 
 -- 1. optional contents
@@ -187,13 +187,24 @@ module _ (k : Called) where
   abbrev types : List TypeEntry
   types = k.program.types
 
-  atom_as : (ty : ℕ) (z : ℤ) → is_atom_as (slice_get types ty) (sort_of k.specs ty) (d ty z) ≡ true
-  atom_as ty z = grind (arith, common_steps, and_from, or_right, or_left)
+  atom_as : (ty : ℕ) (z : ℤ) → is_without_atoms types k.specs ty ≡ false → is_atom_as (slice_get types ty) (sort_of k.specs ty) (d ty z) ≡ true
+  atom_as ty z e = grind (arith, common_steps, and_from, or_right, or_left)
+
+  -- an atom of a type that has none stands for one of its variants
+  atom_typed : (ty : ℕ) (z : ℤ) → has_atoms (slice_get types ty) ≡ true → is_of_type types k.specs ty (d ty z) ≡ true
+  atom_typed ty z h = by (is_without_atoms types k.specs ty) refl
+    where
+      of_atoms : (x : Denoted) → is_atom_as (slice_get types ty) (sort_of k.specs ty) x ≡ true → is_of_type types k.specs ty x ≡ true
+      of_atoms x a = grind (arith, common_steps, or_left, or_right, and_from)
+
+      by : (b : Bool) → is_without_atoms types k.specs ty ≡ b → is_of_type types k.specs ty (d ty z) ≡ true
+      by true e = k.denotes.made ty z e
+      by false e = of_atoms (d ty z) (atom_as ty z e)
 
   mutual
     pub value_typed : (ty : ℕ) (v : Value) → well_typed types ty v ≡ true → is_of_type types k.specs ty (stands_for d v) ≡ true
     value_typed ty (truth b) h = or_left (is_truth_type (slice_get types ty) && true) _ (and_from (is_truth_type (slice_get types ty)) true h refl)
-    value_typed ty (atom s z) h = grind (arith, common_steps, and_parts, eqb-true, or_right, and_from, atom_as)
+    value_typed ty (atom s z) h = grind (arith, common_steps, and_parts, eqb-true, atom_typed)
     value_typed ty (of_variant s i vs) h = grind (arith, common_steps, values_typed (variant_types (slice_get types ty) i) vs, and_parts, or_right, and_from)
     value_typed ty (of_struct s vs) h = grind (arith, common_steps, values_typed (struct_types (slice_get types ty)) vs, and_parts, or_right, and_from)
 

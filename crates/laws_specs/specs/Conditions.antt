@@ -10,7 +10,7 @@ use Rattle.model.specs.sites.Sites.{Constraint, is_variant, is_struct, is_bool, 
 use Rattle.model.specs.sites.Serves.{constant_type, is_type_with_parts, term_args, term_results}
 use Rattle.model.specs.visits.Demands.{demands_of, result_of}
 use Rattle.laws_specs.specs.Words.{Denoted, a_truth, variant_of, struct_of, DenotedList, no_denoted, denoted_and, denoted_list, is_plain, is_formed, are_formed}
-use Rattle.laws_specs.specs.Specs.{Sort, truths, is_of_sort, Specs, sort_of, constant_of, literal_of, IsRequired, IsProvided, AreUnknownsSorted}
+use Rattle.laws_specs.specs.Specs.{Sort, truths, is_of_sort, is_closed, Specs, sort_of, constant_of, literal_of, IsRequired, IsProvided, AreUnknownsSorted}
 
 -- what a content stands for; the answers of a multi call are told at the sites that pick them
 pub data ToldContent : Type 0 where
@@ -137,6 +137,10 @@ abbrev mutual
   are_of_types types specs (Some []) no_denoted = true
   are_of_types types specs (Some (ty ∷ tys)) (denoted_and x xs) = is_of_type types specs ty x && are_of_types types specs (Some tys) xs
   are_of_types types specs _ _ = false
+
+-- of a type whose sort has no words there are no atoms: all that it has are its variants
+abbrev pub is_without_atoms : List TypeEntry → Specs → ℕ → Bool
+is_without_atoms types specs ty = has_atoms (slice_get types ty) && (is_type_with_parts (slice_get types ty) && is_closed (sort_of specs ty))
 
 -- an answer is of its call's types: the outputs of an extractor those of its term's arguments, a constructor's result that of
 -- its term; and a named constant is of its type

@@ -8,7 +8,7 @@ use Rattle.model.specs.rules.RightSide.{result_content}
 use Rattle.model.specs.sites.Serves.{is_own_type, is_type_with_parts}
 use Rattle.laws_specs.specs.Words.{Denoted, a_truth, an_integer, a_word, variant_of, struct_of, DenotedList, no_denoted, denoted_and, is_plain, is_formed}
 use Rattle.laws_specs.specs.Specs.{Sort, is_of_sort, Specs, sort_of, constant_of, literal_of, IsRequired, IsProvided, AreUnknownsSorted}
-use Rattle.laws_specs.specs.Conditions.{ToldContent, told, told_parts, told_nothing, told_just, told_many, IsExtractedAsSaid, IsConstructedAsSaid}
+use Rattle.laws_specs.specs.Conditions.{ToldContent, told, told_parts, told_nothing, told_just, told_many, is_of_type, is_without_atoms, IsExtractedAsSaid, IsConstructedAsSaid}
 
 -- what the atoms of types stand for: all else is fixed by it
 abbrev pub Atoms : Type 0
@@ -33,12 +33,14 @@ content_as d (just c) = told_just (content_as d c)
 content_as d (many cs) = told_many
 
 -- atoms stand for what the models of their types say, any function of primitive ones; those of built-in integer types for the
--- numbers that they are; and those of enums with variants for nothing with parts. And unknown functions answer by values of their sorts
+-- numbers that they are; and those of enums with variants for nothing with parts, or for variants where the enum's sort has no words. And
+-- unknown functions answer by values of their sorts
 pub record IsDenotation (p : Program) (specs : Specs) (d : Atoms) : Type 0 where
   pub formed : (ty : ℕ) (z : ℤ) → is_formed (d ty z) ≡ true
-  pub sorted : (ty : ℕ) (z : ℤ) (s : Sort) → sort_of specs ty ≡ Some s → is_of_sort s (d ty z) ≡ true
+  pub sorted : (ty : ℕ) (z : ℤ) (s : Sort) → sort_of specs ty ≡ Some s → is_without_atoms p.types specs ty ≡ false → is_of_sort s (d ty z) ≡ true
   pub numbers : (ty : ℕ) (z : ℤ) (x : Denoted) → is_own_type (slice_get p.types ty) ≡ true → literal_of specs z ty ≡ Some x → d ty z ≡ x
-  pub plain : (ty : ℕ) (z : ℤ) → is_type_with_parts (slice_get p.types ty) ≡ true → is_plain (d ty z) ≡ true
+  pub plain : (ty : ℕ) (z : ℤ) → is_type_with_parts (slice_get p.types ty) ≡ true → is_without_atoms p.types specs ty ≡ false → is_plain (d ty z) ≡ true
+  pub made : (ty : ℕ) (z : ℤ) → is_without_atoms p.types specs ty ≡ true → is_of_type p.types specs ty (d ty z) ≡ true
   pub unknowns : AreUnknownsSorted specs
 
 -- atoms stand for integers and words alone

@@ -21,6 +21,11 @@ is_of_sort (words width) (a_word w n) = w == width
 is_of_sort (words_among widths) (a_word w n) = list_any (λ v. w == v) widths
 is_of_sort _ _ = false
 
+-- no word is of it
+abbrev pub is_closed : Option Sort → Bool
+is_closed (Some (words_among [])) = true
+is_closed _ = false
+
 -- whether it is that variant: of another type nothing is said
 abbrev pub on_variant : ℕ → ℕ → Denoted → (DenotedList → Option Denoted) → Option Denoted → Option Denoted
 on_variant ty variant (variant_of t i fields) go other = if t == ty then (if i == variant then go fields else other) else None

@@ -8,7 +8,7 @@ use Rattle.model.specs.rules.Meaning.{look}
 use Rattle.model.specs.rules.Outcome.{then_option}
 use Rattle.model.specs.rules.Values.{field_types}
 use Rattle.laws_specs.specs.Words.{Denoted, a_truth, DenotedList, no_denoted, denoted_and, a_word, an_integer, Operator, equals, both, one_of as either, negation, implied, less, less_or_equal, plus, minus, times, word_plus, word_minus, word_times, word_quotient, word_remainder, signed_quotient, signed_remainder, word_and as bit_conjunction, word_or, word_xor, word_not, word_negated, shifted_left, shifted_right, shifted_right_signed, rotated_left, rotated_right, word_less, word_less_or_equal, signed_less, signed_less_or_equal, joined, bits, widened, widened_signed, as_word, as_integer, width_of, field, applied_to}
-use Rattle.laws_specs.specs.Specs.{Sort, truths, integers, words, words_among, SpecExpr, its_argument, its_result, variable, the_same, operation, unknown, variant_said, struct_said, let_in, switch_on, match_on, SpecExprs, no_spec_expr, spec_expr_and, SpecCases, no_case, case_and, SpecArms, no_spec_arm, spec_arm_and, struct_arm, arm_else, UnknownSort, Specs, sort_of}
+use Rattle.laws_specs.specs.Specs.{Sort, truths, integers, words, words_among, SpecExpr, its_argument, its_result, variable, the_same, operation, unknown, variant_said, struct_said, let_in, switch_on, match_on, SpecExprs, no_spec_expr, spec_expr_and, SpecCases, no_case, case_and, SpecArms, no_spec_arm, spec_arm_and, struct_arm, arm_else, UnknownSort, Specs, sort_of, is_closed}
 use Rattle.model_questions.specs.Formulas.{Place, place_eq, variant_field_at, struct_field_at, Word, written, word_at, word_by, word_answered, Integer, written_integer, integer_at, integer_by, integer_answered, Fact, known, truth_at, as_wide, is_kind, fact_by, fact_answered, same_facts, Operands, no_operand, fact_and, integer_and, word_and, both_of, one_of, none_of}
 use Rattle.model_questions.specs.Forms.{Form, a_fact, an_integer_by, a_word_by, variant_by, struct_by, any_of, some_at, Forms, no_form, form_and, form_list, form_of, Case, Cases, nothing_said, one_case, anything, under, joined_cases, without_rest, or_nothing, then_cases, merged}
 
@@ -229,8 +229,8 @@ at_sort k at (Some integers) = integer_known at (found k.integers at)
 at_sort k at (Some (words w)) = one_case (a_word_by w (word_at at w))
 at_sort k at (Some (words_among ws)) = at_widths ws at (found k.widths at)
 
--- a variant, each under the guard that it stands there: of an extern enum something else may stand there, of any other one the last
--- variant stands where no other does
+-- a variant, each under the guard that it stands there: of an extern enum something else may stand there, unless its sort has no words; of
+-- any other one the last variant stands where no other does
 abbrev pub variant_at : ℕ → Place → ℕ → VariantEntry → Form
 variant_at ty at i v = variant_by ty i (fields_at (variant_field_at at ty i) 0 (field_types v.fields))
 
@@ -255,11 +255,6 @@ abbrev pub at_variants : Bool → ℕ → Place → List VariantEntry → Option
 at_variants is_extern ty at vs (Some i) = variant_known ty at i (slice_get vs i)
 at_variants true ty at vs None = record { cases = each_variant ty at 0 vs; rest = is_no_variant at 0 vs }
 at_variants false ty at vs None = record { cases = one_variant (known true) ty at 0 vs; rest = known false }
-
--- no atom is of a type whose sort has no words
-abbrev pub is_closed : Option Sort → Bool
-is_closed (Some (words_among [])) = true
-is_closed _ = false
 
 abbrev pub at_enum : Specs → Known → Bool → ℕ → Place → List VariantEntry → Cases Form
 at_enum specs k is_extern ty at [] = at_sort k at (sort_of specs ty)
