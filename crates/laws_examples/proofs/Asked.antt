@@ -60,7 +60,7 @@ denotes = grind (arith, common_steps, byte_formed, byte_sorted, byte_numbered, n
 not_both : (b : Bool) → b ≡ true → not b ≡ true → ⊥
 not_both b e h = grind (arith, common_steps)
 
-three_ways : (e b c : Bool) → (not e && ((not b || e) && (b && c))) ≡ true → ⊥
+three_ways : (e b c : Bool) → (not e && (e && (b && c))) ≡ true → ⊥
 three_ways e b c h = grind (arith, common_steps)
 
 f_unsatisfiable : IsUnsatisfiable two_specs f_question

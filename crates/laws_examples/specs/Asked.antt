@@ -26,7 +26,7 @@ use Rattle.laws_specs.specs.Meets.{Atoms, IsDenotation}
 use Rattle.laws_specs.specs.ProgramLaws.{RunTrees, AllRunsAreAsSaid}
 use Rattle.laws_specs.specs.SetConditions.{AllAreValidInSets}
 use Rattle.laws_specs.specs.WholeRuns.{Functions}
-use Rattle.model_questions.specs.Formulas.{argument_at, site_at, Word, written, word_at, Fact, fact_by, one_fact, no_fact, no_operand, word_and}
+use Rattle.model_questions.specs.Formulas.{argument_at, site_at, Word, written, word_at, Fact, fact_by, no_fact, no_operand, word_and}
 use Rattle.laws_questions.specs.EnoughLaws.{rule_questions, Answers, unsat, SolversAreRight, Plans, AreAllRefuted}
 
 -- the definitions, their typed rules, and the program
@@ -113,7 +113,7 @@ abbrev pub g_requires : List Fact
 g_requires = no_fact (below 200) ∷ below 100 ∷ []
 
 abbrev pub g_provides : List Fact
-g_provides = no_fact (fact_of_two equals r x) ∷ one_fact (no_fact (below 200)) (fact_of_two equals r x) ∷ below 200 ∷ below 100 ∷ []
+g_provides = no_fact (fact_of_two equals r x) ∷ fact_of_two equals r x ∷ below 200 ∷ below 100 ∷ []
 
 abbrev pub no_splits : Plans
 no_splits t place at = false

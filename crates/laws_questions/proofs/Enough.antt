@@ -1,5 +1,6 @@
 -- Where no question about a condition can be satisfied, the condition is valid.
-use Rattle.std.proofs.Common.{if◌then◌else◌, ◌≡◌, ◌⊎◌, ◌+◌, ℕ, Bool, true, false, List, [], ◌∷◌, ◌++◌, map, Option, Some, None, slice_get, is_some, All, Contains, IsTrue, flat_map, append_assoc, refl, sym, ap, ◌∙◌, subst, inl, inr, arith}
+use Rattle.std.proofs.Common.{if◌then◌else◌, ◌≡◌, ◌⊎◌, ◌+◌, ℕ, zero, suc, Bool, true, false, List, [], ◌∷◌, ◌++◌, map, Option, Some, None, slice_get, is_some, All, Contains, IsTrue, flat_map, append_assoc, refl, sym, ap, ◌∙◌, subst, inl, inr, arith}
+use Rattle.std.proofs.lemmas.Bool.{false≢true}
 use Rattle.std.proofs.lemmas.Grind.{common_steps}
 use Rattle.std.proofs.lemmas.List.Elements.{All-nil, All-cons}
 use Rattle.model.specs.rules.Program.{Program, arg_types}
@@ -9,7 +10,7 @@ use Rattle.model.proofs.Elements.{In, in_map, map_in, contains_from_in, none_som
 use Rattle.laws_sites.proofs.built.WellBuiltSets.{in_from_all}
 use Rattle.laws_specs.specs.Words.{Denoted, a_truth, variant_of, DenotedList, denoted_list}
 use Rattle.laws_specs.specs.Specs.{SpecExpr, Specs, spec_of, IsSaid, IsRequired, IsProvided}
-use Rattle.laws_specs.specs.Conditions.{ToldContent, told, told_just, told_many, answered_as, result_as, Valuation, denoted_at_each, IsMetAs, IsConstructedAsSaid, IsExtractedAsSaid, call_of, IsTypedAs, Condition, IsAssumed, IsCallMade, IsShown}
+use Rattle.laws_specs.specs.Conditions.{ToldContent, told, told_just, told_many, answered_as, result_as, Valuation, denoted_at_each, IsMetAs, IsConstructedAsSaid, IsAnsweredAsSaid, IsExtractedAsSaid, is_impure_call, call_of, IsTypedAs, Condition, IsAssumed, IsCallMade, IsShown}
 use Rattle.model_questions.specs.Formulas.{Place, argument_at, output_at, Fact}
 use Rattle.model_questions.specs.Forms.{Form, Forms, no_form, form_and}
 use Rattle.model_questions.specs.Steps.{Said, Step, told_same, assumed, assumed_under, shown, Event, tests, equals_at, calls, gives_at, events_of, told_in, told_in_each, result_in, fresh, is_argument, is_output_of, is_form_below, told_fields, told_form, told_splits, field_splits, tested_in, args_in, requires_of, provides_of, split_form, split_each, is_pure_made, is_answered, form_at, forms_at, result_form, constructed, outputs_at, extracted, picked, answer_steps, required_steps, told_steps, steps_from, args_of, steps_of}
@@ -18,7 +19,7 @@ use Rattle.model_questions.proofs.Opening.{fields_stand}
 use Rattle.model_questions.proofs.Shown.{FitsSaid, IsHeld, AllHeld, AllSaidFit, IsToldAs, AreShown, steps_shown}
 use Rattle.model_questions.proofs.Standing.{model_of, AreKnown, stands, Fits, AllFit}
 use Rattle.laws_questions.proofs.Values.{value_at, or_false, coherent, values_formed}
-use Rattle.laws_questions.proofs.SiteForms.{Is, AreAll, output_is_at, AreDone, typed_answer, said_answer, told_fields_fit, typed_pick, said_pick, told_is, each_is, result_is}
+use Rattle.laws_questions.proofs.SiteForms.{Is, AreAll, output_is_at, pure_made, IsMetCall, AreDone, typed_answer, said_answer, met_answer, told_fields_fit, typed_pick, said_pick, told_is, each_is, result_is}
 use Rattle.laws_questions.proofs.Answered.{in_fresh, IsAnswer, AreAnswers, told_answers, each_answers, result_answers, tested_answers}
 use Rattle.laws_questions.specs.EnoughLaws.{QuestionsAskEnough}
 
@@ -149,9 +150,16 @@ module _ (p : Program) (specs : Specs) (c : Condition) (args : DenotedList) (f :
   module _ (done : List SiteTerm) (are_done : AreDone p specs c args f a done) (plan : Place → Bool) where
     constructed_next : (typed : Bool) (t : ℕ) (ss : SiteTerms) (n : ℕ) (u : SiteTerm) (x : Denoted) (xs : DenotedList) (h : ToldContent) (rest : List Step)
         → denoted_at_each f ss ≡ Some xs → result_as h ≡ Some x → Is p specs c args f a (form_at p specs c done u) x → (typed ≡ true → IsConstructedAsSaid specs t xs h)
-        → Shown (constructed p specs c done plan typed t ss u ++ rest) → Shown rest
-    constructed_next false t ss n u x xs h rest e q is said k = k
-    constructed_next true t ss n u x xs h rest e q is said k =
+        → (typed ≡ true → is_impure_call (constructor_call t ss n) ≡ true → IsRequired specs t xs) → Shown (constructed p specs c done plan typed t ss n u ++ rest) → Shown rest
+    constructed_next false t ss n u x xs h rest e q is said met k = k
+    constructed_next true t ss (suc n) u x xs h rest e q is said met k =
+        let gs = forms_at p specs c done ss in
+        let all = each_is p specs c args f a done are_done ss xs e in
+        let steps = map assumed (provides_of specs t gs (form_at p specs c done u)) in
+        let first = split_one plan (form_at p specs c done u) (steps ++ rest) is.1 (subst Shown (append_assoc (split_form plan (form_at p specs c done u)) steps rest) k) in
+        assume_all (provides_of specs t gs (form_at p specs c done u)) rest
+        (λ s i. (provided_fit t gs xs all (form_at p specs c done u) x is s i, provided_held t gs xs all (form_at p specs c done u) x is (said refl (met refl refl) x q) s i)) first
+    constructed_next true t ss zero u x xs h rest e q is said met k =
         let gs = forms_at p specs c done ss in
         let all = each_is p specs c args f a done are_done ss xs e in
         let first = split_one plan (form_at p specs c done u) (map (assumed_under (requires_of specs t gs)) (provides_of specs t gs (form_at p specs c done u)) ++ rest) is.1
@@ -184,7 +192,7 @@ module _ (p : Program) (specs : Specs) (c : Condition) (args : DenotedList) (f :
         let w = constructor_call t ss n in
         let there = a.held w told_many (a.held (pick_of w) h e) in
         constructed_next (is_pure_made p specs c w) t ss n (pick_of w) x there.0 h rest there.1 q (result_is p specs c args f a done are_done (pick_of w) h x e q)
-        (λ typed. said_pick p specs c args f a w typed there.0 h there.1 e) k
+        (λ typed. said_pick p specs c args f a w typed there.0 h there.1 e) (λ typed impure. absurd (false≢true (sym (pure_made p specs c args f a w typed).1 ∙ impure))) k
     picked_next (extractor_call t s) rest (h, xs, e, q) k =
         let w = extractor_call t s in
         let there = a.held w told_many (a.held (pick_of w) h e) in
@@ -208,7 +216,7 @@ module _ (p : Program) (specs : Specs) (c : Condition) (args : DenotedList) (f :
         let w = constructor_call t ss n in
         let there = a.held w h e in
         constructed_next (is_answered p specs c done w) t ss n w x there.0 h rest there.1 q (result_is p specs c args f a done are_done w h x e q)
-        (λ typed. said_answer p specs c args f a done are_done w typed there.0 h there.1 e) k
+        (λ typed. said_answer p specs c args f a done are_done w typed there.0 h there.1 e) (λ typed impure. met_answer p specs c args f a done are_done w typed impure there.0 there.1) k
     answer_next (extractor_call t s) rest (h, xs, e, q) k =
         let w = extractor_call t s in
         let there = a.held w h e in
@@ -283,7 +291,7 @@ module _ (p : Program) (specs : Specs) (c : Condition) (args : DenotedList) (f :
         (required_back t gs xs all second.0, second.1)
 
     made_next : (done : List SiteTerm) (are_done : AreDone p specs c args f a done) (seen : List SiteTerm) (u : SiteTerm) (es : List Event) → IsCallMade p specs f u → Shown (Steps seen done (calls u ∷ es))
-        → Shown (Steps (args_in (call_of u) ++ seen) (call_of u ∷ done) es)
+        → IsMetCall p specs c args f a (call_of u) × Shown (Steps (args_in (call_of u) ++ seen) (call_of u ∷ done) es)
     made_next done are_done seen u es made h = by (call_of u) refl
       where
         there : (w : SiteTerm) (g : ToldContent) → f w ≡ Some g → (k : ToldContent) × (f (call_of w) ≡ Some k)
@@ -313,27 +321,29 @@ module _ (p : Program) (specs : Specs) (c : Condition) (args : DenotedList) (f :
             (subst (λ l. Shown (flat_map (answer_steps p specs c done plan) (fresh seen l) ++ (required_steps p specs c done w ++ rest))) none
             (subst (λ x. Shown (flat_map (answer_steps p specs c done plan) (fresh seen (args_in x)) ++ (required_steps p specs c done x ++ rest))) same h))
 
-        by : (w : SiteTerm) → call_of u ≡ w → Shown (Steps (args_in (call_of u) ++ seen) (call_of u ∷ done) es)
+        by : (w : SiteTerm) → call_of u ≡ w → IsMetCall p specs c args f a w × Shown (Steps (args_in (call_of u) ++ seen) (call_of u ∷ done) es)
         by (constructor_call t ss n) same =
             let k = a.held (constructor_call t ss n) here.0 (ap f (sym same) ∙ here.1) in
-            (called_next done are_done seen u t n ss k.0 es same k.1 h).1
-        by (bool_term b ty) same = plain (bool_term b ty) same refl refl
-        by (int_term z ty) same = plain (int_term z ty) same refl refl
-        by (prim_term name) same = plain (prim_term name) same refl refl
-        by (argument i) same = plain (argument i) same refl refl
-        by (extractor_call t s) same = plain (extractor_call t s) same refl refl
-        by (pick_of s) same = plain (pick_of s) same refl refl
-        by (variant_made ty variant ss) same = plain (variant_made ty variant ss) same refl refl
-        by (variant_field s variant i) same = plain (variant_field s variant i) same refl refl
-        by (struct_made ty ss) same = plain (struct_made ty ss) same refl refl
-        by (struct_field s i) same = plain (struct_field s i) same refl refl
-        by (some_made s) same = plain (some_made s) same refl refl
-        by (some_part s) same = plain (some_part s) same refl refl
-        by (tuple_part s i) same = plain (tuple_part s i) same refl refl
-        by no_site same = plain no_site same refl refl
+            (λ xs e. (called_next done are_done seen u t n ss xs es same e h).0, (called_next done are_done seen u t n ss k.0 es same k.1 h).1)
+        by (bool_term b ty) same = (tt, plain (bool_term b ty) same refl refl)
+        by (int_term z ty) same = (tt, plain (int_term z ty) same refl refl)
+        by (prim_term name) same = (tt, plain (prim_term name) same refl refl)
+        by (argument i) same = (tt, plain (argument i) same refl refl)
+        by (extractor_call t s) same = (tt, plain (extractor_call t s) same refl refl)
+        by (pick_of s) same = (tt, plain (pick_of s) same refl refl)
+        by (variant_made ty variant ss) same = (tt, plain (variant_made ty variant ss) same refl refl)
+        by (variant_field s variant i) same = (tt, plain (variant_field s variant i) same refl refl)
+        by (struct_made ty ss) same = (tt, plain (struct_made ty ss) same refl refl)
+        by (struct_field s i) same = (tt, plain (struct_field s i) same refl refl)
+        by (some_made s) same = (tt, plain (some_made s) same refl refl)
+        by (some_part s) same = (tt, plain (some_part s) same refl refl)
+        by (tuple_part s i) same = (tt, plain (tuple_part s i) same refl refl)
+        by no_site same = (tt, plain no_site same refl refl)
 
-    done_more : (done : List SiteTerm) → AreDone p specs c args f a done → (u : SiteTerm) → IsCallMade p specs f u → AreDone p specs c args f a (call_of u ∷ done)
-    done_more done are_done u made w h = grind (arith, common_steps)
+    done_more : (done : List SiteTerm) → AreDone p specs c args f a done → (u : SiteTerm) → IsCallMade p specs f u → IsMetCall p specs c args f a (call_of u) → AreDone p specs c args f a (call_of u ∷ done)
+    done_more done are_done u made met w (inl e) =
+        subst (λ z. IsAnsweredAsSaid specs f z z × ((h : ToldContent) → f z ≡ Some h → IsTypedAs p specs z h) × IsMetCall p specs c args f a z) e (made.answered, made.typed, met)
+    done_more done are_done u made met w (inr i) = are_done w i
 
     all_tests_next : (ks : List (SiteTerm × Constraint)) (seen : List SiteTerm) (es : List Event) → ((s : SiteTerm) (k : Constraint) → In ks (s, k) → IsMetAs specs f s k) → Shown (Steps seen [] (map (λ e. tests e.0 e.1) ks ++ es))
         → (after : List SiteTerm) × Shown (Steps after [] es)
@@ -351,7 +361,8 @@ module _ (p : Program) (specs : Specs) (c : Condition) (args : DenotedList) (f :
         → Shown (Steps seen done (map calls us ++ es)) → (after now : List SiteTerm) × AreDone p specs c args f a now × Shown (Steps after now es)
     all_made_next [] done are_done seen es made h = (seen, done, are_done, h)
     all_made_next (u ∷ us) done are_done seen es made h =
-        all_made_next us (call_of u ∷ done) (done_more done are_done u (made u (inl refl))) (args_in (call_of u) ++ seen) es (λ w i. made w (inr i)) (made_next done are_done seen u (map calls us ++ es) (made u (inl refl)) h)
+        let next = made_next done are_done seen u (map calls us ++ es) (made u (inl refl)) h in
+        all_made_next us (call_of u ∷ done) (done_more done are_done u (made u (inl refl)) next.0) (args_in (call_of u) ++ seen) es (λ w i. made w (inr i)) next.1
 
     required_of : (us : List SiteTerm) (done : List SiteTerm) (are_done : AreDone p specs c args f a done) (seen : List SiteTerm) (es : List Event) → Shown (Steps seen done (map calls us ++ es))
         → (before later : List SiteTerm) (u : SiteTerm) (t n : ℕ) (ss : SiteTerms) (xs : DenotedList) → us ≡ before ++ u ∷ later → ((w : SiteTerm) → In before w → IsCallMade p specs f w)
@@ -366,7 +377,8 @@ module _ (p : Program) (specs : Specs) (c : Condition) (args : DenotedList) (f :
     required_of (w ∷ us) done are_done seen es h (b ∷ before) later u t n ss xs split made same e =
         let k = parted w b us (before ++ u ∷ later) split in
         let here = subst (λ z. IsCallMade p specs f z) (sym k.0) (made b (inl refl)) in
-        required_of us (call_of w ∷ done) (done_more done are_done w here) (args_in (call_of w) ++ seen) es (made_next done are_done seen w (map calls us ++ es) here h)
+        let next = made_next done are_done seen w (map calls us ++ es) here h in
+        required_of us (call_of w ∷ done) (done_more done are_done w here next.0) (args_in (call_of w) ++ seen) es next.1
         before later u t n ss xs k.1 (λ z i. made z (inr i)) same e
       where
         parted : (y z : SiteTerm) (ys zs : List SiteTerm) → y ∷ ys ≡ z ∷ zs → (y ≡ z) × (ys ≡ zs)

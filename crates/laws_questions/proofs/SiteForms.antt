@@ -12,7 +12,7 @@ use Rattle.model.specs.visits.Demands.{site_term_eq, has_site}
 use Rattle.model.proofs.Elements.{In, or_split, contains_from_in, some_is, none_some}
 use Rattle.model.proofs.SameSites.{term_means}
 use Rattle.laws_specs.specs.Words.{Denoted, a_truth, variant_of, struct_of, DenotedList, no_denoted, denoted_and, denoted_list}
-use Rattle.laws_specs.specs.Specs.{Specs, constant_of, literal_of}
+use Rattle.laws_specs.specs.Specs.{Specs, constant_of, literal_of, IsRequired}
 use Rattle.laws_specs.specs.Conditions.{ToldContent, told, told_parts, told_nothing, told_just, told_many, answered_as, as_denoted, result_as, Valuation, denoted_at_each, IsAnsweredAsSaid, is_impure_call, is_of_type, are_of_types, IsTypedAs, Condition, IsAssumed}
 use Rattle.model_questions.specs.Formulas.{Place, argument_at, site_at, output_at, variant_field_at, struct_field_at}
 use Rattle.model_questions.specs.Forms.{Form, a_fact, an_integer_by, a_word_by, variant_by, struct_by, any_of, some_at, Forms, form_list}
@@ -80,11 +80,15 @@ module _ (p : Program) (specs : Specs) (c : Condition) (args : DenotedList) (f :
   abbrev pub AreAll : Forms → DenotedList → Type 0
   AreAll gs xs = (stand_each vs specs.unknowns gs ≡ xs) × AllFit p.types specs vs gs
 
-  -- impure calls that were made
-  abbrev pub AreDone : List SiteTerm → Type 0
-  AreDone done = (w : SiteTerm) → In done w → IsAnsweredAsSaid specs f w w × ((h : ToldContent) → f w ≡ Some h → IsTypedAs p specs w h)
+  -- impure calls that were made, as they are required
+  abbrev pub IsMetCall : SiteTerm → Type 0
+  IsMetCall (constructor_call t ss n) = (xs : DenotedList) → denoted_at_each f ss ≡ Some xs → IsRequired specs t xs
+  IsMetCall _ = Unit {0}
 
-  pure_made : (w : SiteTerm) → is_pure_made p specs c w ≡ true → Contains c.made w × (is_impure_call w ≡ false)
+  abbrev pub AreDone : List SiteTerm → Type 0
+  AreDone done = (w : SiteTerm) → In done w → IsAnsweredAsSaid specs f w w × ((h : ToldContent) → f w ≡ Some h → IsTypedAs p specs w h) × IsMetCall w
+
+  pub pure_made : (w : SiteTerm) → is_pure_made p specs c w ≡ true → Contains c.made w × (is_impure_call w ≡ false)
   pure_made w e = let q = and_parts (has_site c.made w) (not (is_impure_call w)) e in (contains_from_in c.made w (has_in c.made w q.0), not_false_is (is_impure_call w) q.1)
 
   pub typed_made : (w : SiteTerm) → is_pure_made p specs c w ≡ true → (h : ToldContent) → f w ≡ Some h → IsTypedAs p specs w h
@@ -102,6 +106,9 @@ module _ (p : Program) (specs : Specs) (c : Condition) (args : DenotedList) (f :
 
     pub said_answer : (w : SiteTerm) → is_answered p specs c done w ≡ true → IsAnsweredAsSaid specs f w w
     said_answer w e = grind (arith, common_steps, or_split (is_pure_made p specs c w) (has_site done w) e, pure_made w, has_in done w, or_split, pure_made, has_in)
+
+    pub met_answer : (w : SiteTerm) → is_answered p specs c done w ≡ true → is_impure_call w ≡ true → IsMetCall w
+    met_answer w e q = elim (or_split (is_pure_made p specs c w) (has_site done w) e) [ inl r ↦ absurd (false≢true (sym (pure_made w r).1 ∙ q)) | inr r ↦ (are_done w (has_in done w r)).2 ]
 
     -- what is unwrapped of a constructor's answer is its result
     pub unwrapped_is : (s : SiteTerm) (h : ToldContent) (x : Denoted) → is_unwrapped p specs c done s ≡ true → f s ≡ Some (told_just h) → result_as h ≡ Some x → h ≡ told x

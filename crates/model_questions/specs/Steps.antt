@@ -1,5 +1,5 @@
 -- The steps in which a condition is asked: what its sites stand for, by forms; what is assumed of them, in order; and what is shown.
-use Rattle.std.specs.Prelude.{ℕ, Bool, true, false, not, ◌&&◌, ◌||◌, List, [], ◌∷◌, ◌++◌, map, Option, Some, None, if◌then◌else◌, slice_get}
+use Rattle.std.specs.Prelude.{ℕ, zero, suc, Bool, true, false, not, ◌&&◌, ◌||◌, List, [], ◌∷◌, ◌++◌, map, Option, Some, None, if◌then◌else◌, slice_get}
 use Rattle.std.specs.List.{flat_map}
 use Rattle.model.specs.rules.Program.{Program, arg_types}
 use Rattle.model.specs.rules.Values.{variant_types, struct_types}
@@ -297,10 +297,14 @@ module _ (p : Program) (specs : Specs) (c : Condition) where
   event_sites done (gives_at s) = result_in done s
 
   module _ (done : List SiteTerm) where
-    -- a constructor's answer is what its term provides where its require holds
-    abbrev pub constructed : (Place → Bool) → Bool → ℕ → SiteTerms → SiteTerm → List Step
-    constructed plan true t ss u = split_form plan (form_at done u) ++ map (assumed_under (requires_of specs t (forms_at done ss))) (provides_of specs t (forms_at done ss) (form_at done u))
-    constructed plan false t ss u = []
+    -- a constructor's answer is what its term provides where its require holds; of an impure call that was made it was shown that it does
+    abbrev pub provided_steps : ℕ → List Said → List Said → List Step
+    provided_steps zero under ss = map (assumed_under under) ss
+    provided_steps (suc n) under ss = map assumed ss
+
+    abbrev pub constructed : (Place → Bool) → Bool → ℕ → SiteTerms → ℕ → SiteTerm → List Step
+    constructed plan true t ss n u = split_form plan (form_at done u) ++ provided_steps n (requires_of specs t (forms_at done ss)) (provides_of specs t (forms_at done ss) (form_at done u))
+    constructed plan false t ss n u = []
 
     -- what an extractor looks at is its term's result, its outputs are the arguments
     abbrev pub outputs_at : ℕ → SiteTerm → Forms
@@ -312,12 +316,12 @@ module _ (p : Program) (specs : Specs) (c : Condition) where
     extracted plan false t s u = []
 
     abbrev pub picked : (Place → Bool) → SiteTerm → List Step
-    picked plan (constructor_call t ss n) = constructed plan (is_pure_made (constructor_call t ss n)) t ss (pick_of (constructor_call t ss n))
+    picked plan (constructor_call t ss n) = constructed plan (is_pure_made (constructor_call t ss n)) t ss n (pick_of (constructor_call t ss n))
     picked plan (extractor_call t s) = extracted plan (is_pure_made (extractor_call t s)) t s (pick_of (extractor_call t s))
     picked plan _ = []
 
     abbrev pub answer_steps : (Place → Bool) → SiteTerm → List Step
-    answer_steps plan (constructor_call t ss n) = constructed plan (is_answered done (constructor_call t ss n)) t ss (constructor_call t ss n)
+    answer_steps plan (constructor_call t ss n) = constructed plan (is_answered done (constructor_call t ss n)) t ss n (constructor_call t ss n)
     answer_steps plan (extractor_call t s) = extracted plan (is_answered done (extractor_call t s)) t s (extractor_call t s)
     answer_steps plan (pick_of s) = picked plan s
     answer_steps plan _ = []
