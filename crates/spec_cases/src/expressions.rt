@@ -27,6 +27,10 @@ pub enum Expr {
     Operation(Operator, ExprId),
     /// An unknown function on expressions.
     Unknown(u32, ExprId),
+    /// A variant, made of its fields.
+    VariantSaid(TypeId, VariantId, ExprId),
+    /// A struct, made of its fields.
+    StructSaid(TypeId, ExprId),
     /// The first is bound in the second.
     LetIn(ExprId, ExprId),
     /// The first case of an equal value.
@@ -81,7 +85,10 @@ impl Expr {
             | Expr::NoExpr
             | Expr::NoCase
             | Expr::NoArm => true,
-            Expr::Operation(_, of) | Expr::Unknown(_, of) => of.0 < limit,
+            Expr::Operation(_, of)
+            | Expr::Unknown(_, of)
+            | Expr::VariantSaid(_, _, of)
+            | Expr::StructSaid(_, of) => of.0 < limit,
             Expr::LetIn(first, second)
             | Expr::SwitchOn(first, second)
             | Expr::MatchOn(first, second)
