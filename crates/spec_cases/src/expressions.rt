@@ -1,5 +1,5 @@
 //! Expressions of specs, each made of earlier ones of a list.
-ghost use Rattle.std.specs.Prelude.{◌≡◌, true, IfOk};
+ghost use Rattle.std.specs.Prelude.{◌≡◌, ◌++◌, ◌∷◌, [], true, length, IfOk, OnOk};
 ghost use Rattle.spec_cases.specs.Expressions.{is_below, AreSaid, IsSaid};
 ghost use Rattle.spec_cases.specs.Sayings.{saying_of, AreBelow};
 
@@ -116,6 +116,22 @@ pub(crate) fn expr_at(exprs: &[Expr], expr: ExprId) -> Result<Expr, Fault>
             }
         }
     }
+}
+
+/// Adds an expression at the end of a list: its number.
+///
+/// # Errors
+///
+/// `Full` where no number is left, `Memory` where memory is refused.
+pub fn add_expr(exprs: &mut Vec<Expr>, expr: Expr) -> Result<ExprId, Fault>
+    ensures grown { OnOk result (exprs.new.items ≡ exprs.old.items ++ expr ∷ []) }
+    ensures number { IfOk result (λ n. n.0 ≡ length exprs.old.items) }
+{
+    let Ok(number) = u32::try_from(exprs.len()) else {
+        return Err(Fault::Full);
+    };
+    exprs.push(expr)?;
+    Ok(ExprId(number))
 }
 
 /// The numbers of any expressions stand for something.
