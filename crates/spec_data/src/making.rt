@@ -54,7 +54,7 @@ fn nothing_yet<'c, 's>(
         lowered,
         specs,
         exprs: Vec::new(alloc),
-        widths: all_widths(alloc, specs)?,
+        widths: all_widths(alloc, &lowered.tyenv.types, specs)?,
         above: Vec::new(alloc),
         equalities: Vec::new(alloc),
         converted_any: None,

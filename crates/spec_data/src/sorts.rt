@@ -40,12 +40,18 @@ pub(crate) fn listed_widths(alloc: Global, specs: &Specs<'_>) -> Result<Vec<u32>
     Ok(widths)
 }
 
-/// The widths that words may have: those that are listed, and those of models.
-pub(crate) fn all_widths(alloc: Global, specs: &Specs<'_>) -> Result<Vec<u32>, AllocError> {
+/// The widths that words may have: those that are listed, and those of models that specs say.
+pub(crate) fn all_widths(
+    alloc: Global,
+    types: &[Type],
+    specs: &Specs<'_>,
+) -> Result<Vec<u32>, AllocError> {
     let mut widths = listed_widths(alloc, specs)?;
-    for model in &specs.models {
-        if let ValueModel::Word(width) = *model {
-            add_width(width, &mut widths)?;
+    for (ty, model) in types.iter().zip(&specs.models) {
+        match (ty, *model) {
+            (Type::Builtin(_), _) => {}
+            (_, ValueModel::Word(width)) => add_width(width, &mut widths)?,
+            _ => {}
         }
     }
     Ok(widths)

@@ -47,7 +47,7 @@ pub(crate) struct Translation<'c, 's> {
     pub(crate) specs: &'c Specs<'s>,
     /// The expressions.
     pub(crate) exprs: Vec<Expr>,
-    /// The widths that words may have, each once: the listed ones, and those of models.
+    /// The widths that words may have, each once: the listed ones, and those of models that specs say.
     pub(crate) widths: Vec<u32>,
     /// The functions for the bits above.
     pub(crate) above: Vec<Above>,
