@@ -110,7 +110,7 @@ impl<'c, 's> Translation<'c, 's> {
         };
         let len = scope.len();
         let taken = self.bind_pattern(scope, ty, left)?;
-        let body = self.says(scope, right, fuel)?;
+        let body = self.says_arm_body(scope, right, fuel)?;
         scope.shorten(len);
         if let Taken::Variant(_, variant) = taken {
             if found.has(variant) {

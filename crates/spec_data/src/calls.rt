@@ -78,28 +78,32 @@ impl<'c, 's> Translation<'c, 's> {
         pos: Pos,
         fuel: usize,
     ) -> Result<Typed, Stop> {
+        let len = scope.len();
+        let mut values = Vec::new(self.alloc);
+        let mut types = Vec::new(self.alloc);
+        for arg in args {
+            let value = self.says(scope, arg, fuel)?;
+            scope.bind_unnamed()?;
+            values.push(value.expr)?;
+            types.push(value.ty)?;
+        }
+        scope.shorten(len);
         if fuel == 0 {
             return Err(self.nests_too_deep(pos));
         }
-        if known.params.len() != args.len() {
+        if known.params.len() != values.len() {
             return Err(self.miscounted(
                 &known.name,
                 "parameters",
                 known.params.len(),
-                args.len(),
+                values.len(),
                 pos,
             ));
         }
-        let len = scope.len();
         let mut inner = Scope::new(self.alloc);
-        let mut values = Vec::new(self.alloc);
-        for (param, arg) in known.params.iter().zip(args) {
-            let value = self.says(scope, arg, fuel - 1)?;
-            scope.bind_unnamed()?;
-            inner.bind(param.0.as_str(), value.ty)?;
-            values.push(value.expr)?;
+        for (param, ty) in known.params.iter().zip(&types) {
+            inner.bind(param.0.as_str(), *ty)?;
         }
-        scope.shorten(len);
         let body = self.says(&mut inner, &known.body, fuel - 1)?;
         Ok(self.under(&values, body)?)
     }

@@ -133,9 +133,9 @@ impl<'c, 's> Translation<'c, 's> {
         let key = if is_last {
             self.variable(0)?
         } else {
-            self.says(scope, left, fuel)?.expr
+            self.says_arm_body(scope, left, fuel)?.expr
         };
-        let body = self.says(scope, right, fuel)?;
+        let body = self.says_arm_body(scope, right, fuel)?;
         found.cases.push(Case {
             key,
             body: body.expr,

@@ -207,11 +207,28 @@ impl<'c, 's> Translation<'c, 's> {
         let [condition, first, second] = args else {
             return Err(self.misfit(Operator::If, pos));
         };
-        let condition = self.says(scope, condition, fuel)?;
-        let first = self.says(scope, first, fuel)?;
-        let second = self.says(scope, second, fuel)?;
+        if fuel == 0 {
+            return Err(self.nests_too_deep(pos));
+        }
+        let condition = self.says(scope, condition, fuel - 1)?;
+        let first = self.says_arm_body(scope, first, fuel - 1)?;
+        let second = self.says_arm_body(scope, second, fuel - 1)?;
         let expr = self.choice(condition.expr, first.expr, second.expr)?;
         Ok(of_type(expr, first.ty.or(second.ty)))
+    }
+
+    /// What the key or the body of an arm becomes.
+    #[cycle(says)]
+    pub(crate) fn says_arm_body<'e>(
+        &mut self,
+        scope: &mut Scope<'e>,
+        expr: &'e SpecExpr,
+        fuel: usize,
+    ) -> Result<Typed, Stop> {
+        if fuel == 0 {
+            return Err(self.nests_too_deep(pos_of(expr)));
+        }
+        self.says(scope, expr, fuel - 1)
     }
 
     /// What an expression becomes, however deep it nests.

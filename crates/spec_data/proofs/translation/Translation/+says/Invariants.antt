@@ -29,7 +29,7 @@ abbrev pub decreases-says_called : goal.decreases-says_called
 decreases-says_called l = 8 * l.fuel + 2
 
 abbrev pub decreases-says_macro : goal.decreases-says_macro
-decreases-says_macro l = 8 * l.fuel
+decreases-says_macro l = 8 * l.fuel + 1
 
 abbrev pub decreases-says_let : goal.decreases-says_let
 decreases-says_let l = 8 * l.fuel
@@ -66,3 +66,6 @@ decreases-says_converted l = 8 * l.fuel + 1
 
 abbrev pub decreases-says_equal : goal.decreases-says_equal
 decreases-says_equal l = 8 * l.fuel + 1
+
+abbrev pub decreases-says_arm_body : goal.decreases-says_arm_body
+decreases-says_arm_body l = 8 * l.fuel
