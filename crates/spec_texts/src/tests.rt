@@ -1,0 +1,1 @@
+//! Texts worked out by hand.
