@@ -162,13 +162,7 @@ impl<'a> Writer<'a> {
     }
 
     // To so many bits.
-    fn push_widened(
-        &mut self,
-        word: &str,
-        wider: u32,
-        width: u32,
-        of: Word,
-    ) -> Result<(), Fault> {
+    fn push_widened(&mut self, word: &str, wider: u32, width: u32, of: Word) -> Result<(), Fault> {
         match wider.checked_sub(width) {
             Some(more) => {
                 write!(self.out, "((_ {word} {more}) ")?;
