@@ -305,6 +305,122 @@ fn places(rt: HostRuntime) -> Result<(), Fail> {
     Ok(())
 }
 
+#[test]
+fn operators_of_truths(rt: HostRuntime) -> Result<(), Fail> {
+    let truth = Operand::Fact(Fact::Known(true));
+    let word = Operand::Word(8, Word::Written(5));
+    for (operator, logic, name, operand, operand_text) in [
+        (Operator::Equals, "QF_BV", "=", word, "(_ bv5 8)"),
+        (Operator::WordLess, "QF_BV", "bvult", word, "(_ bv5 8)"),
+        (
+            Operator::WordLessOrEqual,
+            "QF_BV",
+            "bvule",
+            word,
+            "(_ bv5 8)",
+        ),
+        (Operator::SignedLess, "QF_BV", "bvslt", word, "(_ bv5 8)"),
+        (
+            Operator::SignedLessOrEqual,
+            "QF_BV",
+            "bvsle",
+            word,
+            "(_ bv5 8)",
+        ),
+        (Operator::Equals, "QF_BV", "=", truth, "true"),
+        (Operator::Both, "QF_BV", "and", truth, "true"),
+        (Operator::OneOf, "QF_BV", "or", truth, "true"),
+        (Operator::Implied, "QF_BV", "=>", truth, "true"),
+        (Operator::Equals, "ALL", "=", written(3), "3"),
+        (Operator::Less, "ALL", "<", written(3), "3"),
+        (Operator::LessOrEqual, "ALL", "<=", written(3), "3"),
+    ] {
+        let mut formulas = Formulas::new(rt.alloc());
+        let fact = fact_by(&mut formulas, operator, &[operand, operand])?;
+        let text = text_of(&formulas, &[fact])?;
+        let wanted = format!(in rt.alloc();
+            "(set-logic {logic})\n(define-fun n0 () Bool ({name} {operand_text} {operand_text}))\n(assert n0)\n(check-sat)\n"
+        )?;
+        assert_eq!(rt; text.as_str(), wanted.as_str());
+    }
+    Ok(())
+}
+
+#[test]
+fn operators_of_words(rt: HostRuntime) -> Result<(), Fail> {
+    let word = Operand::Word(8, Word::Written(5));
+    for (operator, name) in [
+        (Operator::WordPlus, "bvadd"),
+        (Operator::WordMinus, "bvsub"),
+        (Operator::WordTimes, "bvmul"),
+        (Operator::WordQuotient, "bvudiv"),
+        (Operator::WordRemainder, "bvurem"),
+        (Operator::SignedQuotient, "bvsdiv"),
+        (Operator::SignedRemainder, "bvsrem"),
+        (Operator::WordAnd, "bvand"),
+        (Operator::WordOr, "bvor"),
+        (Operator::WordXor, "bvxor"),
+        (Operator::ShiftedLeft, "bvshl"),
+        (Operator::ShiftedRight, "bvlshr"),
+        (Operator::ShiftedRightSigned, "bvashr"),
+    ] {
+        let mut formulas = Formulas::new(rt.alloc());
+        let answer = Operand::Word(8, word_by(&mut formulas, operator, &[word, word])?);
+        let fact = fact_by(&mut formulas, Operator::Equals, &[answer, word])?;
+        let text = text_of(&formulas, &[fact])?;
+        let wanted = format!(in rt.alloc();
+            "(set-logic QF_BV)\n(define-fun n0 () (_ BitVec 8) ({name} (_ bv5 8) (_ bv5 8)))\n(define-fun n1 () Bool (= n0 (_ bv5 8)))\n(assert n1)\n(check-sat)\n"
+        )?;
+        assert_eq!(rt; text.as_str(), wanted.as_str());
+    }
+    Ok(())
+}
+
+#[test]
+fn operators_of_integers(rt: HostRuntime) -> Result<(), Fail> {
+    for (operator, name) in [
+        (Operator::Plus, "+"),
+        (Operator::Minus, "-"),
+        (Operator::Times, "*"),
+    ] {
+        let mut formulas = Formulas::new(rt.alloc());
+        let answer = integer_by(&mut formulas, operator, &[written(-3), written(4)])?;
+        let of = [Operand::Integer(answer), written(5)];
+        let fact = fact_by(&mut formulas, Operator::Equals, &of)?;
+        let text = text_of(&formulas, &[fact])?;
+        let wanted = format!(in rt.alloc();
+            "(set-logic ALL)\n(define-fun n0 () Int ({name} (- 3) 4))\n(define-fun n1 () Bool (= n0 5))\n(assert n1)\n(check-sat)\n"
+        )?;
+        assert_eq!(rt; text.as_str(), wanted.as_str());
+    }
+    Ok(())
+}
+
+#[test]
+fn operators_of_one(rt: HostRuntime) -> Result<(), Fail> {
+    let mut formulas = Formulas::new(rt.alloc());
+    let word = Operand::Word(8, Word::Written(5));
+    let inverted = Operand::Word(8, word_by(&mut formulas, Operator::WordNot, &[word])?);
+    let negated = Operand::Word(
+        8,
+        word_by(&mut formulas, Operator::WordNegated, &[inverted])?,
+    );
+    let same = fact_by(&mut formulas, Operator::Equals, &[negated, word])?;
+    let other = fact_by(&mut formulas, Operator::Negation, &[Operand::Fact(same)])?;
+    let text = text_of(&formulas, &[other])?;
+    assert_eq!(rt;
+        text.as_str(),
+        "(set-logic QF_BV)\n\
+         (define-fun n0 () (_ BitVec 8) (bvnot (_ bv5 8)))\n\
+         (define-fun n1 () (_ BitVec 8) (bvneg n0))\n\
+         (define-fun n2 () Bool (= n1 (_ bv5 8)))\n\
+         (define-fun n3 () Bool (not n2))\n\
+         (assert n3)\n\
+         (check-sat)\n"
+    );
+    Ok(())
+}
+
 // A word of no bits, one whose number is too great, one that is as wide as two widths, and an operator on what it doesn't take.
 #[test]
 fn faults(rt: HostRuntime) -> Result<(), Fail> {

@@ -28,10 +28,7 @@ pub struct Uses<'a> {
 impl<'a> Uses<'a> {
     // None is used.
     fn new(formulas: &'a Formulas) -> Result<Uses<'a>, Fault> {
-        let mut uses = Vec::new(formulas.alloc());
-        for _ in 0..formulas.count() {
-            uses.push(Use::Nothing)?;
-        }
+        let uses = vec![in formulas.alloc(); Use::Nothing; formulas.count()]?;
         Ok(Uses { formulas, uses })
     }
 
