@@ -265,6 +265,42 @@ fn integers(rt: HostRuntime) -> Result<(), Fail> {
     Ok(())
 }
 
+#[test]
+fn other_kinds(rt: HostRuntime) -> Result<(), Fail> {
+    let mut formulas = Formulas::new(rt.alloc());
+    let p = argument(&mut formulas, 0)?;
+    let of = vec![in rt.alloc(); Operand::Integer(Integer::At(p))]?;
+    let answer = formulas.made_integer(IntegerNode::Answered(2, of))?;
+    let chosen = formulas.made_integer(IntegerNode::Either(
+        Fact::At(p),
+        answer,
+        Integer::Written(0),
+    ))?;
+    let word = Operand::Word(8, Word::At(p, 8));
+    let width = integer_by(&mut formulas, Operator::WidthOf, &[word])?;
+    let of = [Operand::Integer(chosen), Operand::Integer(width)];
+    let less = fact_by(&mut formulas, Operator::Less, &of)?;
+    let not_less = formulas.made_fact(FactNode::No(less))?;
+    let same = formulas.made_fact(FactNode::Same(not_less, Fact::At(p)))?;
+    let text = text_of(&formulas, &[same])?;
+    assert_eq!(rt;
+        text.as_str(),
+        "(set-logic ALL)\n\
+         (declare-fun f2_0 (Int) Int)\n\
+         (declare-const i0 Int)\n\
+         (declare-const b0 Bool)\n\
+         (define-fun n1 () Int (f2_0 i0))\n\
+         (define-fun n2 () Int (ite b0 n1 0))\n\
+         (define-fun n3 () Int 8)\n\
+         (define-fun n4 () Bool (< n2 n3))\n\
+         (define-fun n5 () Bool (not n4))\n\
+         (define-fun n6 () Bool (= n5 b0))\n\
+         (assert n6)\n\
+         (check-sat)\n"
+    );
+    Ok(())
+}
+
 fn field(formulas: &mut Formulas, of: PlaceId) -> Result<PlaceId, Unmade> {
     formulas.made_place(Place::VariantField {
         of,
