@@ -165,6 +165,34 @@ impl Formulas {
         }
     }
 
+    /// What a word is made of.
+    ///
+    /// # Errors
+    ///
+    /// `Foreign` where it isn't there.
+    pub fn word_node(&self, word: NodeId) -> Result<&WordNode, Fault>
+        ensures { IfOk result (λ x. (v : _) → Names v self.now → v.word word.0 ≡ layer_of_word v x.now) }
+    {
+        match self.nodes.get(word.0 as usize) {
+            Some(Node::Word(node)) => Ok(node),
+            _ => Err(Fault::Foreign),
+        }
+    }
+
+    /// What an integer is made of.
+    ///
+    /// # Errors
+    ///
+    /// `Foreign` where it isn't there.
+    pub fn integer_node(&self, integer: NodeId) -> Result<&IntegerNode, Fault>
+        ensures { IfOk result (λ x. (v : _) → Names v self.now → v.integer integer.0 ≡ layer_of_integer v x.now) }
+    {
+        match self.nodes.get(integer.0 as usize) {
+            Some(Node::Integer(node)) => Ok(node),
+            _ => Err(Fault::Foreign),
+        }
+    }
+
     /// One layer of a place.
     ///
     /// # Errors

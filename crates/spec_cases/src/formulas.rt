@@ -199,6 +199,24 @@ impl Drop for Node {
     }
 }
 
+impl PlaceId {
+    /// It as a number.
+    pub fn number(self) -> u32
+        ensures { result ≡ self.0 }
+    {
+        self.0
+    }
+}
+
+impl NodeId {
+    /// It as a number.
+    pub fn number(self) -> u32
+        ensures { result ≡ self.0 }
+    {
+        self.0
+    }
+}
+
 impl Fact {
     /// The truth that is known, if one is.
     pub fn known(self) -> Option<bool>
