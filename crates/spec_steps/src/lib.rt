@@ -1,0 +1,6 @@
+//! The steps in which the condition of a rule of a set is asked.
+#![tactic(auto)]
+
+pub mod demands;
+mod sites;
+mod telling;
