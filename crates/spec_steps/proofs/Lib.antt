@@ -1,1 +1,3 @@
+mod ListingSteps
+mod MadeSteps
 mod TellingSteps

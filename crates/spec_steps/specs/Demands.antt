@@ -58,7 +58,7 @@ module _ (v : Naming) where
   abbrev pub same_views : List Same → List (Sites.SiteTerm × Sites.SiteTerm)
   same_views ss = map same_view ss
 
--- tables and numbers are of a program, of specs and of a condition; no two numbers stand for one site
+-- tables and numbers are of a program, of specs and of a condition
 pub record Demand (v : Naming) (w : Saying) (d : Demands) (p : Program) (specs : L.Specs) (c : Condition) : Type 0 where
   pub types : type_views d.types.now ≡ p.types
   pub args : (t : ℕ) → term_args (slice_get p.terms t) ≡ args_of (slice_get d.signatures.now t)
@@ -75,10 +75,16 @@ pub record Demand (v : Naming) (w : Saying) (d : Demands) (p : Program) (specs :
   pub impure : c.impure ≡ sites v d.impure.now
   pub result : c.result ≡ v.site d.result
 
--- whatever they are of, P is so
-abbrev pub Told : Naming → Demands → (Saying → Program → L.Specs → Condition → Type 0) → Type 0
-Told v d P = (w : Saying) (p : Program) (specs : L.Specs) (c : Condition) → AreApart v → Demand v w d p specs c → P w p specs c
+-- what they are of
+pub record Meant (v : Naming) (d : Demands) : Type 0 where
+  pub w : Saying
+  pub p : Program
+  pub specs : L.Specs
+  pub c : Condition
+  pub apart : AreApart v
+  pub demand : Demand v w d p specs c
 
--- formulas are added, and what was there stands for what it stood for; whatever numbers stand for now, of sites that are told apart, P is so
-abbrev pub MakesFor : List Node → List Node → Demands → (Naming → Saying → Program → L.Specs → Condition → Type 0) → Type 0
-MakesFor old new d P = Makes old new (λ v. Told v d (P v))
+-- formulas are added, and what was there stands for what it stood for; whatever numbers stand for now, of sites that are told apart, and
+-- whatever tables are of, P is so
+abbrev pub MakesFor : List Node → List Node → (d : Demands) → ((v : Naming) → Meant v d → Type 0) → Type 0
+MakesFor old new d P = Makes old new (λ v. (m : Meant v d) → P v m)

@@ -2,5 +2,7 @@
 #![tactic(auto)]
 
 pub mod demands;
+mod listing;
+mod made;
 mod sites;
 mod telling;

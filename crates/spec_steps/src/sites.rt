@@ -1,5 +1,5 @@
 //! Sites by their numbers.
-ghost use Rattle.std.specs.Prelude.{◌≡◌, ◌<◌, IfOk};
+ghost use Rattle.std.specs.Prelude.{◌≡◌, ◌<◌, slice_get, IfOk};
 ghost use Rattle.spec_steps.specs.Sites.{AreSites, IsBound};
 
 use core_rule_sets::trie_again::{Binding, BindingId};
@@ -11,7 +11,8 @@ use spec_cases::faults::Fault;
 ///
 /// `Foreign` where nothing is.
 pub(crate) fn binding_at<'d>(bindings: &'d [Binding], site: u32) -> Result<&'d Binding, Fault>
-    ensures { IfOk result (λ b. (v : _) → AreSites v bindings.now → IsBound v site b.now) }
+    ensures bound { IfOk result (λ b. (v : _) → AreSites v bindings.now → IsBound v site b.now) }
+    ensures found { IfOk result (λ b. slice_get bindings.now site ≡ Some b.now) }
 {
     match bindings.get(site as usize) {
         None => Err(Fault::Foreign),

@@ -3,6 +3,7 @@ ghost use Rattle.std.specs.Prelude.{◌≡◌, OnOk};
 ghost use Rattle.model.specs.sites.Sites.{each_term, layer, pick_of};
 ghost use Rattle.core_rule_sets.specs.SiteViews.{site_view};
 ghost use Rattle.model_questions.specs.Steps as S;
+ghost use Rattle.spec_cases.specs.Namings.{Naming};
 ghost use Rattle.spec_steps.specs.Listing.{Lists};
 ghost use Rattle.spec_steps.specs.Sites.{AreSites, IsBound};
 
@@ -14,7 +15,7 @@ use spec_cases::faults::Fault;
 #[cycle(telling)]
 #[tactic(auto, using(crate::proofs::TellingSteps::told_steps))]
 pub(crate) fn told_in(bindings: &[Binding], site: u32, out: &mut Vec<u32>) -> Result<(), Fault>
-    ensures { OnOk result ((v : _) → AreSites v bindings.now → Lists v out.old.items out.new.items (S.told_in (v.site site))) }
+    ensures { OnOk result ((v : Naming) → AreSites v bindings.now → Lists v out.old.items out.new.items (S.told_in (v.site site))) }
 {
     let binding = binding_at(bindings, site)?;
     Ok(told_by(bindings, site, binding, out)?)
@@ -28,7 +29,7 @@ fn told_by(
     binding: &Binding,
     out: &mut Vec<u32>,
 ) -> Result<(), Fault>
-    ensures { OnOk result ((v : _) → AreSites v bindings.now → IsBound v site binding.now → Lists v out.old.items out.new.items (S.told_in (layer v.site (site_view binding.now)))) }
+    ensures { OnOk result ((v : Naming) → AreSites v bindings.now → IsBound v site binding.now → Lists v out.old.items out.new.items (S.told_in (layer v.site (site_view binding.now)))) }
 {
     match binding {
         Binding::Extractor { parameter, .. } => {
@@ -73,13 +74,13 @@ fn told_by(
 
 #[cycle(telling)]
 #[tactic(auto, using(crate::proofs::TellingSteps::told_steps))]
-fn told_in_each(
+pub(crate) fn told_in_each(
     bindings: &[Binding],
     site: u32,
     sources: &[BindingId],
     out: &mut Vec<u32>,
 ) -> Result<(), Fault>
-    ensures { OnOk result ((v : _) → AreSites v bindings.now → Lists v out.old.items out.new.items (S.told_in_each (each_term v.site sources.now))) }
+    ensures { OnOk result ((v : Naming) → AreSites v bindings.now → Lists v out.old.items out.new.items (S.told_in_each (each_term v.site sources.now))) }
 {
     match sources {
         [] => Ok(()),
@@ -95,7 +96,7 @@ fn told_in_each(
 #[cycle(telling)]
 #[tactic(auto, using(crate::proofs::TellingSteps::told_steps))]
 pub(crate) fn sources_in(bindings: &[Binding], site: u32, out: &mut Vec<u32>) -> Result<(), Fault>
-    ensures { OnOk result ((v : _) → AreSites v bindings.now → Lists v out.old.items out.new.items (S.sources_in (v.site site))) }
+    ensures { OnOk result ((v : Naming) → AreSites v bindings.now → Lists v out.old.items out.new.items (S.sources_in (v.site site))) }
 {
     let binding = binding_at(bindings, site)?;
     Ok(sources_by(bindings, site, binding, out)?)
@@ -109,7 +110,7 @@ fn sources_by(
     binding: &Binding,
     out: &mut Vec<u32>,
 ) -> Result<(), Fault>
-    ensures { OnOk result ((v : _) → AreSites v bindings.now → Lists v out.old.items out.new.items (S.sources_in (layer v.site (site_view binding.now)))) }
+    ensures { OnOk result ((v : Naming) → AreSites v bindings.now → Lists v out.old.items out.new.items (S.sources_in (layer v.site (site_view binding.now)))) }
 {
     match binding {
         Binding::Extractor { parameter, .. } => {
@@ -138,7 +139,7 @@ fn sources_by(
 #[cycle(telling)]
 #[tactic(auto, using(crate::proofs::TellingSteps::told_steps))]
 fn part_in(bindings: &[Binding], site: u32, out: &mut Vec<u32>) -> Result<(), Fault>
-    ensures { OnOk result ((v : _) → AreSites v bindings.now → Lists v out.old.items out.new.items (S.part_in (v.site site))) }
+    ensures { OnOk result ((v : Naming) → AreSites v bindings.now → Lists v out.old.items out.new.items (S.part_in (v.site site))) }
 {
     let binding = binding_at(bindings, site)?;
     Ok(part_by(bindings, site, binding, out)?)
@@ -152,7 +153,7 @@ fn part_by(
     binding: &Binding,
     out: &mut Vec<u32>,
 ) -> Result<(), Fault>
-    ensures { OnOk result ((v : _) → AreSites v bindings.now → IsBound v site binding.now → Lists v out.old.items out.new.items (S.part_in (layer v.site (site_view binding.now)))) }
+    ensures { OnOk result ((v : Naming) → AreSites v bindings.now → IsBound v site binding.now → Lists v out.old.items out.new.items (S.part_in (layer v.site (site_view binding.now)))) }
 {
     match binding {
         Binding::Extractor { parameter, .. } => {
@@ -193,7 +194,7 @@ fn part_by(
 #[cycle(telling)]
 #[tactic(auto, using(crate::proofs::TellingSteps::told_steps))]
 fn outputs_in(bindings: &[Binding], site: u32, out: &mut Vec<u32>) -> Result<(), Fault>
-    ensures { OnOk result ((v : _) → AreSites v bindings.now → Lists v out.old.items out.new.items (S.outputs_in (v.site site))) }
+    ensures { OnOk result ((v : Naming) → AreSites v bindings.now → Lists v out.old.items out.new.items (S.outputs_in (v.site site))) }
 {
     let binding = binding_at(bindings, site)?;
     Ok(outputs_by(bindings, site, binding, out)?)
@@ -207,7 +208,7 @@ fn outputs_by(
     binding: &Binding,
     out: &mut Vec<u32>,
 ) -> Result<(), Fault>
-    ensures { OnOk result ((v : _) → AreSites v bindings.now → IsBound v site binding.now → Lists v out.old.items out.new.items (S.outputs_in (layer v.site (site_view binding.now)))) }
+    ensures { OnOk result ((v : Naming) → AreSites v bindings.now → IsBound v site binding.now → Lists v out.old.items out.new.items (S.outputs_in (layer v.site (site_view binding.now)))) }
 {
     match binding {
         Binding::Extractor { parameter, .. } => {
@@ -247,7 +248,7 @@ fn picked_in(
     pick: u32,
     out: &mut Vec<u32>,
 ) -> Result<(), Fault>
-    ensures { OnOk result ((v : _) → AreSites v bindings.now → v.site pick ≡ pick_of (v.site site) → Lists v out.old.items out.new.items (S.picked_in (v.site site))) }
+    ensures { OnOk result ((v : Naming) → AreSites v bindings.now → v.site pick ≡ pick_of (v.site site) → Lists v out.old.items out.new.items (S.picked_in (v.site site))) }
 {
     let binding = binding_at(bindings, site)?;
     Ok(picked_by(bindings, site, pick, binding, out)?)
@@ -262,7 +263,7 @@ fn picked_by(
     binding: &Binding,
     out: &mut Vec<u32>,
 ) -> Result<(), Fault>
-    ensures { OnOk result ((v : _) → AreSites v bindings.now → v.site pick ≡ pick_of (layer v.site (site_view binding.now)) → Lists v out.old.items out.new.items (S.picked_in (layer v.site (site_view binding.now)))) }
+    ensures { OnOk result ((v : Naming) → AreSites v bindings.now → v.site pick ≡ pick_of (layer v.site (site_view binding.now)) → Lists v out.old.items out.new.items (S.picked_in (layer v.site (site_view binding.now)))) }
 {
     match binding {
         Binding::Extractor { parameter, .. } => {
@@ -291,7 +292,7 @@ fn picked_by(
 #[cycle(telling)]
 #[tactic(auto, using(crate::proofs::TellingSteps::told_steps))]
 fn part_outputs_in(bindings: &[Binding], site: u32, out: &mut Vec<u32>) -> Result<(), Fault>
-    ensures { OnOk result ((v : _) → AreSites v bindings.now → Lists v out.old.items out.new.items (S.part_outputs_in (v.site site))) }
+    ensures { OnOk result ((v : Naming) → AreSites v bindings.now → Lists v out.old.items out.new.items (S.part_outputs_in (v.site site))) }
 {
     let binding = binding_at(bindings, site)?;
     Ok(part_outputs_by(bindings, site, binding, out)?)
@@ -305,7 +306,7 @@ fn part_outputs_by(
     binding: &Binding,
     out: &mut Vec<u32>,
 ) -> Result<(), Fault>
-    ensures { OnOk result ((v : _) → AreSites v bindings.now → IsBound v site binding.now → Lists v out.old.items out.new.items (S.part_outputs_in (layer v.site (site_view binding.now)))) }
+    ensures { OnOk result ((v : Naming) → AreSites v bindings.now → IsBound v site binding.now → Lists v out.old.items out.new.items (S.part_outputs_in (layer v.site (site_view binding.now)))) }
 {
     match binding {
         Binding::Extractor { parameter, .. } => {
