@@ -1,3 +1,6 @@
+mod GivingSteps
 mod ListingSteps
 mod MadeSteps
+mod PlacingSteps
 mod TellingSteps
+mod TypingSteps

@@ -2,7 +2,10 @@
 #![tactic(auto)]
 
 pub mod demands;
+mod giving;
 mod listing;
 mod made;
+pub mod placing;
 mod sites;
 mod telling;
+mod typing;

@@ -1,7 +1,7 @@
 //! The sites that are told of in what happens.
 ghost use Rattle.std.specs.Prelude.{◌≡◌, ◌∷◌, ◌++◌, if◌then◌else◌, OnOk, IfOk};
 ghost use Rattle.laws_specs.specs.Conditions.{call_of};
-ghost use Rattle.laws_specs.specs.Specs as L;
+ghost use Rattle.model.specs.sites.Sites as Sites;
 ghost use Rattle.model.specs.sites.Sites.{layer};
 ghost use Rattle.core_rule_sets.specs.SiteViews.{site_view};
 ghost use Rattle.model_questions.specs.Steps as S;
@@ -16,9 +16,9 @@ use crate::demands::Demands;
 use crate::made::{is_one_of, is_pure_made, is_unwrapped};
 use crate::sites::{binding_at, source_of};
 use crate::telling::{sources_in, told_in, told_in_each};
+use crate::typing::{constant, literal};
 use core_rule_sets::trie_again::Binding;
 use core_types::{Sym, TypeId};
-use spec_cases::asking::{constant_of, literal_of};
 use spec_cases::faults::Fault;
 use spec_cases::steps::Constraint;
 use std::alloc::Global;
@@ -66,9 +66,9 @@ fn tested_integer(
     ty: TypeId,
     out: &mut Vec<u32>,
 ) -> Result<(), Fault>
-    ensures { OnOk result ((v : Naming) (m : Meant v demands.now) → Lists v out.old.items out.new.items (S.where_known (L.literal_of m.specs number ty.0) (S.told_in (v.site site)))) }
+    ensures { OnOk result ((v : Naming) (m : Meant v demands.now) → Lists v out.old.items out.new.items (S.tested_in m.p m.specs m.c (v.site site) (Sites.is_int number ty.0))) }
 {
-    match literal_of(demands.sorts, number, ty)? {
+    match literal(demands, number, ty)? {
         None => Ok(()),
         Some(_) => Ok(told_in(demands.bindings, site, out)?),
     }
@@ -81,9 +81,9 @@ fn tested_constant(
     name: Sym,
     out: &mut Vec<u32>,
 ) -> Result<(), Fault>
-    ensures { OnOk result ((v : Naming) (m : Meant v demands.now) → Lists v out.old.items out.new.items (S.where_known (L.constant_of m.specs name.0) (S.told_in (v.site site)))) }
+    ensures { OnOk result ((v : Naming) (m : Meant v demands.now) → Lists v out.old.items out.new.items (S.tested_in m.p m.specs m.c (v.site site) (Sites.is_prim name.0))) }
 {
-    match constant_of(demands.constants, name) {
+    match constant(demands, name) {
         None => Ok(()),
         Some(_) => Ok(told_in(demands.bindings, site, out)?),
     }
