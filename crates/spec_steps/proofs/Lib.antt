@@ -2,5 +2,7 @@ mod GivingSteps
 mod ListingSteps
 mod MadeSteps
 mod PlacingSteps
+mod SayingSteps
+mod SplittingSteps
 mod TellingSteps
 mod TypingSteps

@@ -6,6 +6,8 @@ mod giving;
 mod listing;
 mod made;
 pub mod placing;
+mod saying;
 mod sites;
+pub mod splitting;
 mod telling;
 mod typing;

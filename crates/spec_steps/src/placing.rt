@@ -1,5 +1,5 @@
 //! What sites stand for, where they hold a value.
-ghost use Rattle.std.specs.Prelude.{◌≡◌, ◌++◌, if◌then◌else◌, slice_get, IfOk, OnOk};
+ghost use Rattle.std.specs.Prelude.{◌≡◌, ◌∷◌, ◌++◌, [], if◌then◌else◌, slice_get, IfOk, OnOk};
 ghost use Rattle.laws_specs.specs.Specs as L;
 ghost use Rattle.model.specs.rules.Program.{arg_types};
 ghost use Rattle.model.specs.sites.Sites.{each_term, layer};
@@ -197,9 +197,8 @@ fn form_by(
             Ok(constant_form(formulas, demands, *val, Place::Site { site })?)
         }
         Binding::Argument { index } => Ok(argument_form(formulas, demands, index.index())?),
-        Binding::Extractor { .. } | Binding::Constructor { .. } => {
-            Ok(called_form(formulas, demands, done, site)?)
-        }
+        Binding::Extractor { .. } => Ok(called_form(formulas, demands, done, site)?),
+        Binding::Constructor { .. } => Ok(called_form(formulas, demands, done, site)?),
         Binding::Iterator { source } => {
             let call = source_of(site, *source)?;
             Ok(picked_form(formulas, demands, call, site)?)
@@ -249,9 +248,15 @@ fn form_by(
     }
 }
 
+fn push_form(form: Form, out: &mut Vec<Form>) -> Result<(), Fault>
+    ensures { OnOk result (out.new.items ≡ out.old.items ++ form ∷ []) }
+{
+    out.push(form)?;
+    Ok(())
+}
+
 // Adds what sites stand for.
 #[cycle(placing)]
-#[tactic(auto, using(crate::proofs::PlacingSteps::added_steps))]
 fn add_forms(
     formulas: &mut Formulas,
     demands: &Demands<'_>,
@@ -268,7 +273,7 @@ fn add_forms(
         [first, rest @ ..] => {
             let source = source_of(site, *first)?;
             let form = form_at(formulas, demands, done, source)?;
-            out.push(form)?;
+            push_form(form, out)?;
             Ok(add_forms(formulas, demands, done, site, rest, out)?)
         }
     }
@@ -280,7 +285,6 @@ fn add_forms(
 ///
 /// As `form_at`.
 #[cycle(placing)]
-#[tactic(auto, using(crate::proofs::PlacingSteps::same_forms))]
 pub(crate) fn fields_at(
     formulas: &mut Formulas,
     demands: &Demands<'_>,
@@ -325,9 +329,8 @@ fn part_by(
         ≡ S.part_form m.p m.specs m.c (sites v done.now) (layer v.site (site_view binding.now)) (layer_of_place v place))) }
 {
     match binding {
-        Binding::Extractor { .. } | Binding::Constructor { .. } => {
-            Ok(called_form(formulas, demands, done, site)?)
-        }
+        Binding::Extractor { .. } => Ok(called_form(formulas, demands, done, site)?),
+        Binding::Constructor { .. } => Ok(called_form(formulas, demands, done, site)?),
         Binding::Iterator { source } => {
             let call = source_of(site, *source)?;
             Ok(picked_form(formulas, demands, call, site)?)
