@@ -1,3 +1,5 @@
+mod AddingSteps
+mod AnsweringSteps
 mod GivingSteps
 mod ListingSteps
 mod MadeSteps

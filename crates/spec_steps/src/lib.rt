@@ -1,6 +1,7 @@
 //! The steps in which the condition of a rule of a set is asked.
 #![tactic(auto)]
 
+mod answering;
 pub mod demands;
 mod giving;
 mod listing;

@@ -522,6 +522,6 @@ fn result_by(
         | Binding::ConstBool { .. }
         | Binding::ConstInt { .. }
         | Binding::ConstPrim { .. }
-        | Binding::Argument { .. } => Ok(form_at(formulas, demands, done, site)?),
+        | Binding::Argument { .. } => Ok(form_by(formulas, demands, done, site, binding)?),
     }
 }
