@@ -1,5 +1,6 @@
 mod AddingSteps
 mod AnsweringSteps
+mod EventSteps
 mod GivingSteps
 mod ListingSteps
 mod MadeSteps

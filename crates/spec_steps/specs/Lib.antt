@@ -1,4 +1,5 @@
 pub mod Demands
+pub mod Events
 pub mod Forming
 pub mod Listing
 pub mod Roots

@@ -3,6 +3,7 @@
 
 mod answering;
 pub mod demands;
+pub mod events;
 mod giving;
 mod listing;
 mod made;
