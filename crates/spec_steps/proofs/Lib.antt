@@ -7,5 +7,6 @@ mod MadeSteps
 mod PlacingSteps
 mod SayingSteps
 mod SplittingSteps
+mod StepsInOrder
 mod TellingSteps
 mod TypingSteps

@@ -11,5 +11,6 @@ pub mod placing;
 mod saying;
 mod sites;
 pub mod splitting;
+pub mod steps;
 mod telling;
 mod typing;
