@@ -1,5 +1,5 @@
 -- What expressions come to asks no more of specs than the sorts of types and of unknown functions.
-use Rattle.std.proofs.Common.{◌≡◌, ℕ, zero, suc, Bool, List, [], ◌∷◌, ◌++◌, Option, Some, None, if◌then◌else◌, slice_get, refl, ap, ◌∙◌}
+use Rattle.std.proofs.Common.{◌≡◌, ℕ, zero, suc, Bool, not, ◌&&◌, List, [], ◌∷◌, ◌++◌, Option, Some, None, if◌then◌else◌, slice_get, refl, ap, ◌∙◌}
 use Rattle.std.specs.Bool.{◌==◌}
 use Rattle.std.specs.List.{flat_map}
 use Rattle.model.specs.lists.Tables.{VariantEntry, TypeEntry, builtin_type, primitive_type, enum_type, struct_type}
@@ -30,7 +30,7 @@ module _ (types : List TypeEntry) (a b : L.Specs) (models : a.models ≡ b.model
 
   enum_alike : (x : Bool) (ty : ℕ) (at : M.Place) (vs : List VariantEntry) → E.at_enum a k x ty at vs ≡ E.at_enum b k x ty at vs
   enum_alike x ty at [] = ap (E.at_sort k at) (sort_alike ty)
-  enum_alike x ty at (v ∷ vs) = refl
+  enum_alike x ty at (v ∷ vs) = ap (λ s. E.at_variants (x && not (E.is_closed s)) ty at (v ∷ vs) (E.found k.kinds at)) (sort_alike ty)
 
   type_alike : (ty : ℕ) (at : M.Place) (o : Option TypeEntry) → E.at_type a k ty at o ≡ E.at_type b k ty at o
   type_alike ty at None = refl
@@ -48,6 +48,9 @@ module _ (types : List TypeEntry) (a b : L.Specs) (models : a.models ≡ b.model
   opened_alike (MF.a_word_by w t) = refl
   opened_alike (MF.variant_by ty i fs) = refl
   opened_alike (MF.struct_by ty fs) = refl
+
+  matched_alike : (arms : L.SpecArms) (f : MF.Form) → E.matched types a k arms f ≡ E.matched types b k arms f
+  matched_alike arms f = ap (λ cs. if E.has_variants types f && not (E.takes_others arms) then MF.without_rest cs else cs) (opened_alike f)
 
   pub opened_each_alike : (fs : MF.Forms) → E.opened_each types a k fs ≡ E.opened_each types b k fs
   opened_each_alike MF.no_form = refl
@@ -86,6 +89,8 @@ module _ (types : List TypeEntry) (a b : L.Specs) (models : a.models ≡ b.model
           (λ fs. MF.then_cases (E.opened_each types a k fs) (λ gs. E.answered_of f (look (λ n. n == f) a.unknown_sorts) (E.operands gs)))
           (λ fs. MF.then_cases (E.opened_each types b k fs) (λ gs. E.answered_of f (look (λ n. n == f) b.unknown_sorts) (E.operands gs)))
           (evaluated_each_alike of bound) (asked_alike f)
+      evaluated_alike (L.variant_said ty variant of) bound = ap (λ l. MF.then_cases l (λ fs. MF.one_case (MF.variant_by ty variant fs))) (evaluated_each_alike of bound)
+      evaluated_alike (L.struct_said ty of) bound = ap (λ l. MF.then_cases l (λ fs. MF.one_case (MF.struct_by ty fs))) (evaluated_each_alike of bound)
       evaluated_alike (L.let_in e body) bound =
           then_alike (E.evaluated types a k args result e bound) (E.evaluated types b k args result e bound)
           (λ x. E.evaluated types a k args result body (x ∷ bound)) (λ x. E.evaluated types b k args result body (x ∷ bound))
@@ -96,12 +101,12 @@ module _ (types : List TypeEntry) (a b : L.Specs) (models : a.models ≡ b.model
           (evaluated_alike e bound) (λ x. case_alike cases x bound)
       evaluated_alike (L.match_on e arms) bound =
           then_alike (E.evaluated types a k args result e bound) (E.evaluated types b k args result e bound)
-          (λ x. MF.then_cases (E.opened types a k x) (λ y. E.evaluated_arm types a k args result arms y bound))
-          (λ x. MF.then_cases (E.opened types b k x) (λ y. E.evaluated_arm types b k args result arms y bound))
+          (λ x. MF.then_cases (E.matched types a k arms x) (λ y. E.evaluated_arm types a k args result arms y bound))
+          (λ x. MF.then_cases (E.matched types b k arms x) (λ y. E.evaluated_arm types b k args result arms y bound))
           (evaluated_alike e bound)
           (λ x.
-          then_alike (E.opened types a k x) (E.opened types b k x) (λ y. E.evaluated_arm types a k args result arms y bound) (λ y. E.evaluated_arm types b k args result arms y bound)
-          (opened_alike x) (λ y. arm_alike arms y bound))
+          then_alike (E.matched types a k arms x) (E.matched types b k arms x) (λ y. E.evaluated_arm types a k args result arms y bound)
+          (λ y. E.evaluated_arm types b k args result arms y bound) (matched_alike arms x) (λ y. arm_alike arms y bound))
 
       evaluated_each_alike : (es : L.SpecExprs) (bound : List MF.Form) → E.evaluated_each types a k args result es bound ≡ E.evaluated_each types b k args result es bound
       evaluated_each_alike L.no_spec_expr bound = refl

@@ -13,6 +13,7 @@ use Rattle.spec_cases.specs.declared.forms.Form.{Form}
 use Rattle.spec_cases.specs.Namings.{Naming, fact_of, form_of, forms_of}
 use Rattle.spec_cases.specs.CaseViews.{form_cases, guarded, guarded_case, guarded_each, list_cases_of, with_value, with_values}
 use Rattle.spec_cases.specs.Combining.{forms_cases, rest_with}
+use Rattle.spec_cases.proofs.PairSteps.{cases_pushed}
 
 -- 1. lists
 module _ (v : Naming) where
@@ -78,6 +79,14 @@ pub prefixed_seen : (v : Naming) (f : MF.Form) (r : M.Fact) (later out : List (C
     → forms_cases v out ≡ map (with_value (MF.form_and f)) (forms_cases v later)
     → record { cases = forms_cases v out; rest = r } ≡ MF.then_cases (record { cases = forms_cases v later; rest = r }) (λ gs. MF.one_case (MF.form_and f gs))
 prefixed_seen v f r later out e = ap (λ l. record { cases = l; rest = r }) e ∙ sym (then_one (MF.form_and f) (record { cases = forms_cases v later; rest = r }))
+
+-- what is made of each list of fields
+pub wholes_seen : (v : Naming) (f : MF.Forms → MF.Form) (r : M.Fact) (lists : List (Case FieldsId)) (out : List (Case Form))
+    → form_cases v out ≡ map (with_value f) (forms_cases v lists)
+    → record { cases = form_cases v out; rest = r } ≡ MF.then_cases (record { cases = forms_cases v lists; rest = r }) (λ fs. MF.one_case (f fs))
+wholes_seen v f r lists out e = ap (λ l. record { cases = l; rest = r }) e ∙ sym (then_one f (record { cases = forms_cases v lists; rest = r }))
+
+pub ruleset whole_steps = (cases_pushed, append_assoc)
 
 -- 3. values, one before others
 pub opened_more : (types : List TypeEntry) (specs : Specs) (k : E.Known) (f : MF.Form) (rest : MF.Forms) (first : MF.Cases MF.Form) (later cs : MF.Cases MF.Forms)

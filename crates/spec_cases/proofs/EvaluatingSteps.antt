@@ -1,5 +1,5 @@
 -- What is bound, arms, and what numbers of expressions come to by what they stand for.
-use Rattle.std.proofs.Common.{◌≡◌, ◌≢◌, ℕ, List, ◌++◌, map, if◌then◌else◌, sym, ap, ◌∙◌}
+use Rattle.std.proofs.Common.{◌≡◌, ◌≢◌, ℕ, Bool, true, false, List, ◌++◌, map, if◌then◌else◌, sym, ap, ◌∙◌}
 use Rattle.std.specs.Bool.{◌==◌}
 use Rattle.std.proofs.lemmas.Bool.{eq-eqb, ne_eqb}
 use Rattle.std.proofs.lemmas.List.{map-append}
@@ -26,6 +26,22 @@ pub ruleset bound_steps = (bound_added)
 pub ruleset said_steps = (fields_listed, one_seen)
 
 pub ruleset arm_steps = (nothing_seen, anything_seen)
+
+-- whether an arm takes what no arm before it took
+module _ (w : Saying) (n : ℕ) where
+  pub others_none : w.arms n ≡ L.no_spec_arm → false ≡ E.takes_others (w.arms n)
+  others_none is = ap E.takes_others (sym is)
+
+  pub others_struct : (ty : ℕ) (body : L.SpecExpr) → w.arms n ≡ L.struct_arm ty body → false ≡ E.takes_others (w.arms n)
+  others_struct ty body is = ap E.takes_others (sym is)
+
+  pub others_else : (body : L.SpecExpr) → w.arms n ≡ L.arm_else body → true ≡ E.takes_others (w.arms n)
+  others_else body is = ap E.takes_others (sym is)
+
+  pub others_later : (ty variant : ℕ) (body : L.SpecExpr) (rest : L.SpecArms) (t : Bool) → w.arms n ≡ L.spec_arm_and ty variant body rest → t ≡ E.takes_others rest → t ≡ E.takes_others (w.arms n)
+  others_later ty variant body rest t is e = e ∙ ap E.takes_others (sym is)
+
+pub ruleset others_steps = (others_none, others_struct, others_else, others_later)
 
 -- what a number comes to, by what it stands for
 module _ (v : Naming) (s : Said) (w : Saying) (n : ℕ) (b : List MF.Form) where

@@ -42,6 +42,8 @@ module _ (count : ℕ) (v w : Saying) (a : Agree count v w) where
   expr_same (Some (X.Written x)) h = refl
   expr_same (Some (X.Operation o of)) h = ap (λ y. L.operation (operator_view o) y) (at_exprs of.0 h)
   expr_same (Some (X.Unknown f of)) h = ap (λ y. L.unknown f y) (at_exprs of.0 h)
+  expr_same (Some (X.VariantSaid ty variant of)) h = ap (λ y. L.variant_said ty.0 variant.0 y) (at_exprs of.0 h)
+  expr_same (Some (X.StructSaid ty of)) h = ap (λ y. L.struct_said ty.0 y) (at_exprs of.0 h)
   expr_same (Some (X.LetIn e body)) h = ap (λ y. L.let_in y (v.expr body.0)) (at_expr e.0 (and_parts _ _ h).0) ∙ ap (λ y. L.let_in (w.expr e.0) y) (at_expr body.0 (and_parts _ _ h).1)
   expr_same (Some (X.SwitchOn e cases)) h = ap (λ y. L.switch_on y (v.cases cases.0)) (at_expr e.0 (and_parts _ _ h).0) ∙ ap (λ y. L.switch_on (w.expr e.0) y) (at_cases cases.0 (and_parts _ _ h).1)
   expr_same (Some (X.MatchOn e arms)) h = ap (λ y. L.match_on y (v.arms arms.0)) (at_expr e.0 (and_parts _ _ h).0) ∙ ap (λ y. L.match_on (w.expr e.0) y) (at_arms arms.0 (and_parts _ _ h).1)
@@ -62,6 +64,8 @@ module _ (count : ℕ) (v w : Saying) (a : Agree count v w) where
   exprs_same (Some (X.Written x)) h = refl
   exprs_same (Some (X.Operation o of)) h = refl
   exprs_same (Some (X.Unknown f of)) h = refl
+  exprs_same (Some (X.VariantSaid ty variant of)) h = refl
+  exprs_same (Some (X.StructSaid ty of)) h = refl
   exprs_same (Some (X.LetIn e body)) h = refl
   exprs_same (Some (X.SwitchOn e cases)) h = refl
   exprs_same (Some (X.MatchOn e arms)) h = refl
@@ -82,6 +86,8 @@ module _ (count : ℕ) (v w : Saying) (a : Agree count v w) where
   cases_same (Some (X.Written x)) h = refl
   cases_same (Some (X.Operation o of)) h = refl
   cases_same (Some (X.Unknown f of)) h = refl
+  cases_same (Some (X.VariantSaid ty variant of)) h = refl
+  cases_same (Some (X.StructSaid ty of)) h = refl
   cases_same (Some (X.LetIn e body)) h = refl
   cases_same (Some (X.SwitchOn e cases)) h = refl
   cases_same (Some (X.MatchOn e arms)) h = refl
@@ -102,6 +108,8 @@ module _ (count : ℕ) (v w : Saying) (a : Agree count v w) where
   arms_same (Some (X.Written x)) h = refl
   arms_same (Some (X.Operation o of)) h = refl
   arms_same (Some (X.Unknown f of)) h = refl
+  arms_same (Some (X.VariantSaid ty variant of)) h = refl
+  arms_same (Some (X.StructSaid ty of)) h = refl
   arms_same (Some (X.LetIn e body)) h = refl
   arms_same (Some (X.SwitchOn e cases)) h = refl
   arms_same (Some (X.MatchOn e arms)) h = refl
@@ -153,6 +161,8 @@ module _ (exprs : List Expr) (below : AreBelow exprs) where
   said n (X.Written x) is a = ap (expr_by (saying_at exprs (length exprs))) is ∙ expr_same n _ _ a (Some (X.Written x)) (below n (X.Written x) is)
   said n (X.Operation o of) is a = ap (expr_by (saying_at exprs (length exprs))) is ∙ expr_same n _ _ a (Some (X.Operation o of)) (below n (X.Operation o of) is)
   said n (X.Unknown f of) is a = ap (expr_by (saying_at exprs (length exprs))) is ∙ expr_same n _ _ a (Some (X.Unknown f of)) (below n (X.Unknown f of) is)
+  said n (X.VariantSaid ty variant of) is a = ap (expr_by (saying_at exprs (length exprs))) is ∙ expr_same n _ _ a (Some (X.VariantSaid ty variant of)) (below n (X.VariantSaid ty variant of) is)
+  said n (X.StructSaid ty of) is a = ap (expr_by (saying_at exprs (length exprs))) is ∙ expr_same n _ _ a (Some (X.StructSaid ty of)) (below n (X.StructSaid ty of) is)
   said n (X.LetIn e body) is a = ap (expr_by (saying_at exprs (length exprs))) is ∙ expr_same n _ _ a (Some (X.LetIn e body)) (below n (X.LetIn e body) is)
   said n (X.SwitchOn e cases) is a = ap (expr_by (saying_at exprs (length exprs))) is ∙ expr_same n _ _ a (Some (X.SwitchOn e cases)) (below n (X.SwitchOn e cases) is)
   said n (X.MatchOn e arms) is a = ap (expr_by (saying_at exprs (length exprs))) is ∙ expr_same n _ _ a (Some (X.MatchOn e arms)) (below n (X.MatchOn e arms) is)

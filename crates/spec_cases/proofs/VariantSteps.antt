@@ -1,8 +1,9 @@
 -- Steps of what opens enums and structs.
-use Rattle.std.proofs.Common.{◌≡◌, ℕ, ◌≤◌, suc, List, [], ◌∷◌, length, map, Some, refl, arith}
+use Rattle.std.proofs.Common.{◌≡◌, ℕ, ◌≤◌, suc, Bool, not, List, [], ◌∷◌, length, map, Some, refl, arith}
 use Rattle.std.proofs.lemmas.List.{append_assoc}
 use Rattle.laws_specs.specs.Specs.{Specs, sort_of}
-use Rattle.model.specs.lists.Tables.{FieldEntries, unit_entries, struct_entries, tuple_entries, builtin_type}
+use Rattle.model.specs.lists.Tables.{FieldEntries, unit_entries, struct_entries, tuple_entries, VariantEntry, builtin_type, enum_type}
+use Rattle.model.specs.lists.Syntax.{Position}
 use Rattle.model.specs.rules.Values.{field_types}
 use Rattle.core_types.specs.Builtin.{builtin_place}
 use Rattle.core_types.specs.declared.builtin.BuiltinType.TheVariants.{Int}
@@ -13,6 +14,7 @@ use Rattle.core_types.specs.declared.types.Variant.{Variant}
 use Rattle.core_types.specs.TypeViews.{variant_view}
 use Rattle.model_questions.specs.Formulas as M
 use Rattle.model_questions.specs.Evaluated as E
+use Rattle.spec_cases.specs.Variants.{is_empty}
 use Rattle.spec_cases.proofs.AppliedSteps.{one_seen, anything_seen}
 use Rattle.spec_cases.proofs.PairSteps.{cases_pushed}
 
@@ -30,6 +32,10 @@ variants_more g ty at i v [] h = absurd (omega arith)
 variants_more g ty at i v (w ∷ vs) h = refl
 
 pub ruleset variant_steps = (variants_more, cases_pushed, append_assoc)
+
+pub variants_there : (name id : ℕ) (is_extern is_nodebug : Bool) (vs : List VariantEntry) (place : Position) → E.is_enum_of_variants (Some (enum_type name id is_extern is_nodebug vs place)) ≡ not (is_empty vs)
+variants_there name id is_extern is_nodebug [] place = refl
+variants_there name id is_extern is_nodebug (v ∷ vs) place = refl
 
 -- built-in integers have sorts
 module _ (s : Specs) (k : E.Known) (ty : ℕ) (at : M.Place) where

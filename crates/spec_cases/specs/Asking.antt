@@ -2,7 +2,7 @@
 use Rattle.std.specs.Prelude.{◌≡◌, ℕ, zero, suc, Bool, true, false, not, List, [], ◌∷◌, ◌++◌, Option, Some, None}
 use Rattle.laws_specs.specs.Specs as L
 use Rattle.laws_specs.specs.Words.{Denoted}
-use Rattle.model.specs.lists.Tables.{VariantEntry, TypeEntry, builtin_type, primitive_type, enum_type, struct_type}
+use Rattle.model.specs.lists.Tables.{TypeEntry, builtin_type, primitive_type, enum_type, struct_type}
 use Rattle.model.specs.sites.Sites as Sites
 use Rattle.model_questions.specs.Formulas as M
 use Rattle.model_questions.specs.Forms as MF
@@ -23,6 +23,7 @@ use Rattle.spec_cases.specs.Sorts.{type_sorts, function_sorts}
 use Rattle.spec_cases.specs.Steps.{constant_views, step_views}
 use Rattle.spec_cases.specs.Tables.{types_in, known_in}
 use Rattle.spec_cases.specs.Trails.{trail_of, trails_in, AreTrails}
+use Rattle.spec_cases.specs.Variants.{is_empty}
 
 -- what asking asks of specs: no more than these three lists
 abbrev pub asked_specs : Asking → L.Specs
@@ -71,10 +72,6 @@ is_false (F.Made n) = false
 abbrev pub listed : Option L.Sort → Option (List ℕ)
 listed (Some (L.words_among ws)) = Some ws
 listed _ = None
-
-abbrev pub is_empty : List VariantEntry → Bool
-is_empty [] = true
-is_empty (v ∷ vs) = false
 
 -- a type that has atoms alone, where it has a sort
 abbrev pub has_atoms : TypeEntry → Bool

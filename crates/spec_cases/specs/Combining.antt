@@ -7,6 +7,8 @@ use Rattle.model_questions.specs.Formulas as M
 use Rattle.model_questions.specs.Forms as MF
 use Rattle.model_questions.specs.Evaluated as E
 use Rattle.spec_cases.specs.declared.cases.Case.{Case}
+use Rattle.spec_cases.specs.declared.combining.Whole.{Whole}
+use Rattle.spec_cases.specs.declared.combining.Whole.TheVariants as W
 use Rattle.spec_cases.specs.declared.forms.FieldsId.{FieldsId}
 use Rattle.spec_cases.specs.Namings.{Naming}
 use Rattle.spec_cases.specs.CaseViews.{guarded_each, with_value}
@@ -14,6 +16,11 @@ use Rattle.spec_cases.specs.CaseViews.{guarded_each, with_value}
 -- cases of lists
 abbrev pub forms_cases : Naming → List (Case FieldsId) → List (MF.Case MF.Forms)
 forms_cases v cs = map (with_value (λ l. v.fields l.0)) (guarded_each v cs)
+
+-- what is made of its fields
+abbrev pub whole_of : Whole → MF.Forms → MF.Form
+whole_of (W.Variant ty variant) fs = MF.variant_by ty.0 variant.0 fs
+whole_of (W.Struct ty) fs = MF.struct_by ty.0 fs
 
 -- what comes of cases, with their rest
 abbrev pub rest_with : {X : Type 0} → M.Fact → MF.Cases X → MF.Cases X

@@ -21,4 +21,4 @@ module _ (v : Naming) (s : Said) where
   arm_in = E.evaluated_arm (types_in s.tables.now) (specs_in s.tables.now) (known_in v s.tables.now) (forms_of v s.args.now) (option_map (form_of v) s.answer)
 
   abbrev pub matched_in : L.SpecArms → MF.Form → List MF.Form → MF.Cases MF.Form
-  matched_in arms x bound = E.opened_then (types_in s.tables.now) (specs_in s.tables.now) (known_in v s.tables.now) x (λ y. arm_in arms y bound)
+  matched_in arms x bound = MF.then_cases (E.matched (types_in s.tables.now) (specs_in s.tables.now) (known_in v s.tables.now) arms x) (λ y. arm_in arms y bound)

@@ -5,7 +5,7 @@ ghost use Rattle.model_questions.specs.Forms as MF;
 ghost use Rattle.model.specs.rules.Meaning.{look};
 ghost use Rattle.std.specs.Bool.{◌==◌};
 ghost use Rattle.spec_cases.specs.CaseViews.{cases_of, form_cases, list_cases_of, with_value};
-ghost use Rattle.spec_cases.specs.Combining.{forms_cases, rest_with, switch_case};
+ghost use Rattle.spec_cases.specs.Combining.{forms_cases, rest_with, switch_case, whole_of};
 ghost use Rattle.spec_cases.specs.Namings.{fact_of, form_of, forms_of, operator_view, Makes, Names};
 ghost use Rattle.spec_cases.specs.Places.{MakesApart};
 ghost use Rattle.spec_cases.specs.Tables.{known_in, specs_in, types_in};
@@ -17,6 +17,70 @@ use crate::forms::{FieldsId, Form};
 use crate::formulas::Fact;
 use crate::operators::Operator;
 use crate::tables::Tables;
+use core_types::{TypeId, VariantId};
+use std::alloc::Global;
+
+// What is made of its fields.
+#[derive(Clone, Copy)]
+pub(crate) enum Whole {
+    // A variant.
+    Variant(TypeId, VariantId),
+    // A struct.
+    Struct(TypeId),
+}
+
+impl Whole {
+    // Of these fields.
+    fn of(self, fields: FieldsId) -> Form
+        ensures { (v : _) → form_of v result ≡ whole_of self (v.fields fields.0) }
+    {
+        match self {
+            Whole::Variant(ty, variant) => Form::Variant {
+                ty,
+                variant,
+                fields,
+            },
+            Whole::Struct(ty) => Form::Struct { ty, fields },
+        }
+    }
+}
+
+// Adds what is made of each list of fields.
+#[tactic(auto, using(crate::proofs::CombiningSteps::whole_steps))]
+fn add_wholes(
+    whole: Whole,
+    lists: &[Case<FieldsId>],
+    out: &mut Vec<Case<Form>>,
+) -> Result<(), Fault>
+    ensures { OnOk result ((v : _) → form_cases v out.new.items ≡ form_cases v out.old.items ++ map (with_value (whole_of whole)) (forms_cases v lists.now)) }
+{
+    match lists {
+        [] => Ok(()),
+        [list, rest @ ..] => {
+            out.push(Case {
+                guard: list.guard,
+                gives: whole.of(list.gives),
+            })?;
+            Ok(add_wholes(whole, rest, out)?)
+        }
+    }
+}
+
+// What is made of each list of fields.
+pub(crate) fn wholes(
+    alloc: Global,
+    whole: Whole,
+    lists: &Cases<FieldsId>,
+) -> Result<Cases<Form>, Fault>
+    ensures { IfOk result (λ cs. (v : _) → cases_of v cs ≡ MF.then_cases (list_cases_of v lists.now) (λ fs. MF.one_case (whole_of whole fs))) }
+{
+    let mut cases = Vec::new(alloc);
+    add_wholes(whole, &lists.cases, &mut cases)?;
+    Ok(Cases {
+        cases,
+        rest: lists.rest,
+    })
+}
 
 impl Formulas {
     // What comes of the first case, and of the later ones.

@@ -1,21 +1,27 @@
 //! What an expression of a spec comes to.
 ghost use Rattle.std.specs.Prelude.{◌≡◌, ◌<◌, ◌∷◌, ◌++◌, map, option_map, IfOk};
+ghost use Rattle.model_questions.specs.Evaluated as E;
 ghost use Rattle.model_questions.specs.Forms as MF;
 ghost use Rattle.spec_cases.specs.CaseViews.{cases_of, form_cases, list_cases_of};
+ghost use Rattle.spec_cases.specs.Combining.{whole_of};
 ghost use Rattle.spec_cases.specs.Evaluating.{arm_in, case_in, each_in, evaluated_in, matched_in};
-ghost use Rattle.spec_cases.specs.Expressions.{Evaluates};
+ghost use Rattle.spec_cases.specs.Expressions.{AreSaid, Evaluates};
 ghost use Rattle.spec_cases.specs.Namings.{form_of, operator_view, Names};
+ghost use Rattle.spec_cases.specs.Tables.{known_in, specs_in, types_in};
 ghost use Rattle.laws_specs.specs.Specs as L;
 
 use crate::arena::Formulas;
 use crate::cases::{Case, Cases, anything, nothing_said, one_case};
+use crate::combining::{Whole, wholes};
 use crate::expressions::{Expr, ExprId, expr_at};
 use crate::faults::Fault;
 use crate::fitting::form_at;
 use crate::forms::{FieldsId, Form};
+use crate::formulas::Fact;
 use crate::operators::Operator;
 use crate::sorts::widths_of;
 use crate::tables::Tables;
+use crate::typed::has_variants;
 use core_types::{TypeId, VariantId};
 use std::alloc::Global;
 
@@ -53,7 +59,55 @@ fn answer_said(alloc: Global, answer: Option<Form>) -> Result<Cases<Form>, Fault
     }
 }
 
+// Whether an arm takes what no arm before it took.
+#[tactic(auto, using(crate::proofs::EvaluatingSteps::others_steps))]
+fn takes_others(exprs: &[Expr], arms: ExprId) -> Result<bool, Fault>
+    ensures { IfOk result (λ t. (w : _) → AreSaid w exprs.now → t ≡ E.takes_others (w.arms arms.0)) }
+{
+    match expr_at(exprs, arms)? {
+        Expr::NoArm | Expr::StructArm { .. } => Ok(false),
+        Expr::ElseArm { .. } => Ok(true),
+        Expr::VariantArm { rest, .. } => Ok(takes_others(exprs, rest)?),
+        Expr::Argument(_)
+        | Expr::Result
+        | Expr::Variable(_)
+        | Expr::Written(_)
+        | Expr::Operation(_, _)
+        | Expr::Unknown(_, _)
+        | Expr::VariantSaid(_, _, _)
+        | Expr::StructSaid(_, _)
+        | Expr::LetIn(_, _)
+        | Expr::SwitchOn(_, _)
+        | Expr::MatchOn(_, _)
+        | Expr::NoExpr
+        | Expr::ExprAnd(_, _)
+        | Expr::NoCase
+        | Expr::CaseAnd(_, _, _) => Err(Fault::Foreign),
+    }
+}
+
 impl Formulas {
+    // What arms look at, opened: of an atom of an enum they say nothing, unless one takes what is no variant.
+    fn opened_by(
+        &mut self,
+        said: &Said<'_>,
+        arms: ExprId,
+        value: Form,
+    ) -> Result<Cases<Form>, Fault>
+        ensures { IfOk result (λ cs. Evaluates self.old self.new said.now.exprs.now (λ v w. cases_of v cs ≡ E.matched (types_in said.now.tables.now) (specs_in said.now.tables.now) (known_in v said.now.tables.now) (w.arms arms.0) (form_of v value))) }
+    {
+        let opened = self.opened(said.tables, value)?;
+        let others = takes_others(said.exprs, arms)?;
+        if has_variants(said.tables.types, value) && !others {
+            Ok(Cases {
+                cases: opened.cases,
+                rest: Fact::Known(false),
+            })
+        } else {
+            Ok(opened)
+        }
+    }
+
     // The fields of a value before those that are bound.
     #[tactic(auto, using(crate::proofs::EvaluatingSteps::bound_steps))]
     fn bound_fields(&self, fields: FieldsId, bound: &[Form]) -> Result<Vec<Form>, Fault>
@@ -89,6 +143,10 @@ impl Formulas {
                 Ok(self.operation(said, expr, operator, of, bound)?)
             }
             Expr::Unknown(function, of) => Ok(self.unknown(said, expr, function, of, bound)?),
+            Expr::VariantSaid(ty, variant, of) => {
+                Ok(self.made(said, expr, Whole::Variant(ty, variant), of, bound)?)
+            }
+            Expr::StructSaid(ty, of) => Ok(self.made(said, expr, Whole::Struct(ty), of, bound)?),
             Expr::LetIn(first, body) => Ok(self.let_in(said, expr, first, body, bound)?),
             Expr::SwitchOn(first, cases) => Ok(self.switch_on(said, expr, first, cases, bound)?),
             Expr::MatchOn(first, arms) => Ok(self.match_on(said, expr, first, arms, bound)?),
@@ -136,6 +194,23 @@ impl Formulas {
     {
         let lists = self.evaluated_each(said, of, bound)?;
         Ok(self.asked_all(said.tables, function, &lists)?)
+    }
+
+    // A variant or a struct, made of its fields.
+    #[cycle(evaluating)]
+    fn made(
+        &mut self,
+        said: &Said<'_>,
+        limit: ExprId,
+        whole: Whole,
+        of: ExprId,
+        bound: &[Form],
+    ) -> Result<Cases<Form>, Fault>
+        requires { of.0 < limit.0 }
+        ensures { IfOk result (λ cs. Evaluates self.old self.new said.now.exprs.now (λ v w. cases_of v cs ≡ MF.then_cases (each_in v said.now (w.exprs of.0) (map (form_of v) bound.now)) (λ fs. MF.one_case (whole_of whole fs)))) }
+    {
+        let lists = self.evaluated_each(said, of, bound)?;
+        Ok(wholes(self.alloc(), whole, &lists)?)
     }
 
     // An expression that is bound in another.
@@ -273,7 +348,7 @@ impl Formulas {
     ) -> Result<Cases<Form>, Fault>
         ensures { IfOk result (λ cs. Evaluates self.old self.new said.now.exprs.now (λ v w. cases_of v cs ≡ matched_in v said.now (w.arms arms.0) (form_of v value) (map (form_of v) bound.now))) }
     {
-        let opened = self.opened(said.tables, value)?;
+        let opened = self.opened_by(said, arms, value)?;
         let each = self.arm_each(said, &opened.cases, arms, bound)?;
         Ok(self.with_rest(opened.rest, each)?)
     }
@@ -323,6 +398,8 @@ impl Formulas {
             | Expr::Written(_)
             | Expr::Operation(_, _)
             | Expr::Unknown(_, _)
+            | Expr::VariantSaid(_, _, _)
+            | Expr::StructSaid(_, _)
             | Expr::LetIn(_, _)
             | Expr::SwitchOn(_, _)
             | Expr::MatchOn(_, _)
@@ -358,6 +435,8 @@ impl Formulas {
             | Expr::Written(_)
             | Expr::Operation(_, _)
             | Expr::Unknown(_, _)
+            | Expr::VariantSaid(_, _, _)
+            | Expr::StructSaid(_, _)
             | Expr::LetIn(_, _)
             | Expr::SwitchOn(_, _)
             | Expr::MatchOn(_, _)
@@ -427,6 +506,8 @@ impl Formulas {
             | Expr::Written(_)
             | Expr::Operation(_, _)
             | Expr::Unknown(_, _)
+            | Expr::VariantSaid(_, _, _)
+            | Expr::StructSaid(_, _)
             | Expr::LetIn(_, _)
             | Expr::SwitchOn(_, _)
             | Expr::MatchOn(_, _)

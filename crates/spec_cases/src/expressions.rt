@@ -1,5 +1,5 @@
 //! Expressions of specs, each made of earlier ones of a list.
-ghost use Rattle.std.specs.Prelude.{◌≡◌, true, IfOk};
+ghost use Rattle.std.specs.Prelude.{◌≡◌, ◌++◌, ◌∷◌, [], true, length, IfOk, OnOk};
 ghost use Rattle.spec_cases.specs.Expressions.{is_below, AreSaid, IsSaid};
 ghost use Rattle.spec_cases.specs.Sayings.{saying_of, AreBelow};
 
@@ -27,6 +27,10 @@ pub enum Expr {
     Operation(Operator, ExprId),
     /// An unknown function on expressions.
     Unknown(u32, ExprId),
+    /// A variant, made of its fields.
+    VariantSaid(TypeId, VariantId, ExprId),
+    /// A struct, made of its fields.
+    StructSaid(TypeId, ExprId),
     /// The first is bound in the second.
     LetIn(ExprId, ExprId),
     /// The first case of an equal value.
@@ -81,7 +85,10 @@ impl Expr {
             | Expr::NoExpr
             | Expr::NoCase
             | Expr::NoArm => true,
-            Expr::Operation(_, of) | Expr::Unknown(_, of) => of.0 < limit,
+            Expr::Operation(_, of)
+            | Expr::Unknown(_, of)
+            | Expr::VariantSaid(_, _, of)
+            | Expr::StructSaid(_, of) => of.0 < limit,
             Expr::LetIn(first, second)
             | Expr::SwitchOn(first, second)
             | Expr::MatchOn(first, second)
@@ -109,6 +116,22 @@ pub(crate) fn expr_at(exprs: &[Expr], expr: ExprId) -> Result<Expr, Fault>
             }
         }
     }
+}
+
+/// Adds an expression at the end of a list: its number.
+///
+/// # Errors
+///
+/// `Full` where no number is left, `Memory` where memory is refused.
+pub fn add_expr(exprs: &mut Vec<Expr>, expr: Expr) -> Result<ExprId, Fault>
+    ensures grown { OnOk result (exprs.new.items ≡ exprs.old.items ++ expr ∷ []) }
+    ensures number { IfOk result (λ n. n.0 ≡ length exprs.old.items) }
+{
+    let Ok(number) = u32::try_from(exprs.len()) else {
+        return Err(Fault::Full);
+    };
+    exprs.push(expr)?;
+    Ok(ExprId(number))
 }
 
 /// The numbers of any expressions stand for something.

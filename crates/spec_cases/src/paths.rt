@@ -1,13 +1,13 @@
 //! The questions of steps.
-ghost use Rattle.std.specs.Prelude.{◌≡◌, ◌∷◌, true, map, option_map, slice_get, IfOk, OnOk, Some};
+ghost use Rattle.std.specs.Prelude.{◌≡◌, ◌∷◌, true, option_map, slice_get, IfOk, OnOk, Some};
 ghost use Rattle.std.specs.Bool.{◌==◌};
 ghost use Rattle.laws_specs.specs.Specs as L;
 ghost use Rattle.model.specs.rules.Meaning.{look};
 ghost use Rattle.model_questions.specs.Formulas as M;
 ghost use Rattle.model_questions.specs.Questions as Q;
 ghost use Rattle.model_questions.specs.Steps as S;
-ghost use Rattle.core_types.specs.TypeViews.{type_view, variant_view};
-ghost use Rattle.spec_cases.specs.Asking.{asked_after, asked_in, has_atoms, is_empty, is_false, listed, Adds, Asks};
+ghost use Rattle.core_types.specs.TypeViews.{type_view};
+ghost use Rattle.spec_cases.specs.Asking.{asked_after, asked_in, has_atoms, is_false, listed, Adds, Asks};
 ghost use Rattle.spec_cases.specs.Namings.{fact_of};
 ghost use Rattle.spec_cases.specs.Sorts.{sort_view, type_sorts};
 ghost use Rattle.spec_cases.specs.Steps.{is_told, said_view, step_view, step_views};
@@ -23,7 +23,8 @@ use crate::sorts::{Sort, TypeSort};
 use crate::steps::{Said, Step, are_steps_within};
 use crate::tables::Tables;
 use crate::trails::{Trail, Trails};
-use core_types::{BuiltinType, Type, TypeId, Variant};
+use crate::variants::is_empty;
+use core_types::{BuiltinType, Type, TypeId};
 use std::alloc::Global;
 
 impl Sort {
@@ -52,16 +53,6 @@ fn sort_widths(alloc: Global, sorts: &[TypeSort], ty: TypeId) -> Result<Option<V
                 Ok(sort_widths(alloc, rest, ty)?)
             }
         }
-    }
-}
-
-// Whether there are no variants.
-fn is_empty(variants: &[Variant]) -> bool
-    ensures { result ≡ is_empty (map variant_view variants.now) }
-{
-    match variants {
-        [] => true,
-        [_, ..] => false,
     }
 }
 

@@ -1,5 +1,8 @@
 //! What values of types stand for, and what unknown functions take and give.
-ghost use Rattle.std.specs.Prelude.{◌≡◌, ◌++◌, IfOk, OnOk};
+ghost use Rattle.std.specs.Prelude.{◌≡◌, ◌++◌, IfOk, OnOk, Some};
+ghost use Rattle.std.specs.Bool.{◌==◌};
+ghost use Rattle.model.specs.rules.Meaning.{look};
+ghost use Rattle.laws_specs.specs.Specs as L;
 ghost use Rattle.std.specs.List.{flat_map};
 ghost use Rattle.model_questions.specs.Evaluated as E;
 ghost use Rattle.spec_cases.specs.Sorts.{sort_view, type_sorts};
@@ -64,6 +67,42 @@ fn add_sorts(sorts: &[TypeSort], out: &mut Vec<u32>) -> Result<(), Fault>
         [first, rest @ ..] => {
             add_sort(&first.sort, out)?;
             Ok(add_sorts(rest, out)?)
+        }
+    }
+}
+
+// Whether there are no widths.
+fn has_no_width(widths: &[u32]) -> bool
+    ensures { result ≡ E.is_closed (Some (L.words_among widths.now)) }
+{
+    match widths {
+        [] => true,
+        [_, ..] => false,
+    }
+}
+
+// Whether a sort has no words.
+fn is_closed(sort: &Sort) -> bool
+    ensures { result ≡ E.is_closed (Some (sort_view sort.now)) }
+{
+    match sort {
+        Sort::WordsAmong(widths) => has_no_width(widths),
+        Sort::Truths | Sort::Integers | Sort::Words(_) => false,
+    }
+}
+
+/// Whether the sort of a type has no words.
+pub fn is_type_closed(sorts: &[TypeSort], ty: TypeId) -> bool
+    ensures { result ≡ E.is_closed (look (λ k. k == ty.0) (type_sorts sorts.now)) }
+{
+    match sorts {
+        [] => false,
+        [first, rest @ ..] => {
+            if first.ty.0 == ty.0 {
+                is_closed(&first.sort)
+            } else {
+                is_type_closed(rest, ty)
+            }
         }
     }
 }

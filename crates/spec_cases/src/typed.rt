@@ -5,7 +5,7 @@ ghost use Rattle.model_questions.specs.Evaluated as E;
 ghost use Rattle.model_questions.specs.Forms as MF;
 ghost use Rattle.model_questions.specs.Formulas as M;
 ghost use Rattle.std.specs.Bool.{◌==◌};
-ghost use Rattle.core_types.specs.TypeViews.{fields_view, type_view, variant_view};
+ghost use Rattle.core_types.specs.TypeViews.{fields_view, type_view, type_views, variant_view};
 ghost use Rattle.spec_cases.specs.CaseViews.{cases_of};
 ghost use Rattle.spec_cases.specs.Namings.{form_of, Makes};
 ghost use Rattle.spec_cases.specs.Places.{known_of, MakesApart};
@@ -20,9 +20,46 @@ use crate::forms::Form;
 use crate::formulas::{Fact, PlaceId, Word};
 use crate::known::Known;
 use crate::opening::Around;
-use crate::sorts::{Sort, TypeSort};
+use crate::sorts::{Sort, TypeSort, is_type_closed};
 use crate::tables::Tables;
+use crate::variants::is_empty;
 use core_types::{BuiltinType, Fields, Type, TypeId, Variant};
+
+// Whether a type is an enum that has variants.
+#[tactic(auto, using(crate::proofs::VariantSteps::variants_there))]
+fn is_enum_of_variants(entry: &Type) -> bool
+    ensures { result ≡ E.is_enum_of_variants (Some (type_view entry.now)) }
+{
+    match entry {
+        Type::Enum { variants, .. } => !is_empty(variants),
+        Type::Builtin(_) | Type::Primitive(_, _, _) | Type::Struct { .. } => false,
+    }
+}
+
+// Whether the type of a number is an enum that has variants.
+fn has_variants_at(types: &[Type], ty: TypeId) -> bool
+    ensures { result ≡ E.is_enum_of_variants (slice_get (type_views types.now) ty.0) }
+{
+    match types.get(ty.0) {
+        None => false,
+        Some(entry) => is_enum_of_variants(entry),
+    }
+}
+
+/// Whether a form is any value of an enum that has variants.
+pub fn has_variants(types: &[Type], form: Form) -> bool
+    ensures { (v : _) → result ≡ E.has_variants (type_views types.now) (form_of v form) }
+{
+    match form {
+        Form::AnyOf { ty, .. } => has_variants_at(types, ty),
+        Form::Fact(_)
+        | Form::Integer(_)
+        | Form::Word(_, _)
+        | Form::Variant { .. }
+        | Form::Struct { .. }
+        | Form::SomeAt { .. } => false,
+    }
+}
 
 impl Formulas {
     // A value of a sort.
@@ -86,7 +123,8 @@ impl Formulas {
             [] => Ok(self.at_type_sort(tables.sorts, tables.known, ty, place)?),
             [_, ..] => {
                 let told = self.found(&tables.known.kinds, place)?;
-                Ok(self.at_variants(is_extern, ty, place, variants, told)?)
+                let closed = is_type_closed(tables.sorts, ty);
+                Ok(self.at_variants(is_extern && !closed, ty, place, variants, told)?)
             }
         }
     }

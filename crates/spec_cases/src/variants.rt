@@ -4,7 +4,7 @@ ghost use Rattle.model_questions.specs.Evaluated as E;
 ghost use Rattle.model_questions.specs.Formulas as M;
 ghost use Rattle.core_types.specs.TypeViews.{variant_view};
 ghost use Rattle.spec_cases.specs.CaseViews.{cases_of, form_cases};
-ghost use Rattle.spec_cases.specs.Variants.{under_guard};
+ghost use Rattle.spec_cases.specs.Variants.{is_empty, under_guard};
 ghost use Rattle.spec_cases.specs.Namings.{fact_of, form_of, Makes};
 
 use crate::arena::Formulas;
@@ -14,6 +14,16 @@ use crate::forms::Form;
 use crate::formulas::{Fact, PlaceId};
 use crate::opening::Around;
 use core_types::{TypeId, Variant, VariantId};
+
+// Whether there are no variants.
+pub(crate) fn is_empty(variants: &[Variant]) -> bool
+    ensures { result ≡ is_empty (map variant_view variants.now) }
+{
+    match variants {
+        [] => true,
+        [_, ..] => false,
+    }
+}
 
 impl Formulas {
     // A variant, with its fields.

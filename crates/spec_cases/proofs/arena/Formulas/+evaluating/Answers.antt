@@ -3,6 +3,7 @@ use Rattle.laws_specs.specs.Specs as L
 use Rattle.model_questions.specs.Forms as MF
 use Rattle.model_questions.specs.Evaluated as E
 use Rattle.spec_cases.specs.CaseViews.{cases_of, form_cases, list_cases_of}
+use Rattle.spec_cases.specs.Combining.{whole_of}
 use Rattle.spec_cases.specs.Evaluating.{arm_in, case_in, evaluated_in, matched_in}
 use Rattle.spec_cases.specs.Expressions.{IsSaid}
 use Rattle.spec_cases.specs.Literals.{literal_view}
@@ -59,6 +60,22 @@ evaluated-returns-in_ok-unknown-in-Unknown t c = λ v w names apart all.
     let made = c.in_ok-unknown-in-Unknown.ensures v w names apart all in (
       made.0,
       expr_said v c.args.said.now w c.args.expr.0 (map (form_of v) c.args.bound.now) (L.unknown m.function (w.exprs m.of.0)) _ (subst (IsSaid w c.args.expr.0) m.is (c.in_ok-index.ensures.said w all)) made.1,
+    )
+
+pub evaluated-returns-in_ok-made-in-VariantSaid : goal.evaluated-returns-in_ok-made-in-VariantSaid
+evaluated-returns-in_ok-made-in-VariantSaid t c = λ v w names apart all.
+    let m = c.in-VariantSaid in
+    let made = c.in_ok-made-in-VariantSaid.ensures v w names apart all in (
+      made.0,
+      expr_said v c.args.said.now w c.args.expr.0 (map (form_of v) c.args.bound.now) (L.variant_said m.ty.0 m.variant.0 (w.exprs m.of.0)) _ (subst (IsSaid w c.args.expr.0) m.is (c.in_ok-index.ensures.said w all)) made.1,
+    )
+
+pub evaluated-returns-in_ok-made-in-StructSaid : goal.evaluated-returns-in_ok-made-in-StructSaid
+evaluated-returns-in_ok-made-in-StructSaid t c = λ v w names apart all.
+    let m = c.in-StructSaid in
+    let made = c.in_ok-made-in-StructSaid.ensures v w names apart all in (
+      made.0,
+      expr_said v c.args.said.now w c.args.expr.0 (map (form_of v) c.args.bound.now) (L.struct_said m.ty.0 (w.exprs m.of.0)) _ (subst (IsSaid w c.args.expr.0) m.is (c.in_ok-index.ensures.said w all)) made.1,
     )
 
 pub evaluated-returns-in_ok-let_in-in-LetIn : goal.evaluated-returns-in_ok-let_in-in-LetIn
@@ -177,6 +194,11 @@ unknown-returns t c = λ v w names apart all.
     let lists = c.in_ok-lists.ensures v w last.0 apart all in
     (lists.0, asked_by v c.args.said.now c.args.function (w.exprs c.args.of.0) (map (form_of v) c.args.bound.now) (list_cases_of v c.in_ok-lists.lists) _ lists.1 last.1)
 
+pub made-returns : goal.made-returns
+made-returns t c = λ v w names apart all.
+    let lists = c.in_ok-lists.ensures v w names apart all in
+    (lists.0, c.in_ok-wholes.ensures v ∙ ap (λ l. MF.then_cases l (λ fs. MF.one_case (whole_of c.args.whole fs))) lists.1)
+
 -- each case, and all cases with their rest
 pub let_each-returns-in_ok-from_first-in-len1-up : goal.let_each-returns-in_ok-from_first-in-len1-up
 let_each-returns-in_ok-from_first-in-len1-up t c = λ v w names apart all.
@@ -252,10 +274,10 @@ pub matched-returns : goal.matched-returns
 matched-returns t c = λ v w names apart all.
     let last = c.in_ok-with_rest.ensures v names in
     let each = c.in_ok-each.ensures v w last.0 apart all in
-    let opened = c.in_ok-opened.ensures v each.0 apart in
+    let opened = c.in_ok-opened.ensures v w each.0 apart all in
     let come : MF.Form → MF.Cases MF.Form = λ y. arm_in v c.args.said.now (w.arms c.args.arms.0) y (map (form_of v) c.args.bound.now) in (
       opened.0,
-      then_seen (cases_of v c.in_ok-opened.opened) (E.opened (types_in c.args.said.now.tables.now) (specs_in c.args.said.now.tables.now) (known_in v c.args.said.now.tables.now) (form_of v c.args.value)) (cases_of v c.in_ok-each.each) _ come opened.1 (each.1 ∙ ap (λ l. MF.from_each (form_cases v l) come) c.deref.ensures.value) last.1,
+      then_seen (cases_of v c.in_ok-opened.opened) (E.matched (types_in c.args.said.now.tables.now) (specs_in c.args.said.now.tables.now) (known_in v c.args.said.now.tables.now) (w.arms c.args.arms.0) (form_of v c.args.value)) (cases_of v c.in_ok-each.each) _ come opened.1 (each.1 ∙ ap (λ l. MF.from_each (form_cases v l) come) c.deref.ensures.value) last.1,
     )
 
 -- the arm that fits, or a later one

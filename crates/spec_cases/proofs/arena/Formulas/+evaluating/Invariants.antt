@@ -10,6 +10,9 @@ decreases-operation l = l.limit.0 * 147573952589676412928
 abbrev pub decreases-unknown : goal.decreases-unknown
 decreases-unknown l = l.limit.0 * 147573952589676412928
 
+abbrev pub decreases-made : goal.decreases-made
+decreases-made l = l.limit.0 * 147573952589676412928
+
 abbrev pub decreases-let_in : goal.decreases-let_in
 decreases-let_in l = l.limit.0 * 147573952589676412928
 
