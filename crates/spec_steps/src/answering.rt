@@ -84,7 +84,9 @@ fn constructed(
         (S.constructed m.p m.specs m.c (sites v done.now) (plan flag) answered term.0 (each_term v.site parameters.now) (v.site answer)))) }
 {
     if answered {
-        Ok(constructed_steps(formulas, demands, done, flag, call, term, parameters, answer, out)?)
+        Ok(constructed_steps(
+            formulas, demands, done, flag, call, term, parameters, answer, out,
+        )?)
     } else {
         Ok(())
     }
@@ -104,11 +106,7 @@ fn outputs_at(
     Ok(formulas.fields_at(around, term_types(demands, term))?)
 }
 
-/// Adds that what a term requires of arguments is assumed.
-///
-/// # Errors
-///
-/// `Memory` where memory is refused.
+// Adds that what a term requires of arguments is assumed.
 pub(crate) fn assume_required(
     alloc: Global,
     demands: &Demands<'_>,
@@ -169,7 +167,14 @@ fn extracted_steps(
     let outputs = outputs_at(formulas, demands, term, answer)?;
     split_list(flag, &outputs, out)?;
     let args = formulas.made_fields(outputs)?;
-    field_splits(formulas, demands, flag, Root::Outputs(answer), demands.constraints, out)?;
+    field_splits(
+        formulas,
+        demands,
+        flag,
+        Root::Outputs(answer),
+        demands.constraints,
+        out,
+    )?;
     let form = form_at(formulas, demands, done, looked)?;
     Ok(assume_said(formulas.alloc(), demands, term, args, form, out)?)
 }
@@ -227,15 +232,21 @@ fn picked_by(
 {
     match binding {
         Binding::Constructor {
-            term, parameters, ..
+            term,
+            parameters,
+            ..
         } => {
             let answered = is_pure_made(demands, call)?;
-            Ok(constructed(formulas, demands, done, flag, answered, call, *term, parameters, pick, out)?)
+            Ok(constructed(
+                formulas, demands, done, flag, answered, call, *term, parameters, pick, out,
+            )?)
         }
         Binding::Extractor { term, parameter } => {
             let looked = source_of(call, *parameter)?;
             let answered = is_pure_made(demands, call)?;
-            Ok(extracted(formulas, demands, done, flag, answered, *term, looked, pick, out)?)
+            Ok(extracted(
+                formulas, demands, done, flag, answered, *term, looked, pick, out,
+            )?)
         }
         Binding::Iterator { .. }
         | Binding::MakeSome { .. }
@@ -252,11 +263,7 @@ fn picked_by(
     }
 }
 
-/// Adds what is assumed of the answer that a site holds.
-///
-/// # Errors
-///
-/// As `form_at`.
+// Adds what is assumed of the answer that a site holds.
 pub(crate) fn answer_steps(
     formulas: &mut Formulas,
     demands: &Demands<'_>,
@@ -286,15 +293,21 @@ fn answer_by(
 {
     match binding {
         Binding::Constructor {
-            term, parameters, ..
+            term,
+            parameters,
+            ..
         } => {
             let answered = is_answered(demands, done, site)?;
-            Ok(constructed(formulas, demands, done, flag, answered, site, *term, parameters, site, out)?)
+            Ok(constructed(
+                formulas, demands, done, flag, answered, site, *term, parameters, site, out,
+            )?)
         }
         Binding::Extractor { term, parameter } => {
             let looked = source_of(site, *parameter)?;
             let answered = is_answered(demands, done, site)?;
-            Ok(extracted(formulas, demands, done, flag, answered, *term, looked, site, out)?)
+            Ok(extracted(
+                formulas, demands, done, flag, answered, *term, looked, site, out,
+            )?)
         }
         Binding::Iterator { source } => {
             let call = source_of(site, *source)?;
@@ -314,11 +327,7 @@ fn answer_by(
     }
 }
 
-/// Adds what is assumed of the answers that sites hold.
-///
-/// # Errors
-///
-/// As `form_at`.
+// Adds what is assumed of the answers that sites hold.
 pub(crate) fn answers_each(
     formulas: &mut Formulas,
     demands: &Demands<'_>,
@@ -339,11 +348,7 @@ pub(crate) fn answers_each(
     }
 }
 
-/// Adds that the require of an impure call is to be shown.
-///
-/// # Errors
-///
-/// As `form_at`.
+// Adds that the require of an impure call is to be shown.
 pub(crate) fn required_steps(
     formulas: &mut Formulas,
     demands: &Demands<'_>,
@@ -400,7 +405,9 @@ fn required_by(
 {
     match binding {
         Binding::Constructor {
-            term, parameters, ..
+            term,
+            parameters,
+            ..
         } => Ok(show_required(formulas, demands, done, call, *term, parameters, out)?),
         Binding::Extractor { .. }
         | Binding::Iterator { .. }

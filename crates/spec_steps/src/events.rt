@@ -125,11 +125,7 @@ fn add_sites(
     }
 }
 
-/// The sites that are told of in what happens.
-///
-/// # Errors
-///
-/// As `tested_in`.
+// The sites that are told of in what happens.
 pub(crate) fn event_sites(
     alloc: Global,
     demands: &Demands<'_>,
@@ -143,11 +139,7 @@ pub(crate) fn event_sites(
     Ok(out)
 }
 
-/// Those that weren't seen before.
-///
-/// # Errors
-///
-/// `Memory` where memory is refused.
+// Those that weren't seen before.
 pub(crate) fn fresh_sites(alloc: Global, seen: &[u32], list: &[u32]) -> Result<Vec<u32>, Fault>
     ensures { IfOk result (λ l. (v : Naming) → AreApart v → sites v l.items ≡ S.fresh (sites v seen.now) (sites v list.now)) }
 {
@@ -169,11 +161,7 @@ fn made_call(
     Ok(with_first(alloc, call, done)?)
 }
 
-/// The impure calls that were made after what happened.
-///
-/// # Errors
-///
-/// As `tested_in`.
+// The impure calls that were made after what happened.
 pub(crate) fn made_after(
     alloc: Global,
     bindings: &[Binding],

@@ -209,11 +209,7 @@ pub(crate) fn struct_field_form(
     }
 }
 
-/// The value that a site of a call holds, or the one that another site picks of its answers.
-///
-/// # Errors
-///
-/// `Foreign` where the call's number isn't a site's, else as `made_place`.
+// The value that a site of a call holds, or the one that another site picks of its answers.
 pub(crate) fn answer_form(
     formulas: &mut Formulas,
     demands: &Demands<'_>,
@@ -262,11 +258,7 @@ fn answer_by(
     }
 }
 
-/// An output of an extractor that has several.
-///
-/// # Errors
-///
-/// As `answer_form`.
+// An output of an extractor that has several.
 pub(crate) fn output_form(
     formulas: &mut Formulas,
     demands: &Demands<'_>,

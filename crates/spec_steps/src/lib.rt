@@ -2,13 +2,14 @@
 #![tactic(auto)]
 
 mod answering;
+pub mod constraints;
 pub mod demands;
 pub mod events;
 mod giving;
-mod listing;
+pub mod listing;
 mod made;
 pub mod placing;
-mod saying;
+pub mod saying;
 mod sites;
 pub mod splitting;
 pub mod steps;

@@ -243,7 +243,7 @@ fn call_by(site: u32, binding: &Binding) -> Result<u32, Fault>
     }
 }
 
-/// One before others.
+// One before others.
 pub(crate) fn with_first(alloc: Global, first: u32, list: &[u32]) -> Result<Vec<u32>, Fault>
     ensures { IfOk result (λ l. l.items ≡ first ∷ list.now) }
 {
@@ -253,7 +253,7 @@ pub(crate) fn with_first(alloc: Global, first: u32, list: &[u32]) -> Result<Vec<
     Ok(all)
 }
 
-/// Some before others.
+// Some before others.
 pub(crate) fn joined(alloc: Global, before: &[u32], list: &[u32]) -> Result<Vec<u32>, Fault>
     ensures { IfOk result (λ l. l.items ≡ before.now ++ list.now) }
 {
@@ -268,12 +268,7 @@ pub(crate) fn joined(alloc: Global, before: &[u32], list: &[u32]) -> Result<Vec<
 ///
 /// `Memory` where memory is refused.
 #[tactic(auto, using(crate::proofs::ListingSteps::fresh_steps))]
-pub fn fresh(
-    alloc: Global,
-    seen: &[u32],
-    list: &[u32],
-    out: &mut Vec<u32>,
-) -> Result<(), Fault>
+pub fn fresh(alloc: Global, seen: &[u32], list: &[u32], out: &mut Vec<u32>) -> Result<(), Fault>
     ensures { OnOk result ((v : Naming) → AreApart v → Lists v out.old.items out.new.items (S.fresh (sites v seen.now) (sites v list.now))) }
 {
     match list {

@@ -69,7 +69,7 @@ pub(crate) fn is_pure_made(demands: &Demands<'_>, site: u32) -> Result<bool, Fau
     Ok(both(made, !impure))
 }
 
-/// Whether a site is one of a list.
+// Whether a site is one of a list.
 #[tactic(auto, using(crate::proofs::MadeSteps::one_steps))]
 pub(crate) fn is_one_of(list: &[u32], site: u32) -> bool
     ensures { (v : _) → AreApart v → result ≡ has_site (sites v list.now) (v.site site) }
@@ -87,11 +87,7 @@ pub(crate) fn is_one_of(list: &[u32], site: u32) -> bool
 }
 
 // Whether a call is answered: it is pure and made, or it was made.
-pub(crate) fn is_answered(
-    demands: &Demands<'_>,
-    done: &[u32],
-    site: u32,
-) -> Result<bool, Fault>
+pub(crate) fn is_answered(demands: &Demands<'_>, done: &[u32], site: u32) -> Result<bool, Fault>
     ensures { IfOk result (λ b. (v : Naming) (m : Meant v demands.now) → b ≡ S.is_answered m.p m.specs m.c (sites v done.now) (v.site site)) }
 {
     let made = is_pure_made(demands, site)?;
@@ -100,11 +96,7 @@ pub(crate) fn is_answered(
 }
 
 // Whether what is unwrapped of a site is the one result of a call.
-pub(crate) fn is_unwrapped(
-    demands: &Demands<'_>,
-    done: &[u32],
-    site: u32,
-) -> Result<bool, Fault>
+pub(crate) fn is_unwrapped(demands: &Demands<'_>, done: &[u32], site: u32) -> Result<bool, Fault>
     ensures { IfOk result (λ b. (v : Naming) (m : Meant v demands.now) → b ≡ S.is_unwrapped m.p m.specs m.c (sites v done.now) (v.site site)) }
 {
     let binding = binding_at(demands.bindings, site)?;

@@ -243,7 +243,14 @@ fn form_by(
         }
         Binding::MatchTuple { source, field } => {
             let whole = source_of(site, *source)?;
-            Ok(outputs_form(formulas, demands, done, whole, field.index(), Place::Site { site })?)
+            Ok(outputs_form(
+                formulas,
+                demands,
+                done,
+                whole,
+                field.index(),
+                Place::Site { site },
+            )?)
         }
     }
 }
@@ -279,11 +286,7 @@ fn add_forms(
     }
 }
 
-/// What sites stand for that others are made of.
-///
-/// # Errors
-///
-/// As `form_at`.
+// What sites stand for that others are made of.
 #[cycle(placing)]
 pub(crate) fn fields_at(
     formulas: &mut Formulas,

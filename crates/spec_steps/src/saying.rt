@@ -103,11 +103,7 @@ pub fn provides_of(
     Ok(saids_of(alloc, provided(demands.said, term), args, Some(answer))?)
 }
 
-/// Adds that each is assumed.
-///
-/// # Errors
-///
-/// `Memory` where memory is refused.
+// Adds that each is assumed.
 #[tactic(auto, using(crate::proofs::SayingSteps::step_steps))]
 pub(crate) fn add_assumed(saids: &[Said], out: &mut Vec<Step>) -> Result<(), Fault>
     ensures { OnOk result ((v : Naming) (w : Saying) → Adds v w out.old.items out.new.items (map S.assumed (said_views v w saids.now))) }
@@ -121,11 +117,7 @@ pub(crate) fn add_assumed(saids: &[Said], out: &mut Vec<Step>) -> Result<(), Fau
     }
 }
 
-/// Adds that each is assumed where others hold.
-///
-/// # Errors
-///
-/// `Memory` where memory is refused.
+// Adds that each is assumed where others hold.
 #[tactic(auto, using(crate::proofs::SayingSteps::step_steps))]
 pub(crate) fn add_under(
     alloc: Global,
@@ -147,11 +139,7 @@ pub(crate) fn add_under(
     }
 }
 
-/// Adds that each is to be shown.
-///
-/// # Errors
-///
-/// `Memory` where memory is refused.
+// Adds that each is to be shown.
 #[tactic(auto, using(crate::proofs::SayingSteps::step_steps))]
 pub(crate) fn add_shown(saids: &[Said], out: &mut Vec<Step>) -> Result<(), Fault>
     ensures { OnOk result ((v : Naming) (w : Saying) → Adds v w out.old.items out.new.items (map S.shown (said_views v w saids.now))) }

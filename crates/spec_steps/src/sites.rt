@@ -5,11 +5,7 @@ ghost use Rattle.spec_steps.specs.Sites.{AreSites, IsBound};
 use core_rule_sets::trie_again::{Binding, BindingId};
 use spec_cases::faults::Fault;
 
-/// What is bound to a number.
-///
-/// # Errors
-///
-/// `Foreign` where nothing is.
+// What is bound to a number.
 pub(crate) fn binding_at<'d>(bindings: &'d [Binding], site: u32) -> Result<&'d Binding, Fault>
     ensures bound { IfOk result (λ b. (v : _) → AreSites v bindings.now → IsBound v site b.now) }
     ensures found { IfOk result (λ b. slice_get bindings.now site ≡ Some b.now) }
@@ -20,11 +16,7 @@ pub(crate) fn binding_at<'d>(bindings: &'d [Binding], site: u32) -> Result<&'d B
     }
 }
 
-/// The number of what a site is made of: it has a smaller one.
-///
-/// # Errors
-///
-/// `Foreign` where it hasn't.
+// The number of what a site is made of: it has a smaller one.
 pub(crate) fn source_of(site: u32, source: BindingId) -> Result<u32, Fault>
     ensures value { IfOk result (λ n. n ≡ source) }
     ensures below { IfOk result (λ n. n < site) }

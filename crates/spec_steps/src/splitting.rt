@@ -32,11 +32,7 @@ pub enum Root {
     Outputs(u32),
 }
 
-/// Adds that a value's place is split, if it is one whose type is known.
-///
-/// # Errors
-///
-/// `Memory` where memory is refused.
+// Adds that a value's place is split, if it is one whose type is known.
 #[tactic(auto, using(crate::proofs::SayingSteps::step_steps))]
 pub(crate) fn split_form(flag: bool, form: Form, out: &mut Vec<Step>) -> Result<(), Fault>
     ensures { OnOk result ((v : Naming) (w : Saying) → Adds v w out.old.items out.new.items (S.split_form (plan flag) (form_of v form))) }
@@ -59,11 +55,7 @@ pub(crate) fn split_form(flag: bool, form: Form, out: &mut Vec<Step>) -> Result<
     }
 }
 
-/// Adds that the places of values are split.
-///
-/// # Errors
-///
-/// `Memory` where memory is refused.
+// Adds that the places of values are split.
 #[tactic(auto, using(crate::proofs::SayingSteps::step_steps))]
 pub(crate) fn split_list(flag: bool, forms: &[Form], out: &mut Vec<Step>) -> Result<(), Fault>
     ensures { OnOk result ((v : Naming) (w : Saying) → Adds v w out.old.items out.new.items (S.split_each (plan flag) (forms_of v forms.now))) }
@@ -128,11 +120,7 @@ fn is_layer_below(
     }
 }
 
-/// Whether a value stands at a place below a root.
-///
-/// # Errors
-///
-/// `Foreign` where the place isn't there.
+// Whether a value stands at a place below a root.
 pub(crate) fn is_form_below(formulas: &Formulas, root: Root, form: Form) -> Result<bool, Fault>
     ensures { IfOk result (λ b. (v : Naming) → Names v formulas.now → AreApart v → b ≡ S.is_form_below (root_in v root) (form_of v form)) }
 {
@@ -193,11 +181,7 @@ fn told_at(
     }
 }
 
-/// The fields of what a constraint tells to be a variant.
-///
-/// # Errors
-///
-/// As `made_place`.
+// The fields of what a constraint tells to be a variant.
 pub(crate) fn told_fields(
     formulas: &mut Formulas,
     demands: &Demands<'_>,
@@ -217,11 +201,7 @@ pub(crate) fn told_fields(
     }
 }
 
-/// What is told by the demands, before any impure call.
-///
-/// # Errors
-///
-/// As `form_at`.
+// What is told by the demands, before any impure call.
 pub(crate) fn told_form(
     formulas: &mut Formulas,
     demands: &Demands<'_>,
@@ -268,11 +248,7 @@ fn told_splits(
     Ok(split_told(formulas, demands, flag, root, form, tested.constraint, out)?)
 }
 
-/// Adds that the fields of variants that are told are split too.
-///
-/// # Errors
-///
-/// As `form_at`.
+// Adds that the fields of variants that are told are split too.
 pub(crate) fn field_splits(
     formulas: &mut Formulas,
     demands: &Demands<'_>,
@@ -310,11 +286,7 @@ fn add_told(
     Ok(())
 }
 
-/// Adds what constraints tell.
-///
-/// # Errors
-///
-/// As `form_at`.
+// Adds what constraints tell.
 pub(crate) fn told_steps(
     formulas: &mut Formulas,
     demands: &Demands<'_>,

@@ -166,7 +166,9 @@ fn steps_from(
         [] => Ok(()),
         [event, rest @ ..] => {
             let told = event_sites(formulas.alloc(), demands, done, *event)?;
-            told_new(formulas, demands, flag, done, args, seen, &told, *event, out)?;
+            told_new(
+                formulas, demands, flag, done, args, seen, &told, *event, out,
+            )?;
             let later = joined(formulas.alloc(), &told, seen)?;
             let made = made_after(formulas.alloc(), demands.bindings, *event, done)?;
             Ok(steps_from(formulas, demands, flag, args, &later, &made, rest, out)?)
@@ -226,7 +228,14 @@ pub fn steps_of(
     split_list(flag, &forms, out)?;
     let args = formulas.made_fields(forms)?;
     told_steps(formulas, demands, demands.constraints, out)?;
-    field_splits(formulas, demands, flag, Root::Arguments, demands.constraints, out)?;
+    field_splits(
+        formulas,
+        demands,
+        flag,
+        Root::Arguments,
+        demands.constraints,
+        out,
+    )?;
     assume_own(formulas.alloc(), demands, args, out)?;
     Ok(happening(formulas, demands, flag, args, out)?)
 }

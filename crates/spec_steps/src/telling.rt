@@ -242,12 +242,7 @@ fn outputs_by(
 // Those of a call whose answers another site picks of.
 #[cycle(telling)]
 #[tactic(auto, using(crate::proofs::TellingSteps::told_steps))]
-fn picked_in(
-    bindings: &[Binding],
-    site: u32,
-    pick: u32,
-    out: &mut Vec<u32>,
-) -> Result<(), Fault>
+fn picked_in(bindings: &[Binding], site: u32, pick: u32, out: &mut Vec<u32>) -> Result<(), Fault>
     ensures { OnOk result ((v : Naming) → AreSites v bindings.now → v.site pick ≡ pick_of (v.site site) → Lists v out.old.items out.new.items (S.picked_in (v.site site))) }
 {
     let binding = binding_at(bindings, site)?;

@@ -54,14 +54,14 @@ fn result_of(signatures: &[Signature], term: TermId) -> Option<TypeId>
     }
 }
 
-/// The types of a term's arguments.
+// The types of a term's arguments.
 pub(crate) fn term_types<'d>(demands: &Demands<'d>, term: TermId) -> &'d [TypeId]
     ensures { (v : Naming) (m : Meant v demands.now) → type_numbers result.now ≡ term_args (slice_get m.p.terms term.0) }
 {
     args_of(demands.signatures, term)
 }
 
-/// Those of the term whose rule it is.
+// Those of the term whose rule it is.
 #[tactic(auto, using(crate::proofs::TypingSteps::types_said))]
 pub(crate) fn own_types<'d>(demands: &Demands<'d>) -> &'d [TypeId]
     ensures { (v : Naming) (m : Meant v demands.now) → type_numbers result.now ≡ arg_types m.p m.c.term }
@@ -69,7 +69,7 @@ pub(crate) fn own_types<'d>(demands: &Demands<'d>) -> &'d [TypeId]
     term_types(demands, demands.term)
 }
 
-/// One of some types.
+// One of some types.
 #[tactic(auto, using(crate::proofs::TypingSteps::type_steps))]
 pub(crate) fn type_in(types: &[TypeId], index: usize) -> Option<TypeId>
     ensures { type_number result ≡ slice_get (type_numbers types.now) index }
@@ -80,21 +80,21 @@ pub(crate) fn type_in(types: &[TypeId], index: usize) -> Option<TypeId>
     }
 }
 
-/// The type of a term's argument.
+// The type of a term's argument.
 pub(crate) fn arg_type(demands: &Demands<'_>, term: TermId, index: usize) -> Option<TypeId>
     ensures { (v : Naming) (m : Meant v demands.now) → type_number result ≡ slice_get (term_args (slice_get m.p.terms term.0)) index }
 {
     type_in(term_types(demands, term), index)
 }
 
-/// That of an argument of the term whose rule it is.
+// That of an argument of the term whose rule it is.
 pub(crate) fn own_type(demands: &Demands<'_>, index: usize) -> Option<TypeId>
     ensures { (v : Naming) (m : Meant v demands.now) → type_number result ≡ slice_get (arg_types m.p m.c.term) index }
 {
     type_in(own_types(demands), index)
 }
 
-/// The type of a term's result.
+// The type of a term's result.
 pub(crate) fn result_type(demands: &Demands<'_>, term: TermId) -> Option<TypeId>
     ensures { (v : Naming) (m : Meant v demands.now) → type_number result ≡ S.first_of (term_results (slice_get m.p.terms term.0)) }
 {
@@ -119,11 +119,7 @@ fn variant_types_of(
     }
 }
 
-/// The types of the fields of a type's variant, where there is one.
-///
-/// # Errors
-///
-/// `Memory` where memory is refused.
+// The types of the fields of a type's variant, where there is one.
 #[tactic(auto, using(crate::proofs::TypingSteps::type_steps))]
 pub(crate) fn variant_types(
     alloc: Global,
@@ -149,11 +145,7 @@ fn struct_types_of(alloc: Global, entry: &Type) -> Result<Option<Vec<TypeId>>, F
     }
 }
 
-/// The types of a struct's fields, where the type is one.
-///
-/// # Errors
-///
-/// `Memory` where memory is refused.
+// The types of a struct's fields, where the type is one.
 #[tactic(auto, using(crate::proofs::TypingSteps::type_steps))]
 pub(crate) fn struct_types(
     alloc: Global,
@@ -168,7 +160,7 @@ pub(crate) fn struct_types(
     }
 }
 
-/// The type of a field, where the types of all are known.
+// The type of a field, where the types of all are known.
 pub(crate) fn type_at(types: Option<Vec<TypeId>>, index: usize) -> Option<TypeId>
     ensures { type_number result ≡ S.type_at (option_map (λ l. type_numbers l.items) types) index }
 {

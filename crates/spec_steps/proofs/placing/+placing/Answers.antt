@@ -85,5 +85,5 @@ fields_at-returns t c = λ v names.
     let added = c.in_ok-add_forms.ensures v made.0 in (
       added.0,
       λ m. let all = S.forms_at m.p m.specs m.c (sites v c.args.done.now) (each_term v.site c.args.sources.now) in
-      made.1 ∙ same_forms v c.add_forms.new.out.items all (added.1 m ∙ ap (λ l. each_form v l ++ MF.form_list all) c.new-out.ensures.items),
+          made.1 ∙ same_forms v c.add_forms.new.out.items all (added.1 m ∙ ap (λ l. each_form v l ++ MF.form_list all) c.new-out.ensures.items),
     )

@@ -12,5 +12,5 @@ returns-in_ok-form_by-in-Extractor c = λ v names.
     let is = c.in-Extractor.is in (
       made.0,
       λ m bound. let same : S.form_at m.p m.specs m.c (sites v c.args.done.now) (layer v.site (site_view binding)) ≡ S.result_form m.p m.specs m.c (sites v c.args.done.now) (layer v.site (site_view binding)) = search rules in
-      made.1 m bound ∙ same,
+          made.1 m bound ∙ same,
     )

@@ -14,7 +14,7 @@ returns c = λ v names.
     let first = c.in_ok-first.ensures v second.0 in (
       first.0,
       λ m. let at = S.form_at m.p m.specs m.c (sites v c.args.done.now) in
-      adds_as v m.w c.args.out.now.items c.push_step.new.out.items _ _
-      (ap (λ f. S.told_same f (form_of v c.in_ok-second.second) ∷ []) (first.1 m) ∙ ap (λ f. S.told_same (at (v.site c.args.same.first)) f ∷ []) (second.1 m))
-      (ap (step_views v m.w) c.in_ok-push_step.ensures ∙ steps_pushed v m.w c.args.out.now.items (T.ToldSame c.in_ok-first.first c.in_ok-second.second)),
+          adds_as v m.w c.args.out.now.items c.push_step.new.out.items _ _
+          (ap (λ f. S.told_same f (form_of v c.in_ok-second.second) ∷ []) (first.1 m) ∙ ap (λ f. S.told_same (at (v.site c.args.same.first)) f ∷ []) (second.1 m))
+          (ap (step_views v m.w) c.in_ok-push_step.ensures ∙ steps_pushed v m.w c.args.out.now.items (T.ToldSame c.in_ok-first.first c.in_ok-second.second)),
     )

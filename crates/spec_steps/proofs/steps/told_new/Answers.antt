@@ -12,7 +12,7 @@ returns c = λ v names.
     let made = c.in_ok-new_steps.ensures v names in (
       made.0,
       λ m. let done = sites v c.args.done.now in
-      adds_as v m.w c.args.out.now.items c.new_steps.new.out.items _ _
-      (ap (λ l. flat_map (S.answer_steps m.p m.specs m.c done (plan c.args.flag)) l ++ S.event_steps m.p m.specs m.c done (v.fields c.args.args.0) (event_view v c.args.event)) (ap (sites v) c.deref.ensures.value ∙ c.in_ok-new.ensures v m.apart))
-      (made.1 m),
+          adds_as v m.w c.args.out.now.items c.new_steps.new.out.items _ _
+          (ap (λ l. flat_map (S.answer_steps m.p m.specs m.c done (plan c.args.flag)) l ++ S.event_steps m.p m.specs m.c done (v.fields c.args.args.0) (event_view v c.args.event)) (ap (sites v) c.deref.ensures.value ∙ c.in_ok-new.ensures v m.apart))
+          (made.1 m),
     )
