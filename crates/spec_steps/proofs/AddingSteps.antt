@@ -1,10 +1,9 @@
 -- Steps that are added, one after another.
-use Rattle.std.proofs.Common.{◌≡◌, ◌≤◌, ℕ, ◌-◌, Bool, true, List, [], ◌∷◌, ◌++◌, drop, get_or, if◌then◌else◌, length, map, take, sym, ap, ◌∙◌, arith}
+use Rattle.std.proofs.Common.{◌≡◌, ◌≤◌, ◌-◌, Bool, List, [], ◌∷◌, ◌++◌, drop, get_or, length, take, ap, ◌∙◌, arith}
 use Rattle.std.proofs.lemmas.List.{append_assoc, take_all}
 use Rattle.laws_specs.specs.Conditions.{Condition}
 use Rattle.laws_specs.specs.Specs.{Specs}
 use Rattle.model.specs.rules.Program.{Program}
-use Rattle.model_questions.specs.Forms as MF
 use Rattle.model_questions.specs.Formulas as M
 use Rattle.model_questions.specs.Steps as S
 use Rattle.spec_cases.specs.declared.forms.Form.{Form}

@@ -1,10 +1,9 @@
 -- Steps of which sites are made.
-use Rattle.std.proofs.Common.{◌≡◌, ◌≢◌, ◌<◌, ◌≤◌, ℕ, zero, suc, ◌-◌, ◌||◌, Bool, true, false, List, [], ◌∷◌, length, get_or, take, drop, refl, sym, ap, ◌∙◌, arith, eq-eqb}
-use Rattle.std.specs.Bool.{◌==◌}
+use Rattle.std.proofs.Common.{◌≡◌, ◌≢◌, ◌<◌, ◌≤◌, ℕ, zero, suc, ◌-◌, ◌||◌, true, false, List, [], ◌∷◌, length, get_or, take, drop, refl, sym, ap, ◌∙◌, arith, eq-eqb}
 use Rattle.std.proofs.lemmas.Bool.{ne_eqb}
 use Rattle.std.proofs.lemmas.List.{take_all}
 use Rattle.model.specs.sites.Sites.{SiteTerms, constructor_call}
-use Rattle.model.specs.visits.Demands.{has_site, site_term_eq}
+use Rattle.model.specs.visits.Demands.{has_site}
 use Rattle.laws_specs.specs.Conditions.{is_impure_call}
 use Rattle.spec_cases.specs.Namings.{Naming}
 use Rattle.spec_cases.specs.Places.{AreApart}

@@ -1,5 +1,5 @@
 -- Steps of what sites stand for.
-use Rattle.std.proofs.Common.{◌≡◌, ◌≤◌, ℕ, ◌-◌, List, [], ◌∷◌, ◌++◌, drop, get_or, length, map, take, refl, ap, ◌∙◌, arith}
+use Rattle.std.proofs.Common.{◌≡◌, ◌≤◌, ℕ, ◌-◌, List, [], ◌∷◌, ◌++◌, drop, get_or, length, take, refl, ap, ◌∙◌, arith}
 use Rattle.std.proofs.lemmas.List.{append_assoc, map-append, take_all}
 use Rattle.laws_specs.specs.Conditions.{Condition}
 use Rattle.laws_specs.specs.Specs.{Specs}

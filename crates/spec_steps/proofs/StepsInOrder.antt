@@ -1,7 +1,7 @@
 -- The steps of a condition, one part after another.
-use Rattle.std.proofs.Common.{◌≡◌, ◌≤◌, ℕ, ◌-◌, Bool, List, [], ◌∷◌, ◌++◌, drop, get_or, length, map, take, sym, ap, ◌∙◌, arith}
+use Rattle.std.proofs.Common.{◌≡◌, ◌≤◌, ◌-◌, Bool, List, [], ◌∷◌, ◌++◌, drop, get_or, length, map, take, sym, ap, ◌∙◌, arith}
 use Rattle.std.specs.List.{flat_map}
-use Rattle.std.proofs.lemmas.List.{append_assoc, map-append, take_all}
+use Rattle.std.proofs.lemmas.List.{append_assoc, take_all}
 use Rattle.laws_specs.specs.Conditions.{Condition}
 use Rattle.laws_specs.specs.Specs.{Specs}
 use Rattle.model.specs.rules.Program.{Program}
@@ -14,7 +14,6 @@ use Rattle.spec_cases.specs.Expressions.{Saying}
 use Rattle.spec_cases.specs.Namings.{Naming}
 use Rattle.spec_steps.specs.declared.events.Event.{Event}
 use Rattle.spec_steps.specs.Events.{event_view, event_views}
-use Rattle.spec_steps.specs.Listing.{sites}
 use Rattle.spec_steps.specs.Saying.{Adds}
 use Rattle.spec_steps.proofs.AddingSteps.{adds_as, adds_then}
 

@@ -1,10 +1,9 @@
 -- Steps of what is known of types.
-use Rattle.std.proofs.Common.{◌≡◌, ℕ, List, [], ◌∷◌, map, Option, Some, None, slice_get, refl, ap, ◌∙◌, sym}
+use Rattle.std.proofs.Common.{◌≡◌, ℕ, [], Some, None, slice_get, refl}
 use Rattle.core_types.specs.Types.{entry_field_types}
-use Rattle.model.specs.lists.Tables.{FieldEntries, unit_entries, struct_entries, tuple_entries, TermEntry, VariantEntry, enum_type}
-use Rattle.model.specs.lists.Syntax.{Position}
+use Rattle.model.specs.lists.Tables.{FieldEntries, unit_entries, struct_entries, tuple_entries}
 use Rattle.model.specs.rules.Program.{Program, arg_types}
-use Rattle.model.specs.rules.Values.{field_types, variant_types}
+use Rattle.model.specs.rules.Values.{field_types}
 use Rattle.model.specs.sites.Serves.{term_args}
 
 -- the types of a term's arguments are said twice

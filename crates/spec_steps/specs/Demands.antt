@@ -1,5 +1,5 @@
 -- What the condition of a rule, its program and its specs are, by tables and numbers.
-use Rattle.std.specs.Prelude.{◌≡◌, ℕ, Bool, true, false, List, [], ◌∷◌, map, Option, Some, None, slice_get}
+use Rattle.std.specs.Prelude.{◌≡◌, ℕ, Bool, false, List, [], ◌∷◌, map, Option, Some, None, slice_get}
 use Rattle.model.specs.rules.Program.{Program}
 use Rattle.model.specs.sites.Sites as Sites
 use Rattle.model.specs.sites.Serves.{term_args, term_results}

@@ -1,9 +1,7 @@
 -- Sites that are listed.
 use Rattle.std.specs.Prelude.{◌≡◌, ℕ, List, ◌++◌, map}
 use Rattle.model.specs.sites.Sites.{SiteTerm}
-use Rattle.core_rule_sets.specs.declared.trie_again.Binding.{Binding}
 use Rattle.spec_cases.specs.Namings.{Naming}
-use Rattle.spec_steps.specs.Sites.{AreSites}
 
 -- what numbers of a list stand for
 abbrev pub sites : Naming → List ℕ → List SiteTerm

@@ -1,5 +1,5 @@
 -- What places are below of.
-use Rattle.std.specs.Prelude.{ℕ, Bool}
+use Rattle.std.specs.Prelude.{Bool}
 use Rattle.model_questions.specs.Formulas as M
 use Rattle.model_questions.specs.Steps as S
 use Rattle.spec_cases.specs.Namings.{Naming}

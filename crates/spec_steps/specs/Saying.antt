@@ -1,5 +1,5 @@
 -- What is said, and steps, that are added.
-use Rattle.std.specs.Prelude.{◌≡◌, ℕ, List, ◌++◌, map, Option}
+use Rattle.std.specs.Prelude.{◌≡◌, List, ◌++◌, map, Option}
 use Rattle.laws_specs.specs.Specs.{SpecExpr}
 use Rattle.model_questions.specs.Forms as MF
 use Rattle.model_questions.specs.Steps as S

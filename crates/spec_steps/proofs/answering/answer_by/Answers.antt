@@ -1,7 +1,7 @@
 use Rattle.std.proofs.Common.{◌∙◌, sym, ap}
 use Rattle.core_rule_sets.specs.declared.trie_again.Binding.{Binding}
 use Rattle.core_rule_sets.specs.SiteViews.{site_view}
-use Rattle.model.specs.sites.Sites.{each_term, layer, pick_of}
+use Rattle.model.specs.sites.Sites.{each_term, layer}
 use Rattle.model_questions.specs.Steps as S
 use Rattle.spec_steps.specs.Listing.{sites}
 use Rattle.spec_steps.specs.Roots.{plan}

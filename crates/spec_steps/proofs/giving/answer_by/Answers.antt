@@ -3,7 +3,6 @@ use Rattle.model.specs.sites.Sites.{layer}
 use Rattle.core_rule_sets.specs.SiteViews.{site_view}
 use Rattle.model_questions.specs.Formulas as M
 use Rattle.model_questions.specs.Steps as S
-use Rattle.spec_cases.specs.Namings.{layer_of_place}
 use Rattle.spec_steps.proofs.giving.answer_by.Goals as goal
 
 pub returns-in_ok-where_typed-in-Constructor : goal.returns-in_ok-where_typed-in-Constructor

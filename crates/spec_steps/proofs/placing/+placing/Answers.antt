@@ -4,7 +4,7 @@ use Rattle.core_rule_sets.specs.SiteViews.{site_view}
 use Rattle.model.specs.sites.Sites.{each_term, layer}
 use Rattle.model_questions.specs.Forms as MF
 use Rattle.model_questions.specs.Steps as S
-use Rattle.spec_cases.specs.Namings.{form_of, layer_of_place}
+use Rattle.spec_cases.specs.Namings.{layer_of_place}
 use Rattle.spec_steps.specs.Forming.{each_form}
 use Rattle.spec_steps.specs.Listing.{sites}
 use Rattle.spec_steps.proofs.PlacingSteps.{forms_added, same_forms}

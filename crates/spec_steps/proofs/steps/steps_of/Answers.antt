@@ -1,7 +1,5 @@
-use Rattle.std.proofs.Common.{◌++◌, ◌∙◌, [], map, ap, sym}
-use Rattle.model_questions.specs.Steps as S
+use Rattle.std.proofs.Common.{◌∙◌, ap}
 use Rattle.spec_cases.specs.Namings.{forms_of}
-use Rattle.spec_cases.specs.Steps.{step_views}
 use Rattle.spec_steps.specs.Demands.{tested_views}
 use Rattle.spec_steps.specs.Roots.{plan}
 use Rattle.spec_steps.proofs.StepsInOrder.{asked_in_order}
