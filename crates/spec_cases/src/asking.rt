@@ -62,9 +62,13 @@ impl Sort {
     }
 }
 
-// What an integer of a type stands for, where the type has a sort.
+/// What an integer of a type stands for, where the type has a sort.
+///
+/// # Errors
+///
+/// `TooGreat` where the type is one of words past 127 bits.
 #[tactic(auto, using(crate::proofs::AskingSteps::look_steps))]
-fn literal_of(sorts: &[TypeSort], number: i128, ty: TypeId) -> Result<Option<Literal>, Fault>
+pub fn literal_of(sorts: &[TypeSort], number: i128, ty: TypeId) -> Result<Option<Literal>, Fault>
     ensures { IfOk result (λ o. option_map literal_view o ≡ then_option (look (λ k. k == ty.0) (type_sorts sorts.now)) (λ s. L.integer_in s number)) }
 {
     match sorts {
@@ -79,9 +83,9 @@ fn literal_of(sorts: &[TypeSort], number: i128, ty: TypeId) -> Result<Option<Lit
     }
 }
 
-// What a named constant stands for.
+/// What a named constant stands for.
 #[tactic(auto, using(crate::proofs::AskingSteps::look_steps))]
-fn constant_of(constants: &[Constant], name: Sym) -> Option<Literal>
+pub fn constant_of(constants: &[Constant], name: Sym) -> Option<Literal>
     ensures { option_map literal_view result ≡ look (λ k. k == name.0) (constant_views constants.now) }
 {
     match constants {

@@ -10,7 +10,7 @@ use core_types::{TypeId, VariantId};
 
 /// The number of an expression, of expressions, of cases or of arms. It means nothing outside its list.
 #[derive(Clone, Copy)]
-pub struct ExprId(pub(crate) u32);
+pub struct ExprId(pub u32);
 
 /// An expression, or the first of expressions, of cases or of arms.
 #[derive(Clone, Copy)]

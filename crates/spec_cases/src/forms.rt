@@ -4,7 +4,7 @@ use core_types::{TypeId, VariantId};
 
 /// The number of a list of fields. It means nothing outside its arena.
 #[derive(Clone, Copy)]
-pub struct FieldsId(pub(crate) u32);
+pub struct FieldsId(pub u32);
 
 /// What a value may be.
 #[derive(Clone, Copy)]

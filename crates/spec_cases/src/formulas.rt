@@ -8,7 +8,7 @@ use core_types::{TypeId, VariantId};
 
 /// The number of a place. It means nothing outside its arena.
 #[derive(Clone, Copy)]
-pub struct PlaceId(pub(crate) u32);
+pub struct PlaceId(pub u32);
 
 /// The number of a formula that is made of others. It means nothing outside its arena.
 #[derive(Clone, Copy)]
