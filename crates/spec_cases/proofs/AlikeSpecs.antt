@@ -30,7 +30,7 @@ module _ (types : List TypeEntry) (a b : L.Specs) (models : a.models ≡ b.model
 
   enum_alike : (x : Bool) (ty : ℕ) (at : M.Place) (vs : List VariantEntry) → E.at_enum a k x ty at vs ≡ E.at_enum b k x ty at vs
   enum_alike x ty at [] = ap (E.at_sort k at) (sort_alike ty)
-  enum_alike x ty at (v ∷ vs) = ap (λ s. E.at_variants (x && not (E.is_closed s)) ty at (v ∷ vs) (E.found k.kinds at)) (sort_alike ty)
+  enum_alike x ty at (v ∷ vs) = ap (λ s. E.at_variants (x && not (L.is_closed s)) ty at (v ∷ vs) (E.found k.kinds at)) (sort_alike ty)
 
   type_alike : (ty : ℕ) (at : M.Place) (o : Option TypeEntry) → E.at_type a k ty at o ≡ E.at_type b k ty at o
   type_alike ty at None = refl

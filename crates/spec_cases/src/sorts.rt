@@ -73,7 +73,7 @@ fn add_sorts(sorts: &[TypeSort], out: &mut Vec<u32>) -> Result<(), Fault>
 
 // Whether there are no widths.
 fn has_no_width(widths: &[u32]) -> bool
-    ensures { result ≡ E.is_closed (Some (L.words_among widths.now)) }
+    ensures { result ≡ L.is_closed (Some (L.words_among widths.now)) }
 {
     match widths {
         [] => true,
@@ -83,7 +83,7 @@ fn has_no_width(widths: &[u32]) -> bool
 
 // Whether a sort has no words.
 fn is_closed(sort: &Sort) -> bool
-    ensures { result ≡ E.is_closed (Some (sort_view sort.now)) }
+    ensures { result ≡ L.is_closed (Some (sort_view sort.now)) }
 {
     match sort {
         Sort::WordsAmong(widths) => has_no_width(widths),
@@ -93,7 +93,7 @@ fn is_closed(sort: &Sort) -> bool
 
 /// Whether the sort of a type has no words.
 pub fn is_type_closed(sorts: &[TypeSort], ty: TypeId) -> bool
-    ensures { result ≡ E.is_closed (look (λ k. k == ty.0) (type_sorts sorts.now)) }
+    ensures { result ≡ L.is_closed (look (λ k. k == ty.0) (type_sorts sorts.now)) }
 {
     match sorts {
         [] => false,
