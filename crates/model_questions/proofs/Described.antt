@@ -5,7 +5,7 @@ use Rattle.std.proofs.lemmas.Grind.{common_steps}
 use Rattle.model.specs.rules.Outcome.{then_option}
 use Rattle.model.proofs.Elements.{In, in_left, in_right, in_either, some_is, none_some}
 use Rattle.model_questions.specs.Formulas.{Fact, known, Model, is_so, both_of, one_of, none_of}
-use Rattle.model_questions.specs.Forms.{Case, Cases, nothing_said, one_case, anything, each_under, under, joined_cases, without_rest, from_each, then_cases}
+use Rattle.model_questions.specs.Forms.{Case, Cases, nothing_said, one_case, anything, case_under, each_under, under, joined_cases, without_rest, from_each, then_cases}
 use Rattle.model_questions.proofs.FactsSo.{none_so, both_from, both_parts, one_left, one_right, none_from}
 
 abbrev pub IsTaken : {X : Type 0} → Model → List (Case X) → Type 0
@@ -34,18 +34,29 @@ module _ (m : Model) (X Y : Type 0) (stands : X → Y) (Fits : X → Type 0) whe
   rest_back cs o d = record { sound = d.sound; full = λ y e. elim (d.full y e) [ inl t ↦ inl t | inr z ↦ absurd (false≢true z) ] }
 
   -- under a guard
+  case_in : (f : Fact) (x : X) (cs : List (Case X)) (c : Case X) → In (case_under f x cs) c → (c ≡ record { guard = f; gives = x }) ⊎ In cs c
+  case_in f x cs c i = grind (arith, common_steps)
+
+  in_case : (f : Fact) (x : X) (cs : List (Case X)) → is_so m f ≡ true → In (case_under f x cs) (record { guard = f; gives = x })
+  in_case f x cs e = grind (arith, common_steps)
+
+  in_later : (f : Fact) (x : X) (cs : List (Case X)) (u : Case X) → In cs u → In (case_under f x cs) u
+  in_later f x cs u i = grind (arith, common_steps)
+
   under_in : (g : Fact) (xs : List (Case X)) (c : Case X) → In (each_under g xs) c → (u : Case X) × In xs u × (c ≡ record { guard = both_of g u.guard; gives = u.gives })
   under_in g [] c i = absurd i
-  under_in g (x ∷ xs) c (inl e) = (x, inl refl, sym e)
-  under_in g (x ∷ xs) c (inr i) = let k = under_in g xs c i in (k.0, inr k.1, k.2)
+  under_in g (x ∷ xs) c i = elim (case_in (both_of g x.guard) x.gives (each_under g xs) c i) [ inl e ↦ (x, inl refl, e) | inr j ↦ let k = under_in g xs c j in (k.0, inr k.1, k.2) ]
 
-  in_under : (g : Fact) (xs : List (Case X)) (u : Case X) → In xs u → In (each_under g xs) (record { guard = both_of g u.guard; gives = u.gives })
-  in_under g (x ∷ xs) u (inl q) = inl (ap (λ (w : Case X). record { guard = both_of g w.guard; gives = w.gives }) q)
-  in_under g (x ∷ xs) u (inr i) = inr (in_under g xs u i)
-  in_under g [] u i = absurd i
+  in_under : (g : Fact) (xs : List (Case X)) (u : Case X) → In xs u → is_so m (both_of g u.guard) ≡ true → In (each_under g xs) (record { guard = both_of g u.guard; gives = u.gives })
+  in_under g (x ∷ xs) u (inl q) s =
+      subst (λ (w : Case X). In (case_under (both_of g x.guard) x.gives (each_under g xs)) (record { guard = both_of g w.guard; gives = w.gives })) q
+      (in_case (both_of g x.guard) x.gives (each_under g xs) (subst (λ (w : Case X). is_so m (both_of g w.guard) ≡ true) (sym q) s))
+  in_under g (x ∷ xs) u (inr i) s = in_later (both_of g x.guard) x.gives (each_under g xs) (record { guard = both_of g u.guard; gives = u.gives }) (in_under g xs u i s)
+  in_under g [] u i s = absurd i
 
   pub taken_under : (g : Fact) (us : List (Case X)) → is_so m g ≡ true → IsTaken m us → IsTaken m (each_under g us)
-  taken_under g us e u = (record { guard = both_of g u.0.guard; gives = u.0.gives }, in_under g us u.0 u.1, both_from m g u.0.guard e u.2)
+  taken_under g us e u =
+      let so = both_from m g u.0.guard e u.2 in (record { guard = both_of g u.0.guard; gives = u.0.gives }, in_under g us u.0 u.1 so, so)
 
   -- a case under a guard is taken where both are so
   pub under_sound : (g : Fact) (us : List (Case X)) (c : Case X) → In (each_under g us) c → is_so m c.guard ≡ true

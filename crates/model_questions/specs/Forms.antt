@@ -56,10 +56,14 @@ module _ {X : Type 0} where
   abbrev pub anything : Cases X
   anything = record { cases = []; rest = known true }
 
-  -- each under a further guard
+  -- each under a further guard; what is never taken isn't kept
+  abbrev pub case_under : Fact → X → List (Case X) → List (Case X)
+  case_under (known false) x cs = cs
+  case_under g x cs = record { guard = g; gives = x } ∷ cs
+
   abbrev pub each_under : Fact → List (Case X) → List (Case X)
   each_under g [] = []
-  each_under g (c ∷ cs) = record { guard = both_of g c.guard; gives = c.gives } ∷ each_under g cs
+  each_under g (c ∷ cs) = case_under (both_of g c.guard) c.gives (each_under g cs)
 
   abbrev pub under : Fact → Cases X → Cases X
   under g cs = record { cases = each_under g cs.cases; rest = both_of g cs.rest }
