@@ -27,6 +27,7 @@ forms_are_asked_lem = record {
   fields = refl;
   open_enum = refl;
   other_arm = refl;
+  no_other_arm = refl;
   closed_enum = refl;
   denoted = denoted;
   present = refl;

@@ -13,7 +13,7 @@ use Rattle.laws_specs.specs.Words.{a_truth, a_word, variant_of, no_denoted, equa
 use Rattle.laws_specs.specs.Specs.{Sort, words_among, SpecExpr, its_argument, its_result, variable, the_same, operation, variant_said, match_on, no_spec_expr, spec_expr_and, SpecArms, no_spec_arm, spec_arm_and, arm_else, Spec, Specs, no_unknown}
 use Rattle.laws_specs.specs.Conditions.{Condition}
 use Rattle.laws_specs.specs.Meets.{Atoms, IsDenotation}
-use Rattle.model_questions.specs.Formulas.{Place, argument_at, variant_field_at, word_at, Fact, known, as_wide, is_kind, fact_by, one_fact, no_fact, no_operand, word_and}
+use Rattle.model_questions.specs.Formulas.{Place, argument_at, variant_field_at, word_at, Fact, known, as_wide, is_kind, fact_by, both_facts, one_fact, no_fact, no_operand, word_and}
 use Rattle.model_questions.specs.Questions.{questions}
 
 abbrev pub here : Position
@@ -88,9 +88,12 @@ pub record FormsAreAsked : Type 0 where
       ≡ (no_fact (same_as_itself 8) ∷ as_wide field 8 ∷ is_kind arg 1 ∷ []) ∷ ((no_fact (same_as_itself 16) ∷ as_wide field 16 ∷ is_kind arg 1 ∷ []) ∷ [])
   -- of an atom a match without an arm for it says nothing
   pub open_enum : asked (specs_with (words_of_v ∷ []) (provides (match_on (its_argument 0) is_a_or_b)) (provides so)) [] (argument 0) ≡ (no_fact (one_fact (is_kind arg 0) (is_kind arg 1)) ∷ []) ∷ []
-  -- with an arm for it, what it says of it isn't followed, so a goal fails there
-  pub other_arm : asked (specs_with (words_of_v ∷ []) (provides (match_on (its_argument 0) is_a_or_other)) (provides so)) [] (argument 0)
-      ≡ (no_fact (one_fact (is_kind arg 0) (is_kind arg 1)) ∷ []) ∷ []
+  -- with an arm for it, what it says of it isn't followed: an assumption then excludes no atom
+  pub other_arm : asked (specs_with (words_of_v ∷ []) (provides so) (provides (match_on its_result is_a_or_other))) ((extractor_call 1 (argument 0), is_present) ∷ []) (argument 0)
+      ≡ (known false ∷ one_fact (one_fact (is_kind arg 0) (is_kind arg 1)) (both_facts (no_fact (is_kind arg 0)) (no_fact (is_kind arg 1))) ∷ known true ∷ []) ∷ []
+  -- without one it does
+  pub no_other_arm : asked (specs_with (words_of_v ∷ []) (provides so) (provides (match_on its_result is_a_or_b))) ((extractor_call 1 (argument 0), is_present) ∷ []) (argument 0)
+      ≡ (known false ∷ one_fact (is_kind arg 0) (is_kind arg 1) ∷ known true ∷ []) ∷ []
   -- an enum whose sort has no words has no atoms: what isn't A is B
   pub closed_enum : asked closed_specs [] (argument 0)
       ≡ (no_fact (one_fact (is_kind arg 0) (no_fact (is_kind arg 0))) ∷ []) ∷ []

@@ -243,7 +243,7 @@ module _ (p : Program) (specs : Specs) (c : Condition) (args : DenotedList) (f :
 
     tell_all : (ks : List (SiteTerm × Constraint)) (rest : List Step) → ((s : SiteTerm) (k : Constraint) → In ks (s, k) → IsMetAs specs f s k) → Shown (told_steps p specs c ks ++ rest) → Shown rest
     tell_all [] rest met h = h
-    tell_all (k ∷ ks) rest met h = tell_all ks rest (λ s q i. met s q (inr i)) (h (told_as_is [] (λ w i. absurd i) k.0 k.1 (met k.0 k.1 (inl refl)))).1
+    tell_all (k ∷ ks) rest met h = tell_all ks rest (λ s q i. met s q (inr i)) (h (told_as_is [] none_done k.0 k.1 (met k.0 k.1 (inl refl)))).1
 
     equals_next : (done : List SiteTerm) (are_done : AreDone p specs c args f a done) (seen : List SiteTerm) (s t : SiteTerm) (x : Denoted) (es : List Event) → f s ≡ Some (told x) → f t ≡ Some (told x)
         → Shown (Steps seen done (equals_at s t ∷ es)) → Shown (Steps ((told_in s ++ told_in t) ++ seen) done es)
@@ -336,7 +336,7 @@ module _ (p : Program) (specs : Specs) (c : Condition) (args : DenotedList) (f :
     all_equals_next [] seen es same h = (seen, h)
     all_equals_next (k ∷ ks) seen es same h =
         let e = same k.0 k.1 (inl refl) in
-        all_equals_next ks ((told_in k.0 ++ told_in k.1) ++ seen) es (λ s t i. same s t (inr i)) (equals_next [] (λ w i. absurd i) seen k.0 k.1 e.0 (map (λ q. equals_at q.0 q.1) ks ++ es) e.1 e.2 h)
+        all_equals_next ks ((told_in k.0 ++ told_in k.1) ++ seen) es (λ s t i. same s t (inr i)) (equals_next [] none_done seen k.0 k.1 e.0 (map (λ q. equals_at q.0 q.1) ks ++ es) e.1 e.2 h)
 
     all_made_next : (us : List SiteTerm) (done : List SiteTerm) (are_done : AreDone p specs c args f a done) (seen : List SiteTerm) (es : List Event) → ((u : SiteTerm) → In us u → IsCallMade p specs f u)
         → Shown (Steps seen done (map calls us ++ es)) → (after now : List SiteTerm) × AreDone p specs c args f a now × Shown (Steps after now es)
@@ -400,10 +400,10 @@ module _ (p : Program) (specs : Specs) (c : Condition) (args : DenotedList) (f :
         let s = start k in
         record {
           provides = λ h x made e q.
-              let l = all_made_next c.impure [] (λ w i. absurd i) s.0 (gives_at c.result ∷ []) (λ u i. made u (contains_from_in c.impure u i)) s.1 in
+              let l = all_made_next c.impure [] none_done s.0 (gives_at c.result ∷ []) (λ u i. made u (contains_from_in c.impure u i)) s.1 in
               given_next l.1 l.2 l.0 h x e q l.3;
           requires = λ before later u t n ss xs split made same e.
-              required_of c.impure [] (λ w i. absurd i) s.0 (gives_at c.result ∷ []) s.1 before later u t n ss xs split (λ w i. made w (contains_from_in before w i)) same e;
+              required_of c.impure [] none_done s.0 (gives_at c.result ∷ []) s.1 before later u t n ss xs split (λ w i. made w (contains_from_in before w i)) same e;
         }
 
   none_told : AreKnown (model_of v specs.unknowns) nothing_known

@@ -154,6 +154,11 @@ abbrev pub split_each : (Place → Bool) → Forms → List Step
 split_each plan no_form = []
 split_each plan (form_and f rest) = split_form plan f ++ split_each plan rest
 
+-- what a call provides, where its require holds; of an impure call that was made it was shown that it does
+abbrev pub provided_steps : ℕ → List Said → List Said → List Step
+provided_steps zero under ss = map (assumed_under under) ss
+provided_steps (suc n) under ss = map assumed ss
+
 -- arguments and outputs of a call, and what is below them
 abbrev pub is_argument : Place → Bool
 is_argument (argument_at i) = true
@@ -297,11 +302,7 @@ module _ (p : Program) (specs : Specs) (c : Condition) where
   event_sites done (gives_at s) = result_in done s
 
   module _ (done : List SiteTerm) where
-    -- a constructor's answer is what its term provides where its require holds; of an impure call that was made it was shown that it does
-    abbrev pub provided_steps : ℕ → List Said → List Said → List Step
-    provided_steps zero under ss = map (assumed_under under) ss
-    provided_steps (suc n) under ss = map assumed ss
-
+    -- a constructor's answer is what its term provides
     abbrev pub constructed : (Place → Bool) → Bool → ℕ → SiteTerms → ℕ → SiteTerm → List Step
     constructed plan true t ss n u = split_form plan (form_at done u) ++ provided_steps n (requires_of specs t (forms_at done ss)) (provides_of specs t (forms_at done ss) (form_at done u))
     constructed plan false t ss n u = []
