@@ -32,4 +32,5 @@ forms_are_asked_lem = record {
   denoted = denoted;
   present = refl;
   made = refl;
+  unwrapped = refl;
 }

@@ -13,7 +13,7 @@ use Rattle.model.proofs.Elements.{In, or_split, contains_from_in, some_is, none_
 use Rattle.model.proofs.SameSites.{term_means}
 use Rattle.laws_specs.specs.Words.{Denoted, a_truth, variant_of, struct_of, DenotedList, no_denoted, denoted_and, denoted_list}
 use Rattle.laws_specs.specs.Specs.{Specs, constant_of, literal_of, IsRequired}
-use Rattle.laws_specs.specs.Conditions.{ToldContent, told, told_parts, told_nothing, told_just, told_many, answered_as, as_denoted, result_as, Valuation, denoted_at_each, IsAnsweredAsSaid, is_impure_call, is_of_type, are_of_types, IsTypedAs, Condition, IsAssumed}
+use Rattle.laws_specs.specs.Conditions.{ToldContent, told, told_parts, told_nothing, told_just, told_many, answered_as, as_denoted, result_as, told_outputs, Valuation, denoted_at_each, IsAnsweredAsSaid, is_impure_call, is_of_type, are_of_types, IsTypedAs, Condition, IsAssumed}
 use Rattle.model_questions.specs.Formulas.{Place, argument_at, site_at, output_at, variant_field_at, struct_field_at}
 use Rattle.model_questions.specs.Forms.{Form, a_fact, an_integer_by, a_word_by, variant_by, struct_by, any_of, some_at, Forms, form_list}
 use Rattle.model_questions.specs.Steps.{or_form, typed_at, written_or, any_if, type_at, first_of, variant_field_form, struct_field_form, is_pure_made, is_answered, answer_form, output_form, form_at, forms_at, part_form, outputs_form, part_outputs_form, is_unwrapped, result_form, fields_if, told_fields}
@@ -110,12 +110,16 @@ module _ (p : Program) (specs : Specs) (c : Condition) (args : DenotedList) (f :
     pub met_answer : (w : SiteTerm) → is_answered p specs c done w ≡ true → is_impure_call w ≡ true → IsMetCall w
     met_answer w e q = elim (or_split (is_pure_made p specs c w) (has_site done w) e) [ inl r ↦ absurd (false≢true (sym (pure_made w r).1 ∙ q)) | inr r ↦ (are_done w (has_in done w r)).2 ]
 
-    -- what is unwrapped of a constructor's answer is its result
+    -- what is unwrapped of a call's answer is its one result or output
     pub unwrapped_is : (s : SiteTerm) (h : ToldContent) (x : Denoted) → is_unwrapped p specs c done s ≡ true → f s ≡ Some (told_just h) → result_as h ≡ Some x → h ≡ told x
     unwrapped_is (constructor_call t ss n) h x m e q = let k = (typed_answer (constructor_call t ss n) m (told_just h) e).1 h refl in one_result h k.0 k.1 q
       where
         one_result : (g : ToldContent) (y : Denoted) → as_denoted g ≡ Some y → result_as g ≡ Some x → g ≡ told x
         one_result g y r v = grind (arith, common_steps, none_some, some_is)
+    unwrapped_is (extractor_call t s) h x m e q = let k = (typed_answer (extractor_call t s) m (told_just h) e).1 h refl in one_output h k.0 k.1 q
+      where
+        one_output : (g : ToldContent) (xs : DenotedList) → told_outputs g ≡ Some xs → result_as g ≡ Some x → g ≡ told x
+        one_output g xs r v = grind (arith, common_steps, none_some, some_is)
     unwrapped_is s h x m e q = grind (arith, common_steps)
 
   -- 1. places of sites

@@ -10,11 +10,12 @@ use Rattle.model.specs.rules.Outcome.{then_option}
 use Rattle.model.proofs.Elements.{In, or_split, some_is, none_some}
 use Rattle.laws_specs.specs.Words.{Denoted, a_truth, an_integer, a_word, variant_of, struct_of, is_plain, DenotedList, no_denoted, denoted_and, denoted_list, same_sort, denoted_eq, is_formed, are_formed, Operator, equals, field, applied_to}
 use Rattle.laws_specs.specs.Specs.{SpecExpr, operation, unknown, variant_said, struct_said, let_in, switch_on, match_on, SpecExprs, no_spec_expr, spec_expr_and, SpecCases, no_case, case_and, SpecArms, no_spec_arm, spec_arm_and, struct_arm, arm_else, Sort, truths, integers, words, is_of_sort, are_of_sorts, AreUnknownsSorted, Specs, Unknowns, says, says_each, says_case, says_arm}
-use Rattle.model_questions.specs.Formulas.{Place, Word, number_of, Integer, written_integer, integer_of, Operands, fact_and, integer_and, word_and, Model, number_in, integer_in, truth_in, is_so, operands_in, both_of}
+use Rattle.model_questions.specs.Formulas.{Place, Word, word_by, either_word, number_of, Integer, written_integer, integer_of, Operands, no_operand, fact_and, integer_and, word_and, Model, number_in, integer_in, truth_in, is_so, operands_in, both_of}
 use Rattle.model_questions.specs.Forms.{Form, a_fact, an_integer_by, a_word_by, variant_by, struct_by, Forms, no_form, form_and, form_list, form_of, Case, Cases, nothing_said, one_case, anything, without_rest, or_nothing, then_cases, truth_of, is_true, surely, possible_truth, may_be_true, perhaps}
-use Rattle.model_questions.specs.Evaluated.{Known, Result, no_result, truth_result, integer_result, word_result, unknown_result, result, came_to, widths_of, is_size, each_size, by_size, followed, literals, literal_case, folded, operands, is_surely_formed, are_operands_of, answer_of_sort, answered_of, by_operands, fitted, by_fact, takes_others, has_variants, opened, matched, opened_each, evaluated, evaluated_each, evaluated_case, evaluated_arm}
+use Rattle.model_questions.specs.Evaluated.{Known, Result, no_result, truth_result, integer_result, word_result, unknown_result, result, came_to, widths_of, is_size, each_size, by_size, followed, literals, literal_case, folded, operands, is_word_result, is_surely_formed, are_surely_formed, are_operands_of, answer_of_sort, answered_of, by_operands, fitted, by_fact, takes_others, has_variants, opened, matched, opened_each, evaluated, evaluated_each, evaluated_case, evaluated_arm}
 use Rattle.model_questions.proofs.FactsSo.{one_so, both_from, both_parts, one_left, one_right}
 use Rattle.model_questions.proofs.Described.{Describes, nothing_described, anything_described, one_described, then_described, choice_described}
+use Rattle.model_questions.proofs.Formed.{applied_formed}
 use Rattle.model_questions.proofs.Merging.{merged_described}
 use Rattle.model_questions.proofs.Opening.{opened_described, IsApart, opened_apart, opened_each_described}
 use Rattle.model_questions.proofs.Results.{ComesTo, result_comes, fact_from_so, integer_from_is, literals_are}
@@ -112,8 +113,34 @@ module _ (types : List TypeEntry) (specs : Specs) (vs : Place → Denoted) (u : 
   word_is v x e = grind (arith, common_steps, eqb-true)
 
   module _ (formed : (at : Place) → is_formed (vs at) ≡ true) (answers : AreUnknownsSorted (record specs { unknowns = u })) where
-    word_formed : (w : ℕ) (t : Word) → is_surely_formed w t ≡ true → is_formed (a_word w (number_of m t)) ≡ true
-    word_formed w t e = grind (arith, common_steps, eqb-true, lt-ltb, number_formed)
+    word_came : (w : ℕ) (r : Result) (o : Option Denoted) → is_word_result w r ≡ true → ComesTo r o → o ≡ Some (a_word w (number_in o))
+    word_came w (word_result v) o h c = subst (λ n. o ≡ Some (a_word n (number_in o))) (eqb-true v w h) c
+    word_came w no_result o h c = absurd (false≢true h)
+    word_came w truth_result o h c = absurd (false≢true h)
+    word_came w integer_result o h c = absurd (false≢true h)
+    word_came w unknown_result o h c = absurd (false≢true h)
+
+    either_formed : (w x y : ℕ) (b : Bool) → is_formed (a_word w x) ≡ true → is_formed (a_word w y) ≡ true → is_formed (a_word w (if b then x else y)) ≡ true
+    either_formed w x y true h k = h
+    either_formed w x y false h k = k
+
+    mutual
+      word_formed : (w : ℕ) (t : Word) → is_surely_formed w t ≡ true → is_formed (a_word w (number_of m t)) ≡ true
+      word_formed w (word_by o of) e =
+          let parts = and_parts (is_word_result w (result o of)) (are_surely_formed of) e in
+          applied_formed o (operands_in m of) (a_word w (number_in (applied_to o (operands_in m of)))) (words_formed of parts.1) (word_came w (result o of) (applied_to o (operands_in m of)) parts.0 (result_comes m o of))
+      word_formed w (either_word f a b) e =
+          let parts = and_parts (is_surely_formed w a) (is_surely_formed w b) e in
+          either_formed w (number_of m a) (number_of m b) (is_so m f) (word_formed w a parts.0) (word_formed w b parts.1)
+      word_formed w t e = grind (arith, common_steps, eqb-true, lt-ltb, number_formed)
+
+      words_formed : (of : Operands) → are_surely_formed of ≡ true → are_formed (operands_in m of) ≡ true
+      words_formed no_operand e = refl
+      words_formed (fact_and f rest) e = words_formed rest e
+      words_formed (integer_and z rest) e = words_formed rest e
+      words_formed (word_and w t rest) e =
+          let parts = and_parts (is_surely_formed w t) (are_surely_formed rest) e in
+          and_from (is_formed (a_word w (number_of m t))) (are_formed (operands_in m rest)) (word_formed w t parts.0) (words_formed rest parts.1)
 
     operands_sorted : (sorts : List Sort) (of : Operands) → are_operands_of sorts of ≡ true → (are_of_sorts sorts (operands_in m of) ≡ true) × (are_formed (operands_in m of) ≡ true)
     operands_sorted (s ∷ sorts) (fact_and f rest) e = grind (arith, common_steps, operands_sorted sorts rest, and_parts, and_from)

@@ -1,6 +1,7 @@
 pub mod Described
 pub mod Evaluating
 pub mod FactsSo
+pub mod Formed
 pub mod Merging
 pub mod Opening
 pub mod Results

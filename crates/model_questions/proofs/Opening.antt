@@ -11,7 +11,7 @@ use Rattle.laws_specs.specs.Words.{Denoted, a_truth, an_integer, a_word, variant
 use Rattle.laws_specs.specs.Specs.{Sort, truths, integers, words, words_among, is_of_sort, Specs, sort_of, is_closed, Unknowns}
 use Rattle.laws_specs.specs.Conditions.{is_modelled_as, is_atom_as, is_of_type, are_of_types}
 use Rattle.model_questions.specs.Formulas.{Place, variant_field_at, struct_field_at, word_at, Fact, known, as_wide, is_kind, Model, is_so, both_of, none_of}
-use Rattle.model_questions.specs.Forms.{Form, a_fact, an_integer_by, a_word_by, variant_by, struct_by, any_of, some_at, Forms, no_form, form_and, Case, Cases, one_case, without_rest, then_cases}
+use Rattle.model_questions.specs.Forms.{Form, a_word_by, struct_by, any_of, Forms, no_form, form_and, Case, Cases, one_case, without_rest, then_cases}
 use Rattle.model_questions.specs.Evaluated.{Known, found, fields_at, wide_case, at_each, at_widths, at_sort, variant_at, each_variant, is_no_variant, one_variant, variant_known, at_variants, at_enum, at_type, is_enum_of_variants, has_variants, opened, opened_each}
 use Rattle.model_questions.proofs.FactsSo.{none_so, both_from, both_parts, none_from}
 use Rattle.model_questions.proofs.Described.{Describes, IsTaken, anything_described, one_described, rest_back, then_described}

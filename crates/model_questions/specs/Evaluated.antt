@@ -9,7 +9,7 @@ use Rattle.model.specs.rules.Outcome.{then_option}
 use Rattle.model.specs.rules.Values.{field_types}
 use Rattle.laws_specs.specs.Words.{Denoted, a_truth, DenotedList, no_denoted, denoted_and, a_word, an_integer, Operator, equals, both, one_of as either, negation, implied, less, less_or_equal, plus, minus, times, word_plus, word_minus, word_times, word_quotient, word_remainder, signed_quotient, signed_remainder, word_and as bit_conjunction, word_or, word_xor, word_not, word_negated, shifted_left, shifted_right, shifted_right_signed, rotated_left, rotated_right, word_less, word_less_or_equal, signed_less, signed_less_or_equal, joined, bits, widened, widened_signed, as_word, as_integer, width_of, field, applied_to}
 use Rattle.laws_specs.specs.Specs.{Sort, truths, integers, words, words_among, SpecExpr, its_argument, its_result, variable, the_same, operation, unknown, variant_said, struct_said, let_in, switch_on, match_on, SpecExprs, no_spec_expr, spec_expr_and, SpecCases, no_case, case_and, SpecArms, no_spec_arm, spec_arm_and, struct_arm, arm_else, UnknownSort, Specs, sort_of, is_closed}
-use Rattle.model_questions.specs.Formulas.{Place, place_eq, variant_field_at, struct_field_at, Word, written, word_at, word_by, word_answered, Integer, written_integer, integer_at, integer_by, integer_answered, Fact, known, truth_at, as_wide, is_kind, fact_by, fact_answered, same_facts, Operands, no_operand, fact_and, integer_and, word_and, both_of, one_of, none_of}
+use Rattle.model_questions.specs.Formulas.{Place, place_eq, variant_field_at, struct_field_at, Word, written, word_at, word_by, word_answered, either_word, Integer, written_integer, integer_at, integer_by, integer_answered, Fact, known, truth_at, as_wide, is_kind, fact_by, fact_answered, same_facts, Operands, no_operand, fact_and, integer_and, word_and, both_of, one_of, none_of}
 use Rattle.model_questions.specs.Forms.{Form, a_fact, an_integer_by, a_word_by, variant_by, struct_by, any_of, some_at, Forms, no_form, form_and, form_list, form_of, Case, Cases, nothing_said, one_case, anything, under, joined_cases, without_rest, or_nothing, then_cases, merged}
 
 -- 1. what is told of places: widths of words, integers, and which variants stand there
@@ -153,10 +153,24 @@ is_operand_of (words w) (words v) = v == w
 is_operand_of (words_among ws) (words v) = list_any (λ w. v == w) ws
 is_operand_of _ _ = false
 
-abbrev pub is_surely_formed : ℕ → Word → Bool
-is_surely_formed width (word_at at w) = w == width
-is_surely_formed width (written n) = nat_lt n (2 ^ width)
-is_surely_formed width _ = false
+abbrev pub is_word_result : ℕ → Result → Bool
+is_word_result width (word_result w) = w == width
+is_word_result width _ = false
+
+-- an operator gives such a word of such words; what an unknown function answers doesn't say its width
+abbrev mutual
+  pub is_surely_formed : ℕ → Word → Bool
+  is_surely_formed width (word_at at w) = w == width
+  is_surely_formed width (written n) = nat_lt n (2 ^ width)
+  is_surely_formed width (word_by o of) = is_word_result width (result o of) && are_surely_formed of
+  is_surely_formed width (word_answered f of) = false
+  is_surely_formed width (either_word f a b) = is_surely_formed width a && is_surely_formed width b
+
+  pub are_surely_formed : Operands → Bool
+  are_surely_formed no_operand = true
+  are_surely_formed (fact_and f rest) = are_surely_formed rest
+  are_surely_formed (integer_and z rest) = are_surely_formed rest
+  are_surely_formed (word_and width t rest) = is_surely_formed width t && are_surely_formed rest
 
 abbrev pub are_operands_of : List Sort → Operands → Bool
 are_operands_of [] no_operand = true

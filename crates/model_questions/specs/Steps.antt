@@ -262,9 +262,10 @@ module _ (p : Program) (specs : Specs) (c : Condition) where
       part_outputs_form (pick_of s) i place = output_form (is_pure_made s) s (pick_of s) i place
       part_outputs_form s i place = some_at place
 
-    -- what is unwrapped of a call is its one result
+    -- what is unwrapped of a call is its one result, or its one output
     abbrev pub is_unwrapped : SiteTerm → Bool
     is_unwrapped (constructor_call t ss n) = is_answered done (constructor_call t ss n)
+    is_unwrapped (extractor_call t s) = is_answered done (extractor_call t s)
     is_unwrapped _ = false
 
     abbrev pub result_form : SiteTerm → Form
