@@ -1,0 +1,26 @@
+pub mod AlikeSpecs
+mod AnsweringSteps
+mod AppliedLiterals
+mod AppliedSteps
+mod AskingSteps
+mod CaseSteps
+mod CombiningSteps
+mod ComputingSteps
+mod EvaluatingSteps
+mod ExpressionSteps
+mod FittingSteps
+mod LearningSteps
+mod LiteralSteps
+mod OpeningSteps
+mod PairSteps
+mod PlaceSteps
+mod Sayings
+mod ShapeSteps
+mod ShapedOperands
+mod SizedResults
+mod SortSteps
+mod Standing
+mod TrailSteps
+mod VariantSteps
+mod WordSteps
+mod WrittenSteps
