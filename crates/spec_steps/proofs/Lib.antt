@@ -1,0 +1,12 @@
+mod AddingSteps
+mod AnsweringSteps
+mod EventSteps
+mod GivingSteps
+mod ListingSteps
+mod MadeSteps
+mod PlacingSteps
+mod SayingSteps
+mod SplittingSteps
+mod StepsInOrder
+mod TellingSteps
+mod TypingSteps
