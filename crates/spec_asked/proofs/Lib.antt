@@ -1,0 +1,11 @@
+mod AlikeQuestions
+mod AskingSteps
+mod DemandSteps
+mod DemandsMeant
+mod ListedRules
+mod LoweredTables
+mod MarkSteps
+mod RefutedSets
+mod SitesApart
+mod Spreading
+mod TablesOf

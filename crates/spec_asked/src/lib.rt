@@ -1,0 +1,11 @@
+//! Questions about the rules of lowered definitions.
+#![tactic(auto)]
+
+pub mod asking;
+pub mod demanded;
+pub mod laws;
+pub mod lowered;
+mod marks;
+pub mod signatures;
+pub mod standing;
+pub mod tables;
