@@ -25,9 +25,9 @@ use report_print::report::{Level, Report};
 use report_queries::answers::{end, no_memory};
 use report_stack::deep_rule;
 use report_ways::meant_rules::Called;
-use spec_formulas::faults::SpecError;
 use spec_questions::answers::{Answers, answers_in};
 use spec_questions::questions::{QuestionFault, Questions, Wanted, questions_about};
+use spec_tables::faults::SpecError;
 use std::alloc::{AllocError, Global};
 use std::io::{Read, Write};
 use text_reader::errors::TextError;
@@ -269,6 +269,10 @@ fn made_for(
             let reports = spec_reports(alloc, errors)?;
             Ok(Made::Wrong(text_of(alloc, &texts.files, &reports)?))
         }
+        Err(QuestionFault::TooMany) => Ok(Made::Wrong(String::from_str(
+            alloc,
+            "error: the specs have more expressions than have numbers\n",
+        )?)),
         Err(QuestionFault::Memory) => Err(AllocError),
     }
 }
@@ -338,7 +342,7 @@ fn above_wrong(
     };
     match questions_about(alloc, teller.lowered, forms, wanted) {
         Ok(above) => Ok(above),
-        Err(QuestionFault::Wrong(_)) => Ok(none),
+        Err(QuestionFault::Wrong(_) | QuestionFault::TooMany) => Ok(none),
         Err(QuestionFault::Memory) => Err(AllocError),
     }
 }

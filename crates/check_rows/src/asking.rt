@@ -2,8 +2,8 @@
 
 use cranelift_isle::lower::lower;
 use cranelift_isle::syntax::Fault;
-use spec_formulas::faults::SpecError;
 use spec_questions::questions::{QuestionFault, Questions, Wanted, questions_about};
+use spec_tables::faults::SpecError;
 use std::alloc::{AllocError, AllocFailed, Global};
 use text_reader::errors::ReadFault;
 use text_reader::syntax::VerificationForm;
@@ -20,6 +20,8 @@ pub enum Refused {
     Rules,
     /// The specs are wrong.
     Specs(Vec<SpecError>),
+    /// The specs are too many.
+    TooMany,
 }
 
 impl From<AllocError> for Refused {
@@ -57,6 +59,7 @@ impl From<QuestionFault> for Refused {
         match fault {
             QuestionFault::Wrong(errors) => Refused::Specs(errors),
             QuestionFault::Memory => Refused::Memory,
+            QuestionFault::TooMany => Refused::TooMany,
         }
     }
 }
