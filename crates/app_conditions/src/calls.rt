@@ -11,17 +11,17 @@ const DEEPEST: usize = 8;
 /// What a solver gave for the constants of a question.
 #[derive(Clone, Copy)]
 pub(crate) struct Given<'a> {
-    /// The constants, each with what it is in words.
+    /// The constants, each with the path of what it is.
     pub(crate) names: &'a [(String, String)],
     /// Their values, in the same order.
     pub(crate) values: &'a [String],
 }
 
 impl<'a> Given<'a> {
-    // The value of the constant of this name.
-    fn of(self, name: &str) -> Option<&'a str> {
-        for ((known, _), value) in self.names.iter().zip(self.values) {
-            if known.as_str() == name {
+    // The value of the constant of this path.
+    fn of(self, path: &str) -> Option<&'a str> {
+        for ((_, known), value) in self.names.iter().zip(self.values) {
+            if known.as_str() == path {
                 return Some(value.as_str());
             }
         }
@@ -67,9 +67,13 @@ impl<'a, 'f> Teller<'a, 'f> {
         }
         let called = type_name(&lowered.tyenv, ty).unwrap_or("_");
         match lowered.tyenv.types.get(ty.index()) {
-            Some(Type::Enum { variants, .. }) => {
-                self.push_variant(out, called, variants, name, given, fuel)
-            }
+            Some(
+                Type::Enum {
+                    variants,
+                    is_extern,
+                    ..
+                },
+            ) => self.push_variant(out, called, variants, *is_extern, name, given, fuel),
             Some(Type::Struct { fields, .. }) => {
                 write!(out, "({called}")?;
                 self.push_fields(out, fields, name, given, fuel)?;
@@ -82,13 +86,14 @@ impl<'a, 'f> Teller<'a, 'f> {
         }
     }
 
-    // Adds a variant by its number, or a value of none where there is no such number.
+    // Adds a variant by its number. Where there is none, it is a value of none if the enum is one of others', and else the last.
     #[cycle(value)]
     fn push_variant(
         self,
         out: &mut String,
         called: &str,
         variants: &[Variant],
+        is_extern: bool,
         name: &str,
         given: Given<'_>,
         fuel: usize,
@@ -97,13 +102,12 @@ impl<'a, 'f> Teller<'a, 'f> {
             return out.push('0');
         }
         let tag = format!(in self.alloc; "{name}.tag")?;
-        let number = match given.of(&tag) {
-            Some(value) => value,
-            None => given.of(name).unwrap_or("0"),
-        };
-        let place = number.parse::<usize>().unwrap_or(0);
+        let mut place = place_of(given.of(&tag), variants.len());
+        if !is_extern {
+            place = place.min(variants.len().saturating_sub(1));
+        }
         let Some(variant) = variants.get(place) else {
-            return write!(out, "{called}#{number}");
+            return write!(out, "{called}#{place}");
         };
         let variant_name = self.lowered.tyenv.text_of(variant.fullname);
         write!(out, "({variant_name}")?;
@@ -132,5 +136,17 @@ impl<'a, 'f> Teller<'a, 'f> {
             self.push_value(out, *ty, &field, given, fuel - 1)?;
         }
         Ok(())
+    }
+}
+
+// Which variant a number is of, which counts them from 1: the first where nothing is said, and one behind the last where it is none.
+fn place_of(number: Option<&str>, count: usize) -> usize {
+    match number {
+        Some(number) => number
+            .parse::<usize>()
+            .unwrap_or(0)
+            .checked_sub(1)
+            .unwrap_or(count),
+        None => 0,
     }
 }

@@ -29,6 +29,7 @@ pub(crate) fn document_of_questions(
 {
     let places = LinePlaces::new(alloc, files)?;
     let writer = Writer {
+        alloc,
         lowered,
         places: &places,
     };
@@ -64,6 +65,7 @@ pub(crate) fn document_of_verdicts(
     } = judge.teller;
     let places = LinePlaces::new(alloc, lines.files())?;
     let writer = Writer {
+        alloc,
         lowered,
         places: &places,
     };
@@ -96,6 +98,7 @@ pub(crate) fn document_of_verdicts(
 // What questions are written with.
 #[derive(Clone, Copy)]
 struct Writer<'a, 'f> {
+    alloc: Global,
     lowered: &'a Lowered,
     places: &'a LinePlaces<'f>,
 }
@@ -109,16 +112,12 @@ impl<'a, 'f> Writer<'a, 'f> {
         Ok(())
     }
 
-    // Adds the choices of widths at which a rule isn't asked about.
+    // Adds the widths at which no call takes a rule.
     fn push_left_out(self, json: &mut Json, rule: &RuleQuestions) -> Result<(), AllocError> {
         for choice in &rule.left_out {
             json.begin_object()?;
             self.push_rule(json, rule.rule, rule.pos, rule.term)?;
             push_widths(json, &choice.widths)?;
-            match &choice.reason {
-                Some(reason) => json.key_string("reason", reason)?,
-                None => json.key_null("reason")?,
-            }
             json.end()?;
         }
         Ok(())
@@ -135,20 +134,35 @@ impl<'a, 'f> Writer<'a, 'f> {
         self.push_rule(json, rule.rule, rule.pos, rule.term)?;
         push_widths(json, &question.widths)?;
         json.key_string("taken", &question.taken)?;
-        json.key_string("wrong", &question.wrong)?;
+        match &question.wrong {
+            Some(text) => self.push_wrong(json, rule, question, text)?,
+            None => json.key_null("wrong")?,
+        }
+        json.end()
+    }
+
+    // Adds the text of a question, its constants, and the formulas whose values people are shown.
+    fn push_wrong(
+        self,
+        json: &mut Json,
+        rule: &RuleQuestions,
+        question: &Question,
+        text: &str,
+    ) -> Result<(), AllocError> {
+        let shown = rule.shown(self.alloc, question)?;
+        json.key_string("wrong", text)?;
         json.begin_object_at("names")?;
-        for (name, words) in &question.names {
-            json.key_string(name, words)?;
+        for (name, path) in &shown.names {
+            json.key_string(name, path)?;
         }
         json.end()?;
         json.begin_list_at("values")?;
-        for (of, is) in &question.values {
+        for (of, is) in &shown.values {
             json.begin_object()?;
             json.key_string("of", of)?;
             json.key_string("is", is)?;
             json.end()?;
         }
-        json.end()?;
         json.end()
     }
 

@@ -5,9 +5,11 @@ use cranelift_isle::sema::{RuleId, TermId};
 use cranelift_isle::syntax::Pos;
 use spec_questions::above::left_out_above;
 use spec_questions::answers::{Answers, push_text};
-use spec_questions::questions::{LeftOut, Question, Questions, RuleQuestions, Without};
+use spec_questions::questions::{Question, Questions, RuleQuestions, Without};
 use spec_questions::replies::{Reply, reply_in};
-use spec_questions::verdicts::{Verdict, is_answered, is_possible, is_refuted, verdict_of};
+use spec_questions::verdicts::{
+    Verdict, fails, is_answered, is_possible, is_refuted, may_fail, verdict_of,
+};
 use std::alloc::{AllocError, Global};
 use text_reader::syntax::VerificationForm;
 
@@ -22,30 +24,38 @@ pub(crate) struct Judge<'a, 'f> {
     pub(crate) answers: &'a Answers,
     /// What is asked of rules.
     pub(crate) asked: &'a Questions,
-    /// What is asked of those that are wrong by themselves, where no rule of greater priority matches.
+    /// What is asked of those that may be wrong by themselves, where no rule of greater priority matches.
     pub(crate) above: &'a Questions,
 }
 
-/// Where the rules stand that are wrong by themselves.
-pub(crate) fn wrong_places(
+/// Where the rules stand that may be wrong by themselves.
+pub(crate) fn open_places(
     teller: Teller<'_, '_>,
     asked: &Questions,
     answers: &Answers,
 ) -> Result<Vec<Pos>, AllocError> {
     let mut places = Vec::new(teller.alloc);
     for rule in &asked.rules {
-        if verdict_of(&rule.questions, &rule.left_out, answers) == Verdict::Wrong {
+        if rule
+            .questions
+            .iter()
+            .any(|question| may_fail(answers, &question.wrong))
+        {
             places.push(rule.pos)?;
         }
     }
     Ok(places)
 }
 
+// What answers say of a rule.
+fn verdict_on(rule: &RuleQuestions, answers: &Answers) -> Verdict {
+    verdict_of(&rule.questions, rule.unfollowed.is_none(), answers)
+}
+
 /// How many rules there are of each verdict.
 #[derive(Clone, Copy)]
 pub(crate) struct Counts {
     pub(crate) right: usize,
-    pub(crate) partly: usize,
     pub(crate) wrong: usize,
     pub(crate) unknown: usize,
     pub(crate) idle: usize,
@@ -61,11 +71,10 @@ impl Counts {
     fn add(&mut self, verdict: Option<Verdict>, is_expected: bool) {
         let count = match verdict {
             Some(Verdict::Right) => &mut self.right,
-            Some(Verdict::Partly) => &mut self.partly,
             Some(Verdict::Wrong) => &mut self.wrong,
             Some(Verdict::Unknown) => &mut self.unknown,
             Some(Verdict::Idle) => &mut self.idle,
-            None => &mut self.without,
+            Some(Verdict::Unfollowed) | None => &mut self.without,
         };
         *count = count.saturating_add(1);
         if is_expected {
@@ -75,17 +84,16 @@ impl Counts {
         }
     }
 
-    /// Whether no rule is wrong or left out at some widths, and, where each has to be right, each is.
+    /// Whether no rule is wrong, and, where each has to be right, each is.
     pub(crate) fn is_pass(self, deny: bool) -> bool {
         let shown = self.unknown == 0 && self.idle == 0 && self.without == 0;
-        self.wrong == 0 && self.partly == 0 && (!deny || shown && self.right > 0)
+        self.wrong == 0 && (!deny || shown && self.right > 0)
     }
 
     // Adds the counts in a line.
     fn push(self, out: &mut String) -> Result<(), AllocError> {
         let Counts {
             right,
-            partly,
             wrong,
             unknown,
             idle,
@@ -95,7 +103,7 @@ impl Counts {
         } = self;
         write!(
             out,
-            "{right} right, {partly} right at some widths, {wrong} wrong, {unknown} unknown, {idle} never taken, {without} without a question\n"
+            "{right} right, {wrong} wrong, {unknown} unknown, {idle} never taken, {without} without a question\n"
         )
     }
 }
@@ -103,7 +111,6 @@ impl Counts {
 /// No rule is counted.
 pub(crate) const NO_COUNTS: Counts = Counts {
     right: 0,
-    partly: 0,
     wrong: 0,
     unknown: 0,
     idle: 0,
@@ -168,7 +175,7 @@ impl<'a, 'f> Judge<'a, 'f> {
         out.push_str(&head)
     }
 
-    /// What decides a rule: if it is wrong by itself, what is asked of it where no rule of greater priority matches.
+    /// What decides a rule: if it may be wrong by itself, what is asked of it where no rule of greater priority matches.
     pub(crate) fn last(self, rule: &'a RuleQuestions) -> &'a RuleQuestions {
         for other in &self.above.rules {
             if other.rule == rule.rule {
@@ -185,13 +192,14 @@ impl<'a, 'f> Judge<'a, 'f> {
         rule: &RuleQuestions,
         counts: &mut Counts,
     ) -> Result<Verdict, AllocError> {
-        let verdict = verdict_of(&rule.questions, &rule.left_out, self.answers);
+        let verdict = verdict_on(rule, self.answers);
         let (id, pos, term) = (rule.rule, rule.pos, rule.term);
         self.push_head(out, Some(verdict), id, pos, term, counts)?;
         match verdict {
-            Verdict::Right | Verdict::Partly => self.push_right(out, rule)?,
+            Verdict::Right => self.push_right(out, rule)?,
             Verdict::Idle => out.push_str(": no call takes it, by the specs\n")?,
             Verdict::Wrong => self.push_wrong(out, rule)?,
+            Verdict::Unfollowed => self.push_unfollowed(out, rule)?,
             Verdict::Unknown => self.push_unknown(out, rule)?,
         }
         Ok(verdict)
@@ -208,20 +216,13 @@ impl<'a, 'f> Judge<'a, 'f> {
         write!(out, ": {}\n", rule.reason)
     }
 
-    // Adds at which widths a rule is right, at which no call takes it, and at which it isn't asked about.
+    // Adds at which widths a rule is right, and at which no call takes it.
     fn push_right(self, out: &mut String, rule: &RuleQuestions) -> Result<(), AllocError> {
         let alloc = self.teller.alloc;
         let mut told = Vec::new(alloc);
         for question in &rule.questions {
             if is_possible(self.answers, &question.taken) {
-                push_choice(
-                    alloc,
-                    out,
-                    "",
-                    of_arguments(&question.widths),
-                    "",
-                    &mut told,
-                )?;
+                push_choice(alloc, out, "", of_arguments(&question.widths), &mut told)?;
             }
         }
         for question in &rule.questions {
@@ -230,17 +231,10 @@ impl<'a, 'f> Judge<'a, 'f> {
             } else {
                 "; nobody knows whether taken"
             };
-            push_choice(
-                alloc,
-                out,
-                mark,
-                of_arguments(&question.widths),
-                "",
-                &mut told,
-            )?;
+            push_choice(alloc, out, mark, of_arguments(&question.widths), &mut told)?;
         }
         for choice in &rule.left_out {
-            push_left_out(alloc, out, choice, &mut told)?;
+            push_choice(alloc, out, "; never taken", &choice.widths, &mut told)?;
         }
         out.push('\n')
     }
@@ -251,7 +245,7 @@ impl<'a, 'f> Judge<'a, 'f> {
             if rule.questions.len() > 1 {
                 push_widths(out, &question.widths)?;
             }
-            self.push_shown(out, rule.term, question)?;
+            self.push_shown(out, rule, question)?;
         }
         out.push('\n')?;
         let teller = self.teller;
@@ -263,39 +257,53 @@ impl<'a, 'f> Judge<'a, 'f> {
         Ok(())
     }
 
+    // Adds why a rule isn't told wrong.
+    fn push_unfollowed(self, out: &mut String, rule: &RuleQuestions) -> Result<(), AllocError> {
+        match &rule.unfollowed {
+            Some(why) => write!(out, ": {why}\n"),
+            None => out.push('\n'),
+        }
+    }
+
     // The first question that says that a rule is wrong.
     fn wrong_of(self, rule: &RuleQuestions) -> Option<&Question> {
         rule.questions
             .iter()
-            .find(|question| is_possible(self.answers, &question.wrong))
+            .find(|question| fails(self.answers, question))
     }
 
     // Adds values that show that a rule is wrong, where a solver gave them.
     fn push_shown(
         self,
         out: &mut String,
-        term: TermId,
+        rule: &RuleQuestions,
         question: &Question,
     ) -> Result<(), AllocError> {
         let alloc = self.teller.alloc;
-        let text = text_for_solver(alloc, question)?;
+        let Some(wrong) = failing_text(question) else {
+            return Ok(());
+        };
+        let shown = rule.shown(alloc, question)?;
+        let text = text_for_solver(alloc, wrong, &shown)?;
         for answer in &self.answers.list {
             if answer.text.as_str() == text.as_str() {
-                let reply = reply_in(alloc, &answer.written, count_of_values(question))?;
+                let reply = reply_in(alloc, &answer.written, count_of_values(&shown))?;
                 if let Reply::Sat(given) = &reply {
-                    return push_given(self.teller, out, term, question, given);
+                    return push_given(self.teller, out, rule.term, question, &shown, given);
                 }
             }
         }
         Ok(())
     }
 
-    // Adds why nobody knows whether a rule is right: the first question without an answer, and what solvers said.
+    // Adds why nobody knows whether a rule is right: the first question that isn't refuted, and what solvers said.
     fn push_unknown(self, out: &mut String, rule: &RuleQuestions) -> Result<(), AllocError> {
         for question in &rule.questions {
-            if !is_refuted(self.answers, &question.wrong) {
-                push_widths(out, &question.widths)?;
-                return self.push_said(out, &question.wrong);
+            if let Some(text) = &question.wrong {
+                if !is_refuted(self.answers, text) {
+                    push_widths(out, &question.widths)?;
+                    return self.push_open(out, question, text);
+                }
             }
         }
         for question in &rule.questions {
@@ -306,6 +314,34 @@ impl<'a, 'f> Judge<'a, 'f> {
             }
         }
         out.push('\n')
+    }
+
+    // Adds why nobody knows of a question with this text: what solvers said of it, or of the text that asks where all is followed.
+    fn push_open(
+        self,
+        out: &mut String,
+        question: &Question,
+        text: &str,
+    ) -> Result<(), AllocError> {
+        match &question.elsewhere {
+            Some(elsewhere) if is_refuted(self.answers, elsewhere) => self.push_lost(out, question),
+            Some(elsewhere) if may_fail(self.answers, &question.wrong) => {
+                self.push_said(out, elsewhere)
+            }
+            _ => self.push_said(out, text),
+        }
+    }
+
+    // Adds that a question may fail only where not all is followed.
+    fn push_lost(self, out: &mut String, question: &Question) -> Result<(), AllocError> {
+        if let Some(pos) = question.goal {
+            out.push_str(": what ")?;
+            self.teller.push_place(out, pos)?;
+            out.push_str(" says")?;
+        } else {
+            out.push_str(": what is to be shown")?;
+        }
+        out.push_str(" may not be so, but not all is followed\n")
     }
 
     // Adds what solvers said that were asked a text.
@@ -332,7 +368,7 @@ impl<'a, 'f> Judge<'a, 'f> {
         for rule in &self.asked.rules {
             self.push_asked(out, rule, all)?;
             let last = self.last(rule);
-            if verdict_of(&last.questions, &last.left_out, self.answers) == Verdict::Wrong {
+            if verdict_on(last, self.answers) == Verdict::Wrong {
                 self.push_values_asked(out, last, all)?;
             }
         }
@@ -351,12 +387,45 @@ impl<'a, 'f> Judge<'a, 'f> {
     ) -> Result<(), AllocError> {
         let mut is_right = true;
         for question in &rule.questions {
-            is_right = is_right && is_refuted(self.answers, &question.wrong);
-            self.push_if_asked(out, &question.wrong, all)?;
+            if let Some(text) = &question.wrong {
+                is_right = is_right && is_refuted(self.answers, text);
+                self.push_if_asked(out, text, all)?;
+                self.push_elsewhere(out, question, all)?;
+            }
         }
         if is_right {
-            for question in &rule.questions {
-                self.push_if_asked(out, &question.taken, all)?;
+            self.push_taken(out, rule, all)?;
+        }
+        Ok(())
+    }
+
+    // Adds the text that asks whether a question fails where all is followed, if it may fail.
+    fn push_elsewhere(
+        self,
+        out: &mut String,
+        question: &Question,
+        all: bool,
+    ) -> Result<(), AllocError> {
+        match &question.elsewhere {
+            Some(text) if may_fail(self.answers, &question.wrong) => {
+                self.push_if_asked(out, text, all)
+            }
+            _ => Ok(()),
+        }
+    }
+
+    // Adds the texts that ask whether a call takes the rule. Those of one way follow one another, and are the same.
+    fn push_taken(
+        self,
+        out: &mut String,
+        rule: &RuleQuestions,
+        all: bool,
+    ) -> Result<(), AllocError> {
+        let mut last = "";
+        for question in &rule.questions {
+            if question.taken.as_str() != last {
+                last = question.taken.as_str();
+                self.push_if_asked(out, last, all)?;
             }
         }
         Ok(())
@@ -381,7 +450,11 @@ impl<'a, 'f> Judge<'a, 'f> {
         let Some(question) = self.wrong_of(rule) else {
             return Ok(());
         };
-        let text = text_for_solver(self.teller.alloc, question)?;
+        let Some(wrong) = failing_text(question) else {
+            return Ok(());
+        };
+        let shown = rule.shown(self.teller.alloc, question)?;
+        let text = text_for_solver(self.teller.alloc, wrong, &shown)?;
         if all
             || !self
                 .answers
@@ -393,6 +466,14 @@ impl<'a, 'f> Judge<'a, 'f> {
             out.push('\n')?;
         }
         Ok(())
+    }
+}
+
+// The text of a question by which a rule is told wrong.
+fn failing_text(question: &Question) -> Option<&str> {
+    match (&question.elsewhere, &question.wrong) {
+        (Some(text), _) | (None, Some(text)) => Some(text.as_str()),
+        (None, None) => None,
     }
 }
 
@@ -417,33 +498,16 @@ fn of_arguments(widths: &[(String, usize)]) -> &[(String, usize)] {
     widths.get(..count).unwrap_or(&[])
 }
 
-// Adds a choice of widths at which a rule isn't asked about, unless the same is told already.
-fn push_left_out(
-    alloc: Global,
-    out: &mut String,
-    choice: &LeftOut,
-    told: &mut Vec<String>,
-) -> Result<(), AllocError> {
-    match &choice.reason {
-        None => push_choice(alloc, out, "; never taken", &choice.widths, "", told),
-        Some(reason) => push_choice(alloc, out, "; not asked", &choice.widths, reason, told),
-    }
-}
-
-// Adds widths behind a mark, and a reason behind them, unless the same is told already. Where there are no widths, only a reason is.
+// Adds widths behind a mark, unless the same is told already.
 fn push_choice(
     alloc: Global,
     out: &mut String,
     mark: &str,
     widths: &[(String, usize)],
-    reason: &str,
     told: &mut Vec<String>,
 ) -> Result<(), AllocError> {
     let mut words = String::new(alloc);
     push_widths(&mut words, widths)?;
-    if !reason.is_empty() {
-        write!(words, ": {reason}")?;
-    }
     if words.is_empty() || told.iter().any(|known| known.as_str() == words.as_str()) {
         return Ok(());
     }

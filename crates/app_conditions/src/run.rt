@@ -6,7 +6,7 @@ ghost use Rattle.app_command.specs.Readings.{none_without, AreOfTexts};
 ghost use Rattle.cranelift_isle.specs.SyntaxViews.{definition_views};
 
 use crate::documents::{document_of_questions, document_of_verdicts};
-use crate::judging::{Judge, wrong_places};
+use crate::judging::{Judge, open_places};
 use crate::reading::{Said, Texts, definitions_in, said_in, texts_of};
 use crate::told::Teller;
 use app_command::output::{Ending, write_texts};
@@ -25,9 +25,9 @@ use report_print::report::{Level, Report};
 use report_queries::answers::{end, no_memory};
 use report_stack::deep_rule;
 use report_ways::meant_rules::Called;
-use spec_formulas::faults::SpecError;
 use spec_questions::answers::{Answers, answers_in};
 use spec_questions::questions::{QuestionFault, Questions, Wanted, questions_about};
+use spec_tables::faults::SpecError;
 use std::alloc::{AllocError, Global};
 use std::io::{Read, Write};
 use text_reader::errors::TextError;
@@ -220,10 +220,8 @@ fn asked_of(
     forms: &[VerificationForm],
     lowered: &Lowered,
 ) -> Result<Made, AllocError> {
-    let above = asked.above;
     let Some(called) = asked.rule else {
-        let wanted = Wanted { above, only: None };
-        return made_for(alloc, asked, texts, forms, lowered, wanted);
+        return made_for(alloc, asked, texts, forms, lowered, None);
     };
     let places = places_called(alloc, &texts.files, defs, called)?;
     if places.is_empty() {
@@ -231,8 +229,7 @@ fn asked_of(
             "error: no rule or term with rules is called `{called}`\n"
         )?));
     }
-    let only = Some(places.as_slice());
-    made_for(alloc, asked, texts, forms, lowered, Wanted { above, only })
+    made_for(alloc, asked, texts, forms, lowered, Some(&places))
 }
 
 // Where the rules stand that are so called.
@@ -254,21 +251,31 @@ fn places_called(
     Ok(places)
 }
 
-// What is made of the questions that are wanted, or what is wrong with the specs.
+// What is made of the questions about rules at these places, or about all, or what is wrong with the specs.
 fn made_for(
     alloc: Global,
     asked: &ConditionsRequest<'_>,
     texts: &Texts,
     forms: &[VerificationForm],
     lowered: &Lowered,
-    wanted: Wanted<'_>,
+    only: Option<&[Pos]>,
 ) -> Result<Made, AllocError> {
+    let answers = answers_in(alloc, &texts.answers)?;
+    let wanted = Wanted {
+        above: asked.above,
+        only,
+        answers: Some(&answers),
+    };
     match questions_about(alloc, lowered, forms, wanted) {
-        Ok(found) => made_with(alloc, asked, texts, forms, lowered, &found),
+        Ok(found) => made_with(alloc, asked, texts, forms, lowered, &found, &answers),
         Err(QuestionFault::Wrong(errors)) => {
             let reports = spec_reports(alloc, errors)?;
             Ok(Made::Wrong(text_of(alloc, &texts.files, &reports)?))
         }
+        Err(QuestionFault::TooMany) => Ok(Made::Wrong(String::from_str(
+            alloc,
+            "error: the specs have more expressions than have numbers\n",
+        )?)),
         Err(QuestionFault::Memory) => Err(AllocError),
     }
 }
@@ -281,6 +288,7 @@ fn made_with(
     forms: &[VerificationForm],
     lowered: &Lowered,
     found: &Questions,
+    answers: &Answers,
 ) -> Result<Made, AllocError> {
     let files = &texts.files;
     let lines = FileLines::new(alloc, files)?;
@@ -292,7 +300,7 @@ fn made_with(
     if asked.answers.is_none() && asked.texts.is_none() {
         return Ok(Made::Text(document_of_questions(alloc, files, lowered, forms, found)?));
     }
-    made_by_answers(teller, asked, texts, forms, found)
+    made_by_answers(teller, asked, texts, forms, found, answers)
 }
 
 // What records of answers say of rules, behind the texts that are wanted.
@@ -302,20 +310,20 @@ fn made_by_answers(
     texts: &Texts,
     forms: &[VerificationForm],
     found: &Questions,
+    answers: &Answers,
 ) -> Result<Made, AllocError> {
-    let answers = answers_in(teller.alloc, &texts.answers)?;
-    let above = above_wrong(teller, asked, forms, found, &answers)?;
+    let above = above_wrong(teller, asked, forms, found, answers)?;
     let judge = Judge {
         teller,
         expected: &texts.expected,
-        answers: &answers,
+        answers,
         asked: found,
         above: &above,
     };
     judged(judge, asked, forms)
 }
 
-// What is asked of rules that are wrong by themselves, where no rule of greater priority matches.
+// What is asked of rules that may be wrong by themselves, where no rule of greater priority matches.
 fn above_wrong(
     teller: Teller<'_, '_>,
     asked: &ConditionsRequest<'_>,
@@ -328,17 +336,18 @@ fn above_wrong(
         rules: Vec::new(alloc),
         without: Vec::new(alloc),
     };
-    let places = wrong_places(teller, found, answers)?;
+    let places = open_places(teller, found, answers)?;
     if asked.above || places.is_empty() {
         return Ok(none);
     }
     let wanted = Wanted {
         above: true,
         only: Some(&places),
+        answers: Some(answers),
     };
     match questions_about(alloc, teller.lowered, forms, wanted) {
         Ok(above) => Ok(above),
-        Err(QuestionFault::Wrong(_)) => Ok(none),
+        Err(QuestionFault::Wrong(_) | QuestionFault::TooMany) => Ok(none),
         Err(QuestionFault::Memory) => Err(AllocError),
     }
 }

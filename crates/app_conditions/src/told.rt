@@ -7,41 +7,44 @@ use cranelift_isle::syntax::{Ident, Pattern, Pos};
 use report_print::lines::{FileLines, file_name};
 use report_queries::names::{rule_name, term_name};
 use spec_questions::questions::Question;
+use spec_questions::shown::ShownQuestion;
 use std::alloc::{AllocError, Global};
 use text_reader::syntax::VerificationForm;
 
-/// A question as a solver reads it: the values of its formulas, of what is to be shown and of its constants are asked for behind it.
-pub(crate) fn text_for_solver(alloc: Global, question: &Question) -> Result<String, AllocError> {
-    let mut text = question.wrong.clone()?;
-    if question.values.is_empty() {
-        return Ok(text);
+/// The text of a question as a solver reads it, with its formulas and its constants behind it, whose values are asked for.
+pub(crate) fn text_for_solver(
+    alloc: Global,
+    text: &str,
+    shown: &ShownQuestion,
+) -> Result<String, AllocError> {
+    let mut all = String::from_str(alloc, text)?;
+    if count_of_values(shown) == 0 {
+        return Ok(all);
     }
-    text.push_str("(get-value (")?;
-    for (place, (_, formula)) in question.values.iter().enumerate() {
-        if place > 0 {
-            text.push(' ')?;
-        }
-        text.push_str(formula)?;
+    all.push_str("(get-value (")?;
+    let mut is_first = true;
+    for (_, formula) in &shown.values {
+        push_formula(&mut all, &mut is_first, formula)?;
     }
-    for (_, formula) in &question.goals {
-        text.push(' ')?;
-        text.push_str(formula)?;
+    for (name, _) in &shown.names {
+        push_formula(&mut all, &mut is_first, name)?;
     }
-    for (name, _) in &question.names {
-        text.push(' ')?;
-        text.push_str(name)?;
+    all.push_str("))\n")?;
+    Ok(all)
+}
+
+// Adds a formula behind others.
+fn push_formula(out: &mut String, is_first: &mut bool, formula: &str) -> Result<(), AllocError> {
+    if !*is_first {
+        out.push(' ')?;
     }
-    text.push_str("))\n")?;
-    Ok(text)
+    *is_first = false;
+    out.push_str(formula)
 }
 
 /// How many values are asked for behind a question.
-pub(crate) fn count_of_values(question: &Question) -> usize {
-    question
-        .values
-        .len()
-        .saturating_add(question.goals.len())
-        .saturating_add(question.names.len())
+pub(crate) fn count_of_values(shown: &ShownQuestion) -> usize {
+    shown.values.len().saturating_add(shown.names.len())
 }
 
 /// Adds what values show that are given for a question about a rule of a term: of its variables and its result, of what is to be
@@ -51,39 +54,33 @@ pub(crate) fn push_given(
     out: &mut String,
     term: TermId,
     question: &Question,
+    shown: &ShownQuestion,
     given: &[String],
 ) -> Result<(), AllocError> {
-    let shown = question.values.len();
-    let behind = shown.saturating_add(question.goals.len());
-    push_values(out, &question.values, given.get(..shown).unwrap_or(&[]))?;
-    push_failed(
-        teller,
-        out,
-        &question.goals,
-        given.get(shown..).unwrap_or(&[]),
-    )?;
+    let count = shown.values.len();
+    push_values(out, &shown.values, given.get(..count).unwrap_or(&[]))?;
+    push_failed(teller, out, question)?;
     let constants = Given {
-        names: &question.names,
-        values: given.get(behind..).unwrap_or(&[]),
+        names: &shown.names,
+        values: given.get(count..).unwrap_or(&[]),
     };
     teller.push_call(out, term, constants)
 }
 
-// Adds where a spec says the first thing that isn't so, by the values of what is to be shown.
+// Adds where a spec says what isn't so.
 fn push_failed(
     teller: Teller<'_, '_>,
     out: &mut String,
-    goals: &[(Pos, String)],
-    values: &[String],
+    question: &Question,
 ) -> Result<(), AllocError> {
-    for ((pos, _), value) in goals.iter().zip(values) {
-        if value.as_str() == "false" {
+    match question.goal {
+        Some(pos) => {
             out.push_str("; what ")?;
-            teller.push_place(out, *pos)?;
-            return out.push_str(" says isn't so");
+            teller.push_place(out, pos)?;
+            out.push_str(" says isn't so")
         }
+        None => Ok(()),
     }
-    Ok(())
 }
 
 /// How rules are told.

@@ -26,9 +26,9 @@ object (docs/JSON.md). All files together are one list of definitions and specs.
 
 const CONDITIONS_TAIL: &str = "  --help
 
-Status: 0 success, 1 errors or a rule that is wrong or left out at some widths, 2 wrong use, 3 out of memory or of
-stack, 4 a file cannot be read or the answer cannot be written. The script ./isle adds 70: no program gave an answer.
-tools/try-smt asks the solvers that are installed about all rules.
+Status: 0 success, 1 errors or a rule that is wrong, 2 wrong use, 3 out of memory or of stack, 4 a file cannot be read
+or the answer cannot be written. The script ./isle adds 70: no program gave an answer. tools/try-smt asks the solvers
+that are installed about all rules.
 ";
 
 impl Job {

@@ -2,8 +2,9 @@
 
 use cranelift_isle::lower::lower;
 use cranelift_isle::syntax::Fault;
-use spec_formulas::faults::SpecError;
+use spec_questions::answers::Answers;
 use spec_questions::questions::{QuestionFault, Questions, Wanted, questions_about};
+use spec_tables::faults::SpecError;
 use std::alloc::{AllocError, AllocFailed, Global};
 use text_reader::errors::ReadFault;
 use text_reader::syntax::VerificationForm;
@@ -20,6 +21,8 @@ pub enum Refused {
     Rules,
     /// The specs are wrong.
     Specs(Vec<SpecError>),
+    /// The specs are too many.
+    TooMany,
 }
 
 impl From<AllocError> for Refused {
@@ -57,16 +60,26 @@ impl From<QuestionFault> for Refused {
         match fault {
             QuestionFault::Wrong(errors) => Refused::Specs(errors),
             QuestionFault::Memory => Refused::Memory,
+            QuestionFault::TooMany => Refused::TooMany,
         }
     }
 }
 
-/// What is asked about the rules of a text: where no rule of greater priority matches, if `above` says so.
-pub fn asked_about(alloc: Global, text: &str, above: bool) -> Result<Questions, Refused> {
+/// What is asked about the rules of a text: where no rule of greater priority matches, if `above` says so, and by what solvers answered.
+pub fn asked_about(
+    alloc: Global,
+    text: &str,
+    above: bool,
+    answers: Option<&Answers>,
+) -> Result<Questions, Refused> {
     let defs = read(alloc, 0, text)?;
     let forms = forms_in(alloc, text)?;
     let lowered = lower(alloc, &defs, true)?;
-    let wanted = Wanted { above, only: None };
+    let wanted = Wanted {
+        above,
+        only: None,
+        answers,
+    };
     Ok(questions_about(alloc, &lowered, &forms, wanted)?)
 }
 

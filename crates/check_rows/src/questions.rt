@@ -1,19 +1,22 @@
 //! What is asked of a solver about the rules of a row, by what its text says for a verifier, and what a solver's answer is read as.
 
 use crate::asking::{Refused, asked_about};
+use crate::facts::push_facts;
+use crate::records::{push_record, records_of};
 use crate::replies::push_reply;
 use crate::words::has_word;
 use cranelift_isle::syntax::Pos;
-use spec_formulas::faults::SpecError;
 use spec_questions::answers::answers_in;
-use spec_questions::questions::{Question, Questions, Without};
+use spec_questions::questions::{Question, Questions, RuleQuestions, Without};
 use spec_questions::verdicts::verdict_of;
+use spec_tables::faults::SpecError;
 use std::alloc::{AllocError, Global};
+use std::collections::BTreeSet;
 
-/// Adds what is asked about the rules of a text: the text of each question whether a rule is wrong, below a line with the first line
-/// of the rule, and a line for each rule that has none. Words behind the first: `above`, each rule is asked about where no rule of
-/// greater priority matches; `taken`, the questions whether rules may be taken; `widths`, what is how wide in place of the questions.
-/// A text without rules to ask about is answered by what is wrong with it.
+/// Adds what is asked about the rules of a text: how many questions there are about a rule, what each asks and of which values, and at
+/// which widths none is asked; and a line for each rule that has none. Where a text says what is asked, the rest of that line stands.
+/// With the word `above` each rule is asked about where no rule of greater priority matches, and with `facts` each fact of a question stands
+/// below it. With `failing` each question may fail, and it says what is asked then where all is followed, and each fact of that. A text without rules to ask about is answered by what is wrong with it.
 pub fn push_questions(
     alloc: Global,
     words: &[String],
@@ -21,35 +24,115 @@ pub fn push_questions(
     out: &mut String,
 ) -> Result<(), AllocError> {
     let above = has_word(words, "above");
-    match asked_about(alloc, text, above) {
-        Ok(asked) => push_asked(words, text, &asked, out),
+    match asked_about(alloc, text, above, None) {
+        Ok(asked) if has_word(words, "failing") => push_failing(alloc, text, &asked, out),
+        Ok(asked) => push_asked(alloc, words, text, &asked, out),
         Err(Refused::Unread) => out.push_str("the text can't be read\n"),
         Err(Refused::Rules) => out.push_str("the rules are refused\n"),
+        Err(Refused::TooMany) => out.push_str("the specs are too many\n"),
         Err(Refused::Specs(errors)) => push_errors(text, &errors, out),
         Err(Refused::Memory) => Err(AllocError),
     }
 }
 
-/// Adds what the answers of a file of records say of each rule of a text, each behind a word in a line.
+/// Adds what the answers of a file of records say of each rule of a text, each behind a word in a line. The file may name texts of
+/// questions (`records_of`); two words more answer all questions about each rule. What is asked only where answers say so is asked too.
 pub fn push_verdicts(
     alloc: Global,
+    words: &[String],
     text: &str,
-    records: &str,
+    file: &str,
     out: &mut String,
 ) -> Result<(), AllocError> {
-    let answers = answers_in(alloc, records)?;
-    match asked_about(alloc, text, false) {
+    match asked_about(alloc, text, false, None) {
         Ok(asked) => {
             for rule in &asked.rules {
-                let verdict = verdict_of(&rule.questions, &rule.left_out, &answers);
-                let place = line_from(text, rule.pos.offset);
-                write!(out, "{} {place}\n", verdict.word())?;
+                push_verdict(alloc, words, text, rule, file, out)?;
             }
             Ok(())
         }
         Err(Refused::Memory) => Err(AllocError),
         Err(_) => out.push_str("nothing is asked\n"),
     }
+}
+
+// Adds what is asked where all is followed, if each question may fail.
+fn push_failing(
+    alloc: Global,
+    text: &str,
+    asked: &Questions,
+    out: &mut String,
+) -> Result<(), AllocError> {
+    let mut records = String::new(alloc);
+    for rule in &asked.rules {
+        for question in &rule.questions {
+            if let Some(wrong) = &question.wrong {
+                push_record(wrong, "sat", &mut records)?;
+            }
+        }
+    }
+    let answers = answers_in(alloc, &records)?;
+    if let Ok(again) = asked_about(alloc, text, false, Some(&answers)) {
+        for rule in &again.rules {
+            push_elsewhere(alloc, text, rule, out)?;
+        }
+    }
+    Ok(())
+}
+
+// Adds what is asked about a rule where all is followed.
+fn push_elsewhere(
+    alloc: Global,
+    text: &str,
+    rule: &RuleQuestions,
+    out: &mut String,
+) -> Result<(), AllocError> {
+    write!(out, "asked {}\n", line_from(text, rule.pos.offset))?;
+    for question in &rule.questions {
+        if let Some(elsewhere) = &question.elsewhere {
+            write!(out, "elsewhere {}\n", goal_of(text, question.goal))?;
+            let shown = rule.shown(alloc, question)?;
+            push_facts(alloc, elsewhere, &shown.names, out)?;
+        }
+    }
+    Ok(())
+}
+
+// Adds what answers say of a rule, with what is asked only where they say so.
+fn push_verdict(
+    alloc: Global,
+    words: &[String],
+    text: &str,
+    rule: &RuleQuestions,
+    file: &str,
+    out: &mut String,
+) -> Result<(), AllocError> {
+    let records = records_of(alloc, words, &rule.questions, file)?;
+    let answers = answers_in(alloc, &records)?;
+    if let Ok(again) = asked_about(alloc, text, false, Some(&answers)) {
+        for other in &again.rules {
+            if other.rule == rule.rule {
+                push_verdict_by(alloc, words, text, other, file, out)?;
+            }
+        }
+    }
+    Ok(())
+}
+
+// Adds what answers say of a rule by its questions.
+fn push_verdict_by(
+    alloc: Global,
+    words: &[String],
+    text: &str,
+    rule: &RuleQuestions,
+    file: &str,
+    out: &mut String,
+) -> Result<(), AllocError> {
+    let records = records_of(alloc, words, &rule.questions, file)?;
+    let answers = answers_in(alloc, &records)?;
+    let verdict = verdict_of(&rule.questions, rule.unfollowed.is_none(), &answers);
+    let place = line_from(text, rule.pos.offset);
+    write!(out, "{} {place}\n", verdict.word())
 }
 
 /// Adds what it is read as that a solver wrote a text, which was asked for as many values as the last word says.
@@ -91,15 +174,14 @@ fn push_errors(text: &str, errors: &[SpecError], out: &mut String) -> Result<(),
 }
 
 fn push_asked(
+    alloc: Global,
     words: &[String],
     text: &str,
     asked: &Questions,
     out: &mut String,
 ) -> Result<(), AllocError> {
     for rule in &asked.rules {
-        for question in &rule.questions {
-            push_question(words, text, rule.pos, question, out)?;
-        }
+        push_rule(alloc, words, text, rule, out)?;
     }
     for rule in &asked.without {
         push_without(text, rule, out)?;
@@ -108,29 +190,102 @@ fn push_asked(
 }
 
 // Adds what is asked about a rule.
-fn push_question(
+fn push_rule(
+    alloc: Global,
     words: &[String],
     text: &str,
-    pos: Pos,
+    rule: &RuleQuestions,
+    out: &mut String,
+) -> Result<(), AllocError> {
+    let place = line_from(text, rule.pos.offset);
+    let changed = if rule.is_own { "" } else { " changed" };
+    write!(out, "asked {}{changed} {place}\n", rule.questions.len())?;
+    for question in &rule.questions {
+        push_question(alloc, words, text, rule, question, out)?;
+    }
+    for choice in &rule.left_out {
+        push_widths("never", &choice.widths, out)?;
+    }
+    match &rule.unfollowed {
+        Some(why) => write!(out, "  unfollowed: {why}\n"),
+        None => Ok(()),
+    }
+}
+
+// Adds a question: what is to be shown, how wide values are, which constants its text has, by name, and of what it has a formula; or
+// that it has no text, since one of its facts is known not to be so.
+fn push_question(
+    alloc: Global,
+    words: &[String],
+    text: &str,
+    rule: &RuleQuestions,
     question: &Question,
     out: &mut String,
 ) -> Result<(), AllocError> {
-    let rule = line_from(text, pos.offset);
-    write!(out, "question {rule}\n")?;
-    if has_word(words, "widths") {
-        return push_widths(&question.widths, out);
-    }
-    if has_word(words, "taken") {
-        return out.push_str(&question.taken);
-    }
-    out.push_str(&question.wrong)
-}
-
-fn push_widths(widths: &[(String, usize)], out: &mut String) -> Result<(), AllocError> {
-    for (of, width) in widths {
-        write!(out, "{of} {width}\n")?;
+    write!(out, "shows {}\n", goal_of(text, question.goal))?;
+    push_widths("at", &question.widths, out)?;
+    let Some(wrong) = &question.wrong else {
+        return out.push_str("  known\n");
+    };
+    let shown = rule.shown(alloc, question)?;
+    push_paths(alloc, &shown.names, out)?;
+    push_named(&shown.values, out)?;
+    if has_word(words, "facts") {
+        return push_facts(alloc, wrong, &shown.names, out);
     }
     Ok(())
+}
+
+// What a text says is to be shown.
+fn goal_of(text: &str, goal: Option<Pos>) -> &str {
+    match goal {
+        Some(pos) => line_from(text, pos.offset),
+        None => "nothing",
+    }
+}
+
+// Adds a line of widths, if there are any.
+fn push_widths(word: &str, widths: &[(String, usize)], out: &mut String) -> Result<(), AllocError> {
+    if widths.is_empty() {
+        return Ok(());
+    }
+    write!(out, "  {word}")?;
+    for (of, width) in widths {
+        write!(out, " {of} {width}")?;
+    }
+    out.push('\n')
+}
+
+// Adds a line of the paths of constants, by name, if there are any.
+fn push_paths(
+    alloc: Global,
+    names: &[(String, String)],
+    out: &mut String,
+) -> Result<(), AllocError> {
+    if names.is_empty() {
+        return Ok(());
+    }
+    let mut paths = BTreeSet::new(alloc);
+    for (_, path) in names {
+        paths.insert(path.as_str())?;
+    }
+    out.push_str("  of")?;
+    for path in &paths {
+        write!(out, " {path}")?;
+    }
+    out.push('\n')
+}
+
+// Adds a line of what has a formula, if anything has.
+fn push_named(values: &[(String, String)], out: &mut String) -> Result<(), AllocError> {
+    if values.is_empty() {
+        return Ok(());
+    }
+    out.push_str("  values")?;
+    for (name, _) in values {
+        write!(out, " {name}")?;
+    }
+    out.push('\n')
 }
 
 fn push_without(text: &str, rule: &Without, out: &mut String) -> Result<(), AllocError> {

@@ -105,7 +105,7 @@ fn push_answered<R: std::rt::Files + AllocGlobal>(
     match text_at(words, 0) {
         "shared" => shared.push_str(text),
         "questions" => push_behind(alloc, words, shared, text, out),
-        "verdicts" => push_judged(alloc, shared, &files.texts, out),
+        "verdicts" => push_judged(alloc, words, shared, &files.texts, out),
         "reply" => push_answer(alloc, words, text, out),
         "files" => push_files(alloc, words, text, out),
         "places" => push_places(text, out),
@@ -145,6 +145,7 @@ fn push_behind(
 // Adds what the answers of the last text say of the rules of the first one, which stands behind another.
 fn push_judged(
     alloc: Global,
+    words: &[String],
     shared: &str,
     texts: &[String],
     out: &mut String,
@@ -152,7 +153,7 @@ fn push_judged(
     let mut whole = String::from_str(alloc, shared)?;
     whole.push_str(text_at(texts, 0))?;
     match texts.last() {
-        Some(records) => push_verdicts(alloc, &whole, records, out),
+        Some(records) => push_verdicts(alloc, words, &whole, records, out),
         None => Ok(()),
     }
 }

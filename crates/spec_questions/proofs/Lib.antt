@@ -1,1 +1,5 @@
+pub mod RightRules
+pub mod TableSteps
+pub mod TellingSteps
 pub mod Told
+pub mod Whole

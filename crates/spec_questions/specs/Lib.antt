@@ -1,3 +1,4 @@
 pub mod Refuting
 pub mod Replies
+pub mod Right
 pub mod Telling

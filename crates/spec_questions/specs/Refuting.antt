@@ -1,9 +1,9 @@
 -- What answers say of questions. An answer is one to the text that the solver was asked, and to no other.
-use Rattle.std.specs.Prelude.{ℕ, Bool, true, false, not, ◌&&◌, ◌||◌, List, is_none, length, nat_lt}
+use Rattle.std.specs.Prelude.{ℕ, Bool, true, false, not, ◌&&◌, ◌||◌, List, Option, None, Some, String, length, nat_lt}
 use Rattle.std.specs.List.{list_all, list_any}
 use Rattle.std.specs.Str.{bytes_eq}
+use Rattle.std.specs.declared.alloc.Global.{Global}
 use Rattle.spec_questions.specs.declared.answers.Answer.{Answer}
-use Rattle.spec_questions.specs.declared.questions.LeftOut.{LeftOut}
 use Rattle.spec_questions.specs.declared.questions.Question.{Question}
 use Rattle.spec_questions.specs.declared.replies.Reply.{Reply}
 use Rattle.spec_questions.specs.declared.replies.Reply.TheVariants as R
@@ -36,41 +36,57 @@ is_refuted_by answers text = list_any (says_unsat text) answers && not (list_any
 abbrev pub is_possible_by : List Answer → List ℕ → Bool
 is_possible_by answers text = list_any (says_sat text) answers && not (list_any (says_unsat text) answers)
 
--- the rule is as specs say at the widths of a question: that it is wrong there is refuted, by an answer to the question's own text
+-- what a text asks for is so: it needs no text, or that it isn't so is refuted by an answer to this very text
+abbrev pub is_so_by : List Answer → Option (String Global) → Bool
+is_so_by answers None = true
+is_so_by answers (Some text) = is_refuted_by answers text.bytes.items
+
+-- it may not be so
+abbrev pub may_fail_by : List Answer → Option (String Global) → Bool
+may_fail_by answers None = false
+may_fail_by answers (Some text) = is_possible_by answers text.bytes.items
+
+-- what a question asks for is so
 abbrev pub is_right_by : List Answer → Question → Bool
-is_right_by answers question = is_refuted_by answers question.wrong.bytes.items
+is_right_by answers question = is_so_by answers question.wrong
 
--- at these widths the rule is wrong
+-- nor is it where all is followed
+abbrev pub fails_by : List Answer → Option (String Global) → Bool
+fails_by answers None = true
+fails_by answers (Some text) = is_possible_by answers text.bytes.items
+
+-- what a question asks for may not be so, where all is followed that is said of it
 abbrev pub is_wrong_by : List Answer → Question → Bool
-is_wrong_by answers question = is_possible_by answers question.wrong.bytes.items
+is_wrong_by answers question = may_fail_by answers question.wrong && fails_by answers question.elsewhere
 
--- at these widths a call may take the rule
+-- on the way of a question a call may take the rule
 abbrev pub is_taken_by : List Answer → Question → Bool
 is_taken_by answers question = is_possible_by answers question.taken.bytes.items
 
--- at these widths no call takes the rule
+-- on the way of a question no call takes the rule
 abbrev pub is_untaken_by : List Answer → Question → Bool
 is_untaken_by answers question = is_refuted_by answers question.taken.bytes.items
 
--- no call takes the rule at these widths, at which it isn't asked
-abbrev pub is_never_taken : LeftOut → Bool
-is_never_taken choice = is_none choice.reason
-
--- there is a question, the rule is as specs say at the widths of each, and it is known whether a call takes the rule at any of them
+-- there is a question, what each asks for is so, and it is known whether a call takes the rule
 abbrev pub are_answered : List Answer → List Question → Bool
 are_answered answers questions =
     nat_lt 0 (length questions) && list_all (is_right_by answers) questions
     && (list_any (is_taken_by answers) questions || list_all (is_untaken_by answers) questions)
 
--- what a verdict on a rule says is so: by answers to the texts of its questions, and by the choices of widths at which it isn't asked
-abbrev pub is_shown : List Answer → List Question → List LeftOut → Verdict → Bool
-is_shown answers questions left_out V.Right =
-    are_answered answers questions && list_any (is_taken_by answers) questions && list_all is_never_taken left_out
-is_shown answers questions left_out V.Partly =
-    are_answered answers questions && not (list_all is_never_taken left_out)
-is_shown answers questions left_out V.Idle =
-    are_answered answers questions && list_all (is_untaken_by answers) questions && list_all is_never_taken left_out
-is_shown answers questions left_out V.Wrong =
-    list_any (is_wrong_by answers) questions
-is_shown answers questions left_out V.Unknown =
+-- what is said where something may not be so: that the rule is wrong, if all that it calls is followed
+abbrev pub wrong_by : Bool → Verdict
+wrong_by true = V.Wrong
+wrong_by false = V.Unfollowed
+
+-- what a verdict on a rule says is so: by answers to the texts of its questions, and by whether all that it calls is followed
+abbrev pub is_shown : List Answer → List Question → (is_followed : Bool) → Verdict → Bool
+is_shown answers questions followed V.Right =
+    are_answered answers questions && list_any (is_taken_by answers) questions
+is_shown answers questions followed V.Idle =
+    are_answered answers questions && list_all (is_untaken_by answers) questions
+is_shown answers questions followed V.Wrong =
+    list_any (is_wrong_by answers) questions && followed
+is_shown answers questions followed V.Unfollowed =
+    list_any (is_wrong_by answers) questions && not followed
+is_shown answers questions followed V.Unknown =
     not (list_any (is_wrong_by answers) questions) && not (are_answered answers questions)

@@ -1,42 +1,51 @@
 //! The questions about all rules.
 
-ghost use Rattle.std.specs.Prelude.{◌≡◌, ◌<◌, ◌≤◌, length, IsTrue, IfOk, OnOk};
-ghost use Rattle.std.specs.List.{list_any};
+ghost use Rattle.std.specs.Prelude.{◌≡◌, ◌<◌, ◌++◌, ℕ, length, map, slice_get, IsTrue, IfOk, OnOk, Some};
+ghost use Rattle.std.specs.List.{list_all, list_any};
+ghost use Rattle.spec_questions.specs.Right.{asked_in, exprs_in, facts_in, is_asked_or_plain, said_in, AreAskedWhole, AsksFacts, AreKnownTables, IsAskedByTables, IsKnownOf, KeepsWhole, KeepsWholeBy};
 ghost use Rattle.spec_questions.specs.Telling.{AreTold, AreAllTold, KeepsTold, has_spec, is_place, is_told, is_wanted_at};
 
-use crate::conditions::{Choice, Condition, Step, condition_of, formulas_of};
-use crate::sites::Variable;
-use crate::wanted::add_wanted;
+use crate::answers::Answers;
+use crate::asking::{Asked, Asker, Tried, Variable, ask};
+use crate::faults::NoQuestion;
+use crate::shown::Named;
 use core_syntax::syntax::Pos;
 use cranelift_isle::lower::{Lowered, LoweredTerm};
 use cranelift_isle::sema::{BoundVar, RuleId, TermId};
 use cranelift_isle::trie_again::{BindingId, Rule};
 use report_queries::rules::typed_rule;
 use report_queries::variable_sites::KnownSites;
-use spec_formulas::faults::{NoCondition, SpecError};
-use spec_formulas::terms::{NodeId, Terms, Unknown};
-use spec_formulas::text::{question, shown_in, unknowns_in};
+use spec_asked::signatures::signatures_of;
+use spec_asked::tables::SpecTables;
+use spec_cases::arena::Formulas;
+use spec_cases::expressions::ExprId;
+use spec_cases::faults::Fault;
+use spec_cases::formulas::Fact;
+use spec_data::data::{SaidAt, SpecData, TermSaid as SaidTerm};
+use spec_data::making::spec_data;
+use spec_steps::demands::{Signature, TermSaid};
+use spec_tables::faults::SpecError;
 use spec_tables::specs::Specs;
-use spec_values::checks::check_names;
 use std::alloc::{AllocError, Global};
-use std::{mem, slice};
+use std::slice;
 use text_reader::syntax::VerificationForm;
 
-/// What is asked of a rule at one choice of widths.
+/// A question about a rule: whether something that is to be shown isn't so, on one way through the choices of widths.
 pub struct Question {
-    /// The widths of arguments, variables and the result that are words of any width: what, and how wide.
+    /// The widths of arguments, variables and answers of calls that may have any: what, and how wide.
     pub widths: Vec<(String, usize)>,
-    /// A text that has an answer `sat` exactly if the rule may be taken.
+    /// A text that has an answer `sat` if the rule may be taken on this way, by what is told before its first goal.
     pub taken: String,
-    /// A text whose answer `unsat` says that the rule is right.
-    pub wrong: String,
-    /// The constants of the texts, each with what it is in words.
-    pub names: Vec<(String, String)>,
-    /// The variables of the rule, then its `result`, then what its spec wants the result to be, called `wanted`: each with a
-    /// formula for it that may stand behind the text `wrong`.
-    pub values: Vec<(String, String)>,
-    /// What is to be shown, in order: where a spec says it, and a formula for it that may stand there too.
-    pub goals: Vec<(Pos, String)>,
+    /// A text whose answer `unsat` says that what is to be shown is so. None where that is known without a solver: its last fact is known
+    /// not to be so.
+    pub wrong: Option<String>,
+    /// Where not all is followed that is said, and a text `wrong` of the rule has an answer `sat`: the text `wrong`, and that all is. If
+    /// only `wrong` has an answer `sat`, the rule isn't told wrong.
+    pub elsewhere: Option<String>,
+    /// Where a spec says what is to be shown.
+    pub goal: Option<Pos>,
+    /// The facts that the text `wrong` speaks of, but for those that exclude rules above, by their numbers in the formulas of the rule.
+    pub facts: Vec<Fact>,
 }
 
 impl Drop for Question {
@@ -45,35 +54,22 @@ impl Drop for Question {
             widths: _,
             taken: _,
             wrong: _,
-            names: _,
-            values: _,
-            goals: _,
+            elsewhere: _,
+            goal: _,
+            facts: _,
         } = self;
     }
 }
 
-/// A choice of widths at which a rule isn't asked about.
+/// A choice of widths at which no call takes a rule, by the specs.
 pub struct LeftOut {
-    /// The widths of arguments that are words of any width, as far as they are known.
+    /// The widths of arguments that are words of any width.
     pub widths: Vec<(String, usize)>,
-    /// Why it isn't asked there, in one line; None where no call takes the rule there, by the specs.
-    pub reason: Option<String>,
 }
 
 impl Drop for LeftOut {
     fn drop(self) {
-        let LeftOut {
-            widths: _,
-            reason: _,
-        } = self;
-    }
-}
-
-impl LeftOut {
-    // Why it isn't asked there.
-    fn into_reason(self) -> Option<String> {
-        let LeftOut { widths: _, reason } = self;
-        reason
+        let LeftOut { widths: _ } = self;
     }
 }
 
@@ -85,10 +81,21 @@ pub struct RuleQuestions {
     pub pos: Pos,
     /// Its term.
     pub term: TermId,
-    /// The questions, one for each choice of widths that is asked. There is at least one.
+    /// The questions. There is at least one.
     pub questions: Vec<Question>,
-    /// The other choices.
+    /// The widths at which no call takes it.
     pub left_out: Vec<LeftOut>,
+    /// Why not all that it calls is followed, in one line: then it can't be told wrong. None where all is.
+    pub unfollowed: Option<String>,
+    /// Whether the questions are about the rule's own condition: no call is looked through, no spec of an internal extractor counts, and
+    /// no rule above is excluded.
+    pub is_own: bool,
+    /// The formulas of the questions.
+    pub formulas: Formulas,
+    // What its variables and its result stand for.
+    pub(crate) named: Named,
+    // That no rule above matches, where that is asked.
+    pub(crate) excluded: Vec<Fact>,
 }
 
 impl Drop for RuleQuestions {
@@ -99,6 +106,11 @@ impl Drop for RuleQuestions {
             term: _,
             questions: _,
             left_out: _,
+            unfollowed: _,
+            is_own: _,
+            formulas: _,
+            named: _,
+            excluded: _,
         } = self;
     }
 }
@@ -150,6 +162,8 @@ pub enum QuestionFault {
     Memory,
     /// Specs are wrong: each error once.
     Wrong(Vec<SpecError>),
+    /// Specs have more expressions than have numbers, or too large numbers.
+    TooMany,
 }
 
 impl From<AllocError> for QuestionFault {
@@ -164,25 +178,6 @@ impl<T: Drop> From<std::alloc::AllocFailed<T>> for QuestionFault {
     }
 }
 
-// What questions are made with.
-#[derive(Clone, Copy)]
-struct Asker<'a> {
-    alloc: Global,
-    lowered: &'a Lowered,
-    specs: &'a Specs<'a>,
-    wanted: Wanted<'a>,
-}
-
-#[derive(Clone, Copy)]
-struct Asked<'r> {
-    term: &'r LoweredTerm,
-    rule: &'r Rule,
-    variables: &'r [Variable<'r>],
-}
-
-// The most choices of signatures that are tried for one rule.
-const MOST_TRIES: usize = 2000;
-
 /// Which questions are wanted.
 #[derive(Clone, Copy)]
 pub struct Wanted<'w> {
@@ -190,6 +185,8 @@ pub struct Wanted<'w> {
     pub above: bool,
     /// The positions of the rules that are asked about, or None for all.
     pub only: Option<&'w [Pos]>,
+    /// What solvers answered, if they were asked: where a question may not be so, it is asked too where all is followed.
+    pub answers: Option<&'w Answers>,
 }
 
 /// The questions about the rules of terms with specs, of definitions that were lowered with internal extractors expanded.
@@ -204,30 +201,66 @@ pub fn questions_about(
     wanted: Wanted<'_>,
 ) -> Result<Questions, QuestionFault> {
     let (specs, mut errors) = Specs::of(alloc, lowered, forms)?;
-    let found = checked_questions(alloc, lowered, &specs, wanted, &mut errors)?;
-    if errors.is_empty() {
-        Ok(found)
-    } else {
-        Err(QuestionFault::Wrong(errors))
+    match spec_data(alloc, lowered, &specs, &mut errors) {
+        Ok(data) => questions_if_right(alloc, lowered, &specs, data, wanted, errors),
+        Err(fault) => Err(unmade(&fault)),
     }
 }
 
-// The questions by these specs, whose names are checked first.
-fn checked_questions(
+// Why there is no data.
+fn unmade(fault: &Fault) -> QuestionFault {
+    match fault {
+        Fault::Memory(_) => QuestionFault::Memory,
+        Fault::Full | Fault::Foreign | Fault::TooGreat | Fault::TooMany => QuestionFault::TooMany,
+    }
+}
+
+// The questions by these specs, where nothing is wrong with them.
+fn questions_if_right(
     alloc: Global,
     lowered: &Lowered,
     specs: &Specs<'_>,
+    data: SpecData,
     wanted: Wanted<'_>,
-    errors: &mut Vec<SpecError>,
-) -> Result<Questions, AllocError>
-    ensures { IfOk result (λ found. length errors.new.items ≡ 0 → AreAllTold wanted.entry specs.now.terms.items found lowered.now.terms.items) }
-{
-    check_names(alloc, lowered, specs, errors)?;
-    questions_by(alloc, lowered, specs, wanted, errors)
+    errors: Vec<SpecError>,
+) -> Result<Questions, QuestionFault> {
+    if !errors.is_empty() {
+        return Err(QuestionFault::Wrong(errors));
+    }
+    let known = known_of(alloc, lowered, data)?;
+    Ok(questions_by(alloc, lowered, specs, &known, wanted)?)
 }
 
-/// The questions about the rules of terms with these specs, of definitions that were lowered with internal extractors expanded.
-/// Each rule that is asked about has one, or is among those without, unless what is wrong with the specs is added to the errors.
+/// What is known of lowered definitions and of what specs say.
+#[derive(Drop)]
+pub struct Known {
+    /// What specs say.
+    pub data: SpecData,
+    /// The types of terms, by the terms' numbers.
+    pub signatures: Vec<Signature>,
+    /// What the specs of terms say, by the terms' numbers.
+    pub said: Vec<TermSaid>,
+}
+
+/// What is known of lowered definitions, and of what specs say.
+///
+/// # Errors
+///
+/// Where memory is refused.
+pub fn known_of(alloc: Global, lowered: &Lowered, data: SpecData) -> Result<Known, AllocError>
+    ensures { IfOk result (IsKnownOf lowered.now «data») }
+{
+    let signatures = signatures_of(alloc, &lowered.termenv.terms)?;
+    let said = said_of(alloc, &data.terms)?;
+    Ok(Known {
+        data,
+        signatures,
+        said,
+    })
+}
+
+/// The questions about the rules of terms with these specs, of definitions that were lowered with internal extractors expanded, by what
+/// is known of both. Each rule that is asked about has one, or is among those without.
 ///
 /// # Errors
 ///
@@ -236,52 +269,114 @@ pub fn questions_by(
     alloc: Global,
     lowered: &Lowered,
     specs: &Specs<'_>,
+    known: &Known,
     wanted: Wanted<'_>,
-    errors: &mut Vec<SpecError>,
 ) -> Result<Questions, AllocError>
-    ensures { IfOk result (λ found. length errors.new.items ≡ 0 → AreAllTold wanted.entry specs.now.terms.items found lowered.now.terms.items) }
+    ensures told { IfOk result (λ found. AreAllTold wanted.entry specs.now.terms.items found lowered.now.terms.items) }
+    // all questions about a rule's own condition are asked, by what is known
+    ensures whole { IfOk result (λ found. IsAskedByTables lowered.now known.now found) }
 {
     let asker = Asker {
         alloc,
         lowered,
         specs,
+        known,
+        tables: tables_of(known),
         wanted,
     };
     let mut found = Questions {
         rules: Vec::new(alloc),
         without: Vec::new(alloc),
     };
-    add_terms(asker, &mut found, errors)?;
+    add_terms(asker, &mut found)?;
     Ok(found)
 }
 
-// Adds the questions about the rules of all terms with specs.
-fn add_terms(
-    asker: Asker<'_>,
-    found: &mut Questions,
-    errors: &mut Vec<SpecError>,
+// What specs say, as tables.
+fn tables_of(known: &Known) -> SpecTables<'_>
+    ensures { AreKnownTables known.now result }
+{
+    SpecTables {
+        sorts: &known.data.sorts,
+        constants: &known.data.constants,
+        functions: &known.data.functions,
+        exprs: &known.data.exprs,
+        said: &known.said,
+    }
+}
+
+// What is said of each term.
+fn said_of(alloc: Global, terms: &[SaidTerm]) -> Result<Vec<TermSaid>, AllocError>
+    ensures { IfOk result (λ said. map asked_in said.items ≡ map said_in terms.now) }
+{
+    let mut said = Vec::new(alloc);
+    add_said_terms(alloc, terms, &mut said)?;
+    Ok(said)
+}
+
+// Adds what is said of terms.
+#[tactic(auto, using(crate::proofs::TableSteps::said_steps))]
+fn add_said_terms(
+    alloc: Global,
+    terms: &[SaidTerm],
+    out: &mut Vec<TermSaid>,
 ) -> Result<(), AllocError>
-    ensures { OnOk result (length errors.new.items ≡ 0 → AreAllTold asker.entry.wanted asker.entry.specs.now.terms.items found.new asker.entry.lowered.now.terms.items) }
+    ensures { OnOk result (map asked_in out.new.items ≡ map asked_in out.old.items ++ map said_in terms.now) }
+{
+    match terms {
+        [] => Ok(()),
+        [first, rest @ ..] => {
+            out.push(TermSaid {
+                require: exprs_of(alloc, &first.require)?,
+                provide: exprs_of(alloc, &first.provide)?,
+            })?;
+            Ok(add_said_terms(alloc, rest, out)?)
+        }
+    }
+}
+
+// What is said, without its places.
+fn exprs_of(alloc: Global, said: &[SaidAt]) -> Result<Vec<ExprId>, AllocError>
+    ensures { IfOk result (λ exprs. exprs.items ≡ exprs_in said.now) }
+{
+    let mut exprs = Vec::new(alloc);
+    add_exprs(said, &mut exprs)?;
+    Ok(exprs)
+}
+
+// Adds what is said.
+#[tactic(auto, using(crate::proofs::TableSteps::said_steps))]
+fn add_exprs(said: &[SaidAt], out: &mut Vec<ExprId>) -> Result<(), AllocError>
+    ensures { OnOk result (out.new.items ≡ out.old.items ++ exprs_in said.now) }
+{
+    match said {
+        [] => Ok(()),
+        [first, rest @ ..] => {
+            out.push(first.expr)?;
+            Ok(add_exprs(rest, out)?)
+        }
+    }
+}
+
+// Adds the questions about the rules of all terms with specs.
+fn add_terms(asker: Asker<'_>, found: &mut Questions) -> Result<(), AllocError>
+    ensures told { OnOk result (AreAllTold asker.entry.wanted asker.entry.specs.now.terms.items found.new asker.entry.lowered.now.terms.items) }
+    ensures whole { OnOk result (AreAskedWhole asker.entry.lowered.now asker.entry.known.now.signatures.items asker.entry.tables found.old.rules.items → AreAskedWhole asker.entry.lowered.now asker.entry.known.now.signatures.items asker.entry.tables found.new.rules.items) }
 {
     for term in &asker.lowered.terms {
-        add_said(asker, term, found, errors)?;
+        add_said(asker, term, found)?;
     }
     Ok(())
 }
 
 // Adds the questions about the rules of a term, if it has a spec.
-fn add_said(
-    asker: Asker<'_>,
-    term: &LoweredTerm,
-    found: &mut Questions,
-    errors: &mut Vec<SpecError>,
-) -> Result<(), AllocError>
-    ensures told { OnOk result (length errors.new.items ≡ 0 → IsTrue (has_spec asker.entry.specs.now.terms.items term.now.id.0) → AreTold asker.entry.wanted found.new term.now.id.0 term.now.rules.rules.items) }
+fn add_said(asker: Asker<'_>, term: &LoweredTerm, found: &mut Questions) -> Result<(), AllocError>
+    ensures told { OnOk result (IsTrue (has_spec asker.entry.specs.now.terms.items term.now.id.0) → AreTold asker.entry.wanted found.new term.now.id.0 term.now.rules.rules.items) }
     ensures kept { OnOk result (KeepsTold found.old found.new) }
-    ensures noted { OnOk result (length errors.old.items ≤ length errors.new.items) }
+    ensures whole { OnOk result (KeepsWhole asker.entry.lowered.now asker.entry.known.now.signatures.items asker.entry.tables term.now found.old found.new) }
 {
     if says_of(asker.specs, term.id) {
-        add_term(asker, term, found, errors)
+        add_term(asker, term, found)
     } else {
         Ok(())
     }
@@ -297,20 +392,15 @@ fn says_of(specs: &Specs<'_>, term: TermId) -> bool
 }
 
 // Adds the questions about the rules of a term.
-fn add_term(
-    asker: Asker<'_>,
-    term: &LoweredTerm,
-    found: &mut Questions,
-    errors: &mut Vec<SpecError>,
-) -> Result<(), AllocError>
-    ensures told { OnOk result (length errors.new.items ≡ 0 → AreTold asker.entry.wanted found.new term.now.id.0 term.now.rules.rules.items) }
+fn add_term(asker: Asker<'_>, term: &LoweredTerm, found: &mut Questions) -> Result<(), AllocError>
+    ensures told { OnOk result (AreTold asker.entry.wanted found.new term.now.id.0 term.now.rules.rules.items) }
     ensures kept { OnOk result (KeepsTold found.old found.new) }
-    ensures noted { OnOk result (length errors.old.items ≤ length errors.new.items) }
+    ensures whole { OnOk result (KeepsWhole asker.entry.lowered.now asker.entry.known.now.signatures.items asker.entry.tables term.now found.old found.new) }
 {
     let terms = &asker.lowered.termenv.terms;
     let sites = KnownSites::new(asker.alloc, terms, &term.rules.bindings)?;
     for rule in &term.rules.rules {
-        add_if_wanted(asker, &sites, term, rule, found, errors)?;
+        add_if_wanted(asker, &sites, term, rule, found)?;
     }
     Ok(())
 }
@@ -322,14 +412,13 @@ fn add_if_wanted(
     term: &LoweredTerm,
     rule: &Rule,
     found: &mut Questions,
-    errors: &mut Vec<SpecError>,
 ) -> Result<(), AllocError>
-    ensures told { OnOk result (length errors.new.items ≡ 0 → IsTrue (is_wanted_at asker.entry.wanted rule.now.pos) → IsTrue (is_told found.new term.now.id.0 rule.now.id.0)) }
+    ensures told { OnOk result (IsTrue (is_wanted_at asker.entry.wanted rule.now.pos) → IsTrue (is_told found.new term.now.id.0 rule.now.id.0)) }
     ensures kept { OnOk result (KeepsTold found.old found.new) }
-    ensures noted { OnOk result (length errors.old.items ≤ length errors.new.items) }
+    ensures whole { OnOk result (KeepsWholeBy asker.entry.lowered.now asker.entry.known.now.signatures.items asker.entry.tables term.now rule.now found.old found.new) }
 {
     if is_wanted(asker.wanted, rule) {
-        add_rule(asker, sites, term, rule, found, errors)
+        add_rule(asker, sites, term, rule, found)
     } else {
         Ok(())
     }
@@ -384,11 +473,10 @@ fn add_rule(
     term: &LoweredTerm,
     rule: &Rule,
     found: &mut Questions,
-    errors: &mut Vec<SpecError>,
 ) -> Result<(), AllocError>
-    ensures told { OnOk result (length errors.new.items ≡ 0 → IsTrue (is_told found.new term.now.id.0 rule.now.id.0)) }
+    ensures told { OnOk result (IsTrue (is_told found.new term.now.id.0 rule.now.id.0)) }
     ensures kept { OnOk result (KeepsTold found.old found.new) }
-    ensures noted { OnOk result (length errors.old.items ≤ length errors.new.items) }
+    ensures whole { OnOk result (KeepsWholeBy asker.entry.lowered.now asker.entry.known.now.signatures.items asker.entry.tables term.now rule.now found.old found.new) }
 {
     let variables = variables_of(asker, sites, rule)?;
     let asked = Asked {
@@ -398,58 +486,25 @@ fn add_rule(
     };
     match ask(asker, asked) {
         Ok(tried) => found.add_questions(asked, tried),
-        Err(fault) => add_fault(asker.alloc, asked, fault, found, errors),
+        Err(fault) => add_fault(asker.alloc, asked, fault, found),
     }
 }
 
-// Adds why a rule has no question: an error, or a reason.
+// Adds why a rule has no question.
 fn add_fault(
     alloc: Global,
     asked: Asked<'_>,
-    fault: NoCondition,
+    fault: NoQuestion,
     found: &mut Questions,
-    errors: &mut Vec<SpecError>,
 ) -> Result<(), AllocError>
-    ensures told { OnOk result (length errors.new.items ≡ 0 → IsTrue (is_told found.new asked.entry.term.now.id.0 asked.entry.rule.now.id.0)) }
+    ensures told { OnOk result (IsTrue (is_told found.new asked.entry.term.now.id.0 asked.entry.rule.now.id.0)) }
     ensures kept { OnOk result (KeepsTold found.old found.new) }
-    ensures noted { OnOk result (length errors.old.items ≤ length errors.new.items) }
+    ensures rules { OnOk result (found.new.rules.items ≡ found.old.rules.items) }
 {
     match fault {
-        NoCondition::Memory => Err(AllocError),
-        NoCondition::Wrong(error) => add_error(errors, error),
-        NoCondition::Missing(reason) => found.add_without(asked, reason),
-        NoCondition::Undecided(_) => {
-            let reason = String::from_str(alloc, "too many choices of widths")?;
-            found.add_without(asked, reason)
-        }
-        NoCondition::Unfit | NoCondition::Untaken | NoCondition::Nothing | NoCondition::Unsorted =>
-            {
-                let reason = String::from_str(alloc, "no call takes it, by the specs")?;
-                found.add_without(asked, reason)
-            }
+        NoQuestion::Memory(refused) => Err(refused),
+        NoQuestion::Because(why) => found.add_without(asked, String::from_str(alloc, why)?),
     }
-}
-
-// Adds an error, unless one stands at its place.
-fn add_error(errors: &mut Vec<SpecError>, error: SpecError) -> Result<(), AllocError>
-    ensures some { OnOk result (0 < length errors.new.items) }
-    ensures noted { OnOk result (length errors.old.items ≤ length errors.new.items) }
-{
-    if !has_error_at(errors, error.pos) {
-        errors.push(error)?;
-    }
-    Ok(())
-}
-
-fn has_error_at(errors: &[SpecError], pos: Pos) -> bool
-    ensures { IsTrue result → 0 < length errors.now }
-{
-    for error in errors {
-        if error.pos == pos {
-            return true;
-        }
-    }
-    false
 }
 
 impl Questions {
@@ -457,10 +512,20 @@ impl Questions {
         requires { 0 < length tried.questions.items }
         ensures told { OnOk result (IsTrue (is_told self.new asked.entry.term.now.id.0 asked.entry.rule.now.id.0)) }
         ensures kept { OnOk result (KeepsTold self.old self.new) }
+        ensures whole { OnOk result ((lowered : _) (signatures : _) (specs : _) (at : ℕ) (place : ℕ) → slice_get asked.entry.term.now.rules.rules.items at ≡ Some asked.entry.rule.now
+            → slice_get lowered.terms.items place ≡ Some asked.entry.term.now
+            → (IsTrue tried.is_own → AsksFacts lowered signatures specs asked.entry.term.now tried.formulas asked.entry.rule.now (facts_in tried.questions.items))
+            → IsTrue (list_all is_asked_or_plain tried.questions.items)
+            → AreAskedWhole lowered signatures specs self.old.rules.items → AreAskedWhole lowered signatures specs self.new.rules.items) }
     {
         let Tried {
+            formulas,
+            named,
+            excluded,
+            is_own,
             questions,
             left_out,
+            unfollowed,
         } = tried;
         self.rules.push(RuleQuestions {
             rule: asked.rule.id,
@@ -468,6 +533,11 @@ impl Questions {
             term: asked.term.id,
             questions,
             left_out,
+            unfollowed,
+            is_own,
+            formulas,
+            named,
+            excluded,
         })?;
         Ok(())
     }
@@ -476,6 +546,7 @@ impl Questions {
     fn add_without(&mut self, asked: Asked<'_>, reason: String) -> Result<(), AllocError>
         ensures told { OnOk result (IsTrue (is_told self.new asked.entry.term.now.id.0 asked.entry.rule.now.id.0)) }
         ensures kept { OnOk result (KeepsTold self.old self.new) }
+        ensures rules { OnOk result (self.new.rules.items ≡ self.old.rules.items) }
     {
         self.without.push(Without {
             rule: asked.rule.id,
@@ -485,266 +556,4 @@ impl Questions {
         })?;
         Ok(())
     }
-}
-
-// The choices of widths of a rule: those that are asked, and the others.
-#[derive(Drop)]
-struct Tried {
-    questions: Vec<Question>,
-    left_out: Vec<LeftOut>,
-}
-
-// The questions about a rule at each choice of widths. There is at least one.
-fn ask(asker: Asker<'_>, asked: Asked<'_>) -> Result<Tried, NoCondition>
-    ensures { IfOk result (λ tried. 0 < length tried.questions.items) }
-{
-    let mut tried = Tried {
-        questions: Vec::new(asker.alloc),
-        left_out: Vec::new(asker.alloc),
-    };
-    let mut waiting = Vec::new(asker.alloc);
-    waiting.push(Vec::new(asker.alloc))?;
-    for _try in 0..MOST_TRIES {
-        let Some(decisions) = waiting.pop() else {
-            return some_of(tried);
-        };
-        try_choice(asker, asked, &decisions, &mut tried, &mut waiting)?;
-    }
-    Err(NoCondition::Undecided(0))
-}
-
-// What was tried, if there is a question, or else why there is none.
-fn some_of(tried: Tried) -> Result<Tried, NoCondition>
-    ensures { IfOk result (λ tried. 0 < length tried.questions.items) }
-{
-    if !tried.questions.is_empty() {
-        return Ok(tried);
-    }
-    let Tried {
-        questions: _,
-        left_out,
-    } = tried;
-    for choice in left_out {
-        if let Some(reason) = choice.into_reason() {
-            return Err(NoCondition::Missing(reason));
-        }
-    }
-    Err(NoCondition::Untaken)
-}
-
-// Asks about a rule at one choice of widths, or adds the choices that go further.
-fn try_choice(
-    asker: Asker<'_>,
-    asked: Asked<'_>,
-    decisions: &[usize],
-    tried: &mut Tried,
-    waiting: &mut Vec<Vec<usize>>,
-) -> Result<(), NoCondition> {
-    let choice = Choice {
-        decisions,
-        above: asker.wanted.above,
-        variables: asked.variables,
-    };
-    let mut widths = Vec::new(asker.alloc);
-    match question_at(asker, asked, choice, &mut widths) {
-        Ok(question) => Ok(tried.questions.push(question)?),
-        Err(NoCondition::Undecided(count)) => Ok(branch(asker.alloc, waiting, decisions, count)?),
-        Err(fault) => {
-            let reason = reason_of(asker.alloc, fault)?;
-            Ok(tried.left_out.push(LeftOut { widths, reason })?)
-        }
-    }
-}
-
-// Why a choice of widths is left out; None where the rule isn't taken there.
-fn reason_of(alloc: Global, fault: NoCondition) -> Result<Option<String>, NoCondition> {
-    match fault {
-        NoCondition::Untaken => Ok(None),
-        NoCondition::Missing(reason) => Ok(Some(reason)),
-        NoCondition::Unfit => {
-            let reason = String::from_str(alloc, "widths don't fit one another")?;
-            Ok(Some(reason))
-        }
-        fault => Err(fault),
-    }
-}
-
-// What is asked of a rule where these signatures are taken.
-fn question_at(
-    asker: Asker<'_>,
-    asked: Asked<'_>,
-    choice: Choice<'_>,
-    widths: &mut Vec<(String, usize)>,
-) -> Result<Question, NoCondition> {
-    let condition = condition_of(
-        asker.alloc,
-        asker.lowered,
-        asker.specs,
-        asked.term,
-        asked.rule,
-        choice,
-        widths,
-    )?;
-    question_of(asker.alloc, condition)
-}
-
-// Adds each further decision, so that the first is tried first.
-fn branch(
-    alloc: Global,
-    waiting: &mut Vec<Vec<usize>>,
-    decisions: &[usize],
-    count: usize,
-) -> Result<(), AllocError> {
-    for decision in (0..count).rev() {
-        let mut more = Vec::from_slice(alloc, decisions)?;
-        more.push(decision)?;
-        waiting.push(more)?;
-    }
-    Ok(())
-}
-
-fn question_of(alloc: Global, condition: Condition) -> Result<Question, NoCondition> {
-    let mut condition = condition;
-    let texts = texts_of(alloc, &mut condition)?;
-    Ok(texts.into_question(condition.into_widths()))
-}
-
-struct Texts {
-    taken: String,
-    wrong: String,
-    names: Vec<(String, String)>,
-    values: Vec<(String, String)>,
-    goals: Vec<(Pos, String)>,
-}
-
-impl Drop for Texts {
-    fn drop(self) {
-        let Texts {
-            taken: _,
-            wrong: _,
-            names: _,
-            values: _,
-            goals: _,
-        } = self;
-    }
-}
-
-impl Texts {
-    fn into_question(self, widths: Vec<(String, usize)>) -> Question {
-        let Texts {
-            taken,
-            wrong,
-            names,
-            values,
-            goals,
-        } = self;
-        Question {
-            widths,
-            taken,
-            wrong,
-            names,
-            values,
-            goals,
-        }
-    }
-}
-
-// The texts of the question that a condition asks. It has no values any more then.
-fn texts_of(alloc: Global, condition: &mut Condition) -> Result<Texts, NoCondition> {
-    let taken = taken_text(alloc, condition)?;
-    let facts = facts_where_wrong(alloc, condition)?;
-    let wrong = question(alloc, &condition.terms, &facts)?;
-    let names = names_of(alloc, &condition.terms, &facts)?;
-    add_wanted(alloc, condition)?;
-    let values = mem::replace(&mut condition.values, Vec::new(alloc));
-    let values = shown_in(alloc, &condition.terms, &facts, values)?;
-    let mut goals = Vec::new(alloc);
-    for step in &condition.steps {
-        add_goals(alloc, &condition.terms, &facts, step, &mut goals)?;
-    }
-    Ok(Texts {
-        taken,
-        wrong,
-        names,
-        values,
-        goals,
-    })
-}
-
-// Adds the goals of a step as formulas that may stand behind the question.
-fn add_goals(
-    alloc: Global,
-    terms: &Terms,
-    facts: &[NodeId],
-    step: &Step,
-    goals: &mut Vec<(Pos, String)>,
-) -> Result<(), NoCondition> {
-    for goal in &step.goals {
-        let mut values = Vec::new(alloc);
-        values.push((String::new(alloc), goal.formula))?;
-        for (_, formula) in shown_in(alloc, terms, facts, values)? {
-            goals.push((goal.pos, formula))?;
-        }
-    }
-    Ok(())
-}
-
-// The question whether a rule may be taken, and its calls answer.
-fn taken_text(alloc: Global, condition: &Condition) -> Result<String, NoCondition> {
-    let mut facts = Vec::from_slice(alloc, &condition.assumed)?;
-    for step in &condition.steps {
-        facts.extend_from_slice(&step.then)?;
-    }
-    question(alloc, &condition.terms, &facts)
-}
-
-// What is true where something that is to be shown isn't so: at first what is assumed, and then a goal that fails, or what is
-// assumed after it and a later goal that fails.
-fn facts_where_wrong(alloc: Global, condition: &mut Condition) -> Result<Vec<NodeId>, AllocError> {
-    let mut fails = condition.terms.truth(false)?;
-    for step in condition.steps.iter().rev() {
-        fails = fails_from(alloc, &mut condition.terms, step, fails)?;
-    }
-    let mut facts = Vec::from_slice(alloc, &condition.assumed)?;
-    facts.push(fails)?;
-    Ok(facts)
-}
-
-// That a goal of a step fails, or one after it.
-fn fails_from(
-    alloc: Global,
-    terms: &mut Terms,
-    step: &Step,
-    later: NodeId,
-) -> Result<NodeId, AllocError> {
-    let goals = formulas_of(alloc, &step.goals)?;
-    let goal = terms.all(&goals)?;
-    let fails = terms.not(goal)?;
-    let mut then = Vec::from_slice(alloc, &step.then)?;
-    then.push(later)?;
-    let after = terms.all(&then)?;
-    terms.any(&[fails, after])
-}
-
-// The constants of a question, each with what it is in words.
-fn names_of(
-    alloc: Global,
-    terms: &Terms,
-    facts: &[NodeId],
-) -> Result<Vec<(String, String)>, AllocError> {
-    let numbers = unknowns_in(alloc, terms, facts)?;
-    let mut names = Vec::new(alloc);
-    for number in &numbers {
-        if let Some(unknown) = terms.unknowns.get(*number) {
-            push_name(&mut names, unknown)?;
-        }
-    }
-    Ok(names)
-}
-
-fn push_name(names: &mut Vec<(String, String)>, unknown: &Unknown) -> Result<(), AllocError> {
-    let name = unknown.name.clone()?;
-    let words = unknown.words.clone()?;
-    names.push((name, words))?;
-    Ok(())
 }

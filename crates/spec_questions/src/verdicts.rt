@@ -3,22 +3,22 @@
 ghost use Rattle.std.specs.Prelude.{◌≡◌, IsTrue};
 ghost use Rattle.std.specs.List.{list_all, list_any};
 ghost use Rattle.spec_questions.specs.Refuting as Refuting;
-ghost use Rattle.spec_questions.specs.Refuting.{is_possible_by, is_refuted_by, is_right_by, is_shown, is_taken_by, is_untaken_by, is_wrong_by};
+ghost use Rattle.spec_questions.specs.Refuting.{is_possible_by, is_refuted_by, is_so_by, may_fail_by, is_right_by, is_shown, is_taken_by, is_untaken_by, is_wrong_by, wrong_by, fails_by};
 
 use crate::answers::Answers;
-use crate::questions::{LeftOut, Question};
+use crate::questions::Question;
 
 /// What is shown of a rule.
 #[derive(Clone, Copy, PartialEq, Eq)]
 pub enum Verdict {
-    /// At each choice of widths at which a call may take it, it is as specs say.
+    /// It is as specs say, and a call may take it.
     Right,
-    /// At each choice that is asked it is as specs say; others are left out at which a call may take it.
-    Partly,
-    /// At no choice of widths a call takes it, by the specs.
+    /// No call takes it, by the specs.
     Idle,
-    /// At a choice of widths it may be taken, and something that specs say isn't so.
+    /// It may be taken, and something that specs say isn't so.
     Wrong,
+    /// Something that specs say may not be so; but not all that it calls is followed.
+    Unfollowed,
     /// Neither.
     Unknown,
 }
@@ -28,25 +28,23 @@ impl Verdict {
     pub fn word(self) -> &'static str {
         match self {
             Verdict::Right => "right",
-            Verdict::Partly => "partly",
             Verdict::Idle => "idle",
             Verdict::Wrong => "wrong",
+            Verdict::Unfollowed => "without",
             Verdict::Unknown => "unknown",
         }
     }
 }
 
-/// What answers say of a rule, by its questions and by the choices of widths at which it isn't asked.
-pub fn verdict_of(questions: &[Question], left_out: &[LeftOut], answers: &Answers) -> Verdict
+/// What answers say of a rule, by its questions, and by whether all that it calls is followed.
+pub fn verdict_of(questions: &[Question], is_followed: bool, answers: &Answers) -> Verdict
     // what the verdict says is so
-    ensures shown { IsTrue (is_shown answers.now.list.items questions.now left_out.now result) }
+    ensures shown { IsTrue (is_shown answers.now.list.items questions.now is_followed result) }
 {
     if is_wrong(questions, answers) {
-        Verdict::Wrong
+        wrong_if(is_followed)
     } else if !are_answered(questions, answers) {
         Verdict::Unknown
-    } else if !are_never_taken(left_out) {
-        Verdict::Partly
     } else if is_taken(questions, answers) {
         Verdict::Right
     } else {
@@ -54,16 +52,25 @@ pub fn verdict_of(questions: &[Question], left_out: &[LeftOut], answers: &Answer
     }
 }
 
-// Whether a rule is wrong at one of these choices of widths.
+// What is said of a rule where something that specs say may not be so.
+fn wrong_if(is_followed: bool) -> Verdict
+    ensures { result ≡ wrong_by is_followed }
+{
+    if is_followed {
+        Verdict::Wrong
+    } else {
+        Verdict::Unfollowed
+    }
+}
+
+// Whether a rule is wrong by one of these questions.
 fn is_wrong(questions: &[Question], answers: &Answers) -> bool
     ensures { result ≡ list_any (is_wrong_by answers.now.list.items) questions.now }
 {
-    questions
-        .iter()
-        .any(|question| is_possible(answers, &question.wrong))
+    questions.iter().any(|question| fails(answers, question))
 }
 
-// Whether a rule is as specs say at each of these choices of widths, and answers tell whether a call takes it.
+// Whether a rule is as specs say by each of these questions, and answers tell whether a call takes it.
 fn are_answered(questions: &[Question], answers: &Answers) -> bool
     ensures { result ≡ Refuting.are_answered answers.now.list.items questions.now }
 {
@@ -72,16 +79,16 @@ fn are_answered(questions: &[Question], answers: &Answers) -> bool
         && (is_taken(questions, answers) || is_untaken(questions, answers))
 }
 
-// Whether answers refute that a rule is wrong at each of these choices of widths.
+// Whether answers refute that a rule is wrong by each of these questions.
 fn are_right(questions: &[Question], answers: &Answers) -> bool
     ensures { result ≡ list_all (is_right_by answers.now.list.items) questions.now }
 {
     questions
         .iter()
-        .all(|question| is_refuted(answers, &question.wrong))
+        .all(|question| is_so(answers, &question.wrong))
 }
 
-// Whether a call may take a rule at one of these choices of widths.
+// Whether a call may take a rule by one of these questions.
 fn is_taken(questions: &[Question], answers: &Answers) -> bool
     ensures { result ≡ list_any (is_taken_by answers.now.list.items) questions.now }
 {
@@ -90,7 +97,7 @@ fn is_taken(questions: &[Question], answers: &Answers) -> bool
         .any(|question| is_possible(answers, &question.taken))
 }
 
-// Whether no call takes a rule at these choices of widths.
+// Whether no call takes a rule by these questions.
 fn is_untaken(questions: &[Question], answers: &Answers) -> bool
     ensures { result ≡ list_all (is_untaken_by answers.now.list.items) questions.now }
 {
@@ -99,11 +106,41 @@ fn is_untaken(questions: &[Question], answers: &Answers) -> bool
         .all(|question| is_refuted(answers, &question.taken))
 }
 
-// Whether no call takes a rule at the choices of widths at which it isn't asked.
-fn are_never_taken(left_out: &[LeftOut]) -> bool
-    ensures { result ≡ list_all Refuting.is_never_taken left_out.now }
+/// Whether what a question asks for is so: it has no text, or its text is refuted.
+pub fn is_so(answers: &Answers, wrong: &Option<String>) -> bool
+    ensures { result ≡ is_so_by answers.now.list.items wrong.now }
 {
-    left_out.iter().all(|choice| choice.reason.is_none())
+    match wrong {
+        Some(text) => is_refuted(answers, text),
+        None => true,
+    }
+}
+
+/// Whether what a question asks for may not be so where all is followed that is said of it.
+pub fn fails(answers: &Answers, question: &Question) -> bool
+    ensures { result ≡ is_wrong_by answers.now.list.items question.now }
+{
+    may_fail(answers, &question.wrong) && fails_elsewhere(answers, &question.elsewhere)
+}
+
+// Whether it may not be so by the text that says that all is followed, if there is one.
+fn fails_elsewhere(answers: &Answers, elsewhere: &Option<String>) -> bool
+    ensures { result ≡ fails_by answers.now.list.items elsewhere.now }
+{
+    match elsewhere {
+        Some(text) => is_possible(answers, text),
+        None => true,
+    }
+}
+
+/// Whether what a question asks for may not be so, by the answers to its text.
+pub fn may_fail(answers: &Answers, wrong: &Option<String>) -> bool
+    ensures { result ≡ may_fail_by answers.now.list.items wrong.now }
+{
+    match wrong {
+        Some(text) => is_possible(answers, text),
+        None => false,
+    }
 }
 
 /// Whether a solver said `unsat` to a text, and none `sat`.

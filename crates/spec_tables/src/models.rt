@@ -1,8 +1,8 @@
 //! What the values of types stand for.
 
+use crate::faults::{SpecFault, wrong};
 use cranelift_isle::sema::{BuiltinType, IntType, Type, TypeEnv, TypeId};
 use report_queries::names::type_name;
-use spec_formulas::faults::{NoCondition, wrong};
 use std::alloc::{AllocError, Global};
 use text_reader::syntax::ModelType;
 
@@ -56,7 +56,7 @@ pub fn said_model(
     tyenv: &TypeEnv,
     models: &[ValueModel],
     said: &ModelType,
-) -> Result<ValueModel, NoCondition> {
+) -> Result<ValueModel, SpecFault> {
     match said {
         ModelType::Int(_) => Ok(ValueModel::Integer),
         ModelType::Bool(_) => Ok(ValueModel::Truth),

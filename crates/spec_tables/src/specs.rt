@@ -1,10 +1,10 @@
 //! Specs, looked up: which term, type or constant each of them is of.
 
+use crate::faults::{SpecError, SpecFault};
 use crate::models::{ValueModel, fits_model, model_at, own_model, own_models, said_model};
 use core_syntax::syntax::{Ident, Pos};
 use cranelift_isle::lower::Lowered;
 use cranelift_isle::sema::{Fields, Sym, TermId, TermKind, Type, TypeId, Variant};
-use spec_formulas::faults::{NoCondition, SpecError};
 use std::alloc::{AllocError, Global};
 use text_reader::syntax::{
     Attr, AttrKind, Form, Instantiation, Macro, Model as SaidModel, ModelType, ModelValue,
@@ -744,7 +744,7 @@ fn note(
 fn note_model(
     specs: &mut Specs<'_>,
     ty: TypeId,
-    model: Result<ValueModel, NoCondition>,
+    model: Result<ValueModel, SpecFault>,
     errors: &mut Vec<SpecError>,
 ) -> Result<(), AllocError> {
     match model {
@@ -754,11 +754,11 @@ fn note_model(
             }
             Ok(())
         }
-        Err(NoCondition::Wrong(error)) => {
+        Err(SpecFault::Wrong(error)) => {
             errors.push(error)?;
             Ok(())
         }
-        Err(_) => Err(AllocError),
+        Err(SpecFault::Memory(refused)) => Err(refused),
     }
 }
 

@@ -1,0 +1,22 @@
+//! Laws of verdicts. A function here has no code: its clause is a law, and its proof stands in `proofs/`.
+ghost use Rattle.spec_questions.specs.Right.{RightLoweringsComputeAsSaid, RightRulesAreValid};
+
+use laws_specs::programs_of_sets_compute_as_said;
+use spec_asked::laws::asked_rules_are_valid;
+
+/// Where a rule is told right by all questions about its own condition, the condition is valid, if solvers are right and the text of a
+/// question says what its facts say.
+pub fn right_rules_are_valid()
+    ensures { RightRulesAreValid }
+{
+    asked_rules_are_valid();
+}
+
+/// Where each rule of each term that isn't multi is told right so, whole runs of the trees that `lower` answers, and of their code, answer
+/// as specs say.
+pub fn right_lowerings_compute_as_said()
+    ensures { RightLoweringsComputeAsSaid }
+{
+    right_rules_are_valid();
+    programs_of_sets_compute_as_said();
+}
