@@ -568,8 +568,10 @@ class Trial:
         need(is_int(width) and width > 0 and is_word(x))
         if width <= x[0]:
             return word(width, x[1])
-        above = width - x[0]
-        return (width, (self.choices.choose([n for _, n in words_of(above, False)]) << x[0]) | x[1])
+        key = ("conv_to", width, x)
+        if key not in self.unknowns:
+            self.unknowns[key] = self.choices.choose([n for _, n in words_of(width - x[0], False)])
+        return (width, (self.unknowns[key] << x[0]) | x[1])
 
     def says_case(self, x, cases, names):
         for key, body in cases:
@@ -756,7 +758,7 @@ class Trial:
 
 
 def lacks(unit, demands):
-    """A called term or a type without a meaning: there is no question then."""
+    """A called term or a type without a meaning: then the rule isn't judged."""
     def below(place):
         if isinstance(place, tuple):
             if place and place[0] in ("pure", "impure", "extracted"):

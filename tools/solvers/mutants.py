@@ -36,7 +36,7 @@ CLASSES = [["bvadd", "bvsub", "bvmul"], ["bvand", "bvor", "bvxor"], ["bvshl", "b
            ["bvult", "bvule", "bvugt", "bvuge", "bvslt", "bvsle", "bvsgt", "bvsge"], ["bvnot", "bvneg"], ["rotl", "rotr"], ["+", "-"],
            ["<", "<=", ">", ">="], ["zero_ext", "sign_ext"], ["true", "false"]]
 COMMUTATIVE = ["=", "and", "or", "+", "*", "bvadd", "bvmul", "bvand", "bvor", "bvxor", "require", "provide", "match"]
-WORDS = "right|partly|wrong|unknown|idle|without"
+WORDS = "right|wrong|unknown|idle|without"
 EXPLAINED = os.path.join(HERE, "equivalent.md")
 
 

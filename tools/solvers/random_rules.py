@@ -496,7 +496,7 @@ def changed(rng, forms):
     return forms
 
 
-WORDS = "right|partly|wrong|unknown|idle|without"
+WORDS = "right|wrong|unknown|idle|without"
 
 
 class Asked:

@@ -1,7 +1,7 @@
 #!/usr/bin/env python3
 """Asks about the small files in small/: each alone, those that are accepted all in one file, and that with all rules on one line.
 small/TABLE.md says what must be told of each rule, and why. `isle run` has to take each call that shows that a rule is wrong, and the
-status has to be 1 where a rule is wrong or partly, and with --ci where one isn't right.
+status has to be 1 where a rule is wrong, and with --ci where one isn't right.
 Usage: small.py [--jobs N] [--answers FILE] SOLVER.., each z3, cvc5 or both. FILE keeps the answers for the next run; FILE.SOLVER is its name."""
 import itertools
 import os
@@ -29,9 +29,9 @@ TOLD = {
     "unmet-require": "f wrong",
     "unmet-require-misfit": "f wrong",
     "structs-of-other-widths": "f wrong",
-    "unknown-bit": "f wrong|unknown|partly",
+    "unknown-bit": "f wrong|unknown",
     "unknown-bit-of-width": "f wrong, f2 wrong",
-    "unknown-function": "f wrong|unknown|partly",
+    "unknown-function": "f wrong|unknown",
     "extractor-signature": "f right",
     "extractor-spec": "f right",
     "arm-not-taken": "f wrong",
@@ -41,7 +41,7 @@ TOLD = {
     "no-spec-of-term": "f right",
     "called-rule": "f right",
     "called-rule-wrong": "f wrong",
-    "called-rules": "f without, g without, h without, k without, m without",
+    "called-rules": "f without, g without, h without, k without, m right",
     "pure-require": "f right",
     "never-taken": "f idle|without",
     "lazy-if": "f right",
@@ -56,6 +56,11 @@ TOLD = {
     "opaque": "f right, f right, f wrong",
     "below-match": "f right, f wrong|unknown",
     "below-numbers": "g right, g wrong|unknown",
+    "below-a-call": "f right, f wrong|unknown",
+    "last-variant-above": "f right, f right, g right, g right, h right, h wrong",
+    "equal-enums": "f unknown",
+    "deep-equality": "f unknown",
+    "other-values": "f right, g wrong",
     "unused-extractor": "f wrong|right, g right",
 }
 REFUSED = {
@@ -72,6 +77,7 @@ REFUSED = {
 }
 # What has to stand in lines: widths, and a warning.
 NAMED = {
+    "other-values": ["call: (g (E.B) "],
     "internal-extractor-unused": ["warning: the spec of `iadd` at "],
     "extractor-signature": ["(arg0 of 8 bits)", "never taken (arg0 of 16 bits)"],
     "extractor-spec": ["(arg0 of 8 bits)", "never taken (arg0 of 16 bits)"],
@@ -108,7 +114,7 @@ def run(solver, jobs, answers, text):
         told, status = output_of(command)
         words = [word for told_of_term in words_by_term(told).values() for word in told_of_term]
         faults = ["fault: isle run refuses %s" % call for call in calls_in(told) if output_of([ISLE, "run", path, "--"] + call)[1]]
-        if words and status != int("wrong" in words or "partly" in words):
+        if words and status != int("wrong" in words):
             faults.append("fault: the status is %d" % status)
         if words and output_of(command + ["--ci"])[1] != int(set(words) != {"right"}):
             faults.append("fault: the status with --ci")
@@ -140,7 +146,7 @@ def words_by_term(told, mark=""):
     """The words that are told of the rules of each term."""
     words = {}
     for line in told.split("\n"):
-        found = re.match(r"(right|partly|wrong|unknown|idle|without): rule (?:\S+ )?at \S+ of ([^\s:,;]+)", line)
+        found = re.match(r"(right|wrong|unknown|idle|without): rule (?:\S+ )?at \S+ of ([^\s:,;]+)", line)
         if found and found.group(2).endswith(mark):
             words.setdefault(found.group(2)[:len(found.group(2)) - len(mark)], []).append(found.group(1))
     return words
