@@ -90,3 +90,18 @@ is_shown answers questions followed V.Unfollowed =
     list_any (is_wrong_by answers) questions && not followed
 is_shown answers questions followed V.Unknown =
     not (list_any (is_wrong_by answers) questions) && not (are_answered answers questions)
+
+-- the same, where some pure calls are to be as their terms require, by the questions about them: a rule is right only if each of these is
+-- refuted too, and wrong also if one of them may fail
+abbrev pub is_shown_with : List Answer → List Question → (required : List Question) → (is_followed : Bool) → Verdict → Bool
+is_shown_with answers questions required followed V.Right =
+    is_shown answers questions followed V.Right && list_all (is_right_by answers) required
+is_shown_with answers questions required followed V.Idle =
+    is_shown answers questions followed V.Idle
+is_shown_with answers questions required followed V.Wrong =
+    (list_any (is_wrong_by answers) questions || list_any (is_wrong_by answers) required) && followed
+is_shown_with answers questions required followed V.Unfollowed =
+    (list_any (is_wrong_by answers) questions || list_any (is_wrong_by answers) required) && not followed
+is_shown_with answers questions required followed V.Unknown =
+    not (list_any (is_wrong_by answers) questions || list_any (is_wrong_by answers) required)
+    && not (are_answered answers questions && list_all (is_right_by answers) required)

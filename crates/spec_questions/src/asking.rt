@@ -8,6 +8,7 @@ use crate::branches::Branches;
 use crate::faults::NoQuestion;
 use crate::following::{elsewhere_texts, may_be_wrong};
 use crate::questions::{Known, LeftOut, Question, Wanted};
+use crate::required::required_questions;
 use crate::shown::{Named, named_values};
 use crate::telling::Teller;
 use crate::widths::never_taken;
@@ -67,6 +68,8 @@ pub(crate) struct Tried {
     pub(crate) is_own: bool,
     /// The questions: one at least.
     pub(crate) questions: Vec<Question>,
+    /// Those whether pure calls on its right side are as their terms require.
+    pub(crate) required: Vec<Question>,
     /// The widths of arguments at which no call takes it.
     pub(crate) left_out: Vec<LeftOut>,
     /// Why not all that it calls is followed.
@@ -119,6 +122,7 @@ pub(crate) fn ask(asker: Asker<'_>, asked: Asked<'_>) -> Result<Tried, NoQuestio
     let mut formulas = Formulas::new(asker.alloc);
     let named = named_values(&mut formulas, asker, asked, &condition)?;
     let excluded = excluded_above(&mut formulas, asker, asked, &condition)?;
+    let required = required_questions(&mut formulas, asker, asked, &condition, &named, &excluded)?;
     let found = asked_of(&mut formulas, asker, asked, &condition)?;
     let told = told_of(
         &formulas, asker, asked, &condition, &named, &excluded, &found,
@@ -130,6 +134,7 @@ pub(crate) fn ask(asker: Asker<'_>, asked: Asked<'_>) -> Result<Tried, NoQuestio
         excluded,
         is_own: condition.is_own && !asker.wanted.above,
         questions,
+        required,
         left_out,
         unfollowed: condition.unfollowed,
     })

@@ -5,8 +5,10 @@ use crate::asking::{Asked, Asker, asked_of};
 use crate::branches::Branches;
 use crate::faults::NoQuestion;
 use crate::questions::Question;
+use crate::required::asked_required;
 use crate::shown::{named_values, with_excluded};
 use crate::verdicts::may_fail;
+use spec_asked::asking::AskedCondition;
 use spec_calls::conditions::Condition;
 use spec_cases::arena::Formulas;
 use spec_cases::asking::{Asking, constant_of, literal_of};
@@ -42,20 +44,46 @@ pub(crate) fn elsewhere_texts(
     // As in what was asked, so that constants have the same numbers, by which values are asked for behind a text.
     let _named = named_values(&mut formulas, asker, asked, condition)?;
     let excluded = excluded_above(&mut formulas, asker, asked, condition)?;
+    let _required = asked_required(&mut formulas, asker, asked, condition)?;
     let found = asked_of(&mut formulas, asker, asked, condition)?;
-    let branches = Branches::of(asker, &found)?;
+    texts_followed(&mut formulas, asker, &excluded, &found)
+}
+
+/// The same of the questions about what pure calls require.
+pub(crate) fn elsewhere_required(
+    asker: Asker<'_>,
+    asked: Asked<'_>,
+    condition: &Condition,
+) -> Result<Vec<Option<String>>, NoQuestion> {
+    let mut formulas = Formulas::new(asker.alloc);
+    let _named = named_values(&mut formulas, asker, asked, condition)?;
+    let excluded = excluded_above(&mut formulas, asker, asked, condition)?;
+    match asked_required(&mut formulas, asker, asked, condition)? {
+        Some(required) => texts_followed(&mut formulas, asker, &excluded, &required.asked),
+        None => Ok(Vec::new(asker.alloc)),
+    }
+}
+
+// The texts of questions where all is followed that is said.
+fn texts_followed(
+    formulas: &mut Formulas,
+    asker: Asker<'_>,
+    excluded: &[Fact],
+    found: &AskedCondition,
+) -> Result<Vec<Option<String>>, NoQuestion> {
+    let branches = Branches::of(asker, found)?;
     let mut texts = Vec::new(asker.alloc);
     for question in &found.questions {
         let place = branches.place(question.facts.len());
         let steps = steps_to(&found.steps, place);
-        let text = text_followed(&mut formulas, asker, &question.facts, &excluded, steps)?;
+        let text = text_followed(formulas, asker, &question.facts, excluded, steps)?;
         texts.push(text)?;
     }
     Ok(texts)
 }
 
-// The steps up to a goal, by its place among goals.
-fn steps_to(steps: &[Step], place: usize) -> &[Step] {
+/// The steps up to a goal, by its place among goals.
+pub(crate) fn steps_to(steps: &[Step], place: usize) -> &[Step] {
     let mut goals = 0usize;
     let mut count = 0usize;
     for step in steps {

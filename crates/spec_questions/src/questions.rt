@@ -83,6 +83,8 @@ pub struct RuleQuestions {
     pub term: TermId,
     /// The questions. There is at least one.
     pub questions: Vec<Question>,
+    /// Those whether pure calls on its right side are as their terms require: none where nothing is required, or where that isn't wanted.
+    pub required: Vec<Question>,
     /// The widths at which no call takes it.
     pub left_out: Vec<LeftOut>,
     /// Why not all that it calls is followed, in one line: then it can't be told wrong. None where all is.
@@ -105,6 +107,7 @@ impl Drop for RuleQuestions {
             pos: _,
             term: _,
             questions: _,
+            required: _,
             left_out: _,
             unfollowed: _,
             is_own: _,
@@ -183,6 +186,8 @@ impl<T: Drop> From<std::alloc::AllocFailed<T>> for QuestionFault {
 pub struct Wanted<'w> {
     /// Whether rules are asked about where no rule of greater priority matches.
     pub above: bool,
+    /// Whether it isn't asked if pure calls on right sides are as their terms require.
+    pub lax: bool,
     /// The positions of the rules that are asked about, or None for all.
     pub only: Option<&'w [Pos]>,
     /// What solvers answered, if they were asked: where a question may not be so, it is asked too where all is followed.
@@ -524,6 +529,7 @@ impl Questions {
             excluded,
             is_own,
             questions,
+            required,
             left_out,
             unfollowed,
         } = tried;
@@ -532,6 +538,7 @@ impl Questions {
             pos: asked.rule.pos,
             term: asked.term.id,
             questions,
+            required,
             left_out,
             unfollowed,
             is_own,

@@ -3,7 +3,7 @@
 ghost use Rattle.std.specs.Prelude.{◌≡◌, IsTrue};
 ghost use Rattle.std.specs.List.{list_all, list_any};
 ghost use Rattle.spec_questions.specs.Refuting as Refuting;
-ghost use Rattle.spec_questions.specs.Refuting.{is_possible_by, is_refuted_by, is_so_by, may_fail_by, is_right_by, is_shown, is_taken_by, is_untaken_by, is_wrong_by, wrong_by, fails_by};
+ghost use Rattle.spec_questions.specs.Refuting.{is_possible_by, is_refuted_by, is_so_by, may_fail_by, is_right_by, is_shown, is_shown_with, is_taken_by, is_untaken_by, is_wrong_by, wrong_by, fails_by};
 
 use crate::answers::Answers;
 use crate::questions::Question;
@@ -41,14 +41,29 @@ pub fn verdict_of(questions: &[Question], is_followed: bool, answers: &Answers) 
     // what the verdict says is so
     ensures shown { IsTrue (is_shown answers.now.list.items questions.now is_followed result) }
 {
-    if is_wrong(questions, answers) {
+    verdict_with(questions, &[], is_followed, answers)
+}
+
+/// The same, where it is also asked whether pure calls on its right side are as their terms require.
+pub fn verdict_with(
+    questions: &[Question],
+    required: &[Question],
+    is_followed: bool,
+    answers: &Answers,
+) -> Verdict
+    // what the verdict says is so
+    ensures shown { IsTrue (is_shown_with answers.now.list.items questions.now required.now is_followed result) }
+{
+    if is_wrong(questions, answers) || is_wrong(required, answers) {
         wrong_if(is_followed)
     } else if !are_answered(questions, answers) {
         Verdict::Unknown
-    } else if is_taken(questions, answers) {
+    } else if !is_taken(questions, answers) {
+        Verdict::Idle
+    } else if are_right(required, answers) {
         Verdict::Right
     } else {
-        Verdict::Idle
+        Verdict::Unknown
     }
 }
 
