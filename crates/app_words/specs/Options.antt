@@ -95,6 +95,7 @@ table =
     often (codes "--stdin") K.Nothing O.Formatting ∷
     once (codes "--rule") K.Text O.Conditions ∷
     once (codes "--above") K.Nothing O.Conditions ∷
+    once (codes "--lax") K.Nothing O.Conditions ∷
     once (codes "--answers") K.Text O.Conditions ∷
     once (codes "--deny") K.Nothing O.Conditions ∷
     once (codes "--expect") K.Text O.Conditions ∷

@@ -99,6 +99,7 @@ texts_behind before (item ∷ items) = texts_behind (texts_with item before) ite
 pub record IsConditionsOf (items : List Item) (asked : ConditionsRequest) : Type 0 where
   pub folder : asked.folder.now ≡ text_or_none (codes "-C") items
   pub above : asked.above ≡ is_given (codes "--above") items
+  pub lax : asked.lax ≡ is_given (codes "--lax") items
   pub rule : option_copied asked.rule ≡ value_of (codes "--rule") items
   pub json : asked.json ≡ is_given (codes "--format") items
   pub texts : asked.texts ≡ texts_behind None items

@@ -27,6 +27,8 @@ pub struct ConditionsRequest<'a> {
     pub folder: &'a str,
     /// Whether rules are asked about where no rule of greater priority matches.
     pub above: bool,
+    /// Whether it isn't asked if pure calls on right sides are as their terms require.
+    pub lax: bool,
     /// What the rules are called that are asked about, as by `explain`; all where nothing is said.
     pub rule: Option<&'a str>,
     /// Whether what is told of rules is written as JSON: docs/JSON.md. Questions always are.
@@ -48,6 +50,7 @@ impl<'a> Drop for ConditionsRequest<'a> {
         let Self {
             folder: _,
             above: _,
+            lax: _,
             rule: _,
             json: _,
             texts: _,
@@ -76,6 +79,7 @@ fn conditions_of<'a>(alloc: Global, items: &[Item<'a>]) -> Result<ConditionsRequ
     Ok(ConditionsRequest {
         folder: text_or_none(items, "-C"),
         above: is_given(items, "--above"),
+        lax: is_given(items, "--lax"),
         rule: value_of(items, "--rule"),
         json: is_given(items, "--format"),
         texts: texts_asked(items),

@@ -135,7 +135,7 @@ fn is_among_tasks(rows: &[(&str, TaskOption, &str)], word: &str) -> bool
 }
 
 /// All options: the word of each, what it is, and what `--help` says of it. A word may stand for several, each of other tasks.
-pub(crate) const OPTIONS: [(&str, TaskOption, &str); 27] = [
+pub(crate) const OPTIONS: [(&str, TaskOption, &str); 28] = [
     (
         "--terms",
         TaskOption {
@@ -343,6 +343,16 @@ pub(crate) const OPTIONS: [(&str, TaskOption, &str); 27] = [
             owners: Owners::Conditions,
         },
         "  --above                asks where no rule of greater priority matches
+",
+    ),
+    (
+        "--lax",
+        TaskOption {
+            takes: Takes::Nothing,
+            repeats: false,
+            owners: Owners::Conditions,
+        },
+        "  --lax                  doesn't ask whether pure calls on right sides are as the specs of their terms require
 ",
     ),
     (
