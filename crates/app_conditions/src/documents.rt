@@ -106,7 +106,18 @@ struct Writer<'a, 'f> {
 impl<'a, 'f> Writer<'a, 'f> {
     // Adds the questions about a rule.
     fn push_questions(self, json: &mut Json, rule: &RuleQuestions) -> Result<(), AllocError> {
-        for question in &rule.questions {
+        self.push_each(json, rule, &rule.questions)?;
+        self.push_each(json, rule, &rule.required)
+    }
+
+    // Adds some of the questions about a rule.
+    fn push_each(
+        self,
+        json: &mut Json,
+        rule: &RuleQuestions,
+        questions: &[Question],
+    ) -> Result<(), AllocError> {
+        for question in questions {
             self.push_question(json, rule, question)?;
         }
         Ok(())

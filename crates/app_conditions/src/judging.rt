@@ -8,7 +8,7 @@ use spec_questions::answers::{Answers, push_text};
 use spec_questions::questions::{Question, Questions, RuleQuestions, Without};
 use spec_questions::replies::{Reply, reply_in};
 use spec_questions::verdicts::{
-    Verdict, fails, is_answered, is_possible, is_refuted, may_fail, verdict_of,
+    Verdict, fails, is_answered, is_possible, is_refuted, may_fail, verdict_with,
 };
 use std::alloc::{AllocError, Global};
 use text_reader::syntax::VerificationForm;
@@ -36,20 +36,28 @@ pub(crate) fn open_places(
 ) -> Result<Vec<Pos>, AllocError> {
     let mut places = Vec::new(teller.alloc);
     for rule in &asked.rules {
-        if rule
-            .questions
-            .iter()
-            .any(|question| may_fail(answers, &question.wrong))
-        {
+        if may_be_wrong(answers, &rule.questions) || may_be_wrong(answers, &rule.required) {
             places.push(rule.pos)?;
         }
     }
     Ok(places)
 }
 
+// Whether what one of these questions asks for may not be so.
+fn may_be_wrong(answers: &Answers, questions: &[Question]) -> bool {
+    questions
+        .iter()
+        .any(|question| may_fail(answers, &question.wrong))
+}
+
 // What answers say of a rule.
 fn verdict_on(rule: &RuleQuestions, answers: &Answers) -> Verdict {
-    verdict_of(&rule.questions, rule.unfollowed.is_none(), answers)
+    verdict_with(
+        &rule.questions,
+        &rule.required,
+        rule.unfollowed.is_none(),
+        answers,
+    )
 }
 
 /// How many rules there are of each verdict.
@@ -267,7 +275,15 @@ impl<'a, 'f> Judge<'a, 'f> {
 
     // The first question that says that a rule is wrong.
     fn wrong_of(self, rule: &RuleQuestions) -> Option<&Question> {
-        rule.questions
+        match self.failing(&rule.questions) {
+            Some(question) => Some(question),
+            None => self.failing(&rule.required),
+        }
+    }
+
+    // The first of these questions that says so.
+    fn failing(self, questions: &[Question]) -> Option<&Question> {
+        questions
             .iter()
             .find(|question| fails(self.answers, question))
     }
@@ -298,13 +314,10 @@ impl<'a, 'f> Judge<'a, 'f> {
 
     // Adds why nobody knows whether a rule is right: the first question that isn't refuted, and what solvers said.
     fn push_unknown(self, out: &mut String, rule: &RuleQuestions) -> Result<(), AllocError> {
-        for question in &rule.questions {
-            if let Some(text) = &question.wrong {
-                if !is_refuted(self.answers, text) {
-                    push_widths(out, &question.widths)?;
-                    return self.push_open(out, question, text);
-                }
-            }
+        if self.push_first_open(out, &rule.questions)?
+            || self.push_first_open(out, &rule.required)?
+        {
+            return Ok(());
         }
         for question in &rule.questions {
             if !is_refuted(self.answers, &question.taken) {
@@ -314,6 +327,20 @@ impl<'a, 'f> Judge<'a, 'f> {
             }
         }
         out.push('\n')
+    }
+
+    // Adds which of these questions is the first that isn't refuted, and what solvers said of it, if there is one.
+    fn push_first_open(self, out: &mut String, questions: &[Question]) -> Result<bool, AllocError> {
+        for question in questions {
+            if let Some(text) = &question.wrong {
+                if !is_refuted(self.answers, text) {
+                    push_widths(out, &question.widths)?;
+                    self.push_open(out, question, text)?;
+                    return Ok(true);
+                }
+            }
+        }
+        Ok(false)
     }
 
     // Adds why nobody knows of a question with this text: what solvers said of it, or of the text that asks where all is followed.
@@ -378,25 +405,37 @@ impl<'a, 'f> Judge<'a, 'f> {
         Ok(())
     }
 
-    // Adds the texts of a rule's questions: whether a call takes the rule is asked where all is refuted that may be wrong.
+    // Adds the texts of a rule's questions: whether a call takes the rule is asked where all of its own are refuted that may be wrong.
     fn push_asked(
         self,
         out: &mut String,
         rule: &RuleQuestions,
         all: bool,
     ) -> Result<(), AllocError> {
+        let is_right = self.push_wrong_asked(out, &rule.questions, all)?;
+        self.push_wrong_asked(out, &rule.required, all)?;
+        if is_right {
+            self.push_taken(out, rule, all)?;
+        }
+        Ok(())
+    }
+
+    // Adds the texts of these questions, and says whether all are refuted.
+    fn push_wrong_asked(
+        self,
+        out: &mut String,
+        questions: &[Question],
+        all: bool,
+    ) -> Result<bool, AllocError> {
         let mut is_right = true;
-        for question in &rule.questions {
+        for question in questions {
             if let Some(text) = &question.wrong {
                 is_right = is_right && is_refuted(self.answers, text);
                 self.push_if_asked(out, text, all)?;
                 self.push_elsewhere(out, question, all)?;
             }
         }
-        if is_right {
-            self.push_taken(out, rule, all)?;
-        }
-        Ok(())
+        Ok(is_right)
     }
 
     // Adds the text that asks whether a question fails where all is followed, if it may fail.

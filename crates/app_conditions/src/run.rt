@@ -263,6 +263,7 @@ fn made_for(
     let answers = answers_in(alloc, &texts.answers)?;
     let wanted = Wanted {
         above: asked.above,
+        lax: asked.lax,
         only,
         answers: Some(&answers),
     };
@@ -342,6 +343,7 @@ fn above_wrong(
     }
     let wanted = Wanted {
         above: true,
+        lax: asked.lax,
         only: Some(&places),
         answers: Some(answers),
     };
