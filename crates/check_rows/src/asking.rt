@@ -65,11 +65,13 @@ impl From<QuestionFault> for Refused {
     }
 }
 
-/// What is asked about the rules of a text: where no rule of greater priority matches, if `above` says so, and by what solvers answered.
+/// What is asked about the rules of a text: where no rule of greater priority matches, if `above` says so, without what pure calls require,
+/// if `lax` does, and by what solvers answered.
 pub fn asked_about(
     alloc: Global,
     text: &str,
     above: bool,
+    lax: bool,
     answers: Option<&Answers>,
 ) -> Result<Questions, Refused> {
     let defs = read(alloc, 0, text)?;
@@ -77,6 +79,7 @@ pub fn asked_about(
     let lowered = lower(alloc, &defs, true)?;
     let wanted = Wanted {
         above,
+        lax,
         only: None,
         answers,
     };

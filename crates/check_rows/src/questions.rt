@@ -8,7 +8,7 @@ use crate::words::has_word;
 use cranelift_isle::syntax::Pos;
 use spec_questions::answers::answers_in;
 use spec_questions::questions::{Question, Questions, RuleQuestions, Without};
-use spec_questions::verdicts::verdict_of;
+use spec_questions::verdicts::verdict_with;
 use spec_tables::faults::SpecError;
 use std::alloc::{AllocError, Global};
 use std::collections::BTreeSet;
@@ -16,7 +16,9 @@ use std::collections::BTreeSet;
 /// Adds what is asked about the rules of a text: how many questions there are about a rule, what each asks and of which values, and at
 /// which widths none is asked; and a line for each rule that has none. Where a text says what is asked, the rest of that line stands.
 /// With the word `above` each rule is asked about where no rule of greater priority matches, and with `facts` each fact of a question stands
-/// below it. With `failing` each question may fail, and it says what is asked then where all is followed, and each fact of that. A text without rules to ask about is answered by what is wrong with it.
+/// below it. With `lax` it isn't asked whether pure calls on right sides are as their terms require: else lines `requires` say what is.
+/// With `failing` each question may fail, and it says what is asked then where all is followed, and each fact of that. A text without rules
+/// to ask about is answered by what is wrong with it.
 pub fn push_questions(
     alloc: Global,
     words: &[String],
@@ -24,7 +26,8 @@ pub fn push_questions(
     out: &mut String,
 ) -> Result<(), AllocError> {
     let above = has_word(words, "above");
-    match asked_about(alloc, text, above, None) {
+    let lax = has_word(words, "lax");
+    match asked_about(alloc, text, above, lax, None) {
         Ok(asked) if has_word(words, "failing") => push_failing(alloc, text, &asked, out),
         Ok(asked) => push_asked(alloc, words, text, &asked, out),
         Err(Refused::Unread) => out.push_str("the text can't be read\n"),
@@ -44,7 +47,7 @@ pub fn push_verdicts(
     file: &str,
     out: &mut String,
 ) -> Result<(), AllocError> {
-    match asked_about(alloc, text, false, None) {
+    match asked_about(alloc, text, false, false, None) {
         Ok(asked) => {
             for rule in &asked.rules {
                 push_verdict(alloc, words, text, rule, file, out)?;
@@ -65,16 +68,23 @@ fn push_failing(
 ) -> Result<(), AllocError> {
     let mut records = String::new(alloc);
     for rule in &asked.rules {
-        for question in &rule.questions {
-            if let Some(wrong) = &question.wrong {
-                push_record(wrong, "sat", &mut records)?;
-            }
-        }
+        push_failed(&rule.questions, &mut records)?;
+        push_failed(&rule.required, &mut records)?;
     }
     let answers = answers_in(alloc, &records)?;
-    if let Ok(again) = asked_about(alloc, text, false, Some(&answers)) {
+    if let Ok(again) = asked_about(alloc, text, false, false, Some(&answers)) {
         for rule in &again.rules {
             push_elsewhere(alloc, text, rule, out)?;
+        }
+    }
+    Ok(())
+}
+
+// Adds that each of these questions may fail.
+fn push_failed(questions: &[Question], records: &mut String) -> Result<(), AllocError> {
+    for question in questions {
+        if let Some(wrong) = &question.wrong {
+            push_record(wrong, "sat", records)?;
         }
     }
     Ok(())
@@ -88,7 +98,19 @@ fn push_elsewhere(
     out: &mut String,
 ) -> Result<(), AllocError> {
     write!(out, "asked {}\n", line_from(text, rule.pos.offset))?;
-    for question in &rule.questions {
+    push_each_elsewhere(alloc, text, rule, &rule.questions, out)?;
+    push_each_elsewhere(alloc, text, rule, &rule.required, out)
+}
+
+// The same of some of its questions.
+fn push_each_elsewhere(
+    alloc: Global,
+    text: &str,
+    rule: &RuleQuestions,
+    questions: &[Question],
+    out: &mut String,
+) -> Result<(), AllocError> {
+    for question in questions {
         if let Some(elsewhere) = &question.elsewhere {
             write!(out, "elsewhere {}\n", goal_of(text, question.goal))?;
             let shown = rule.shown(alloc, question)?;
@@ -107,9 +129,9 @@ fn push_verdict(
     file: &str,
     out: &mut String,
 ) -> Result<(), AllocError> {
-    let records = records_of(alloc, words, &rule.questions, file)?;
+    let records = records_of(alloc, words, rule, file)?;
     let answers = answers_in(alloc, &records)?;
-    if let Ok(again) = asked_about(alloc, text, false, Some(&answers)) {
+    if let Ok(again) = asked_about(alloc, text, false, false, Some(&answers)) {
         for other in &again.rules {
             if other.rule == rule.rule {
                 push_verdict_by(alloc, words, text, other, file, out)?;
@@ -128,9 +150,10 @@ fn push_verdict_by(
     file: &str,
     out: &mut String,
 ) -> Result<(), AllocError> {
-    let records = records_of(alloc, words, &rule.questions, file)?;
+    let records = records_of(alloc, words, rule, file)?;
     let answers = answers_in(alloc, &records)?;
-    let verdict = verdict_of(&rule.questions, rule.unfollowed.is_none(), &answers);
+    let is_followed = rule.unfollowed.is_none();
+    let verdict = verdict_with(&rule.questions, &rule.required, is_followed, &answers);
     let place = line_from(text, rule.pos.offset);
     write!(out, "{} {place}\n", verdict.word())
 }
@@ -201,7 +224,12 @@ fn push_rule(
     let changed = if rule.is_own { "" } else { " changed" };
     write!(out, "asked {}{changed} {place}\n", rule.questions.len())?;
     for question in &rule.questions {
-        push_question(alloc, words, text, rule, question, out)?;
+        write!(out, "shows {}\n", goal_of(text, question.goal))?;
+        push_question(alloc, words, rule, question, out)?;
+    }
+    for question in &rule.required {
+        write!(out, "requires {}\n", goal_of(text, question.goal))?;
+        push_question(alloc, words, rule, question, out)?;
     }
     for choice in &rule.left_out {
         push_widths("never", &choice.widths, out)?;
@@ -212,17 +240,15 @@ fn push_rule(
     }
 }
 
-// Adds a question: what is to be shown, how wide values are, which constants its text has, by name, and of what it has a formula; or
-// that it has no text, since one of its facts is known not to be so.
+// Adds a question: how wide values are, which constants its text has, by name, and of what it has a formula; or that it has no text, since
+// one of its facts is known not to be so.
 fn push_question(
     alloc: Global,
     words: &[String],
-    text: &str,
     rule: &RuleQuestions,
     question: &Question,
     out: &mut String,
 ) -> Result<(), AllocError> {
-    write!(out, "shows {}\n", goal_of(text, question.goal))?;
     push_widths("at", &question.widths, out)?;
     let Some(wrong) = &question.wrong else {
         return out.push_str("  known\n");
