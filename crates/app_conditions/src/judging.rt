@@ -314,9 +314,10 @@ impl<'a, 'f> Judge<'a, 'f> {
 
     // Adds why nobody knows whether a rule is right: the first question that isn't refuted, and what solvers said.
     fn push_unknown(self, out: &mut String, rule: &RuleQuestions) -> Result<(), AllocError> {
-        if self.push_first_open(out, &rule.questions)?
-            || self.push_first_open(out, &rule.required)?
-        {
+        if self.push_first_open(out, &rule.questions)? {
+            return Ok(());
+        }
+        if self.push_first_open(out, &rule.required)? {
             return Ok(());
         }
         for question in &rule.questions {

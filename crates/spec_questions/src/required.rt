@@ -113,12 +113,23 @@ pub(crate) fn asked_required(
     let others = goals_of(asker, condition, &calls);
     calls.extend_from_slice(&pure)?;
     let goals = goals_of(asker, condition, &calls);
-    let mut demands = asker.demands(asked, condition);
-    demands.impure = &calls;
+    let demands = demands_with(asker, asked, condition, &calls);
     Ok(Some(Required {
         asked: asked_up_to(formulas, asker, &demands, goals)?,
         others,
     }))
+}
+
+// The tables of a rule's condition, with these calls for its impure ones.
+fn demands_with<'d>(
+    asker: Asker<'d>,
+    asked: Asked<'d>,
+    condition: &'d Condition,
+    calls: &'d [u32],
+) -> Demands<'d> {
+    let mut demands = asker.demands(asked, condition);
+    demands.impure = calls;
+    demands
 }
 
 // The pure calls whose answers the result or an argument of an impure call is made of, and no test, and whose terms require something:
