@@ -67,6 +67,13 @@ TOLD = {
     "other-values": "f right, g wrong",
     "unused-extractor": "f wrong|right, g right",
 }
+# What may be told with --lax, where that is something else.
+LAX = {
+    "pure-require": "f right",
+    "pure-require-tested": "f right, g right",
+    "pure-require-impure": "f right, g right, h right",
+    "pure-require-signature": "f right",
+}
 REFUSED = {
     "enum-value-twice": "spec-enum",
     "argument-result": "spec-argument",
@@ -108,13 +115,13 @@ def renamed(text, mark):
     return re.sub(r"[^\s().$]+", lambda found: found.group() + mark if found.group() in names else found.group(), text)
 
 
-def run(solver, jobs, answers, text):
-    """What is told of a text, with a line for each fault behind it, and the status."""
+def run(solver, jobs, answers, text, more=()):
+    """What is told of a text with more words, with a line for each fault behind it, and the status."""
     with tempfile.TemporaryDirectory() as room:
         path = os.path.join(room, "a.isle")
         with open(path, "w", encoding="utf-8") as file:
             file.write(text)
-        command = [sys.executable, SCRIPT, "--solver", solver, "--seconds", "20", "--jobs", jobs, "--answers", answers, path]
+        command = [sys.executable, SCRIPT, "--solver", solver, "--seconds", "20", "--jobs", jobs, "--answers", answers, *more, path]
         told, status = output_of(command)
         words = [word for told_of_term in words_by_term(told).values() for word in told_of_term]
         faults = ["fault: isle run refuses %s" % call for call in calls_in(told) if output_of([ISLE, "run", path, "--"] + call)[1]]
@@ -156,10 +163,10 @@ def words_by_term(told, mark=""):
     return words
 
 
-def fits(name, told, mark=""):
+def fits(allowed_words, told, mark=""):
     """Whether what is told of the rules of a file is what may be told."""
     words, wanted = words_by_term(told, mark), {}
-    for part in TOLD[name].split(", "):
+    for part in allowed_words.split(", "):
         term, _, allowed = part.partition(" ")
         wanted.setdefault(term, []).append(allowed.split("|"))
     return set(words) == set(wanted) and all(
@@ -189,8 +196,11 @@ def main(arguments):
             for name in TOLD:
                 for how, text in (("as it stands", text_of(name)), ("on one line", bare(text_of(name)))):
                     told, _ = run(solver, jobs, answers, text)
-                    is_so = fits(name, told) and all(part in told for part in NAMED.get(name, [])) and "fault: " not in told
+                    is_so = fits(TOLD[name], told) and all(part in told for part in NAMED.get(name, [])) and "fault: " not in told
                     check("%s %s, %s" % (solver, name, how), is_so, told)
+            for name, allowed in LAX.items():
+                told, _ = run(solver, jobs, answers, text_of(name), ["--lax"])
+                check("%s %s with --lax" % (solver, name), fits(allowed, told) and "fault: " not in told, told)
             for name, code in REFUSED.items():
                 told, status = run(solver, jobs, answers, text_of(name))
                 check("%s %s is refused" % (solver, name), status == 1 and "error[%s]" % code in told, told)
@@ -199,7 +209,7 @@ def main(arguments):
                 told, _ = run(solver, jobs, answers, mark.join(parts))
                 for number, name in enumerate(TOLD):
                     lines = "\n".join(line for line in told.split("\n") if re.search(r" of \S+_%d\b" % number, line))
-                    check("%s %s, %s" % (solver, name, how), fits(name, lines, "_%d" % number), lines or told[:2000])
+                    check("%s %s, %s" % (solver, name, how), fits(TOLD[name], lines, "_%d" % number), lines or told[:2000])
     print("%d failed" % len(failed))
     return 1 if failed else 0
 
