@@ -406,7 +406,7 @@ module _ (p : Program) (specs : Specs) (c : Condition) (args : DenotedList) (f :
               required_of c.impure [] none_done s.0 (gives_at c.result ∷ []) s.1 before later u t n ss xs split (λ w i. made w (contains_from_in before w i)) same e;
         }
 
-  none_told : AreKnown (model_of v specs.unknowns) nothing_known
+  pub none_told : AreKnown (model_of v specs.unknowns) nothing_known
   none_told = record { widths = λ at w e. absurd (none_some w e); integers = λ at z e. absurd (none_some z e); kinds = λ at i e. absurd (none_some i e) }
 
   pub condition_shown : (plan : Place → Bool) → ((q : List Fact) → Contains (questions p specs c plan) q → IsUnsatisfiable specs q) → IsShown p specs c args f

@@ -1,4 +1,5 @@
 mod Answered
+mod Below
 mod Enough
 pub mod Refuted
 mod SiteForms

@@ -50,11 +50,11 @@ typed_get types specs (t ∷ tys) (denoted_and y ys) a (suc i) ty x e q =
 typed_get types specs tys xs a i ty x e q = grind (arith, common_steps, none_some, some_is, and_parts)
 
 -- the fields of a variant whose type has it are of its types; so of a struct
-variant_typed : (types : List TypeEntry) (specs : Specs) (ty : ℕ) (o : Option TypeEntry) (s i : ℕ) (xs : DenotedList) (tys : List ℕ) → IsOf types specs ty o (variant_of s i xs) → variant_types o i ≡ Some tys
+pub variant_typed : (types : List TypeEntry) (specs : Specs) (ty : ℕ) (o : Option TypeEntry) (s i : ℕ) (xs : DenotedList) (tys : List ℕ) → IsOf types specs ty o (variant_of s i xs) → variant_types o i ≡ Some tys
     → are_of_types types specs (Some tys) xs ≡ true
 variant_typed types specs ty o s i xs tys h e = grind (arith, common_steps, none_some, and_last_false)
 
-struct_typed : (types : List TypeEntry) (specs : Specs) (ty : ℕ) (o : Option TypeEntry) (s : ℕ) (xs : DenotedList) (tys : List ℕ) → IsOf types specs ty o (struct_of s xs) → struct_types o ≡ Some tys
+pub struct_typed : (types : List TypeEntry) (specs : Specs) (ty : ℕ) (o : Option TypeEntry) (s : ℕ) (xs : DenotedList) (tys : List ℕ) → IsOf types specs ty o (struct_of s xs) → struct_types o ≡ Some tys
     → are_of_types types specs (Some tys) xs ≡ true
 struct_typed types specs ty o s xs tys h e = grind (arith, common_steps, none_some)
 

@@ -5,6 +5,7 @@
 //! `proofs/`.
 #![tactic(auto)]
 
+ghost use Rattle.laws_questions.specs.BelowLaws.{BelowAskEnough};
 ghost use Rattle.laws_questions.specs.EnoughLaws.{QuestionsAskEnough, RefutedProgramsComputeAsSaid};
 
 use laws_specs::programs_of_sets_compute_as_said;
@@ -22,3 +23,9 @@ pub fn refuted_programs_compute_as_said()
     questions_ask_enough();
     programs_of_sets_compute_as_said();
 }
+
+/// Where no question about a rule can be satisfied beside facts that say that rules of greater priority don't match, the condition is valid
+/// where none of these matches.
+pub fn below_ask_enough()
+    ensures { BelowAskEnough }
+{}
