@@ -8,7 +8,7 @@ use spec_questions::answers::{Answers, push_text};
 use spec_questions::questions::{Question, Questions, RuleQuestions, Without};
 use spec_questions::replies::{Reply, reply_in};
 use spec_questions::verdicts::{
-    Verdict, fails, is_answered, is_possible, is_refuted, may_fail, verdict_with,
+    Verdict, fails, is_answered, is_possible, is_refuted, may_fail, verdict_of,
 };
 use std::alloc::{AllocError, Global};
 use text_reader::syntax::VerificationForm;
@@ -52,7 +52,7 @@ fn may_be_wrong(answers: &Answers, questions: &[Question]) -> bool {
 
 // What answers say of a rule.
 fn verdict_on(rule: &RuleQuestions, answers: &Answers) -> Verdict {
-    verdict_with(
+    verdict_of(
         &rule.questions,
         &rule.required,
         rule.unfollowed.is_none(),
@@ -224,9 +224,12 @@ impl<'a, 'f> Judge<'a, 'f> {
         write!(out, ": {}\n", rule.reason)
     }
 
-    // Adds at which widths a rule is right, and at which no call takes it.
+    // Adds whether a rule is right only below others, at which widths, and at which no call takes it.
     fn push_right(self, out: &mut String, rule: &RuleQuestions) -> Result<(), AllocError> {
         let alloc = self.teller.alloc;
+        if !rule.excluded.is_empty() {
+            out.push_str(", where no rule of greater priority matches")?;
+        }
         let mut told = Vec::new(alloc);
         for question in &rule.questions {
             if is_possible(self.answers, &question.taken) {

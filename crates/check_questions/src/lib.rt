@@ -8,7 +8,7 @@ ghost use Rattle.spec_cases.specs.Asking.{come_to_in};
 ghost use Rattle.spec_cases.specs.CaseViews.{cases_of};
 ghost use Rattle.spec_cases.specs.Expressions.{Evaluates};
 ghost use Rattle.spec_cases.specs.Steps.{said_view};
-ghost use Rattle.spec_questions.specs.Refuting.{is_refuted_by, is_shown};
+ghost use Rattle.spec_questions.specs.Refuting.{is_refuted_by, is_shown_with};
 ghost use Rattle.spec_steps.specs.Demands.{MakesFor};
 ghost use Rattle.spec_steps.specs.Roots.{plan};
 ghost use Rattle.spec_steps.specs.Saying.{Adds};
@@ -44,10 +44,13 @@ pub fn questions(
     term: &LoweredTerm,
     rule: &Rule,
     flag: bool,
+    above: bool,
 ) -> Result<AskedCondition, AskingFault>
-    ensures { IfOk result (λ r. AsksLowered lowered.now signatures.now specs.now term.now formulas.new rule.now flag r.questions.items) }
+    ensures { IfOk result (λ r. AsksLowered lowered.now signatures.now specs.now term.now formulas.new rule.now flag r.questions.items r.excluded.items) }
 {
-    lowered_questions(formulas, lowered, signatures, specs, term, rule, flag)
+    lowered_questions(
+        formulas, lowered, signatures, specs, term, rule, flag, above,
+    )
 }
 
 /// `steps_of`, the steps in which a condition is asked.
@@ -82,10 +85,15 @@ pub fn values(
 }
 
 /// `verdict_of`, what answers say of a rule.
-pub fn verdict(questions: &[Question], is_followed: bool, answers: &Answers) -> Verdict
-    ensures shown { IsTrue (is_shown answers.now.list.items questions.now is_followed result) }
+pub fn verdict(
+    questions: &[Question],
+    required: &[Question],
+    is_followed: bool,
+    answers: &Answers,
+) -> Verdict
+    ensures shown { IsTrue (is_shown_with answers.now.list.items questions.now required.now is_followed result) }
 {
-    verdict_of(questions, is_followed, answers)
+    verdict_of(questions, required, is_followed, answers)
 }
 
 /// `is_refuted`, whether a text is refuted.

@@ -8,7 +8,7 @@ use crate::words::has_word;
 use cranelift_isle::syntax::Pos;
 use spec_questions::answers::answers_in;
 use spec_questions::questions::{Question, Questions, RuleQuestions, Without};
-use spec_questions::verdicts::verdict_with;
+use spec_questions::verdicts::verdict_of;
 use spec_tables::faults::SpecError;
 use std::alloc::{AllocError, Global};
 use std::collections::BTreeSet;
@@ -153,7 +153,7 @@ fn push_verdict_by(
     let records = records_of(alloc, words, rule, file)?;
     let answers = answers_in(alloc, &records)?;
     let is_followed = rule.unfollowed.is_none();
-    let verdict = verdict_with(&rule.questions, &rule.required, is_followed, &answers);
+    let verdict = verdict_of(&rule.questions, &rule.required, is_followed, &answers);
     let place = line_from(text, rule.pos.offset);
     write!(out, "{} {place}\n", verdict.word())
 }

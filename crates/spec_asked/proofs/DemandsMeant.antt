@@ -40,7 +40,7 @@ use Rattle.spec_asked.proofs.TablesOf.{args_there, provided_there, required_ther
 
 -- 1. lists of numbers, by two functions that agree below a count
 module _ (count : ℕ) (f g : ℕ → SiteTerm) (agree : (n : ℕ) → n < count → f n ≡ g n) where
-  tests_agree : (ts : List Tested) → tests_within count ts ≡ true → map {B = SiteTerm × Constraint} (λ c. (g c.0, c.1)) (test_numbers ts) ≡ map {B = SiteTerm × Constraint} (λ t. (f t.site, constraint_view t.constraint)) ts
+  pub tests_agree : (ts : List Tested) → tests_within count ts ≡ true → map {B = SiteTerm × Constraint} (λ c. (g c.0, c.1)) (test_numbers ts) ≡ map {B = SiteTerm × Constraint} (λ t. (f t.site, constraint_view t.constraint)) ts
   tests_agree [] h = refl
   tests_agree (t ∷ ts) h =
       let k = and_parts (nat_lt t.site count) (tests_within count ts) h in

@@ -1,3 +1,4 @@
+mod AboveSteps
 mod AlikeQuestions
 mod AskingSteps
 mod DemandSteps

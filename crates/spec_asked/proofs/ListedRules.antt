@@ -7,7 +7,7 @@ use Rattle.model.specs.trees.Places.{is_in, joins_in, below, all_below, return_u
 use Rattle.model.specs.trees.SetRuns.{tested_sites}
 use Rattle.model.proofs.Elements.{In, in_from_contains, contains_from_in, in_left, in_right, in_either, any_in, in_any, filter_from, in_filter, passed_filter, in_map, map_in, in_flat_map, from_flat_map}
 use Rattle.laws_specs.specs.Conditions.{Valuation, Condition, IsAssumed, IsValid}
-use Rattle.laws_specs.specs.SetConditions.{pairs_of, set_condition}
+use Rattle.laws_specs.specs.SetConditions.{pairs_of, set_condition, IsNoneAboveInSet, IsValidBelowInSet}
 use Rattle.laws_specs.specs.Specs.{Specs}
 use Rattle.laws_specs.specs.Words.{DenotedList}
 use Rattle.spec_asked.specs.Listed.{JoinAlike, with_classes}
@@ -19,7 +19,7 @@ is_there x xs i = any_in (λ y. y == x) xs x i (eq-eqb x x refl)
 pub there_is : (x : ℕ) (xs : List ℕ) → is_in x xs ≡ true → In xs x
 there_is x xs h = let a = in_any (λ y. y == x) xs h in subst (In xs) (eqb-true a.0 x a.2) a.1
 
-in_class : (classes : List (List ℕ)) (c : List ℕ) (a b : ℕ) → In classes c → In c a → In c b → joins_in classes a b ≡ true
+pub in_class : (classes : List (List ℕ)) (c : List ℕ) (a b : ℕ) → In classes c → In c a → In c b → joins_in classes a b ≡ true
 in_class classes c a b i j k = any_in (λ d. is_in a d && is_in b d) classes c i (and_from (is_in a c) (is_in b c) (is_there a c j) (is_there b c k))
 
 class_with : (classes : List (List ℕ)) (a b : ℕ) → joins_in classes a b ≡ true → (c : List ℕ) × In classes c × In c a × In c b
@@ -28,7 +28,7 @@ class_with classes a b h =
     let k = and_parts (is_in a m.0) (is_in b m.0) m.2 in
     (m.0, m.1, there_is a m.0 k.0, there_is b m.0 k.1)
 
-pair_parts : (c : List ℕ) (e : ℕ × ℕ) → In (pairs_of c) e → (a : ℕ) × (b : ℕ) × In c a × In c b × (not (a == b) ≡ true) × ((a, b) ≡ e)
+pub pair_parts : (c : List ℕ) (e : ℕ × ℕ) → In (pairs_of c) e → (a : ℕ) × (b : ℕ) × In c a × In c b × (not (a == b) ≡ true) × ((a, b) ≡ e)
 pair_parts c e i =
     let m = from_flat_map (λ a. map (λ b. (a, b)) (filter (λ b. not (a == b)) c)) c e i in
     let n = in_map (λ b. (m.0, b)) (filter (λ b. not (m.0 == b)) c) e m.2 in
@@ -118,3 +118,20 @@ module _ (t : ℕ) (set : SiteSet) (r : SetRule) (classes : List (List ℕ)) (al
 
     pub valid_alike : IsValid p specs these → IsValid p specs those
     valid_alike valid args f a = (let s = valid args f (assumed args f a) in record { provides = s.provides; requires = s.requires })
+
+    -- and so is what no rule of greater priority is
+    none_above : (args : DenotedList) (f : Valuation) → IsNoneAboveInSet specs t set r args f → IsNoneAboveInSet specs t set q args f
+    none_above args f n = record {
+      there = n.there;
+      constraint = n.constraint;
+      equality = n.equality;
+      own = n.own;
+      own_equality = λ x y i. n.own_equality x y (contains_from_in those.equalities (x, y) (equal x y (in_from_contains these.equalities (x, y) i)));
+      met = n.met;
+      equal = n.equal;
+      decided = n.decided;
+      none = n.none;
+    }
+
+    pub valid_below_alike : IsValidBelowInSet p specs t set q → IsValidBelowInSet p specs t set r
+    valid_below_alike valid args f a n = (let s = valid args f (assumed args f a) (none_above args f n) in record { provides = s.provides; requires = s.requires })

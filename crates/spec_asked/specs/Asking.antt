@@ -6,6 +6,7 @@ use Rattle.model.specs.sites.Sites.{SetRule, Site, SiteSet}
 use Rattle.laws_specs.specs.Specs.{Unknowns}
 use Rattle.model_questions.specs.Formulas as M
 use Rattle.core_rule_sets.specs.declared.trie_again.Binding.{Binding}
+use Rattle.spec_cases.specs.declared.formulas.Fact.{Fact}
 use Rattle.spec_cases.specs.declared.formulas.Node.{Node}
 use Rattle.spec_cases.specs.Expressions.{Saying, AreSaid}
 use Rattle.spec_cases.specs.Namings.{Naming, Names, fact_of}
@@ -43,8 +44,8 @@ pub record AreTablesBy (d : Demands) (program : ProgramTables) (specs : SpecTabl
   pub result : d.result ≡ demands.result
 
 -- these are all questions about a rule of the set that was built for a term, by the specs that tables are of: of whatever program the tables
--- are, whatever expressions and formulas stand for, and whatever unknown functions answer
-abbrev pub AsksRule : List Node → ProgramTables → SpecTables → ℕ → SiteSet → SetRule → Bool → List Asked → Type 0
-AsksRule nodes program specs t set r flag qs =
+-- are, whatever expressions and formulas stand for, and whatever unknown functions answer; and these facts exclude rules of greater priority
+abbrev pub AsksRule : List Node → ProgramTables → SpecTables → ℕ → SiteSet → SetRule → Bool → List Asked → List Fact → Type 0
+AsksRule nodes program specs t set r flag qs es =
     (p : Program) (v : Naming) (w : Saying) (unknowns : Unknowns) → AreOfProgram program p → IsBuilt p t set
-    → AreSaid w specs.exprs.now → Names v nodes → IsOfSites v set.sites → AreQuestionsOf p (specs_of specs w unknowns) t set r (plan flag) (map (facts_of v) qs)
+    → AreSaid w specs.exprs.now → Names v nodes → IsOfSites v set.sites → AreQuestionsOf p (specs_of specs w unknowns) t set r (plan flag) (map (facts_of v) qs) (map (fact_of v) es)

@@ -25,9 +25,10 @@ use Rattle.core_types.specs.EnvViews.{environment_view}
 use Rattle.cranelift_isle.specs.declared.lower.Lowered.{Lowered}
 use Rattle.cranelift_isle.specs.declared.lower.LoweredTerm.{LoweredTerm}
 use Rattle.cranelift_isle.specs.Lowerings.{lowered_view, lowered_views}
+use Rattle.spec_cases.specs.declared.formulas.Fact.{Fact}
 use Rattle.spec_cases.specs.declared.formulas.Node.{Node}
 use Rattle.spec_cases.specs.Expressions.{Saying, AreSaid}
-use Rattle.spec_cases.specs.Namings.{Naming, Names}
+use Rattle.spec_cases.specs.Namings.{Naming, Names, fact_of}
 use Rattle.spec_steps.specs.declared.demands.Signature.{Signature}
 use Rattle.spec_steps.specs.Roots.{plan}
 use Rattle.spec_asked.specs.declared.asking.Asked.{Asked}
@@ -68,11 +69,11 @@ module _ (lowered : Lowered) (signatures : List Signature) (specs : SpecTables) 
   abbrev pub specs_in : Stands lowered signatures specs term → Specs
   specs_in s = specs_of specs s.saying s.unknowns
 
-  -- these are all questions about a rule of the term
-  abbrev pub AsksLowered : List Node → Rule → Bool → List Asked → Type 0
-  AsksLowered nodes rule flag qs =
+  -- these are all questions about a rule of the term, and these facts exclude rules of greater priority
+  abbrev pub AsksLowered : List Node → Rule → Bool → List Asked → List Fact → Type 0
+  AsksLowered nodes rule flag qs es =
       (s : Stands lowered signatures specs term) (n : StandsIn nodes term)
-      → AreQuestionsOf (program_in s) (specs_in s) term.id.0 (set_view term.rules) (set_rule_view rule) (plan flag) (map (facts_of n.naming) qs)
+      → AreQuestionsOf (program_in s) (specs_in s) term.id.0 (set_view term.rules) (set_rule_view rule) (plan flag) (map (facts_of n.naming) qs) (map (fact_of n.naming) es)
 
   module _ (s : Stands lowered signatures specs term) where
     -- all questions about a rule were asked, in some arena and by some flag, and no model satisfies one of them
@@ -80,7 +81,8 @@ module _ (lowered : Lowered) (signatures : List Signature) (specs : SpecTables) 
       pub nodes : List Node
       pub flag : Bool
       pub qs : List Asked
-      pub asks : AsksLowered nodes rule flag qs
+      pub es : List Fact
+      pub asks : AsksLowered nodes rule flag qs es
       pub stands : StandsIn nodes term
       pub none : (a : Asked) → Contains qs a → IsUnsatisfiable (specs_in s) (facts_of stands.naming a)
 

@@ -1,6 +1,7 @@
 //! The questions about a rule of a set.
-ghost use Rattle.std.specs.Prelude.{◌≡◌, ◌++◌, [], map, IfOk, OnOk};
+ghost use Rattle.std.specs.Prelude.{◌≡◌, ◌++◌, [], false, length, map, IfOk, OnOk};
 ghost use Rattle.laws_specs.specs.Specs.{Unknowns};
+ghost use Rattle.model.specs.sites.Sites.{SetRule, SiteSet};
 ghost use Rattle.model_questions.specs.Questions as Q;
 ghost use Rattle.core_rule_sets.specs.SiteViews.{set_rule_view, set_view};
 ghost use Rattle.core_types.specs.TypeViews.{type_views};
@@ -9,11 +10,13 @@ ghost use Rattle.spec_cases.specs.Namings.{Names, Naming};
 ghost use Rattle.spec_cases.specs.Places.{AreApart};
 ghost use Rattle.spec_cases.specs.Steps.{step_views};
 ghost use Rattle.spec_cases.specs.Trails.{trail_of, trails_in, AreTrails};
-ghost use Rattle.spec_steps.specs.Demands.{Meant};
+ghost use Rattle.spec_steps.specs.Demands.{Meant, MakesFor};
 ghost use Rattle.spec_steps.specs.Roots.{plan};
+ghost use Rattle.spec_asked.specs.Above.{AreExcluded, AreOfSet, IsOfRule};
 ghost use Rattle.spec_asked.specs.Asking.{facts_of, AreTablesBy, AsksRule};
 ghost use Rattle.spec_asked.specs.Tables.{specs_of};
 
+use crate::above::excluded_above;
 use crate::demanded::{RuleDemands, rule_demands};
 use crate::tables::{ProgramTables, SpecTables};
 use core_rule_sets::trie_again::{Binding, Rule, RuleSet};
@@ -45,6 +48,8 @@ pub struct AskedCondition {
     pub steps: Vec<Step>,
     /// All questions of these steps.
     pub questions: Vec<Asked>,
+    /// That rules of greater priority don't match, where they are excluded.
+    pub excluded: Vec<Fact>,
 }
 
 // The question that a link ends.
@@ -106,8 +111,8 @@ fn asked_steps(
     Ok(asked_of(formulas.alloc(), &trails, &ends)?)
 }
 
-/// The steps of a condition, and its questions: all that there are. By the flag, each place whose type is known is asked at each of its
-/// widths by itself, or none is.
+/// The steps of a condition, and its questions: all that there are, and with them these facts that exclude rules of greater priority. By the
+/// flag, each place whose type is known is asked at each of its widths by itself, or none is.
 ///
 /// # Errors
 ///
@@ -117,14 +122,20 @@ pub fn asked_demands(
     demands: &Demands<'_>,
     specs: &SpecTables<'_>,
     flag: bool,
+    excluded: Vec<Fact>,
 ) -> Result<AskedCondition, AskingFault>
-    ensures { IfOk result (λ r. (v : Naming) (m : Meant v demands.now) (unknowns : Unknowns) → Names v formulas.new → AreSaid m.w specs.now.exprs.now
-        → m.specs ≡ specs_of specs.now m.w unknowns → map (facts_of v) r.questions.items ≡ Q.questions m.p m.specs m.c (plan flag)) }
+    ensures asked { IfOk result (λ r. (v : Naming) (m : Meant v demands.now) (unknowns : Unknowns) → Names v formulas.new → AreSaid m.w specs.now.exprs.now
+        → m.specs ≡ specs_of specs.now m.w unknowns → Names v formulas.old × (map (facts_of v) r.questions.items ≡ Q.questions m.p m.specs m.c (plan flag))) }
+    ensures same { IfOk result (λ r. r.excluded ≡ excluded) }
 {
     let mut steps = Vec::new(formulas.alloc());
     steps_of(formulas, demands, flag, &mut steps)?;
     let questions = asked_steps(formulas, demands.types, specs, &steps)?;
-    Ok(AskedCondition { steps, questions })
+    Ok(AskedCondition {
+        steps,
+        questions,
+        excluded,
+    })
 }
 
 // The tables of a condition.
@@ -153,8 +164,27 @@ fn demands_by<'d>(
     }
 }
 
+// The facts that exclude rules of greater priority, if that is wanted.
+fn excluded_if(
+    formulas: &mut Formulas,
+    demands: &Demands<'_>,
+    set: &RuleSet,
+    rule: &Rule,
+    above: bool,
+) -> Result<Vec<Fact>, Fault>
+    ensures excluded { IfOk result (λ fs. MakesFor formulas.old formulas.new demands.now (λ v m. (t : _) (these : SiteSet) (r : SetRule)
+        → IsOfRule v m.c t these r (set_rule_view rule.now) (length set.now.bindings.items) → AreOfSet set.now.rules.items these → AreExcluded m.p m.specs t these r v fs.items)) }
+    ensures alone { IfOk result (λ fs. above ≡ false → fs.items ≡ []) }
+{
+    if above {
+        Ok(excluded_above(formulas, demands, set.bindings.len(), rule, &set.rules)?)
+    } else {
+        Ok(Vec::new(formulas.alloc()))
+    }
+}
+
 /// The steps of a rule of a term's set, and the questions about it: all that there are. By the flag, each place whose type is known is asked at each of its
-/// widths by itself, or none is.
+/// widths by itself, or none is. Where `above` is true, the rules of greater priority are excluded, as far as the sites that the rule makes tell what they ask.
 ///
 /// # Errors
 ///
@@ -169,10 +199,13 @@ pub fn questions_of(
     set: &RuleSet,
     rule: &Rule,
     flag: bool,
+    above: bool,
 ) -> Result<AskedCondition, AskingFault>
-    ensures { IfOk result (λ r. AsksRule formulas.new program.now specs.now term.0 (set_view set.now) (set_rule_view rule.now) flag r.questions.items) }
+    ensures asked { IfOk result (λ r. AsksRule formulas.new program.now specs.now term.0 (set_view set.now) (set_rule_view rule.now) flag r.questions.items r.excluded.items) }
+    ensures alone { IfOk result (λ r. above ≡ false → r.excluded.items ≡ []) }
 {
     let demanded = rule_demands(formulas.alloc(), &set.bindings, rule)?;
     let demands = demands_by(program, specs, term, &set.bindings, &demanded);
-    Ok(asked_demands(formulas, &demands, specs, flag)?)
+    let excluded = excluded_if(formulas, &demands, set, rule, above)?;
+    Ok(asked_demands(formulas, &demands, specs, flag, excluded)?)
 }

@@ -30,7 +30,7 @@ pub struct RuleDemands {
 }
 
 // The number of a site.
-fn number(site: BindingId) -> u32
+pub(crate) fn number(site: BindingId) -> u32
     ensures { result ≡ site }
 {
     site.index() as u32
@@ -167,7 +167,7 @@ fn roots_of(
 }
 
 // Whether tests are of so many sites.
-fn are_tests_within(count: usize, tests: &[Tested]) -> bool
+pub(crate) fn are_tests_within(count: usize, tests: &[Tested]) -> bool
     ensures { result ≡ tests_within count tests.now }
 {
     tests.iter().all(|test| (test.site as usize) < count)

@@ -1,8 +1,8 @@
 //! Laws of what is asked of rules. A function here has no code: its clause is a law, and its proof stands in `proofs/`.
-ghost use Rattle.spec_asked.specs.Asked.{AskedRulesAreValid};
+ghost use Rattle.spec_asked.specs.Asked.{AskedRulesAreValid, AskedRulesAreValidBelow};
 ghost use Rattle.spec_asked.specs.Lowered.{RefutedLoweringsComputeAsSaid, RefutedRulesAreValid, RefutedTermsComputeAsSaid};
 
-use laws_questions::questions_ask_enough;
+use laws_questions::{below_ask_enough, questions_ask_enough};
 use laws_specs::{lowered_sets_compute_as_said, programs_of_sets_compute_as_said};
 
 /// Where no question that was made of a rule of a set can be satisfied, the rule's condition is valid.
@@ -10,6 +10,13 @@ pub fn asked_rules_are_valid()
     ensures { AskedRulesAreValid }
 {
     questions_ask_enough();
+}
+
+/// Where none can be satisfied beside the facts that exclude rules of greater priority, it is valid where none of these matches.
+pub fn asked_rules_are_valid_below()
+    ensures { AskedRulesAreValidBelow }
+{
+    below_ask_enough();
 }
 
 /// So of a rule that was lowered, by what `lowered_questions` answers.

@@ -1,6 +1,7 @@
 //! Questions about the rules of lowered definitions.
 #![tactic(auto)]
 
+pub mod above;
 pub mod asking;
 pub mod demanded;
 pub mod laws;

@@ -63,13 +63,20 @@ plain_never v m (F.Made node ∷ fs) any all = plain_never v m fs any (and_parts
 plain_unsatisfiable : (specs : Specs) (v : Naming) (fs : List Fact) → list_any is_known_false fs ≡ true → IsUnsatisfiable specs (turned v fs)
 plain_unsatisfiable specs v fs any = λ m of all. plain_never v m fs any (sym (so_reversed m (map (fact_of v) fs)) ∙ all)
 
--- a question that a solver refutes, or that is known to be refuted
-pub so_unsatisfiable : (specs : Specs) (v : Naming) (answers : List Answer) (q : Question) (wrong : Option (String Global)) → q.wrong ≡ wrong
+-- where some facts can't all be so, more can't
+more_unsatisfiable : (specs : Specs) (fs es : List M.Fact) → IsUnsatisfiable specs fs → IsUnsatisfiable specs (fs ++ es)
+more_unsatisfiable specs fs es none = λ m of all. none m of (and_parts (are_so m fs) (are_so m es) (sym (so_appended m fs es) ∙ all)).0
+
+pub alone_unsatisfiable : (specs : Specs) (fs : List M.Fact) → IsUnsatisfiable specs (fs ++ []) → IsUnsatisfiable specs fs
+alone_unsatisfiable specs fs none = λ m of all. none m of (so_appended m fs [] ∙ ap (λ b. b && true) all)
+
+-- a question that a solver refutes, or that is known to be refuted, beside facts that exclude rules
+pub so_unsatisfiable : (specs : Specs) (v : Naming) (answers : List Answer) (q : Question) (es : List M.Fact) (wrong : Option (String Global)) → q.wrong ≡ wrong
     → is_so_by answers wrong ≡ true → (is_some wrong || list_any is_known_false q.facts.items) ≡ true
-    → ((text : String Global) → q.wrong ≡ Some text → IsTrue (is_refuted_by answers text.bytes.items) → IsUnsatisfiable specs (turned v q.facts.items))
-    → IsUnsatisfiable specs (turned v q.facts.items)
-so_unsatisfiable specs v answers q None e so plain trust = plain_unsatisfiable specs v q.facts.items plain
-so_unsatisfiable specs v answers q (Some text) e so plain trust = trust text e (search so)
+    → ((text : String Global) → q.wrong ≡ Some text → IsTrue (is_refuted_by answers text.bytes.items) → IsUnsatisfiable specs (turned v q.facts.items ++ es))
+    → IsUnsatisfiable specs (turned v q.facts.items ++ es)
+so_unsatisfiable specs v answers q es None e so plain trust = more_unsatisfiable specs (turned v q.facts.items) es (plain_unsatisfiable specs v q.facts.items plain)
+so_unsatisfiable specs v answers q es (Some text) e so plain trust = trust text e (search so)
 
 -- of a rule that is told right each question is refuted
 pub all_right : (answers : List Answer) (qs : List Question) (followed : Bool) → IsTrue (is_shown answers qs followed V.Right) → list_all (is_right_by answers) qs ≡ true
@@ -80,12 +87,12 @@ asked_turned v [] = refl
 asked_turned v (q ∷ qs) = ap (λ l. turned v q.facts.items ∷ l) (asked_turned v qs)
 
 -- all questions, by their facts
-pub asks_facts : (lowered : Lowered) (signatures : List Signature) (specs : SpecTables) (term : LoweredTerm) (nodes : List Node) (rule : Rule) (qs : List Asked)
-    → AsksLowered lowered signatures specs term nodes rule true qs → AsksFacts lowered signatures specs term nodes rule (asked_facts qs)
-asks_facts lowered signatures specs term nodes rule qs asks = λ s n.
-    subst (AreQuestionsOf (program_in lowered signatures specs term s) (specs_in lowered signatures specs term s) term.id.0 (set_view term.rules) (set_rule_view rule) (plan true)) (asked_turned n.naming qs) (asks s n)
+pub asks_facts : (lowered : Lowered) (signatures : List Signature) (specs : SpecTables) (term : LoweredTerm) (nodes : List Node) (rule : Rule) (qs : List Asked) (es : List Fact)
+    → AsksLowered lowered signatures specs term nodes rule true qs es → AsksFacts lowered signatures specs term nodes rule (asked_facts qs) es
+asks_facts lowered signatures specs term nodes rule qs es asks = λ s n.
+    subst (λ ls. AreQuestionsOf (program_in lowered signatures specs term s) (specs_in lowered signatures specs term s) term.id.0 (set_view term.rules) (set_rule_view rule) (plan true) ls (map (fact_of n.naming) es)) (asked_turned n.naming qs) (asks s n)
 
 -- the same, by other lists of the same facts
-pub asks_same : (lowered : Lowered) (signatures : List Signature) (specs : SpecTables) (term : LoweredTerm) (nodes : List Node) (rule : Rule) (ls ks : List (List Fact))
-    → ks ≡ ls → AsksFacts lowered signatures specs term nodes rule ls → AsksFacts lowered signatures specs term nodes rule ks
-asks_same lowered signatures specs term nodes rule ls ks e asks = subst (AsksFacts lowered signatures specs term nodes rule) (sym e) asks
+pub asks_same : (lowered : Lowered) (signatures : List Signature) (specs : SpecTables) (term : LoweredTerm) (nodes : List Node) (rule : Rule) (ls ks : List (List Fact)) (es : List Fact)
+    → ks ≡ ls → AsksFacts lowered signatures specs term nodes rule ls es → AsksFacts lowered signatures specs term nodes rule ks es
+asks_same lowered signatures specs term nodes rule ls ks es e asks = subst (λ l. AsksFacts lowered signatures specs term nodes rule l es) (sym e) asks

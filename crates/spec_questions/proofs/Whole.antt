@@ -16,7 +16,7 @@ module _ (lowered : Lowered) (signatures : List Signature) (specs : SpecTables) 
   -- one more rule
   pub whole_pushed : (qs : List RuleQuestions) (q : RuleQuestions) (term : LoweredTerm) (rule : Rule) (at place : ℕ)
       → slice_get term.rules.rules.items at ≡ Some rule → slice_get lowered.terms.items place ≡ Some term → q.term.0 ≡ term.id.0 → q.rule.0 ≡ rule.id.0
-      → (IsTrue q.is_own → AsksFacts lowered signatures specs term q.formulas rule (facts_in q.questions.items)) → IsTrue (list_all is_asked_or_plain q.questions.items)
+      → (IsTrue q.is_own → AsksFacts lowered signatures specs term q.formulas rule (facts_in q.questions.items) q.excluded.items) → IsTrue (list_all is_asked_or_plain q.questions.items)
       → AreAskedWhole lowered signatures specs qs → AreAskedWhole lowered signatures specs (qs ++ q ∷ [])
   whole_pushed qs q term rule at place of there same_term same_rule asks plain all =
       All-push (λ (x : RuleQuestions). IsTrue x.is_own → (t : LoweredTerm) × IsAskedOf lowered signatures specs t x) qs q all (λ own. (

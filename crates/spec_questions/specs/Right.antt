@@ -1,13 +1,13 @@
 -- Where solvers refute the questions about a rule, its condition is valid.
-use Rattle.std.specs.Prelude.{◌≡◌, ◌⊎◌, ℕ, Bool, true, false, not, ◌||◌, List, String, Some, IsTrue, map, reverse, is_some, slice_get, Contains}
+use Rattle.std.specs.Prelude.{◌≡◌, ◌⊎◌, ℕ, Bool, true, false, not, ◌||◌, List, [], ◌++◌, String, Some, IsTrue, map, reverse, is_some, slice_get, Contains}
 use Rattle.std.specs.List.{list_all, list_any, All}
 use Rattle.std.specs.declared.alloc.Global.{Global}
 use Rattle.model.specs.claims.Layers.{own_program}
 use Rattle.model.specs.rules.Program.{is_multi}
 use Rattle.laws_specs.specs.Conditions.{IsValid}
-use Rattle.laws_specs.specs.Meets.{Atoms, IsDenotation}
+use Rattle.laws_specs.specs.Meets.{Atoms, AreNumbers, IsDenotation}
 use Rattle.laws_specs.specs.ProgramLaws.{RunTrees, RunCode, AllRunsAreAsSaid}
-use Rattle.laws_specs.specs.SetConditions.{set_condition}
+use Rattle.laws_specs.specs.SetConditions.{set_condition, IsValidBelowInSet}
 use Rattle.laws_specs.specs.WholeRuns.{Functions}
 use Rattle.model_questions.specs.Formulas as M
 use Rattle.model_questions.specs.Questions.{IsUnsatisfiable}
@@ -65,15 +65,16 @@ abbrev pub is_asked_or_plain : Question → Bool
 is_asked_or_plain q = is_some q.wrong || list_any is_known_false q.facts.items
 
 module _ (lowered : Lowered) (signatures : List Signature) (specs : SpecTables) (term : LoweredTerm) where
-  -- these are the facts of all questions about a rule of the term, each place of known type asked at each of its widths
-  abbrev pub AsksFacts : List Node → Rule → List (List Fact) → Type 0
-  AsksFacts nodes rule lists =
+  -- these are the facts of all questions about a rule of the term, each place of known type asked at each of its widths, and those that
+  -- exclude rules of greater priority
+  abbrev pub AsksFacts : List Node → Rule → List (List Fact) → List Fact → Type 0
+  AsksFacts nodes rule lists excluded =
       (s : Stands lowered signatures specs term) (n : StandsIn nodes term)
-      → AreQuestionsOf (program_in lowered signatures specs term s) (specs_in lowered signatures specs term s) term.id.0 (set_view term.rules) (set_rule_view rule) (plan true) (map (turned n.naming) lists)
+      → AreQuestionsOf (program_in lowered signatures specs term s) (specs_in lowered signatures specs term s) term.id.0 (set_view term.rules) (set_rule_view rule) (plan true) (map (turned n.naming) lists) (map (fact_of n.naming) excluded)
 
   -- all questions about a rule of the term are there, and only those that are known to be refuted have no text
   pub record IsAskedWhole (rule : Rule) (q : RuleQuestions) : Type 0 where
-    pub asks : AsksFacts q.formulas rule (facts_in q.questions.items)
+    pub asks : AsksFacts q.formulas rule (facts_in q.questions.items) q.excluded.items
     pub plain : IsTrue (list_all is_asked_or_plain q.questions.items)
 
   -- of a rule of a term of what was lowered
@@ -88,11 +89,11 @@ module _ (lowered : Lowered) (signatures : List Signature) (specs : SpecTables) 
     pub whole : IsAskedWhole rule q
 
   -- what is trusted: that solvers are right, and that a text says what its facts say. Where the text of a question is refuted, no model
-  -- makes all of its facts true
-  abbrev pub AreTextsRight : Stands lowered signatures specs term → Naming → List Answer → List Question → Type 0
-  AreTextsRight s v answers qs =
-      (q : Question) (text : String Global) → Contains qs q → q.wrong ≡ Some text → IsTrue (is_refuted_by answers text.bytes.items)
-      → IsUnsatisfiable (specs_in lowered signatures specs term s) (turned v q.facts.items)
+  -- makes all of its facts true, and those that exclude rules of greater priority
+  abbrev pub AreTextsRight : Stands lowered signatures specs term → Naming → List Answer → RuleQuestions → Type 0
+  AreTextsRight s v answers rule =
+      (q : Question) (text : String Global) → Contains rule.questions.items q → q.wrong ≡ Some text → IsTrue (is_refuted_by answers text.bytes.items)
+      → IsUnsatisfiable (specs_in lowered signatures specs term s) (turned v q.facts.items ++ map (fact_of v) rule.excluded.items)
 
 -- of all rules that are asked about by their own conditions
 abbrev pub AreAskedWhole : Lowered → List Signature → SpecTables → List RuleQuestions → Type 0
@@ -136,17 +137,27 @@ pub record IsAskedByTables (lowered : Lowered) (k : Known) (found : Questions) :
   pub tables : AreKnownTables k specs
   pub whole : AreAskedWhole lowered k.signatures.items specs found.rules.items
 
--- the law: a rule that is told right by such questions has a valid condition
+-- the law: a rule that is told right by such questions has a valid condition, where no rule of greater priority is excluded
 abbrev pub RightRulesAreValid : Type 0
 RightRulesAreValid =
     (lowered : Lowered) (signatures : List Signature) (specs : SpecTables) (term : LoweredTerm) (rule : Rule) (q : RuleQuestions) (answers : List Answer) (followed : Bool)
     (s : Stands lowered signatures specs term) (n : StandsIn q.formulas term)
-    → IsAskedWhole lowered signatures specs term rule q
+    → IsAskedWhole lowered signatures specs term rule q → q.excluded.items ≡ []
     → IsTrue (is_shown answers q.questions.items followed V.Right)
-    → AreTextsRight lowered signatures specs term s n.naming answers q.questions.items
+    → AreTextsRight lowered signatures specs term s n.naming answers q
     → IsValid (program_in lowered signatures specs term s) (specs_in lowered signatures specs term s) (set_condition term.id.0 (set_view term.rules) (set_rule_view rule))
 
--- each rule of each term that isn't multi is told right, by all questions about its own condition, and what is trusted is so of their texts
+-- and where some are, it has a condition that is valid where no rule of greater priority matches
+abbrev pub RightRulesAreValidBelow : Type 0
+RightRulesAreValidBelow =
+    (lowered : Lowered) (signatures : List Signature) (specs : SpecTables) (term : LoweredTerm) (rule : Rule) (q : RuleQuestions) (answers : List Answer) (followed : Bool)
+    (s : Stands lowered signatures specs term) (n : StandsIn q.formulas term)
+    → IsAskedWhole lowered signatures specs term rule q
+    → IsTrue (is_shown answers q.questions.items followed V.Right)
+    → AreTextsRight lowered signatures specs term s n.naming answers q
+    → IsValidBelowInSet (program_in lowered signatures specs term s) (specs_in lowered signatures specs term s) term.id.0 (set_view term.rules) (set_rule_view rule)
+
+-- a rule of a term is told right, by all questions about its own condition, and what is trusted is so of their texts
 module _ (lowered : Lowered) (signatures : List Signature) (specs : SpecTables) (a : AllStands lowered signatures specs) (answers : List Answer) where
   pub record IsToldRight (place : ℕ) (term : LoweredTerm) (there : slice_get lowered.terms.items place ≡ Some term) (rule : Rule) : Type 0 where
     pub questions : RuleQuestions
@@ -154,18 +165,27 @@ module _ (lowered : Lowered) (signatures : List Signature) (specs : SpecTables) 
     pub followed : Bool
     pub verdict : IsTrue (is_shown answers questions.questions.items followed V.Right)
     pub stands : StandsIn questions.formulas term
-    pub texts : AreTextsRight lowered signatures specs term (stands_at lowered signatures specs a place term there) stands.naming answers questions.questions.items
+    pub texts : AreTextsRight lowered signatures specs term (stands_at lowered signatures specs a place term there) stands.naming answers questions
 
-  abbrev pub AreAllToldRight : Type 0
-  AreAllToldRight =
+  -- without a rule of greater priority being excluded
+  pub record IsToldRightAlone (place : ℕ) (term : LoweredTerm) (there : slice_get lowered.terms.items place ≡ Some term) (rule : Rule) : Type 0 where
+    pub told : IsToldRight place term there rule
+    pub alone : told.questions.excluded.items ≡ []
+
+  abbrev pub AreAllTold : ((place : ℕ) (term : LoweredTerm) → slice_get lowered.terms.items place ≡ Some term → Rule → Type 0) → Type 0
+  AreAllTold IsTold =
       (place : ℕ) (term : LoweredTerm) (there : slice_get lowered.terms.items place ≡ Some term) → is_multi (own_program a.defs a.rules) term.id.0 ≡ false
-      → (at : ℕ) (rule : Rule) → slice_get term.rules.rules.items at ≡ Some rule → IsToldRight place term there rule
+      → (at : ℕ) (rule : Rule) → slice_get term.rules.rules.items at ≡ Some rule → IsTold place term there rule
+
+  -- each alone; or some below others, and atoms stand for numbers
+  abbrev pub AreAllToldRight : Atoms → Type 0
+  AreAllToldRight d = AreAllTold IsToldRightAlone ⊎ (AreAllTold IsToldRight × AreNumbers d)
 
 -- then all whole runs of the trees, and of their code, answer as specs say
 abbrev pub RightLoweringsComputeAsSaid : Type 0
 RightLoweringsComputeAsSaid =
-    (lowered : Lowered) (signatures : List Signature) (specs : SpecTables) (a : AllStands lowered signatures specs) (answers : List Answer) → AreAllToldRight lowered signatures specs a answers
-    → (f : Functions) (d : Atoms)
+    (lowered : Lowered) (signatures : List Signature) (specs : SpecTables) (a : AllStands lowered signatures specs) (answers : List Answer) (f : Functions) (d : Atoms)
+    → AreAllToldRight lowered signatures specs a answers d
     → RunTrees (own_program a.defs a.rules) (lowered_views lowered.terms.items) f ⊎ RunCode (own_program a.defs a.rules) (lowered_views lowered.terms.items) f
     → IsDenotation (own_program a.defs a.rules) (specs_of specs a.saying a.unknowns) d
     → AllRunsAreAsSaid (own_program a.defs a.rules) (specs_of specs a.saying a.unknowns) d f

@@ -3,24 +3,16 @@
 use crate::asking::{Asked, Asker};
 use crate::faults::NoQuestion;
 use crate::shown::site_in;
+use core_rule_sets::trie_again::{Binding, BindingId, Constraint, Overlap, Rule, RuleSet};
 use core_syntax::syntax::Pos;
-use core_types::{Type, TypeId, VariantId};
 use cranelift_isle::lower::Lowered;
 use cranelift_isle::sema::{RuleId, TermId};
-use cranelift_isle::trie_again::{BindingId, Constraint, Overlap, Rule};
+use spec_asked::above::{is_excluding, other_tests};
 use spec_calls::conditions::Condition;
 use spec_cases::arena::Formulas;
-use spec_cases::asking::Asking;
-use spec_cases::faults::Fault;
-use spec_cases::forms::Form;
-use spec_cases::formulas::{Fact, PlaceId};
-use spec_cases::learning::nothing_known;
-use spec_cases::sorts::is_type_closed;
-use spec_cases::steps::Constraint as Test;
-use spec_cases::tables::Tables;
-use spec_steps::constraints::constraint_of;
-use spec_steps::demands::Demands;
-use spec_steps::placing::form_at;
+use spec_cases::formulas::Fact;
+use spec_steps::demands::Tested;
+use spec_steps::excluding::not_all_met;
 use std::alloc::{AllocError, Global};
 
 /// The rules that come before a rule where both match, and that "no rule of greater priority matches" leaves out, by their places.
@@ -32,18 +24,18 @@ pub fn left_out_above(
 ) -> Result<Vec<Pos>, AllocError> {
     for known in &lowered.terms {
         if known.id == term {
-            return left_out_in(alloc, &known.rules.rules, rule);
+            return left_out_in(alloc, &known.rules, rule);
         }
     }
     Ok(Vec::new(alloc))
 }
 
 // Those of the rules of its term.
-fn left_out_in(alloc: Global, rules: &[Rule], rule: RuleId) -> Result<Vec<Pos>, AllocError> {
+fn left_out_in(alloc: Global, set: &RuleSet, rule: RuleId) -> Result<Vec<Pos>, AllocError> {
     let mut places = Vec::new(alloc);
-    if let Some(below) = rules.iter().find(|known| known.id == rule) {
-        for above in rules {
-            if is_above(above, below) && !is_told_apart(above, below) {
+    if let Some(below) = set.rules.iter().find(|known| known.id == rule) {
+        for above in &set.rules {
+            if is_above(above, below) && !is_told_apart(set, above, below) {
                 places.push(above.pos)?;
             }
         }
@@ -56,12 +48,12 @@ fn is_above(rule: &Rule, below: &Rule) -> bool {
     rule.prio > below.prio && rule.may_overlap(below) != Overlap::No
 }
 
-// Whether what values stand for may exclude a rule where another one is taken: it asks for no equal sites, and what it asks beside the
-// other rule are variants, structs and truth values.
-fn is_told_apart(rule: &Rule, below: &Rule) -> bool {
+// Whether a rule excludes another one where its tests are met: it asks for no equal sites, and what it asks beside the other rule are
+// variants, structs and truth values of sites that surely hold a value.
+fn is_told_apart(set: &RuleSet, rule: &Rule, below: &Rule) -> bool {
     rule.classes().is_empty()
         && rule.constraints().iter().all(|(site, asked)| is_own(below, *site, *asked)
-            || is_decided(*asked))
+            || (is_decided(*asked) && is_sure(&set.bindings, *site)))
 }
 
 // Whether a rule asks this of a site.
@@ -80,8 +72,24 @@ fn is_decided(asked: Constraint) -> bool {
     }
 }
 
-/// That no rule above matches, by what sites hold, as far as that is told apart: nothing, unless it is wanted.
-pub(crate) fn excluded_above(
+// Whether a site is an argument, or a part of one.
+fn is_sure(bindings: &[Binding], site: BindingId) -> bool {
+    let mut at = site.index();
+    for _ in 0..bindings.len() {
+        match bindings.get(at) {
+            Some(Binding::Argument { .. }) => return true,
+            Some(Binding::MatchVariant { source, .. } | Binding::ExtractStruct { source, .. }) => {
+                at = source.index();
+            }
+            _ => return false,
+        }
+    }
+    false
+}
+
+/// That no rule of greater priority matches, of a rule in which calls are looked through, as far as its sites tell what such rules ask:
+/// nothing, unless it is wanted.
+pub(crate) fn excluded_among(
     formulas: &mut Formulas,
     asker: Asker<'_>,
     asked: Asked<'_>,
@@ -89,118 +97,42 @@ pub(crate) fn excluded_above(
 ) -> Result<Vec<Fact>, NoQuestion> {
     let mut facts = Vec::new(asker.alloc);
     if asker.wanted.above {
+        let demands = asker.demands(asked, condition);
         for rule in &asked.term.rules.rules {
-            if is_above(rule, asked.rule) && is_told_apart(rule, asked.rule) {
-                facts.push(matches_not(formulas, asker, asked, condition, rule)?)?;
+            if is_excluding(asked.rule, rule) {
+                let tests = other_tests(asker.alloc, asked.rule, rule)?;
+                if let Some(placed) = placed_tests(asker.alloc, condition, &tests)? {
+                    push_unless_plain(&mut facts, not_all_met(formulas, &demands, &placed)?)?;
+                }
             }
         }
     }
     Ok(facts)
 }
 
-// That a rule above doesn't match: something that it asks isn't so.
-fn matches_not(
-    formulas: &mut Formulas,
-    asker: Asker<'_>,
-    asked: Asked<'_>,
+// Adds a fact, unless it is known to be so.
+fn push_unless_plain(facts: &mut Vec<Fact>, fact: Fact) -> Result<(), AllocError> {
+    if fact.known() != Some(true) {
+        facts.push(fact)?;
+    }
+    Ok(())
+}
+
+// Tests, of the sites of a condition: none, where a site stands nowhere.
+fn placed_tests(
+    alloc: Global,
     condition: &Condition,
-    rule: &Rule,
-) -> Result<Fact, NoQuestion> {
-    let known = nothing_known(asker.alloc);
-    let tables = Tables {
-        types: &asker.lowered.tyenv.types,
-        sorts: &asker.known.data.sorts,
-        functions: &asker.known.data.functions,
-        known: &known,
-    };
-    let asking = Asking {
-        tables: &tables,
-        constants: &asker.known.data.constants,
-        exprs: &asker.known.data.exprs,
-    };
-    let demands = asker.demands(asked, condition);
-    let done = condition.calls(asker.alloc)?;
-    let mut all = Fact::Known(true);
-    for (site, constraint) in rule.constraints() {
-        if !is_own(asked.rule, *site, *constraint) {
-            let site = site_in(condition, *site);
-            let met = is_met(formulas, &asking, &demands, &done, site, *constraint)?;
-            all = formulas.both_of(all, met)?;
+    tests: &[Tested],
+) -> Result<Option<Vec<Tested>>, AllocError> {
+    let mut placed = Vec::new(alloc);
+    for test in tests {
+        match site_in(condition, test.site as usize) {
+            None => return Ok(None),
+            Some(site) => placed.push(Tested {
+                site,
+                constraint: test.constraint,
+            })?,
         }
     }
-    Ok(formulas.none_of(all)?)
-}
-
-// That a site is as it is asked to be. Where that isn't known, no rule is excluded.
-fn is_met(
-    formulas: &mut Formulas,
-    asking: &Asking<'_>,
-    demands: &Demands<'_>,
-    done: &[u32],
-    site: Option<u32>,
-    constraint: Constraint,
-) -> Result<Fact, Fault> {
-    let Some(site) = site else {
-        return Ok(Fact::Known(false));
-    };
-    let form = form_at(formulas, demands, done, site)?;
-    let asked = constraint_of(constraint);
-    if !is_told(form, asked) {
-        return Ok(Fact::Known(false));
-    }
-    match last_told(asking.tables, form, asked) {
-        Some((place, variant)) => no_variant_before(formulas, place, variant),
-        None => Ok(formulas.told_fact(asking, form, asked)?),
-    }
-}
-
-// The place and the variant, where a constraint asks for the last variant of a type that has no other values. There it stands where none
-// before it does, as in what specs come to: a model may have any number there.
-fn last_told(tables: &Tables<'_>, form: Form, asked: Test) -> Option<(PlaceId, VariantId)> {
-    match (form, asked) {
-        (Form::AnyOf { ty, place }, Test::Variant { variant, .. })
-            if is_last_of_all(tables, ty, variant) => { Some((place, variant)) }
-        _ => None,
-    }
-}
-
-// Whether a variant is the last one of a type that has no other values.
-fn is_last_of_all(tables: &Tables<'_>, ty: TypeId, variant: VariantId) -> bool {
-    match tables.types.get(ty.index()) {
-        Some(
-            Type::Enum {
-                is_extern,
-                variants,
-                ..
-            },
-        ) => {
-            variant.index().saturating_add(1) == variants.len()
-                && (!*is_extern || is_type_closed(tables.sorts, ty))
-        }
-        _ => false,
-    }
-}
-
-// That no variant before this one stands at a place.
-fn no_variant_before(
-    formulas: &mut Formulas,
-    place: PlaceId,
-    variant: VariantId,
-) -> Result<Fact, Fault> {
-    let mut all = Fact::Known(true);
-    for earlier in 0..variant.0 {
-        let not = formulas.none_of(Fact::IsKind(place, VariantId(earlier)))?;
-        all = formulas.both_of(all, not)?;
-    }
-    Ok(all)
-}
-
-// Whether a constraint tells exactly which values of a form meet it.
-fn is_told(form: Form, asked: Test) -> bool {
-    match asked {
-        Test::Variant { .. } => matches!(form, Form::AnyOf { .. } | Form::SomeAt { .. }),
-        Test::Struct { .. } => true,
-        Test::ConstBool { .. } => matches!(form, Form::Fact(_) | Form::AnyOf { .. }),
-        Test::ConstInt { .. } | Test::ConstPrim { .. } | Test::Some => false,
-    }
+    Ok(Some(placed))
 }

@@ -3,7 +3,7 @@ ghost use Rattle.std.specs.Prelude.{◌≡◌, ◌<◌, length, IsTrue, IfOk};
 ghost use Rattle.std.specs.List.{list_all};
 ghost use Rattle.spec_questions.specs.Right.{asked_facts, facts_in, is_asked_or_plain, AsksFacts};
 
-use crate::above::excluded_above;
+use crate::above::excluded_among;
 use crate::branches::Branches;
 use crate::faults::NoQuestion;
 use crate::following::{elsewhere_texts, may_be_wrong};
@@ -62,8 +62,10 @@ pub(crate) struct Tried {
     pub(crate) formulas: Formulas,
     /// What its variables and its result stand for.
     pub(crate) named: Named,
-    /// That no rule above matches, where that is asked.
+    /// That no rule of greater priority matches, where that is asked.
     pub(crate) excluded: Vec<Fact>,
+    /// The same, as the texts of the questions about pure calls have it.
+    pub(crate) beside: Vec<Fact>,
     /// Whether the questions are about the rule's own condition.
     pub(crate) is_own: bool,
     /// The questions: one at least.
@@ -107,7 +109,7 @@ impl<'a> Asker<'a> {
 pub(crate) fn ask(asker: Asker<'_>, asked: Asked<'_>) -> Result<Tried, NoQuestion>
     ensures some { IfOk result (λ tried. 0 < length tried.questions.items) }
     // where the rule's own condition is asked about, these are all questions
-    ensures whole { IfOk result (λ tried. IsTrue tried.is_own → AsksFacts asker.entry.lowered.now asker.entry.known.now.signatures.items asker.entry.tables asked.entry.term.now tried.formulas asked.entry.rule.now (facts_in tried.questions.items)) }
+    ensures whole { IfOk result (λ tried. IsTrue tried.is_own → AsksFacts asker.entry.lowered.now asker.entry.known.now.signatures.items asker.entry.tables asked.entry.term.now tried.formulas asked.entry.rule.now (facts_in tried.questions.items) tried.excluded.items) }
     ensures plain { IfOk result (λ tried. IsTrue (list_all is_asked_or_plain tried.questions.items)) }
 {
     let Asked { term, rule, .. } = asked;
@@ -121,18 +123,17 @@ pub(crate) fn ask(asker: Asker<'_>, asked: Asked<'_>) -> Result<Tried, NoQuestio
     )?;
     let mut formulas = Formulas::new(asker.alloc);
     let named = named_values(&mut formulas, asker, asked, &condition)?;
-    let excluded = excluded_above(&mut formulas, asker, asked, &condition)?;
-    let required = required_questions(&mut formulas, asker, asked, &condition, &named, &excluded)?;
+    let beside = excluded_among(&mut formulas, asker, asked, &condition)?;
+    let required = required_questions(&mut formulas, asker, asked, &condition, &named, &beside)?;
     let found = asked_of(&mut formulas, asker, asked, &condition)?;
-    let told = told_of(
-        &formulas, asker, asked, &condition, &named, &excluded, &found,
-    )?;
+    let told = told_of(&formulas, asker, asked, &condition, &named, &found)?;
     let (questions, left_out) = told;
     Ok(Tried {
         formulas,
         named,
-        excluded,
-        is_own: condition.is_own && !asker.wanted.above,
+        excluded: found.excluded,
+        beside,
+        is_own: condition.is_own,
         questions,
         required,
         left_out,
@@ -147,7 +148,7 @@ pub(crate) fn asked_of(
     asked: Asked<'_>,
     condition: &Condition,
 ) -> Result<AskedCondition, NoQuestion>
-    ensures { IfOk result (λ r. IsTrue condition.now.is_own → AsksFacts asker.entry.lowered.now asker.entry.known.now.signatures.items asker.entry.tables asked.entry.term.now formulas.new asked.entry.rule.now (asked_facts r.questions.items)) }
+    ensures { IfOk result (λ r. IsTrue condition.now.is_own → AsksFacts asker.entry.lowered.now asker.entry.known.now.signatures.items asker.entry.tables asked.entry.term.now formulas.new asked.entry.rule.now (asked_facts r.questions.items) r.excluded.items) }
 {
     if condition.is_own {
         return Ok(lowered_questions(
@@ -158,10 +159,12 @@ pub(crate) fn asked_of(
             asked.term,
             asked.rule,
             true,
+            asker.wanted.above,
         )?);
     }
+    let excluded = excluded_among(formulas, asker, asked, condition)?;
     let demands = asker.demands(asked, condition);
-    Ok(asked_demands(formulas, &demands, &asker.tables, true)?)
+    Ok(asked_demands(formulas, &demands, &asker.tables, true, excluded)?)
 }
 
 // The questions in words and texts, and the widths of arguments at which no call takes the rule. Where one may not be so by the answers,
@@ -172,30 +175,18 @@ fn told_of(
     asked: Asked<'_>,
     condition: &Condition,
     named: &Named,
-    excluded: &[Fact],
     found: &AskedCondition,
 ) -> Result<(Vec<Question>, Vec<LeftOut>), NoQuestion>
     ensures some { IfOk result (λ told. 0 < length told.0.items) }
     ensures same { IfOk result (λ told. facts_in told.0.items ≡ asked_facts found.now.questions.items) }
     ensures plain { IfOk result (λ told. IsTrue (list_all is_asked_or_plain told.0.items)) }
 {
-    let first = told_with(
-        formulas,
-        asker,
-        asked,
-        condition,
-        named,
-        excluded,
-        found,
-        &[],
-    )?;
+    let first = told_with(formulas, asker, asked, condition, named, found, &[])?;
     if !may_be_wrong(asker, &first.0) {
         return Ok(first);
     }
     let elsewhere = elsewhere_texts(asker, asked, condition)?;
-    told_with(
-        formulas, asker, asked, condition, named, excluded, found, &elsewhere,
-    )
+    told_with(formulas, asker, asked, condition, named, found, &elsewhere)
 }
 
 // The questions in words and texts, with these that ask where all is followed.
@@ -205,7 +196,6 @@ fn told_with(
     asked: Asked<'_>,
     condition: &Condition,
     named: &Named,
-    excluded: &[Fact],
     found: &AskedCondition,
     elsewhere: &[Option<String>],
 ) -> Result<(Vec<Question>, Vec<LeftOut>), NoQuestion>
@@ -219,9 +209,10 @@ fn told_with(
         asker,
         condition,
         named,
-        excluded,
+        excluded: &found.excluded,
         branches: &branches,
         elsewhere,
+        is_required: false,
     };
     let mut questions = Vec::new(asker.alloc);
     teller.add_questions(&found.questions, "", &mut questions)?;

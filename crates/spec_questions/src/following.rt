@@ -1,6 +1,6 @@
 //! Where all is followed that specs say of a rule: only there a question that may be satisfied tells that the rule is wrong.
 
-use crate::above::excluded_above;
+use crate::above::excluded_among;
 use crate::asking::{Asked, Asker, asked_of};
 use crate::branches::Branches;
 use crate::faults::NoQuestion;
@@ -43,10 +43,10 @@ pub(crate) fn elsewhere_texts(
     let mut formulas = Formulas::new(asker.alloc);
     // As in what was asked, so that constants have the same numbers, by which values are asked for behind a text.
     let _named = named_values(&mut formulas, asker, asked, condition)?;
-    let excluded = excluded_above(&mut formulas, asker, asked, condition)?;
+    let _excluded = excluded_among(&mut formulas, asker, asked, condition)?;
     let _required = asked_required(&mut formulas, asker, asked, condition)?;
     let found = asked_of(&mut formulas, asker, asked, condition)?;
-    texts_followed(&mut formulas, asker, &excluded, &found)
+    texts_followed(&mut formulas, asker, &found.excluded, &found)
 }
 
 /// The same of the questions about what pure calls require.
@@ -57,7 +57,7 @@ pub(crate) fn elsewhere_required(
 ) -> Result<Vec<Option<String>>, NoQuestion> {
     let mut formulas = Formulas::new(asker.alloc);
     let _named = named_values(&mut formulas, asker, asked, condition)?;
-    let excluded = excluded_above(&mut formulas, asker, asked, condition)?;
+    let excluded = excluded_among(&mut formulas, asker, asked, condition)?;
     match asked_required(&mut formulas, asker, asked, condition)? {
         Some(required) => texts_followed(&mut formulas, asker, &excluded, &required.asked),
         None => Ok(Vec::new(asker.alloc)),

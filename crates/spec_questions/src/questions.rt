@@ -46,6 +46,8 @@ pub struct Question {
     pub goal: Option<Pos>,
     /// The facts that the text `wrong` speaks of, but for those that exclude rules above, by their numbers in the formulas of the rule.
     pub facts: Vec<Fact>,
+    /// Whether it is asked whether a pure call is as its term requires.
+    pub is_required: bool,
 }
 
 impl Drop for Question {
@@ -57,6 +59,7 @@ impl Drop for Question {
             elsewhere: _,
             goal: _,
             facts: _,
+            is_required: _,
         } = self;
     }
 }
@@ -89,15 +92,16 @@ pub struct RuleQuestions {
     pub left_out: Vec<LeftOut>,
     /// Why not all that it calls is followed, in one line: then it can't be told wrong. None where all is.
     pub unfollowed: Option<String>,
-    /// Whether the questions are about the rule's own condition: no call is looked through, no spec of an internal extractor counts, and
-    /// no rule above is excluded.
+    /// Whether the questions are about the rule's own condition: no call is looked through, and no spec of an internal extractor counts.
     pub is_own: bool,
     /// The formulas of the questions.
     pub formulas: Formulas,
     // What its variables and its result stand for.
     pub(crate) named: Named,
-    // That no rule above matches, where that is asked.
-    pub(crate) excluded: Vec<Fact>,
+    /// That no rule of greater priority matches, where that is asked, as far as it is told. The texts of questions say so too.
+    pub excluded: Vec<Fact>,
+    // The same, as the texts of the questions about pure calls have it.
+    pub(crate) beside: Vec<Fact>,
 }
 
 impl Drop for RuleQuestions {
@@ -114,6 +118,7 @@ impl Drop for RuleQuestions {
             formulas: _,
             named: _,
             excluded: _,
+            beside: _,
         } = self;
     }
 }
@@ -519,7 +524,7 @@ impl Questions {
         ensures kept { OnOk result (KeepsTold self.old self.new) }
         ensures whole { OnOk result ((lowered : _) (signatures : _) (specs : _) (at : ℕ) (place : ℕ) → slice_get asked.entry.term.now.rules.rules.items at ≡ Some asked.entry.rule.now
             → slice_get lowered.terms.items place ≡ Some asked.entry.term.now
-            → (IsTrue tried.is_own → AsksFacts lowered signatures specs asked.entry.term.now tried.formulas asked.entry.rule.now (facts_in tried.questions.items))
+            → (IsTrue tried.is_own → AsksFacts lowered signatures specs asked.entry.term.now tried.formulas asked.entry.rule.now (facts_in tried.questions.items) tried.excluded.items)
             → IsTrue (list_all is_asked_or_plain tried.questions.items)
             → AreAskedWhole lowered signatures specs self.old.rules.items → AreAskedWhole lowered signatures specs self.new.rules.items) }
     {
@@ -527,6 +532,7 @@ impl Questions {
             formulas,
             named,
             excluded,
+            beside,
             is_own,
             questions,
             required,
@@ -545,6 +551,7 @@ impl Questions {
             formulas,
             named,
             excluded,
+            beside,
         })?;
         Ok(())
     }

@@ -72,6 +72,7 @@ fn told(
         excluded,
         branches: &branches,
         elsewhere,
+        is_required: true,
     };
     let mut questions = Vec::new(asker.alloc);
     teller.add_questions(&required.asked.questions, "", &mut questions)?;
@@ -233,7 +234,11 @@ fn asked_up_to(
     let count = steps_to(&steps, goals.saturating_sub(1)).len();
     steps.truncate(count);
     let questions = questions_of(formulas, asker, &steps)?;
-    Ok(AskedCondition { steps, questions })
+    Ok(AskedCondition {
+        steps,
+        questions,
+        excluded: Vec::new(asker.alloc),
+    })
 }
 
 // The questions of steps.

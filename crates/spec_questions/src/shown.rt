@@ -47,7 +47,7 @@ pub(crate) fn named_values(
     let done = condition.calls(asker.alloc)?;
     let mut variables = Vec::new(asker.alloc);
     for variable in asked.variables {
-        if let Some(site) = site_in(condition, variable.site) {
+        if let Some(site) = site_in(condition, variable.site.index()) {
             let form = form_at(formulas, &demands, &done, site)?;
             let name = String::from_str(asker.alloc, variable.name)?;
             variables.push((name, held_by(asker, form)))?;
@@ -61,8 +61,8 @@ pub(crate) fn named_values(
 }
 
 /// Where a site of the rule's set stands in a condition.
-pub(crate) fn site_in(condition: &Condition, site: BindingId) -> Option<u32> {
-    match condition.sites.get(site.index()) {
+pub(crate) fn site_in(condition: &Condition, site: usize) -> Option<u32> {
+    match condition.sites.get(site) {
         Some(place) => *place,
         None => None,
     }
@@ -173,7 +173,12 @@ impl RuleQuestions {
         alloc: Global,
         question: &Question,
     ) -> Result<ShownQuestion, NoQuestion> {
-        let all = with_excluded(alloc, &question.facts, &self.excluded)?;
+        let excluded = if question.is_required {
+            &self.beside
+        } else {
+            &self.excluded
+        };
+        let all = with_excluded(alloc, &question.facts, excluded)?;
         let mut behind = Shown::of(&self.formulas, &all)?;
         let names = behind.constants()?;
         let mut values = Vec::new(alloc);

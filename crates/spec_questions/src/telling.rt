@@ -27,6 +27,8 @@ pub(crate) struct Teller<'t, 'a> {
     pub(crate) branches: &'t Branches,
     /// The texts that ask where all is followed, by the places of questions.
     pub(crate) elsewhere: &'t [Option<String>],
+    /// Whether they ask whether pure calls are as their terms require.
+    pub(crate) is_required: bool,
 }
 
 impl<'t, 'a> Teller<'t, 'a> {
@@ -107,6 +109,7 @@ impl<'t, 'a> Teller<'t, 'a> {
             taken,
             wrong,
             facts,
+            is_required: self.is_required,
         })
     }
 

@@ -3,7 +3,7 @@
 ghost use Rattle.std.specs.Prelude.{◌≡◌, IsTrue};
 ghost use Rattle.std.specs.List.{list_all, list_any};
 ghost use Rattle.spec_questions.specs.Refuting as Refuting;
-ghost use Rattle.spec_questions.specs.Refuting.{is_possible_by, is_refuted_by, is_so_by, may_fail_by, is_right_by, is_shown, is_shown_with, is_taken_by, is_untaken_by, is_wrong_by, wrong_by, fails_by};
+ghost use Rattle.spec_questions.specs.Refuting.{is_possible_by, is_refuted_by, is_so_by, may_fail_by, is_right_by, is_shown_with, is_taken_by, is_untaken_by, is_wrong_by, wrong_by, fails_by};
 
 use crate::answers::Answers;
 use crate::questions::Question;
@@ -36,16 +36,9 @@ impl Verdict {
     }
 }
 
-/// What answers say of a rule, by its questions, and by whether all that it calls is followed.
-pub fn verdict_of(questions: &[Question], is_followed: bool, answers: &Answers) -> Verdict
-    // what the verdict says is so
-    ensures shown { IsTrue (is_shown answers.now.list.items questions.now is_followed result) }
-{
-    verdict_with(questions, &[], is_followed, answers)
-}
-
-/// The same, where it is also asked whether pure calls on its right side are as their terms require.
-pub fn verdict_with(
+/// What answers say of a rule, by its questions, by those whether pure calls on its right side are as their terms require, and by whether
+/// all that it calls is followed.
+pub fn verdict_of(
     questions: &[Question],
     required: &[Question],
     is_followed: bool,

@@ -1,6 +1,7 @@
 mod AddingSteps
 mod AnsweringSteps
 mod EventSteps
+mod ExcludingSteps
 mod GivingSteps
 mod ListingSteps
 mod MadeSteps

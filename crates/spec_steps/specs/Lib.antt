@@ -1,5 +1,6 @@
 pub mod Demands
 pub mod Events
+pub mod Excluding
 pub mod Forming
 pub mod Listing
 pub mod Roots

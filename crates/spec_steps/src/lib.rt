@@ -5,6 +5,7 @@ mod answering;
 pub mod constraints;
 pub mod demands;
 pub mod events;
+pub mod excluding;
 mod giving;
 pub mod listing;
 mod made;

@@ -5,10 +5,10 @@ use Rattle.spec_asked.specs.Tables.{entry_types}
 use Rattle.spec_asked.proofs.LoweredTables.{built_there, terms_are, types_are}
 use Rattle.spec_asked.proofs.lowered.lowered_questions.Goals as goal
 
-pub returns : goal.returns
-returns c = λ s n.
+pub returns-clause-asked : goal.returns-clause-asked
+returns-clause-asked c = λ s n.
     let lowered = c.args.lowered.now in
-    c.in_ok-questions_of.ensures (own_program s.defs s.rules) n.naming s.saying s.unknowns
+    c.in_ok-questions_of.ensures.asked (own_program s.defs s.rules) n.naming s.saying s.unknowns
     (record {
       types = ap type_views c.deref.ensures.value ∙ types_are s.defs s.expand s.rules lowered s.answer;
       signatures = s.signed ∙ ap (map entry_types) (terms_are s.defs s.expand s.rules lowered s.answer);

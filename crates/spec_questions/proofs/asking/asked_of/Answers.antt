@@ -11,5 +11,6 @@ returns-then-condition c = λ own.
     let nodes = c.lowered_questions.new.formulas in
     let rule = c.args.asked.rule.now in
     let qs = c.in_ok-lowered_questions.field-0.questions.items in
-    asks_facts lowered c.args.asker.known.now.signatures.items tables term nodes rule qs
-    (subst (λ l. AsksLowered lowered l tables term nodes rule true qs) c.deref.ensures.value c.in_ok-lowered_questions.ensures)
+    let es = c.in_ok-lowered_questions.field-0.excluded.items in
+    asks_facts lowered c.args.asker.known.now.signatures.items tables term nodes rule qs es
+    (subst (λ l. AsksLowered lowered l tables term nodes rule true qs es) c.deref.ensures.value c.in_ok-lowered_questions.ensures.asked)
