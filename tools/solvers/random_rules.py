@@ -506,7 +506,7 @@ class Asked:
         path = os.path.join(room, "a.isle")
         with open(path, "w", encoding="utf-8") as file:
             file.write(text)
-        command = [sys.executable, SCRIPT, "--jobs", "1", "--seconds", str(options.seconds)] + (["--solver", options.solver] if options.solver else []) + [path]
+        command = [sys.executable, SCRIPT, "--jobs", "1", "--lax", "--seconds", str(options.seconds)] + (["--solver", options.solver] if options.solver else []) + [path]
         run = subprocess.run(command, stdout=subprocess.PIPE, stderr=subprocess.STDOUT)
         self.told = run.stdout.decode("utf-8")
         lines = re.findall(r"^(%s): rule (\S+) at ([^\n]*)" % WORDS, self.told, re.M)

@@ -61,6 +61,7 @@ TOLD = {
     "below-match": "f right, f wrong|unknown",
     "below-numbers": "g right, g wrong|unknown",
     "below-a-call": "f right, f wrong|unknown",
+    "below-a-field": "f right, f right, f right",
     "last-variant-above": "f right, f right, g right, g right, h right, h wrong",
     "equal-enums": "f unknown",
     "deep-equality": "f unknown",
@@ -88,6 +89,7 @@ REFUSED = {
 }
 # What has to stand in lines: widths, and a warning.
 NAMED = {
+    "below-a-field": ["of f, where no rule of greater priority matches"],
     "other-values": ["call: (g (E.B) "],
     "internal-extractor-unused": ["warning: the spec of `iadd` at "],
     "extractor-signature": ["(arg0 of 8 bits)", "never taken (arg0 of 16 bits)"],
