@@ -39,18 +39,16 @@ use spec_steps::steps::steps_of;
 pub fn questions(
     formulas: &mut Formulas,
     lowered: &Lowered,
-    signatures: &[Signature],
+    signed: &[Signature],
     specs: &SpecTables<'_>,
     term: &LoweredTerm,
     rule: &Rule,
     flag: bool,
     above: bool,
 ) -> Result<AskedCondition, AskingFault>
-    ensures { IfOk result (λ r. AsksLowered lowered.now signatures.now specs.now term.now formulas.new rule.now flag r.questions.items r.excluded.items) }
+    ensures { IfOk result (λ r. AsksLowered lowered.now signed.now specs.now term.now formulas.new rule.now flag r.questions.items r.excluded.items) }
 {
-    lowered_questions(
-        formulas, lowered, signatures, specs, term, rule, flag, above,
-    )
+    lowered_questions(formulas, lowered, signed, specs, term, rule, flag, above)
 }
 
 /// `steps_of`, the steps in which a condition is asked.
