@@ -15,9 +15,9 @@ formed false = refl
 denoted : IsDenotation program closed_specs atoms_as_a
 denoted = record {
   formed = λ ty z. formed (ty == 2);
-  sorted = λ ty z s e n. grind (arith, common_steps, none_some, some_is, eqb-true);
+  sorted = λ ty z s e h n. grind (arith, common_steps, none_some, some_is, eqb-true);
   numbers = λ ty z y own e. grind (arith, common_steps, none_some, some_is, eqb-true);
-  plain = λ ty z h n. grind (arith, common_steps, eqb-true);
+  plain = λ ty z parts h n. grind (arith, common_steps, eqb-true);
   made = λ ty z h. grind (arith, common_steps, eqb-true);
   unknowns = λ g s xs e sorted formed. absurd (none_some s e);
 }

@@ -71,6 +71,6 @@ widths_are_listed_lem = record {
   none_listed = refl;
   right = byte_right;
   wrong = wide_wrong;
-  bytes = record { formed = λ ty z. byte_formed z; sorted = λ ty z s e n. byte_listed ty (word_of 8 z) s e; numbers = λ ty z y own e. none_numbered ty z y e; plain = λ ty z h n. refl; made = λ ty z h. absurd (not_without ty h); unknowns = λ g s xs e sorted formed. absurd (none_some s e) };
-  no_bytes = λ (d : IsDenotation (program_with x) (among (16 ∷ [])) bytes_as). false≢true (d.sorted 1 (pos 0) (words_among (16 ∷ [])) refl refl);
+  bytes = record { formed = λ ty z. byte_formed z; sorted = λ ty z s e h n. byte_listed ty (word_of 8 z) s e; numbers = λ ty z y own e. none_numbered ty z y e; plain = λ ty z parts h n. refl; made = λ ty z h. absurd (not_without ty h); unknowns = λ g s xs e sorted formed. absurd (none_some s e) };
+  no_bytes = λ (d : IsDenotation (program_with x) (among (16 ∷ [])) bytes_as). false≢true (d.sorted 1 (pos 0) (words_among (16 ∷ [])) refl refl refl);
 }

@@ -187,8 +187,8 @@ module _ (k : Called) where
   abbrev types : List TypeEntry
   types = k.program.types
 
-  atom_as : (ty : ℕ) (z : ℤ) → is_without_atoms types k.specs ty ≡ false → is_atom_as (slice_get types ty) (sort_of k.specs ty) (d ty z) ≡ true
-  atom_as ty z e = grind (arith, common_steps, and_from, or_right, or_left)
+  atom_as : (ty : ℕ) (z : ℤ) → has_atoms (slice_get types ty) ≡ true → is_without_atoms types k.specs ty ≡ false → is_atom_as (slice_get types ty) (sort_of k.specs ty) (d ty z) ≡ true
+  atom_as ty z h e = grind (arith, common_steps, and_from, or_right, or_left)
 
   -- an atom of a type that has none stands for one of its variants
   atom_typed : (ty : ℕ) (z : ℤ) → has_atoms (slice_get types ty) ≡ true → is_of_type types k.specs ty (d ty z) ≡ true
@@ -199,7 +199,7 @@ module _ (k : Called) where
 
       by : (b : Bool) → is_without_atoms types k.specs ty ≡ b → is_of_type types k.specs ty (d ty z) ≡ true
       by true e = k.denotes.made ty z e
-      by false e = of_atoms (d ty z) (atom_as ty z e)
+      by false e = of_atoms (d ty z) (atom_as ty z h e)
 
   mutual
     pub value_typed : (ty : ℕ) (v : Value) → well_typed types ty v ≡ true → is_of_type types k.specs ty (stands_for d v) ≡ true

@@ -1,6 +1,6 @@
 -- What values stand for by specs, and when a meaning answers as they say.
 use Rattle.std.specs.Prelude.{◌≡◌, ℕ, ℤ, Bool, true, false, List, [], ◌∷◌, Some, slice_get, Contains}
-use Rattle.model.specs.rules.Values.{Value, truth, atom, of_variant, of_struct, Values, no_value, value_and, of_list}
+use Rattle.model.specs.rules.Values.{Value, truth, atom, of_variant, of_struct, Values, no_value, value_and, of_list, has_atoms}
 use Rattle.model.specs.rules.Meaning.{Content, one, parts, nothing, just, many, contents, Meaning, bool_literal, int_literal, literal_value, constant_value, extractor_answer, pure_answer, impure_answer}
 use Rattle.model.specs.rules.Outcome.{Call, Outcome}
 use Rattle.model.specs.rules.Program.{Program, is_partial}
@@ -37,9 +37,9 @@ content_as d (many cs) = told_many
 -- unknown functions answer by values of their sorts
 pub record IsDenotation (p : Program) (specs : Specs) (d : Atoms) : Type 0 where
   pub formed : (ty : ℕ) (z : ℤ) → is_formed (d ty z) ≡ true
-  pub sorted : (ty : ℕ) (z : ℤ) (s : Sort) → sort_of specs ty ≡ Some s → is_without_atoms p.types specs ty ≡ false → is_of_sort s (d ty z) ≡ true
+  pub sorted : (ty : ℕ) (z : ℤ) (s : Sort) → sort_of specs ty ≡ Some s → has_atoms (slice_get p.types ty) ≡ true → is_without_atoms p.types specs ty ≡ false → is_of_sort s (d ty z) ≡ true
   pub numbers : (ty : ℕ) (z : ℤ) (x : Denoted) → is_own_type (slice_get p.types ty) ≡ true → literal_of specs z ty ≡ Some x → d ty z ≡ x
-  pub plain : (ty : ℕ) (z : ℤ) → is_type_with_parts (slice_get p.types ty) ≡ true → is_without_atoms p.types specs ty ≡ false → is_plain (d ty z) ≡ true
+  pub plain : (ty : ℕ) (z : ℤ) → is_type_with_parts (slice_get p.types ty) ≡ true → has_atoms (slice_get p.types ty) ≡ true → is_without_atoms p.types specs ty ≡ false → is_plain (d ty z) ≡ true
   pub made : (ty : ℕ) (z : ℤ) → is_without_atoms p.types specs ty ≡ true → is_of_type p.types specs ty (d ty z) ≡ true
   pub unknowns : AreUnknownsSorted specs
 

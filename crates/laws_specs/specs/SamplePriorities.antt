@@ -4,7 +4,7 @@ use Rattle.model.specs.lists.Tables.{VariantEntry, unit_entries, builtin_type, e
 use Rattle.model.specs.rules.Program.{Program}
 use Rattle.model.specs.rules.Typed.{TypedPattern, match_term, match_any, no_typed_pattern, make_int, TypedRule}
 use Rattle.laws_specs.specs.Words.{Denoted, variant_of, no_denoted, equals}
-use Rattle.laws_specs.specs.Specs.{words, SpecExpr, its_argument, its_result, the_same, operation, if_else, Specs, no_unknown}
+use Rattle.laws_specs.specs.Specs.{truths, words, words_among, SpecExpr, its_argument, its_result, the_same, operation, if_else, Specs, no_unknown}
 use Rattle.laws_specs.specs.Conditions.{condition, IsValid, IsValidBelow}
 use Rattle.laws_specs.specs.Samples.{of_two, byte, providing}
 
@@ -64,8 +64,9 @@ ten_where what = operation equals (of_two its_result (if_else (operation equals 
 abbrev pub its_code : SpecExpr
 its_code = ten_where (letter 0)
 
+-- booleans are truths, bytes words, and letters have no values but their variants
 abbrev pub code_specs : Specs
-code_specs = record { models = (1, words 8) ∷ []; constants = []; unknowns = no_unknown; unknown_sorts = []; terms = (2, providing (its_code ∷ [])) ∷ [] }
+code_specs = record { models = (0, truths) ∷ ((1, words 8) ∷ ((2, words_among []) ∷ [])); constants = []; unknowns = no_unknown; unknown_sorts = []; terms = (2, providing (its_code ∷ [])) ∷ [] }
 
 -- the lower rule alone is wrong of A; below the other one it is right, and so is that one
 abbrev pub PrioritiesCount : Type 0
