@@ -47,6 +47,8 @@ TOLD = {
     "pure-require-tested": "f right, g wrong",
     "pure-require-impure": "f right, g wrong, h wrong",
     "pure-require-signature": "f wrong",
+    "pure-require-struct": "f wrong",
+    "multi-call-required": "f without, g right",
     "never-taken": "f idle|without",
     "lazy-if": "f right",
     "default-arms": "f right, f right, g right, g right, h right, k right, k2 right",
@@ -74,6 +76,7 @@ LAX = {
     "pure-require-tested": "f right, g right",
     "pure-require-impure": "f right, g right, h right",
     "pure-require-signature": "f right",
+    "pure-require-struct": "f right",
 }
 REFUSED = {
     "enum-value-twice": "spec-enum",

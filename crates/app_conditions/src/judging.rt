@@ -8,7 +8,7 @@ use spec_questions::answers::{Answers, push_text};
 use spec_questions::questions::{Question, Questions, RuleQuestions, Without};
 use spec_questions::replies::{Reply, reply_in};
 use spec_questions::verdicts::{
-    Verdict, fails, is_answered, is_possible, is_refuted, may_fail, verdict_of,
+    Verdict, fails, is_answered, is_possible, is_refuted, may_be_wrong, may_fail, verdict_of,
 };
 use std::alloc::{AllocError, Global};
 use text_reader::syntax::VerificationForm;
@@ -41,13 +41,6 @@ pub(crate) fn open_places(
         }
     }
     Ok(places)
-}
-
-// Whether what one of these questions asks for may not be so.
-fn may_be_wrong(answers: &Answers, questions: &[Question]) -> bool {
-    questions
-        .iter()
-        .any(|question| may_fail(answers, &question.wrong))
 }
 
 // What answers say of a rule.

@@ -1,7 +1,7 @@
 //! Calls that ask solvers about rules, under their own clauses: each function is one call of the function that its name says.
 #![tactic(auto)]
 
-ghost use Rattle.std.specs.Prelude.{◌≡◌, IfOk, IsTrue, OnOk};
+ghost use Rattle.std.specs.Prelude.{◌≡◌, IfOk, IsTrue, OnOk, [], false};
 ghost use Rattle.model_questions.specs.Steps as S;
 ghost use Rattle.spec_asked.specs.Lowered.{AsksLowered};
 ghost use Rattle.spec_cases.specs.Asking.{come_to_in};
@@ -46,7 +46,8 @@ pub fn questions(
     flag: bool,
     above: bool,
 ) -> Result<AskedCondition, AskingFault>
-    ensures { IfOk result (λ r. AsksLowered lowered.now signed.now specs.now term.now formulas.new rule.now flag r.questions.items r.excluded.items) }
+    ensures asked { IfOk result (λ r. AsksLowered lowered.now signed.now specs.now term.now formulas.new rule.now flag r.questions.items r.excluded.items) }
+    ensures alone { IfOk result (λ r. above ≡ false → r.excluded.items ≡ []) }
 {
     lowered_questions(formulas, lowered, signed, specs, term, rule, flag, above)
 }

@@ -25,7 +25,7 @@ use Rattle.model_questions.proofs.FactsSo.{both_parts, none_so, none_from}
 use Rattle.model_questions.proofs.Opening.{is_atom_of, IsOf, type_says, none_of_types, same_is}
 use Rattle.model_questions.proofs.Shown.{steps_shown}
 use Rattle.model_questions.proofs.Standing.{kind_in, model_of}
-use Rattle.laws_questions.specs.BelowLaws.{none_before, is_last_of, stands_fact, if_had, variant_fact, field_fact, struct_fact, meets_fact, there_fact, met_fact, AreMetBy, IsExcluded, BelowAskEnough}
+use Rattle.laws_questions.specs.BelowLaws.{none_before, is_last_of, stands_fact, if_had, variant_fact, field_fact, struct_fact, meets_fact, there_fact, met_fact, AreMetBy, ExcludesOne, BelowAskEnough}
 use Rattle.laws_questions.proofs.Values.{value_at, coherent, values_formed}
 use Rattle.laws_questions.proofs.SiteForms.{Is, AreDone, variant_typed, struct_typed, told_is}
 use Rattle.laws_questions.proofs.Enough.{none_told, shown_is}
@@ -276,7 +276,7 @@ module _ (p : Program) (specs : Specs) (t : ℕ) (set : SiteSet) (r : SetRule) (
           | inr j ↦ each_met ds h.0 h.1 parts.1 s k j
         ]
 
-    excluded_so : (g : Fact) → IsExcluded p specs t set r g → is_so here g ≡ true
+    excluded_so : (g : Fact) → ExcludesOne p specs t set r g → is_so here g ≡ true
     excluded_so g x = ap (is_so here) x.excludes ∙ by (is_so here x.met) refl
       where
         by : (b : Bool) → is_so here x.met ≡ b → is_so here (none_of x.met) ≡ true
@@ -289,16 +289,16 @@ module _ (p : Program) (specs : Specs) (t : ℕ) (set : SiteSet) (r : SetRule) (
             ])
             (λ s u i. absurd (x.without_equalities s u i)))
 
-    all_excluded : (gs : List Fact) → ((g : Fact) → In gs g → IsExcluded p specs t set r g) → are_so here gs ≡ true
+    all_excluded : (gs : List Fact) → ((g : Fact) → In gs g → ExcludesOne p specs t set r g) → are_so here gs ≡ true
     all_excluded [] h = refl
     all_excluded (g ∷ gs) h = and_from (is_so here g) (are_so here gs) (excluded_so g (h g (inl refl))) (all_excluded gs (λ y i. h y (inr i)))
 
-    below_shown : (plan : Place → Bool) (es : List Fact) → All (IsExcluded p specs t set r) es → ((q : List Fact) → Contains (map (λ q. q ++ es) (questions p specs c plan)) q → IsUnsatisfiable specs q)
+    below_shown : (plan : Place → Bool) (es : List Fact) → All (ExcludesOne p specs t set r) es → ((q : List Fact) → Contains (map (λ q. q ++ es) (questions p specs c plan)) q → IsUnsatisfiable specs q)
         → IsShown p specs c args f
     below_shown plan es excluded refuted =
         shown_is p specs c args f a plan
         (steps_shown p.types specs vs specs.unknowns (coherent args f) (values_formed args f a.formed_args a.formed) a.unknowns (steps_of p specs c plan) nothing_known es (none_told p specs c args f a)
-        (all_excluded es (in_from_all (IsExcluded p specs t set r) es excluded))
+        (all_excluded es (in_from_all (ExcludesOne p specs t set r) es excluded))
         (λ q i. refuted q (contains_from_in (map (λ q. q ++ es) (questions p specs c plan)) q (subst (λ qs. In qs q) (paths_beside es p.types specs (steps_of p specs c plan) nothing_known []) i))))
 
 pub below_ask_enough_lem : BelowAskEnough

@@ -70,7 +70,7 @@ module _ (p : Program) (specs : Specs) where
     AreMetBy (d ∷ ds) g = (Contains c.constraints d × AreMetBy ds g) ⊎ ((h : Fact) × AreMetBy ds h × (g ≡ both_of (met_fact d.0 d.1) h))
 
   -- a rule of greater priority that asks for no equal sites doesn't match
-  pub record IsExcluded (t : ℕ) (set : SiteSet) (r : SetRule) (f : Fact) : Type 0 where
+  pub record ExcludesOne (t : ℕ) (set : SiteSet) (r : SetRule) (f : Fact) : Type 0 where
     pub rule : SetRule
     pub above : IsAboveInSet set r rule
     pub without_equalities : (a b : SiteTerm) → Contains (set_condition t set rule).equalities (a, b) → ⊥
@@ -82,4 +82,4 @@ module _ (p : Program) (specs : Specs) where
 abbrev pub BelowAskEnough : Type 0
 BelowAskEnough =
     (p : Program) (specs : Specs) (t : ℕ) (set : SiteSet) (r : SetRule) (plan : Place → Bool) (es : List Fact)
-    → All (IsExcluded p specs t set r) es → AreUnsatisfiable specs (map (λ q. q ++ es) (rule_questions p specs t set r plan)) → IsValidBelowInSet p specs t set r
+    → All (ExcludesOne p specs t set r) es → AreUnsatisfiable specs (map (λ q. q ++ es) (rule_questions p specs t set r plan)) → IsValidBelowInSet p specs t set r

@@ -25,7 +25,7 @@ pub fn refuted_programs_compute_as_said()
 }
 
 /// Where no question about a rule can be satisfied beside facts that say that rules of greater priority don't match, the condition is valid
-/// where none of these matches.
+/// where no rule of greater priority matches.
 pub fn below_ask_enough()
     ensures { BelowAskEnough }
 {}

@@ -15,7 +15,7 @@ use Rattle.model.proofs.SameSites.{constraint_means}
 use Rattle.laws_specs.specs.Conditions.{Condition}
 use Rattle.laws_specs.specs.SetConditions.{pairs_of, set_condition}
 use Rattle.laws_specs.specs.Specs.{Specs}
-use Rattle.laws_questions.specs.BelowLaws.{AreMetBy, IsExcluded}
+use Rattle.laws_questions.specs.BelowLaws.{AreMetBy, ExcludesOne}
 use Rattle.model_questions.specs.Formulas.{Fact, none_of}
 use Rattle.core_rule_sets.specs.declared.trie_again.Rule.{Rule}
 use Rattle.core_rule_sets.specs.SiteViews.{set_rule_view, set_rule_views}
@@ -23,7 +23,7 @@ use Rattle.spec_cases.specs.Namings.{Naming}
 use Rattle.spec_steps.specs.declared.demands.Tested.{Tested}
 use Rattle.spec_steps.specs.Demands.{tested_views}
 use Rattle.spec_steps.specs.Excluding.{all_met}
-use Rattle.spec_asked.specs.Above.{is_other, AreOfSet, Excludes, IsOfRule}
+use Rattle.spec_asked.specs.Above.{is_other, AreOfSet, IsPlainAbove, IsOfRule}
 use Rattle.spec_asked.specs.Demanded.{test_numbers, tests_within}
 use Rattle.spec_asked.proofs.DemandsMeant.{tests_agree}
 use Rattle.spec_asked.proofs.ListedRules.{in_class, pair_parts}
@@ -66,9 +66,9 @@ no_pairs classes none e i =
     false≢true (sym (none k.0 k.1) ∙ in_class classes m.0 k.0 k.1 m.1 k.2 k.3)
 
 pub excluded_is : (p : Program) (specs : Specs) (v : Naming) (c : Condition) (t : ℕ) (set : SiteSet) (r rule q : SetRule) (count : ℕ) (ts : List Tested) (f : Fact)
-    → IsOfRule v c t set r rule count → Contains set.rules q → Excludes rule q
+    → IsOfRule v c t set r rule count → Contains set.rules q → IsPlainAbove rule q
     → test_numbers ts ≡ filter (is_other rule.constraints) q.constraints → tests_within count ts ≡ true → f ≡ none_of (all_met p specs c (tested_views v ts))
-    → IsExcluded p specs t set r f
+    → ExcludesOne p specs t set r f
 excluded_is p specs v c t set r rule q count ts f of there ex others within e =
     let tree = at_tree p specs set c rule.constraints in
     let views : map tree (filter (is_other rule.constraints) q.constraints) ≡ tested_views v ts = ap (map tree) (sym others) ∙ tests_agree count v.site (unfold_site set.sites) of.sites ts within in

@@ -7,7 +7,7 @@ use Rattle.model.specs.trees.Places.{constraint_at, joins_in}
 use Rattle.laws_specs.specs.Conditions.{Condition}
 use Rattle.laws_specs.specs.SetConditions.{set_condition}
 use Rattle.laws_specs.specs.Specs.{Specs}
-use Rattle.laws_questions.specs.BelowLaws.{IsExcluded}
+use Rattle.laws_questions.specs.BelowLaws.{ExcludesOne}
 use Rattle.core_rule_sets.specs.declared.trie_again.Rule.{Rule}
 use Rattle.core_rule_sets.specs.SiteViews.{set_rule_view}
 use Rattle.spec_cases.specs.declared.formulas.Fact.{Fact}
@@ -18,7 +18,7 @@ abbrev pub is_other : List (ℕ × Constraint) → ℕ × Constraint → Bool
 is_other own d = not (is_that (constraint_at own d.0) d.1)
 
 -- a rule of greater priority that asks for no equal sites
-pub record Excludes (below above : SetRule) : Type 0 where
+pub record IsPlainAbove (below above : SetRule) : Type 0 where
   pub above_it : below.prio <ℤ above.prio
   pub apart : (a b : ℕ) → joins_in above.classes a b ≡ false
 
@@ -34,5 +34,5 @@ abbrev pub AreOfSet : List Rule → SiteSet → Type 0
 AreOfSet rules set = (q : Rule) → Contains rules q → Contains set.rules (set_rule_view q)
 
 -- facts exclude rules of a set
-abbrev pub AreExcluded : Program → Specs → ℕ → SiteSet → SetRule → Naming → List Fact → Type 0
-AreExcluded p specs t set r v fs = All (IsExcluded p specs t set r) (map (fact_of v) fs)
+abbrev pub AreExcluding : Program → Specs → ℕ → SiteSet → SetRule → Naming → List Fact → Type 0
+AreExcluding p specs t set r v fs = All (ExcludesOne p specs t set r) (map (fact_of v) fs)

@@ -5,7 +5,7 @@ use Rattle.model.specs.sites.Sites.{SetRule, SiteSet}
 use Rattle.laws_specs.specs.Conditions.{IsValid}
 use Rattle.laws_specs.specs.SetConditions.{set_condition, IsValidBelowInSet}
 use Rattle.laws_specs.specs.Specs.{Specs}
-use Rattle.laws_questions.specs.BelowLaws.{IsExcluded}
+use Rattle.laws_questions.specs.BelowLaws.{ExcludesOne}
 use Rattle.laws_questions.specs.EnoughLaws.{rule_questions}
 use Rattle.model_questions.specs.Formulas.{Place, Fact}
 use Rattle.model_questions.specs.Questions.{AreUnsatisfiable}
@@ -18,7 +18,7 @@ pub record AreQuestionsOf (p : Program) (specs : Specs) (t : ℕ) (set : SiteSet
   pub classes : List (List ℕ)
   pub alike : JoinAlike classes r.classes
   pub all : qs ≡ rule_questions p specs t set (with_classes r classes) plan
-  pub excluded : All (IsExcluded p specs t set (with_classes r classes)) es
+  pub excluded : All (ExcludesOne p specs t set (with_classes r classes)) es
 
 -- where no model satisfies one of them, the condition of the rule is valid
 abbrev pub AskedRulesAreValid : Type 0

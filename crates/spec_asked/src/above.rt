@@ -4,11 +4,11 @@ ghost use Rattle.std.specs.List.{filter};
 ghost use Rattle.model.specs.sites.Sites.{SetRule, SiteSet};
 ghost use Rattle.model.specs.trees.Judge.{is_that};
 ghost use Rattle.model.specs.trees.Places.{constraint_at};
-ghost use Rattle.laws_questions.specs.BelowLaws.{IsExcluded};
+ghost use Rattle.laws_questions.specs.BelowLaws.{ExcludesOne};
 ghost use Rattle.core_rule_sets.specs.SiteViews.{constraint_view, constraint_views, set_rule_view};
 ghost use Rattle.spec_cases.specs.Namings.{fact_of};
 ghost use Rattle.spec_steps.specs.Demands.{MakesFor};
-ghost use Rattle.spec_asked.specs.Above.{is_other, AreExcluded, AreOfSet, Excludes, IsOfRule};
+ghost use Rattle.spec_asked.specs.Above.{is_other, AreExcluding, AreOfSet, IsPlainAbove, IsOfRule};
 ghost use Rattle.spec_asked.specs.Demanded.{test_numbers};
 
 use crate::demanded::{are_tests_within, number};
@@ -68,8 +68,8 @@ pub fn other_tests(alloc: Global, below: &Rule, above: &Rule) -> Result<Vec<Test
 }
 
 /// Whether a rule has greater priority than another one that may match where it does, and asks for no equal sites.
-pub fn is_excluding(below: &Rule, above: &Rule) -> bool
-    ensures { IsTrue result → Excludes (set_rule_view below.now) (set_rule_view above.now) }
+pub fn is_plain_above(below: &Rule, above: &Rule) -> bool
+    ensures { IsTrue result → IsPlainAbove (set_rule_view below.now) (set_rule_view above.now) }
 {
     below.prio < above.prio && above.classes().is_empty() && above.may_overlap(below) != Overlap::No
 }
@@ -83,8 +83,8 @@ fn excluded_by(
     above: &Rule,
 ) -> Result<Fact, Fault>
     ensures { IfOk result (λ f. MakesFor formulas.old formulas.new demands.now (λ v m. (t : _) (set : SiteSet) (r : SetRule)
-        → IsOfRule v m.c t set r (set_rule_view below.now) count → Contains set.rules (set_rule_view above.now) → Excludes (set_rule_view below.now) (set_rule_view above.now)
-        → IsExcluded m.p m.specs t set r (fact_of v f))) }
+        → IsOfRule v m.c t set r (set_rule_view below.now) count → Contains set.rules (set_rule_view above.now) → IsPlainAbove (set_rule_view below.now) (set_rule_view above.now)
+        → ExcludesOne m.p m.specs t set r (fact_of v f))) }
 {
     let tests = other_tests(formulas.alloc(), below, above)?;
     if !are_tests_within(count, &tests) {
@@ -104,9 +104,9 @@ fn add_if_excluding(
 ) -> Result<(), Fault>
     ensures { OnOk result (MakesFor formulas.old formulas.new demands.now (λ v m. (t : _) (set : SiteSet) (r : SetRule)
         → IsOfRule v m.c t set r (set_rule_view below.now) count → Contains set.rules (set_rule_view above.now)
-        → AreExcluded m.p m.specs t set r v out.old.items → AreExcluded m.p m.specs t set r v out.new.items)) }
+        → AreExcluding m.p m.specs t set r v out.old.items → AreExcluding m.p m.specs t set r v out.new.items)) }
 {
-    if !is_excluding(below, above) {
+    if !is_plain_above(below, above) {
         return Ok(());
     }
     let fact = excluded_by(formulas, demands, count, below, above)?;
@@ -128,7 +128,7 @@ fn add_excluded(
 ) -> Result<(), Fault>
     ensures { OnOk result (MakesFor formulas.old formulas.new demands.now (λ v m. (t : _) (set : SiteSet) (r : SetRule)
         → IsOfRule v m.c t set r (set_rule_view below.now) count → AreOfSet rules.now set
-        → AreExcluded m.p m.specs t set r v out.old.items → AreExcluded m.p m.specs t set r v out.new.items)) }
+        → AreExcluding m.p m.specs t set r v out.old.items → AreExcluding m.p m.specs t set r v out.new.items)) }
 {
     match rules {
         [] => Ok(()),
@@ -152,7 +152,7 @@ pub fn excluded_above(
     rules: &[Rule],
 ) -> Result<Vec<Fact>, Fault>
     ensures { IfOk result (λ fs. MakesFor formulas.old formulas.new demands.now (λ v m. (t : _) (set : SiteSet) (r : SetRule)
-        → IsOfRule v m.c t set r (set_rule_view below.now) count → AreOfSet rules.now set → AreExcluded m.p m.specs t set r v fs.items)) }
+        → IsOfRule v m.c t set r (set_rule_view below.now) count → AreOfSet rules.now set → AreExcluding m.p m.specs t set r v fs.items)) }
 {
     let mut facts = Vec::new(formulas.alloc());
     add_excluded(formulas, demands, count, below, rules, &mut facts)?;

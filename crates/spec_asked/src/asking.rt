@@ -12,7 +12,7 @@ ghost use Rattle.spec_cases.specs.Steps.{step_views};
 ghost use Rattle.spec_cases.specs.Trails.{trail_of, trails_in, AreTrails};
 ghost use Rattle.spec_steps.specs.Demands.{Meant, MakesFor};
 ghost use Rattle.spec_steps.specs.Roots.{plan};
-ghost use Rattle.spec_asked.specs.Above.{AreExcluded, AreOfSet, IsOfRule};
+ghost use Rattle.spec_asked.specs.Above.{AreExcluding, AreOfSet, IsOfRule};
 ghost use Rattle.spec_asked.specs.Asking.{facts_of, AreTablesBy, AsksRule};
 ghost use Rattle.spec_asked.specs.Tables.{specs_of};
 
@@ -83,8 +83,12 @@ fn asked_of(alloc: Global, trails: &Trails, ends: &[Trail]) -> Result<Vec<Asked>
     Ok(out)
 }
 
-// The questions of steps.
-fn asked_steps(
+/// The questions of steps: all that there are.
+///
+/// # Errors
+///
+/// `questions_of`'s.
+pub fn asked_steps(
     formulas: &mut Formulas,
     types: &[Type],
     specs: &SpecTables<'_>,
@@ -173,7 +177,7 @@ fn excluded_if(
     above: bool,
 ) -> Result<Vec<Fact>, Fault>
     ensures excluded { IfOk result (λ fs. MakesFor formulas.old formulas.new demands.now (λ v m. (t : _) (these : SiteSet) (r : SetRule)
-        → IsOfRule v m.c t these r (set_rule_view rule.now) (length set.now.bindings.items) → AreOfSet set.now.rules.items these → AreExcluded m.p m.specs t these r v fs.items)) }
+        → IsOfRule v m.c t these r (set_rule_view rule.now) (length set.now.bindings.items) → AreOfSet set.now.rules.items these → AreExcluding m.p m.specs t these r v fs.items)) }
     ensures alone { IfOk result (λ fs. above ≡ false → fs.items ≡ []) }
 {
     if above {
@@ -184,7 +188,7 @@ fn excluded_if(
 }
 
 /// The steps of a rule of a term's set, and the questions about it: all that there are. By the flag, each place whose type is known is asked at each of its
-/// widths by itself, or none is. Where `above` is true, the rules of greater priority are excluded, as far as the sites that the rule makes tell what they ask.
+/// widths by itself, or none is. Where `above` is true, the rules of greater priority are excluded, as far as sites of the set tell what they ask.
 ///
 /// # Errors
 ///

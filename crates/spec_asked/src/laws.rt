@@ -12,7 +12,7 @@ pub fn asked_rules_are_valid()
     questions_ask_enough();
 }
 
-/// Where none can be satisfied beside the facts that exclude rules of greater priority, it is valid where none of these matches.
+/// Where none can be satisfied beside the facts that exclude rules of greater priority, it is valid where no rule of greater priority matches.
 pub fn asked_rules_are_valid_below()
     ensures { AskedRulesAreValidBelow }
 {

@@ -6,7 +6,7 @@ pub mod asking;
 pub mod demanded;
 pub mod laws;
 pub mod lowered;
-mod marks;
+pub mod marks;
 pub mod signatures;
 pub mod standing;
 pub mod tables;

@@ -9,21 +9,34 @@ ghost use Rattle.spec_asked.specs.Marks.{marked_below, marks, spread};
 use core_rule_sets::trie_again::{Binding, BindingId};
 use std::alloc::{AllocError, Global};
 
-// No marks, of so many sites.
-fn no_marks(alloc: Global, bindings: &[Binding]) -> Result<Vec<bool>, AllocError>
+/// Whether a site is marked.
+pub fn is_marked(made: &[bool], site: usize) -> bool
+    ensures { result ≡ marks made.now site }
+{
+    match made.get(site) {
+        Some(mark) => *mark,
+        None => false,
+    }
+}
+
+/// No marks, of so many sites.
+///
+/// # Errors
+///
+/// Where memory is refused.
+pub fn no_marks(alloc: Global, bindings: &[Binding]) -> Result<Vec<bool>, AllocError>
     ensures count { IfOk result (λ made. length made.items ≡ length bindings.now) }
     ensures none { IfOk result (λ made. (n : ℕ) → marks made.items n ≡ false) }
 {
     vec![in alloc; false; bindings.len()]
 }
 
-// Marks a site, if it is one.
-fn mark(made: &mut [bool], site: BindingId)
+/// Marks a site, if it is one.
+pub fn mark(made: &mut [bool], site: usize)
     ensures { (n : ℕ) → n < length made.old → marks made.new n ≡ (marks made.old n || (site == n)) }
 {
-    let place = site.index();
-    if place < made.len() {
-        made[place] = true;
+    if site < made.len() {
+        made[site] = true;
     }
 }
 
@@ -34,7 +47,7 @@ fn mark_each(made: &mut [bool], sites: &[BindingId])
     match sites {
         [] => {}
         [first, rest @ ..] => {
-            mark(made, *first);
+            mark(made, first.index());
             mark_each(made, rest)
         }
     }
@@ -51,8 +64,8 @@ fn mark_sources(made: &mut [bool], bindings: &[Binding], site: usize)
     }
 }
 
-// Marks what marked sites are made of, the last sites first: what a site is made of has smaller numbers.
-fn spread_marks(made: &mut [bool], bindings: &[Binding])
+/// Marks what marked sites are made of, the last sites first: what a site is made of has smaller numbers.
+pub fn spread_marks(made: &mut [bool], bindings: &[Binding])
     ensures { (n : ℕ) → n < length made.old → length bindings.now ≤ length made.old → marks made.new n ≡ spread (site_views bindings.now) (length bindings.now) (marks made.old) n }
 {
     let mut count = bindings.len();

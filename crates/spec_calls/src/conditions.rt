@@ -3,11 +3,11 @@
 use crate::called_rules::DEEPEST_CALL;
 use crate::faults::CallFault;
 use crate::makers::Maker;
-use crate::marks::{mark, no_marks, spread};
 use crate::moving::{Copied, entry_at, number};
 use core_rule_sets::trie_again::{Binding, Rule};
 use cranelift_isle::lower::{Lowered, LoweredTerm};
 use spec_asked::demanded::{RuleDemands, rule_demands};
+use spec_asked::marks::{mark, no_marks, spread_marks};
 use spec_cases::steps::Constraint;
 use spec_data::data::SpecData;
 use spec_steps::demands::{Same, Tested};
@@ -220,7 +220,7 @@ impl<'c, 's> Maker<'c, 's> {
             mark(&mut made, *site as usize);
         }
         mark(&mut made, moved.result as usize);
-        spread(&mut made, &self.bindings);
+        spread_marks(&mut made, &self.bindings);
         Ok(made)
     }
 

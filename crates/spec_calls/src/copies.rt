@@ -3,12 +3,13 @@
 use crate::called_rules::CalledRule;
 use crate::faults::CallFault;
 use crate::makers::Maker;
-use crate::marks::{is_marked, made_by};
 use crate::moving::{Copied, entry_at, moved, number, plain_copy, site_at, sites_at};
-use core_rule_sets::trie_again::{Binding, BindingId, Constraint, TupleIndex};
+use core_rule_sets::trie_again::{Binding, BindingId, Constraint, Rule, TupleIndex};
 use core_types::TermId;
+use spec_asked::marks::{is_marked, mark, no_marks, spread_marks};
 use spec_steps::constraints::constraint_of;
 use spec_steps::demands::Tested;
+use std::alloc::{AllocError, Global};
 
 impl<'c, 's> Maker<'c, 's> {
     /// Copies the needed ones of these sites, in order, and says where each stands. For a rule that stands for a call, its arguments are the
@@ -176,4 +177,15 @@ fn is_answered(is_through: bool, constraint: Constraint) -> bool {
         | Constraint::ConstInt { .. }
         | Constraint::ConstPrim { .. } => false,
     }
+}
+
+// Which sites a rule makes that asks for no equal ones and makes no impure calls.
+fn made_by(alloc: Global, bindings: &[Binding], rule: &Rule) -> Result<Vec<bool>, AllocError> {
+    let mut made = no_marks(alloc, bindings)?;
+    for (site, _) in rule.constraints() {
+        mark(&mut made, site.index());
+    }
+    mark(&mut made, rule.result.index());
+    spread_marks(&mut made, bindings);
+    Ok(made)
 }

@@ -7,7 +7,6 @@ pub mod conditions;
 mod copies;
 pub mod faults;
 mod makers;
-mod marks;
 mod moving;
 mod reasons;
 mod templates;

@@ -1,11 +1,11 @@
 //! A condition that is being made.
 
 use crate::faults::CallFault;
-use crate::marks::is_marked;
 use core_rule_sets::trie_again::{Binding, BindingId};
 use core_types::TermId;
 use cranelift_isle::lower::Lowered;
 use report_queries::names::term_name;
+use spec_asked::marks::is_marked;
 use spec_data::data::SpecData;
 use spec_steps::demands::{Same, Tested};
 use spec_tables::specs::Specs;

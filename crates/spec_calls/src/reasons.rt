@@ -2,9 +2,9 @@
 
 use crate::faults::CallFault;
 use crate::makers::Maker;
-use crate::marks::is_marked;
 use core_rule_sets::trie_again::Binding;
 use core_types::{Fields, Sym, TermId, Type, TypeId, VariantId};
+use spec_asked::marks::is_marked;
 use spec_cases::steps::Constraint;
 use spec_steps::demands::Tested;
 use spec_tables::models::{ValueModel, without_model};

@@ -172,14 +172,14 @@ module _ (lowered : Lowered) (signatures : List Signature) (specs : SpecTables) 
     pub told : IsToldRight place term there rule
     pub alone : told.questions.excluded.items ≡ []
 
-  abbrev pub AreAllTold : ((place : ℕ) (term : LoweredTerm) → slice_get lowered.terms.items place ≡ Some term → Rule → Type 0) → Type 0
-  AreAllTold IsTold =
+  abbrev pub AreEachTold : ((place : ℕ) (term : LoweredTerm) → slice_get lowered.terms.items place ≡ Some term → Rule → Type 0) → Type 0
+  AreEachTold IsTold =
       (place : ℕ) (term : LoweredTerm) (there : slice_get lowered.terms.items place ≡ Some term) → is_multi (own_program a.defs a.rules) term.id.0 ≡ false
       → (at : ℕ) (rule : Rule) → slice_get term.rules.rules.items at ≡ Some rule → IsTold place term there rule
 
   -- each alone; or some below others, and atoms stand for numbers
   abbrev pub AreAllToldRight : Atoms → Type 0
-  AreAllToldRight d = AreAllTold IsToldRightAlone ⊎ (AreAllTold IsToldRight × AreNumbers d)
+  AreAllToldRight d = AreEachTold IsToldRightAlone ⊎ (AreEachTold IsToldRight × AreNumbers d)
 
 -- then all whole runs of the trees, and of their code, answer as specs say
 abbrev pub RightLoweringsComputeAsSaid : Type 0

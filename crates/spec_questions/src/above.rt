@@ -7,7 +7,7 @@ use core_rule_sets::trie_again::{Binding, BindingId, Constraint, Overlap, Rule, 
 use core_syntax::syntax::Pos;
 use cranelift_isle::lower::Lowered;
 use cranelift_isle::sema::{RuleId, TermId};
-use spec_asked::above::{is_excluding, other_tests};
+use spec_asked::above::{is_plain_above, other_tests};
 use spec_calls::conditions::Condition;
 use spec_cases::arena::Formulas;
 use spec_cases::formulas::Fact;
@@ -87,7 +87,7 @@ fn is_sure(bindings: &[Binding], site: BindingId) -> bool {
     false
 }
 
-/// That no rule of greater priority matches, of a rule in which calls are looked through, as far as its sites tell what such rules ask:
+/// That no rule of greater priority matches, as far as the sites of a condition tell what such rules ask, calls being looked through or not:
 /// nothing, unless it is wanted.
 pub(crate) fn excluded_among(
     formulas: &mut Formulas,
@@ -99,7 +99,7 @@ pub(crate) fn excluded_among(
     if asker.wanted.above {
         let demands = asker.demands(asked, condition);
         for rule in &asked.term.rules.rules {
-            if is_excluding(asked.rule, rule) {
+            if is_plain_above(asked.rule, rule) {
                 let tests = other_tests(asker.alloc, asked.rule, rule)?;
                 if let Some(placed) = placed_tests(asker.alloc, condition, &tests)? {
                     push_unless_plain(&mut facts, not_all_met(formulas, &demands, &placed)?)?;

@@ -6,9 +6,9 @@ ghost use Rattle.spec_questions.specs.Right.{asked_facts, facts_in, is_asked_or_
 use crate::above::excluded_among;
 use crate::branches::Branches;
 use crate::faults::NoQuestion;
-use crate::following::{elsewhere_texts, may_be_wrong};
+use crate::following::{elsewhere_texts, is_asked_elsewhere};
 use crate::questions::{Known, LeftOut, Question, Wanted};
-use crate::required::required_questions;
+use crate::required::{is_multi_required, required_questions};
 use crate::shown::{Named, named_values};
 use crate::telling::Teller;
 use crate::widths::never_taken;
@@ -121,6 +121,9 @@ pub(crate) fn ask(asker: Asker<'_>, asked: Asked<'_>) -> Result<Tried, NoQuestio
         term,
         rule,
     )?;
+    if is_multi_required(asker, &condition) {
+        return Err(NoQuestion::Because("what its call of a multi term requires isn't asked"));
+    }
     let mut formulas = Formulas::new(asker.alloc);
     let named = named_values(&mut formulas, asker, asked, &condition)?;
     let beside = excluded_among(&mut formulas, asker, asked, &condition)?;
@@ -182,7 +185,7 @@ fn told_of(
     ensures plain { IfOk result (λ told. IsTrue (list_all is_asked_or_plain told.0.items)) }
 {
     let first = told_with(formulas, asker, asked, condition, named, found, &[])?;
-    if !may_be_wrong(asker, &first.0) {
+    if !is_asked_elsewhere(asker, &first.0) {
         return Ok(first);
     }
     let elsewhere = elsewhere_texts(asker, asked, condition)?;

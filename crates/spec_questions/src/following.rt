@@ -7,7 +7,7 @@ use crate::faults::NoQuestion;
 use crate::questions::Question;
 use crate::required::asked_required;
 use crate::shown::{named_values, with_excluded};
-use crate::verdicts::may_fail;
+use crate::verdicts::may_be_wrong;
 use spec_asked::asking::AskedCondition;
 use spec_calls::conditions::Condition;
 use spec_cases::arena::Formulas;
@@ -23,12 +23,10 @@ use spec_cases::steps::{Constraint, Said, Step};
 use spec_cases::tables::Tables;
 use spec_texts::texts::text_of;
 
-/// Whether answers say that a question may not be so.
-pub(crate) fn may_be_wrong(asker: Asker<'_>, questions: &[Question]) -> bool {
+/// Whether it is to be asked too where all is followed: answers say that a question may not be so.
+pub(crate) fn is_asked_elsewhere(asker: Asker<'_>, questions: &[Question]) -> bool {
     match asker.wanted.answers {
-        Some(answers) => questions
-            .iter()
-            .any(|question| may_fail(answers, &question.wrong)),
+        Some(answers) => may_be_wrong(answers, questions),
         None => false,
     }
 }

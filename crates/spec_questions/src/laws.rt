@@ -12,7 +12,7 @@ pub fn right_rules_are_valid()
     asked_rules_are_valid();
 }
 
-/// Where rules of greater priority are excluded, it is valid where none of these matches.
+/// Where rules of greater priority are excluded, it is valid where no rule of greater priority matches.
 pub fn right_rules_are_valid_below()
     ensures { RightRulesAreValidBelow }
 {
@@ -20,7 +20,7 @@ pub fn right_rules_are_valid_below()
 }
 
 /// Where each rule of each term that isn't multi is told right so, whole runs of the trees that `lower` answers, and of their code, answer
-/// as specs say; if some are told right only below others, where values of types without parts stand for integers and words.
+/// as specs say; if some are told right only below others, where atoms stand for integers and words.
 pub fn right_lowerings_compute_as_said()
     ensures { RightLoweringsComputeAsSaid }
 {

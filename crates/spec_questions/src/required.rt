@@ -3,21 +3,18 @@
 use crate::asking::{Asked, Asker};
 use crate::branches::Branches;
 use crate::faults::NoQuestion;
-use crate::following::{elsewhere_required, may_be_wrong, steps_to};
-use crate::marks::{is_marked, made_of_impure, marked_below};
+use crate::following::{elsewhere_required, is_asked_elsewhere, steps_to};
+use crate::marks::{made_of_impure, marked_below};
 use crate::questions::Question;
 use crate::shown::Named;
 use crate::telling::Teller;
 use core_rule_sets::trie_again::Binding;
-use spec_asked::asking::{Asked as AskedFacts, AskedCondition};
+use spec_asked::asking::{AskedCondition, asked_steps};
+use spec_asked::marks::is_marked;
 use spec_calls::conditions::Condition;
 use spec_cases::arena::Formulas;
-use spec_cases::asking::Asking;
 use spec_cases::formulas::Fact;
-use spec_cases::learning::nothing_known;
-use spec_cases::steps::Step;
-use spec_cases::tables::Tables;
-use spec_cases::trails::Trails;
+use spec_cases::steps::Constraint;
 use spec_steps::demands::Demands;
 use spec_steps::steps::steps_of;
 use std::alloc::{AllocError, Global};
@@ -44,7 +41,7 @@ pub(crate) fn required_questions(
         return Ok(Vec::new(asker.alloc));
     };
     let first = told(formulas, asker, condition, named, excluded, &required, &[])?;
-    if !may_be_wrong(asker, &first) {
+    if !is_asked_elsewhere(asker, &first) {
         return Ok(first);
     }
     let elsewhere = elsewhere_required(asker, asked, condition)?;
@@ -157,16 +154,22 @@ fn given_sites(alloc: Global, condition: &Condition) -> Result<Vec<bool>, AllocE
     marked_below(alloc, &condition.bindings, &roots)
 }
 
-// The sites of which tests are made. A test of what an impure call gives asks whether a call on the right side answers.
+// The sites of which tests are made. A test of what an impure call gives asks whether a call on the right side answers, and a struct
+// pattern always matches.
 fn tested_sites(alloc: Global, condition: &Condition) -> Result<Vec<bool>, AllocError> {
     let later = made_of_impure(alloc, &condition.bindings)?;
     let mut roots = same_sites(alloc, condition)?;
     for test in &condition.demands.constraints {
-        if !is_marked(&later, test.site as usize) {
+        if !is_marked(&later, test.site as usize) && may_differ(test.constraint) {
             roots.push(test.site)?;
         }
     }
     marked_below(alloc, &condition.bindings, &roots)
+}
+
+// Whether a value may be another one than a test asks for.
+fn may_differ(constraint: Constraint) -> bool {
+    !matches!(constraint, Constraint::Struct { .. })
 }
 
 // The sites that are to be equal to others.
@@ -195,6 +198,18 @@ fn count_required(asker: Asker<'_>, condition: &Condition, site: usize) -> usize
         },
         _ => 0,
     }
+}
+
+/// Whether an impure call gives several answers and its term requires something: no question asks for that.
+pub(crate) fn is_multi_required(asker: Asker<'_>, condition: &Condition) -> bool {
+    for site in &condition.demands.impure {
+        if let Some(Binding::Iterator { source }) = condition.bindings.get(*site as usize) {
+            if count_required(asker, condition, source.index()) > 0 {
+                return true;
+            }
+        }
+    }
+    false
 }
 
 // How many goals calls have.
@@ -233,38 +248,11 @@ fn asked_up_to(
     steps_of(formulas, demands, true, &mut steps)?;
     let count = steps_to(&steps, goals.saturating_sub(1)).len();
     steps.truncate(count);
-    let questions = questions_of(formulas, asker, &steps)?;
+    let types = &asker.lowered.tyenv.types;
+    let questions = asked_steps(formulas, types, &asker.tables, &steps)?;
     Ok(AskedCondition {
         steps,
         questions,
         excluded: Vec::new(asker.alloc),
     })
-}
-
-// The questions of steps.
-fn questions_of(
-    formulas: &mut Formulas,
-    asker: Asker<'_>,
-    steps: &[Step],
-) -> Result<Vec<AskedFacts>, NoQuestion> {
-    let known = nothing_known(asker.alloc);
-    let tables = Tables {
-        types: &asker.lowered.tyenv.types,
-        sorts: asker.tables.sorts,
-        functions: asker.tables.functions,
-        known: &known,
-    };
-    let asking = Asking {
-        tables: &tables,
-        constants: asker.tables.constants,
-        exprs: asker.tables.exprs,
-    };
-    let mut trails = Trails::new(asker.alloc);
-    let mut questions = Vec::new(asker.alloc);
-    for end in formulas.questions(&asking, steps, &mut trails)? {
-        let mut facts = trails.facts(end)?;
-        facts.reverse();
-        questions.push(AskedFacts { facts })?;
-    }
-    Ok(questions)
 }

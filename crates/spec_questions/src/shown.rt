@@ -193,12 +193,15 @@ impl RuleQuestions {
         Ok(ShownQuestion { names, values })
     }
 
-    // What the goal wants the result to be equal to, if it is so simple.
+    // What the goal wants the result to be equal to, if it is so simple. What a pure call requires wants nothing of the result.
     fn wanted(
         &self,
         question: &Question,
         given: Option<Operand>,
     ) -> Result<Option<Operand>, NoQuestion> {
+        if question.is_required {
+            return Ok(None);
+        }
         match (goal_of(&self.formulas, &question.facts)?, given) {
             (Some(goal), Some(given)) => Ok(wanted_of(&self.formulas, goal, given)?),
             _ => Ok(None),

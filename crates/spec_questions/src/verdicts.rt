@@ -114,8 +114,8 @@ fn is_untaken(questions: &[Question], answers: &Answers) -> bool
         .all(|question| is_refuted(answers, &question.taken))
 }
 
-/// Whether what a question asks for is so: it has no text, or its text is refuted.
-pub fn is_so(answers: &Answers, wrong: &Option<String>) -> bool
+// Whether what a question asks for is so: it has no text, or its text is refuted.
+fn is_so(answers: &Answers, wrong: &Option<String>) -> bool
     ensures { result ≡ is_so_by answers.now.list.items wrong.now }
 {
     match wrong {
@@ -149,6 +149,13 @@ pub fn may_fail(answers: &Answers, wrong: &Option<String>) -> bool
         Some(text) => is_possible(answers, text),
         None => false,
     }
+}
+
+/// Whether what one of these questions asks for may not be so, by the answers to their texts.
+pub fn may_be_wrong(answers: &Answers, questions: &[Question]) -> bool {
+    questions
+        .iter()
+        .any(|question| may_fail(answers, &question.wrong))
 }
 
 /// Whether a solver said `unsat` to a text, and none `sat`.

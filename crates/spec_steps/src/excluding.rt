@@ -330,7 +330,7 @@ fn all_met(formulas: &mut Formulas, demands: &Demands<'_>, tests: &[Tested]) -> 
     }
 }
 
-/// That not all of these tests are met, of what the condition's sites may hold: nothing, where one of them is of a site that surely holds no
+/// That not all of these tests are met, of what the condition's sites may hold: nothing, where one of them is of a site that doesn't surely hold a
 /// value, or asks for a number, a named constant, or whether a call answers.
 ///
 /// # Errors

@@ -1,10 +1,10 @@
 use Rattle.std.proofs.Common.{◌<◌, length, All, map, refl, sym, ap, subst, ◌∙◌}
 use Rattle.std.proofs.lemmas.List.{length-map}
 use Rattle.core_rule_sets.specs.SiteViews.{set_rule_views, set_rule_view, set_view, site_view, site_views}
-use Rattle.laws_questions.specs.BelowLaws.{IsExcluded}
+use Rattle.laws_questions.specs.BelowLaws.{ExcludesOne}
 use Rattle.spec_cases.specs.Namings.{fact_of}
 use Rattle.spec_asked.specs.Asking.{AreTablesBy}
-use Rattle.spec_asked.specs.Above.{AreExcluded}
+use Rattle.spec_asked.specs.Above.{AreExcluding}
 use Rattle.spec_asked.specs.Demanded.{AreRuleDemands}
 use Rattle.spec_asked.specs.Listed.{with_classes}
 use Rattle.spec_asked.proofs.AboveSteps.{rules_of_set}
@@ -36,5 +36,5 @@ returns-clause-asked c = λ p v w unknowns of built said names sites.
       classes = demanded.classes;
       alike = demanded.alike;
       all = asked.1;
-      excluded = subst (λ fs. AreExcluded p m.specs t set these v fs.items) (sym c.in_ok-asked_demands.ensures.same) excluded;
+      excluded = subst (λ fs. AreExcluding p m.specs t set these v fs.items) (sym c.in_ok-asked_demands.ensures.same) excluded;
     }
