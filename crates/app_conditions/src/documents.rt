@@ -73,11 +73,14 @@ pub(crate) fn document_of_verdicts(
     let mut json = begun(alloc)?;
     json.begin_list_at("verdicts")?;
     for rule in &judge.asked.rules {
+        let last = judge.last(rule);
         let mut told = String::new(alloc);
-        let verdict = judge.push_told(&mut told, judge.last(rule), &mut counts)?;
+        let verdict = judge.push_told(&mut told, last, &mut counts)?;
         json.begin_object()?;
         writer.push_rule(&mut json, rule.rule, rule.pos, rule.term)?;
         json.key_string("verdict", verdict.word())?;
+        json.key_flag("own", last.is_own)?;
+        json.key_flag("below", !last.excluded.is_empty())?;
         json.key_string("told", &told)?;
         json.end()?;
     }
@@ -87,6 +90,8 @@ pub(crate) fn document_of_verdicts(
         json.begin_object()?;
         writer.push_rule(&mut json, rule.rule, rule.pos, rule.term)?;
         json.key_string("verdict", "without")?;
+        json.key_flag("own", false)?;
+        json.key_flag("below", false)?;
         json.key_string("told", &told)?;
         json.end()?;
     }
@@ -143,6 +148,7 @@ impl<'a, 'f> Writer<'a, 'f> {
     ) -> Result<(), AllocError> {
         json.begin_object()?;
         self.push_rule(json, rule.rule, rule.pos, rule.term)?;
+        json.key_flag("requires", question.is_required)?;
         push_widths(json, &question.widths)?;
         json.key_string("taken", &question.taken)?;
         match &question.wrong {
