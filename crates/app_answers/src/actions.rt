@@ -1,37 +1,39 @@
 //! The fixes of reports, as actions of the protocol.
 
 use crate::analysis::Analysis;
-use crate::diagnostics::{Shown, diagnostic_of, place_of};
-use crate::edits::changes_value;
+use crate::diagnostics::{Shown, place_of, push_diagnostic};
+use crate::edits::{FileEdit, file_edits, push_changes};
 use app_messages::edits::Edit;
 use app_messages::messages::{member, range_of};
 use app_messages::refusals::Refusal;
 use report_names::extents::{end_of_form, piece_of};
 use report_print::report::{Fix, Report};
-use serde_json::{Value, json};
+use serde_json::Value;
 use std::alloc::{AllocError, Global};
 use text_documents::places::offset_at;
+use text_json::Json;
 
-/// The fixes of the reports that are told in a range.
+/// Adds the fixes of the reports that are told in a range.
 pub fn actions_at(
     alloc: Global,
+    json: &mut Json,
     analysis: &Analysis,
     file: usize,
     params: &Value,
-) -> Result<Value, Refusal> {
+) -> Result<(), Refusal> {
     let (begin, end) = range_of(member(params, "range")?)?;
     let text = analysis.text(file);
     let (Some(begin), Some(end)) = (offset_at(text, begin), offset_at(text, end)) else {
         return Err(Refusal::Outside);
     };
     let shown = Shown::new(alloc, analysis)?;
-    let mut actions = Vec::new(alloc);
+    json.begin_list()?;
     for report in &analysis.reports {
         if is_told_in(report, text, (file, begin, end)) {
-            add_fixes(alloc, &mut actions, &shown, report)?;
+            push_fixes(alloc, json, &shown, report)?;
         }
     }
-    Ok(Value::Array(actions))
+    Ok(json.end()?)
 }
 
 fn is_told_in(report: &Report, text: &str, (file, begin, end): (usize, usize, usize)) -> bool {
@@ -44,27 +46,23 @@ fn is_told_in(report: &Report, text: &str, (file, begin, end): (usize, usize, us
 }
 
 // Adds an action for each fix of a report. The first one is preferred.
-fn add_fixes(
+fn push_fixes(
     alloc: Global,
-    actions: &mut Vec<Value>,
+    json: &mut Json,
     shown: &Shown<'_>,
     report: &Report,
 ) -> Result<(), AllocError> {
     for (number, fix) in report.fixes.iter().enumerate() {
-        let mut linked = Vec::new(alloc);
-        linked.push(diagnostic_of(alloc, shown, report)?)?;
-        let edits = edits_of(alloc, shown.analysis, fix)?;
-        let changes = changes_value(alloc, shown.analysis, &edits)?;
-        let title = fix.title.as_str();
-        let is_first = number == 0;
-        let action = json!(in alloc; {
-            "title": title,
-            "kind": "quickfix",
-            "diagnostics": linked,
-            "isPreferred": is_first,
-            "edit": changes
-        })?;
-        actions.push(action)?;
+        json.begin_object()?;
+        json.begin_list_at("diagnostics")?;
+        push_diagnostic(alloc, json, shown, report)?;
+        json.end()?;
+        json.key("edit")?;
+        push_changes(alloc, json, &edits_of(alloc, shown, fix)?)?;
+        json.key_flag("isPreferred", number == 0)?;
+        json.key_string("kind", "quickfix")?;
+        json.key_string("title", &fix.title)?;
+        json.end()?;
     }
     Ok(())
 }
@@ -72,9 +70,10 @@ fn add_fixes(
 // The edits of a fix whose places its files have.
 fn edits_of<'a>(
     alloc: Global,
-    analysis: &'a Analysis,
+    shown: &Shown<'a>,
     fix: &'a Fix,
-) -> Result<Vec<Edit<'a>>, AllocError> {
+) -> Result<Vec<FileEdit<'a>>, AllocError> {
+    let analysis = shown.analysis;
     let mut edits = Vec::new(alloc);
     for edit in &fix.edits {
         let file = edit.place.pos().file;
@@ -87,5 +86,5 @@ fn edits_of<'a>(
             })?;
         }
     }
-    Ok(edits)
+    file_edits(alloc, analysis, &shown.ranges, &edits)
 }

@@ -2,32 +2,33 @@
 
 use crate::analysis::Analysis;
 use crate::ranges::Ranges;
-use cranelift_isle::syntax::Ident;
+use cranelift_isle::syntax::{Def, Ident};
 use report_names::definitions::variant_of;
 use report_names::mentions::{MentionKind, Mentions};
-use serde_json::{Value, json};
 use std::alloc::{AllocError, Global};
 use text_documents::places::DocumentPosition;
+use text_json::Json;
 
-// The tokens of a file so far: five numbers for each.
+// Where the last token of a file begins that was added.
 struct Colours<'a> {
     ranges: &'a Ranges<'a>,
     last: DocumentPosition,
-    data: Vec<Value>,
 }
 
 impl<'a> Drop for Colours<'a> {
     fn drop(self) {
-        let Colours {
-            ranges: _,
-            last: _,
-            data: _,
-        } = self;
+        let Colours { ranges: _, last: _ } = self;
     }
 }
 
-/// The names of a file's definitions, in order, with what they stand for. Those of forms that can't be read are left out.
-pub fn colours_of(alloc: Global, analysis: &Analysis, file: usize) -> Result<Value, AllocError> {
+/// Adds the names of a file's definitions, in order, with what they stand for: five numbers for each. Those of forms that can't be
+/// read are left out.
+pub fn colours_of(
+    alloc: Global,
+    json: &mut Json,
+    analysis: &Analysis,
+    file: usize,
+) -> Result<(), AllocError> {
     let ranges = Ranges::new(alloc, analysis)?;
     let mut colours = Colours {
         ranges: &ranges,
@@ -35,27 +36,23 @@ pub fn colours_of(alloc: Global, analysis: &Analysis, file: usize) -> Result<Val
             line: 0,
             character: 0,
         },
-        data: Vec::new(alloc),
     };
+    json.begin_object()?;
+    json.begin_list_at("data")?;
     for def in &analysis.defs {
         match def.place() {
             Some(pos) if pos.file == file && analysis.lost_at(pos).is_none() => {
-                let mut mentions = Mentions::of(alloc, def)?;
-                mentions.names.sort_by_key(|mention| mention.name.1)?;
-                for mention in &mentions.names {
-                    let kind = number_of(analysis, mention.kind, mention.text());
-                    colours.add(mention.name, kind, mention.defines)?;
-                }
+                colours.push_names(alloc, json, analysis, def)?;
             }
             _ => {}
         }
     }
-    let data = colours.into_data();
-    json!(in alloc; {"data": data})
+    json.end()?;
+    json.end()
 }
 
 // The number of the kind of a name: among type, function, enumMember, property, variable and macro.
-fn number_of(analysis: &Analysis, kind: MentionKind, name: &str) -> u64 {
+fn number_of(analysis: &Analysis, kind: MentionKind, name: &str) -> usize {
     match kind {
         MentionKind::Type => 0,
         MentionKind::Term if name.contains('.') && variant_of(&analysis.defs, name).is_some() => 2,
@@ -68,40 +65,49 @@ fn number_of(analysis: &Analysis, kind: MentionKind, name: &str) -> u64 {
 }
 
 impl<'a> Colours<'a> {
-    fn into_data(self) -> Vec<Value> {
-        let Colours {
-            ranges: _,
-            last: _,
-            data,
-        } = self;
-        data
+    // Adds the names of a definition.
+    fn push_names(
+        &mut self,
+        alloc: Global,
+        json: &mut Json,
+        analysis: &Analysis,
+        def: &Def,
+    ) -> Result<(), AllocError> {
+        let mut mentions = Mentions::of(alloc, def)?;
+        mentions.names.sort_by_key(|mention| mention.name.1)?;
+        for mention in &mentions.names {
+            let kind = number_of(analysis, mention.kind, mention.text());
+            self.push(json, mention.name, kind, mention.defines)?;
+        }
+        Ok(())
     }
 
     // Adds a token: lines and columns behind the token before, its length, its kind, and whether it is a declaration.
-    fn add(&mut self, name: &Ident, kind: u64, defines: bool) -> Result<(), AllocError> {
+    fn push(
+        &mut self,
+        json: &mut Json,
+        name: &Ident,
+        kind: usize,
+        defines: bool,
+    ) -> Result<(), AllocError> {
         let begin = self.ranges.place_near(name.1.file, name.1.offset);
         let lines = begin.line.saturating_sub(self.last.line);
         let before = if lines == 0 { self.last.character } else { 0 };
-        let numbers = [
-            lines as u64,
-            begin.character.saturating_sub(before) as u64,
-            length_of(&name.0),
-            kind,
-            if defines { 1 } else { 0 },
-        ];
-        for number in numbers {
-            self.data.push(Value::from(number))?;
-        }
+        json.number(lines)?;
+        json.number(begin.character.saturating_sub(before))?;
+        json.number(length_of(&name.0))?;
+        json.number(kind)?;
+        json.number(if defines { 1 } else { 0 })?;
         self.last = begin;
         Ok(())
     }
 }
 
 // The length of a name in UTF-16.
-fn length_of(name: &str) -> u64 {
-    let mut length = 0u64;
+fn length_of(name: &str) -> usize {
+    let mut length = 0usize;
     for c in name.chars() {
-        length = length.saturating_add(c.len_utf16() as u64);
+        length = length.saturating_add(c.len_utf16());
     }
     length
 }

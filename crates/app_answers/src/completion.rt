@@ -5,15 +5,18 @@ use crate::outline::signature_of;
 use crate::ranges::Ranges;
 use crate::references::position_in;
 use crate::signatures::text_of_type;
+use app_messages::edits::push_edit;
+use app_messages::ranges::DocumentRange;
 use app_messages::refusals::Refusal;
 use app_names::contexts::{Context, context_at};
 use cranelift_isle::sema::BuiltinType;
-use cranelift_isle::syntax::{Def, Extern, Pos, Type, TypeValue};
+use cranelift_isle::syntax::{Decl, Def, Extern, Pos, Type, TypeValue};
 use report_names::definitions::result_of;
 use report_names::mentions::argument_type;
 use report_print::lines::{FileLines, file_name};
-use serde_json::{Value, json};
+use serde_json::Value;
 use std::alloc::{AllocError, Global};
+use text_json::Json;
 use text_reader::heads::DEFINITIONS;
 
 // What is wanted at a place.
@@ -31,14 +34,12 @@ enum Wanted<'a> {
     Value(&'a str),
 }
 
-// The items of an answer.
+// The items of an answer, which all replace one range.
 struct Items<'a> {
     alloc: Global,
     analysis: &'a Analysis,
     lines: FileLines<'a>,
-    // The range that an item replaces.
-    range: Value,
-    found: Vec<Value>,
+    range: DocumentRange,
 }
 
 impl<'a> Drop for Items<'a> {
@@ -48,32 +49,31 @@ impl<'a> Drop for Items<'a> {
             analysis: _,
             lines: _,
             range: _,
-            found: _,
         } = self;
     }
 }
 
-/// What may be written at a place: null in a comment.
+/// Adds what may be written at a place: null in a comment.
 pub fn completions_at(
     alloc: Global,
+    json: &mut Json,
     analysis: &Analysis,
     file: usize,
     params: &Value,
-) -> Result<Value, Refusal> {
+) -> Result<(), Refusal> {
     let pos = position_in(analysis, file, params)?;
     let Some(context) = context_at(alloc, analysis.text(file), pos.offset)? else {
-        return Ok(Value::Null);
+        return Ok(json.null()?);
     };
-    let range = Ranges::new(alloc, analysis)?.between(file, context.begin, pos.offset)?;
-    let mut items = Items {
+    let items = Items {
         alloc,
         analysis,
         lines: FileLines::new(alloc, &analysis.sources.files)?,
-        range,
-        found: Vec::new(alloc),
+        range: Ranges::new(alloc, analysis)?.between(file, context.begin, pos.offset),
     };
-    items.add_wanted(&context)?;
-    Ok(Value::Array(items.into_found()))
+    json.begin_list()?;
+    items.push_wanted(json, &context)?;
+    Ok(json.end()?)
 }
 
 // What is wanted at a place.
@@ -116,67 +116,46 @@ fn type_wanted<'a>(defs: &'a [Def], context: &Context, up: usize) -> &'a str {
 }
 
 impl<'a> Items<'a> {
-    fn into_found(self) -> Vec<Value> {
-        let Items {
-            alloc: _,
-            analysis: _,
-            lines: _,
-            range: _,
-            found,
-        } = self;
-        found
-    }
-
-    fn add_wanted(&mut self, context: &Context) -> Result<(), AllocError> {
-        let defs: &'a [Def] = &self.analysis.defs;
+    // Adds what is wanted at a place.
+    fn push_wanted(&self, json: &mut Json, context: &Context) -> Result<(), AllocError> {
+        let defs: &[Def] = &self.analysis.defs;
         match wanted_at(defs, context) {
-            Wanted::Definition => self.add_words(&DEFINITIONS),
-            Wanted::Words(words) => self.add_words(words),
+            Wanted::Definition => self.push_words(json, &DEFINITIONS),
+            Wanted::Words(words) => self.push_words(json, words),
             Wanted::Type(words) => {
-                self.add_words(words)?;
-                self.add_types(defs)
+                self.push_words(json, words)?;
+                self.push_types(json, defs)
             }
             Wanted::Term(ty, words) => {
-                self.add_words(words)?;
-                for def in defs {
-                    self.add_terms(def, ty)?;
-                }
-                Ok(())
+                self.push_words(json, words)?;
+                self.push_terms(json, defs, ty)
             }
             Wanted::Value(ty) => {
-                for name in &context.variables(self.alloc, defs)? {
-                    self.add(name, 6, "variable", None, true)?;
-                }
-                self.add_words(&["true", "false", "_"])?;
-                self.add_constants(defs, ty)
+                self.push_variables(json, &context.variables(self.alloc, defs)?)?;
+                self.push_words(json, &["true", "false", "_"])?;
+                self.push_constants(json, defs, ty)
             }
         }
     }
 
     // Adds an item: a name, its kind in the protocol's numbers, what it is, and where it is defined.
-    fn add(
-        &mut self,
-        name: &str,
-        kind: u8,
-        detail: &str,
+    fn push(
+        &self,
+        json: &mut Json,
+        (name, kind, detail): (&str, usize, &str),
         pos: Option<Pos>,
         is_best: bool,
     ) -> Result<(), AllocError> {
-        let alloc = self.alloc;
         let first = if is_best { "0" } else { "1" };
-        let order = format!(in alloc; "{first}{name}")?;
-        let place = self.place_text(pos)?;
-        let range = self.range.clone()?;
-        let item = json!(in alloc; {
-            "label": name,
-            "kind": kind,
-            "detail": detail,
-            "documentation": place,
-            "sortText": order,
-            "textEdit": {"range": range, "newText": name}
-        })?;
-        self.found.push(item)?;
-        Ok(())
+        json.begin_object()?;
+        json.key_string("detail", detail)?;
+        json.key_string("documentation", &self.place_text(pos)?)?;
+        json.key_number("kind", kind)?;
+        json.key_string("label", name)?;
+        json.key_string("sortText", &format!(in self.alloc; "{first}{name}")?)?;
+        json.key("textEdit")?;
+        push_edit(json, self.range, name)?;
+        json.end()
     }
 
     // The file and the line of a position.
@@ -189,61 +168,81 @@ impl<'a> Items<'a> {
         format!(in self.alloc; "{name}:{line}")
     }
 
-    fn add_words(&mut self, words: &[&str]) -> Result<(), AllocError> {
+    fn push_words(&self, json: &mut Json, words: &[&str]) -> Result<(), AllocError> {
         for word in words {
-            self.add(word, 14, "", None, true)?;
+            self.push(json, (word, 14, ""), None, true)?;
         }
         Ok(())
     }
 
-    fn add_types(&mut self, defs: &[Def]) -> Result<(), AllocError> {
+    fn push_variables(&self, json: &mut Json, names: &[&str]) -> Result<(), AllocError> {
+        for name in names {
+            self.push(json, (name, 6, "variable"), None, true)?;
+        }
+        Ok(())
+    }
+
+    fn push_types(&self, json: &mut Json, defs: &[Def]) -> Result<(), AllocError> {
         for builtin in &BuiltinType::ALL {
-            self.add(builtin.name(), 7, "built-in type", None, true)?;
+            self.push(json, (builtin.name(), 7, "built-in type"), None, true)?;
         }
         for def in defs {
             if let Def::TypeDef(ty) = def {
-                self.add(&ty.name.0, 22, kind_of(ty), Some(ty.pos), true)?;
+                self.push(json, (&ty.name.0, 22, kind_of(ty)), Some(ty.pos), true)?;
             }
         }
         Ok(())
     }
 
-    // Adds the terms that a definition defines.
-    fn add_terms(&mut self, def: &Def, wanted: &str) -> Result<(), AllocError> {
-        match def {
-            Def::Decl(decl) => {
-                let signature = signature_of(self.alloc, decl)?;
-                let is_best = decl.ret_ty.0.as_str() == wanted;
-                self.add(&decl.term.0, 3, &signature, Some(decl.pos), is_best)
+    // Adds the terms that definitions define.
+    fn push_terms(&self, json: &mut Json, defs: &[Def], wanted: &str) -> Result<(), AllocError> {
+        for def in defs {
+            match def {
+                Def::Decl(decl) => {
+                    self.push_declared(json, decl, decl.ret_ty.0.as_str() == wanted)?
+                }
+                Def::TypeDef(ty) => self.push_made(json, ty, ty.name.0.as_str() == wanted)?,
+                _ => {}
             }
-            Def::TypeDef(ty) => self.add_made(ty, ty.name.0.as_str() == wanted),
-            _ => Ok(()),
         }
+        Ok(())
+    }
+
+    // Adds a declared term.
+    fn push_declared(&self, json: &mut Json, decl: &Decl, is_best: bool) -> Result<(), AllocError> {
+        let signature = signature_of(self.alloc, decl)?;
+        self.push(json, (&decl.term.0, 3, &signature), Some(decl.pos), is_best)
     }
 
     // Adds the terms that make values of a type.
-    fn add_made(&mut self, ty: &Type, is_best: bool) -> Result<(), AllocError> {
+    fn push_made(&self, json: &mut Json, ty: &Type, is_best: bool) -> Result<(), AllocError> {
         let name = ty.name.0.as_str();
         match &ty.ty {
             TypeValue::Primitive(..) => Ok(()),
-            TypeValue::Struct(..) => self.add(name, 22, "struct", Some(ty.pos), is_best),
+            TypeValue::Struct(..) => self.push(json, (name, 22, "struct"), Some(ty.pos), is_best),
             TypeValue::Enum(variants, _) => {
                 for variant in variants {
                     let short = &variant.name.0;
                     let full = format!(in self.alloc; "{name}.{short}")?;
-                    self.add(&full, 20, name, Some(variant.pos), is_best)?;
+                    self.push(json, (&full, 20, name), Some(variant.pos), is_best)?;
                 }
                 Ok(())
             }
         }
     }
 
-    fn add_constants(&mut self, defs: &[Def], wanted: &str) -> Result<(), AllocError> {
+    fn push_constants(
+        &self,
+        json: &mut Json,
+        defs: &[Def],
+        wanted: &str,
+    ) -> Result<(), AllocError> {
         for def in defs {
             if let Def::Extern(Extern::Const { name, ty, pos }) = def {
                 let text = &name.0;
                 let full = format!(in self.alloc; "${text}")?;
-                self.add(&full, 21, &ty.0, Some(*pos), ty.0.as_str() == wanted)?;
+                let is_best = ty.0.as_str() == wanted;
+                self.push(json, (&full, 21, &ty.0), Some(*pos), is_best)?;
             }
         }
         Ok(())

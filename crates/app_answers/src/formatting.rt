@@ -4,21 +4,27 @@ ghost use Rattle.std.specs.Prelude.{IfOk};
 ghost use Rattle.app_answers.specs.Layouts.{KeepsTokens};
 
 use crate::analysis::Analysis;
-use app_messages::edits::{PlacedEdit, edit_between, edits_value};
+use app_messages::edits::{PlacedEdit, edit_between, push_edits};
 use app_messages::messages::{member, range_of};
 use app_messages::refusals::Refusal;
 use report_names::extents::end_of_form;
 use serde_json::Value;
 use std::alloc::{AllocError, Global};
 use text_documents::edits::range_at;
+use text_json::Json;
 use text_reader::chunks::{Chunk, chunks};
 use text_reader::errors::ReadFault;
 use text_writer::formatted::{Indentation, formatted};
 
-/// The edit that lays out a document, or none where that is laid out.
-pub fn layout_of(alloc: Global, analysis: &Analysis, file: usize) -> Result<Value, Refusal> {
+/// Adds the edit that lays out a document, or none where that is laid out.
+pub fn layout_of(
+    alloc: Global,
+    json: &mut Json,
+    analysis: &Analysis,
+    file: usize,
+) -> Result<(), Refusal> {
     let edit = layout_edit(alloc, analysis.text(file))?;
-    Ok(edits_value(alloc, edit)?)
+    Ok(push_edits(json, &edit)?)
 }
 
 // The edit that lays out a text.
@@ -32,13 +38,14 @@ fn layout_edit(alloc: Global, text: &str) -> Result<Option<PlacedEdit>, Refusal>
     }
 }
 
-/// The edit that lays out those forms of a document of which a part stands in a range. What can't be read stays.
+/// Adds the edit that lays out those forms of a document of which a part stands in a range. What can't be read stays.
 pub fn layout_in(
     alloc: Global,
+    json: &mut Json,
     analysis: &Analysis,
     file: usize,
     params: &Value,
-) -> Result<Value, Refusal> {
+) -> Result<(), Refusal> {
     let text = analysis.text(file);
     let (begin, end) = range_of(member(params, "range")?)?;
     let Some(range) = range_at(text, begin, end) else {
@@ -46,7 +53,7 @@ pub fn layout_in(
     };
     let made = laid_out_in(alloc, text, range)?;
     let edit = edit_between(alloc, text, &made)?;
-    Ok(edits_value(alloc, edit)?)
+    Ok(push_edits(json, &edit)?)
 }
 
 // A text in which those forms are laid out of which a part stands between two offsets.

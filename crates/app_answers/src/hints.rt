@@ -3,59 +3,71 @@
 use crate::analysis::Analysis;
 use crate::ranges::{Ranges, end_of_name};
 use app_messages::messages::{member, range_of};
+use app_messages::ranges::{push_place_at, push_range_at};
 use app_messages::refusals::Refusal;
-use cranelift_isle::syntax::{Def, Rule};
+use cranelift_isle::syntax::{Decl, Def, Rule};
 use report_names::definitions::root_of;
 use report_names::mentions::{Mention, MentionKind, Mentions, type_needed};
-use serde_json::{Value, json};
+use serde_json::Value;
 use std::alloc::{AllocError, Global};
 use text_documents::edits::range_at;
+use text_json::Json;
 
-/// The types of the variables that are bound in a range, and the priorities that aren't written in its rules.
+/// Adds the types of the variables that are bound in a range, and the priorities that aren't written in its rules.
 pub fn hints_in(
     alloc: Global,
+    json: &mut Json,
     analysis: &Analysis,
     file: usize,
     params: &Value,
-) -> Result<Value, Refusal> {
+) -> Result<(), Refusal> {
     let (begin, end) = range_of(member(params, "range")?)?;
     let Some((begin, end)) = range_at(analysis.text(file), begin, end) else {
         return Err(Refusal::Outside);
     };
     let ranges = Ranges::new(alloc, analysis)?;
-    let mut found = Vec::new(alloc);
+    json.begin_list()?;
     for def in &analysis.defs {
         match def.place() {
             Some(pos) if pos.file == file && begin <= pos.offset && pos.offset <= end => {
-                add_hints(alloc, analysis, &ranges, def, &mut found)?;
+                push_hints(alloc, json, analysis, &ranges, def)?;
             }
             _ => {}
         }
     }
-    Ok(Value::Array(found))
+    Ok(json.end()?)
 }
 
-fn add_hints(
+// Adds the hints of a definition.
+fn push_hints(
     alloc: Global,
+    json: &mut Json,
     analysis: &Analysis,
     ranges: &Ranges<'_>,
     def: &Def,
-    found: &mut Vec<Value>,
 ) -> Result<(), AllocError> {
     if let Def::Rule(rule) = def {
         if rule.prio.is_none() && has_priorities(&analysis.defs, rule) {
-            let pos = rule.pattern.pos();
-            let place = ranges.place_value(pos.file, pos.offset)?;
-            found.push(json!(in alloc; {"position": place, "label": "0", "paddingRight": true})?)?;
+            push_priority(json, ranges, rule)?;
         }
     }
     let mentions = Mentions::of(alloc, def)?;
     for mention in &mentions.names {
         if mention.kind == MentionKind::Variable && mention.defines {
-            add_type(alloc, analysis, ranges, mention, found)?;
+            push_type(alloc, json, analysis, ranges, mention)?;
         }
     }
     Ok(())
+}
+
+// Adds the priority 0 of a rule, before its pattern.
+fn push_priority(json: &mut Json, ranges: &Ranges<'_>, rule: &Rule) -> Result<(), AllocError> {
+    let pos = rule.pattern.pos();
+    json.begin_object()?;
+    json.key_string("label", "0")?;
+    json.key_flag("paddingRight", true)?;
+    push_place_at(json, "position", ranges.place_near(pos.file, pos.offset))?;
+    json.end()
 }
 
 // Whether another rule of the same term has a priority.
@@ -68,12 +80,12 @@ fn has_priorities(defs: &[Def], rule: &Rule) -> bool {
 }
 
 // Adds the type of a variable behind its name, unless it stands there, as in a let.
-fn add_type(
+fn push_type(
     alloc: Global,
+    json: &mut Json,
     analysis: &Analysis,
     ranges: &Ranges<'_>,
     mention: &Mention<'_>,
-    found: &mut Vec<Value>,
 ) -> Result<(), AllocError> {
     let Some(ty) = type_needed(&analysis.defs, mention.need) else {
         return Ok(());
@@ -82,30 +94,52 @@ fn add_type(
     let file = mention.name.1.file;
     let end = end_of_name(mention.name);
     let behind = analysis.text(file).get(end..).unwrap_or("");
-    if !behind.trim_start().starts_with(ty) {
-        let place = ranges.place_value(file, end)?;
-        let label = format!(in alloc; ": {ty}")?;
-        found.push(json!(in alloc; {"position": place, "label": label, "kind": 1})?)?;
+    if behind.trim_start().starts_with(ty) {
+        return Ok(());
     }
-    Ok(())
+    json.begin_object()?;
+    json.key_number("kind", 1)?;
+    json.key_string("label", &format!(in alloc; ": {ty}")?)?;
+    push_place_at(json, "position", ranges.place_near(file, end))?;
+    json.end()
 }
 
-/// How many rules each term has that a file declares, above its declaration.
-pub fn lenses_of(alloc: Global, analysis: &Analysis, file: usize) -> Result<Value, AllocError> {
+/// Adds how many rules each term has that a file declares, above its declaration.
+pub fn lenses_of(
+    alloc: Global,
+    json: &mut Json,
+    analysis: &Analysis,
+    file: usize,
+) -> Result<(), AllocError> {
     let ranges = Ranges::new(alloc, analysis)?;
-    let mut found = Vec::new(alloc);
+    json.begin_list()?;
     for def in &analysis.defs {
         match def {
             Def::Decl(decl) if decl.pos.file == file => {
-                let range = ranges.of_name(&decl.term)?;
-                let title = rules_text(alloc, &analysis.defs, &decl.term.0)?;
-                let command = json!(in alloc; {"title": title, "command": ""})?;
-                found.push(json!(in alloc; {"range": range, "command": command})?)?;
+                push_lens(alloc, json, analysis, &ranges, decl)?;
             }
             _ => {}
         }
     }
-    Ok(Value::Array(found))
+    json.end()
+}
+
+// Adds how many rules a declared term has: the title of a command that does nothing.
+fn push_lens(
+    alloc: Global,
+    json: &mut Json,
+    analysis: &Analysis,
+    ranges: &Ranges<'_>,
+    decl: &Decl,
+) -> Result<(), AllocError> {
+    let title = rules_text(alloc, &analysis.defs, &decl.term.0)?;
+    json.begin_object()?;
+    json.begin_object_at("command")?;
+    json.key_string("command", "")?;
+    json.key_string("title", &title)?;
+    json.end()?;
+    push_range_at(json, "range", ranges.of_name(&decl.term))?;
+    json.end()
 }
 
 /// How many rules a term has.

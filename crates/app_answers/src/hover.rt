@@ -4,6 +4,7 @@ use crate::analysis::Analysis;
 use crate::hints::{is_rule_of, rules_text};
 use crate::ranges::Ranges;
 use crate::references::position_in;
+use app_messages::ranges::{DocumentRange, push_range_at};
 use app_messages::refusals::Refusal;
 use app_names::symbols::{
     Symbol, is_built_in, mention_at, names_of, specs_of, symbol_of, type_named,
@@ -14,16 +15,18 @@ use report_names::mentions::{Mention, Mentions, type_needed};
 use report_print::lines::FileLines;
 use report_ways::explanation::explanation;
 use report_witness::conditions::{conditions_of, given_of};
-use serde_json::{Value, json};
+use serde_json::Value;
 use std::alloc::{AllocError, Global};
+use text_json::Json;
 
-/// What is told of the thing at a place: null, where nothing is.
+/// Adds what is told of the thing at a place: null, where nothing is.
 pub fn hover_at(
     alloc: Global,
+    json: &mut Json,
     analysis: &Analysis,
     file: usize,
     params: &Value,
-) -> Result<Value, Refusal> {
+) -> Result<(), Refusal> {
     let pos = position_in(analysis, file, params)?;
     if let Some(mention) = mention_at(
         alloc,
@@ -31,16 +34,12 @@ pub fn hover_at(
         &specs_of(alloc, &analysis.sources.files.texts)?,
         pos,
     )? {
-        let answer = hover_on_name(alloc, analysis, &mention)?;
-        return Ok(answer);
+        push_name(alloc, json, analysis, &mention)?;
+        return Ok(());
     }
     match rule_headed_at(analysis, pos) {
-        Some(rule) => {
-            let text = rule_text(alloc, analysis, rule)?;
-            let range = Ranges::new(alloc, analysis)?.of_form(rule.pos)?;
-            Ok(hover_value(alloc, &text, range)?)
-        }
-        None => Ok(Value::Null),
+        Some(rule) => Ok(push_rule(alloc, json, analysis, rule)?),
+        None => Ok(json.null()?),
     }
 }
 
@@ -52,22 +51,40 @@ fn rule_headed_at(analysis: &Analysis, pos: Pos) -> Option<&Rule> {
     }
 }
 
-fn hover_value(alloc: Global, text: &str, range: Value) -> Result<Value, AllocError> {
-    json!(in alloc; {"contents": {"kind": "markdown", "value": text}, "range": range})
+// Adds what is told of a rule, with the range of the rule.
+fn push_rule(
+    alloc: Global,
+    json: &mut Json,
+    analysis: &Analysis,
+    rule: &Rule,
+) -> Result<(), AllocError> {
+    let range = Ranges::new(alloc, analysis)?.of_form(rule.pos);
+    push_told(json, &rule_text(alloc, analysis, rule)?, range)
 }
 
-// What is told of a name: null, where nothing is.
-fn hover_on_name(
+// Adds what is told of a name: null, where nothing is.
+fn push_name(
     alloc: Global,
+    json: &mut Json,
     analysis: &Analysis,
     mention: &Mention<'_>,
-) -> Result<Value, AllocError> {
-    let text = text_of_name(alloc, analysis, mention)?;
+) -> Result<(), AllocError> {
+    let range = Ranges::new(alloc, analysis)?.of_name(mention.name);
+    push_told(json, &text_of_name(alloc, analysis, mention)?, range)
+}
+
+// Adds what is told of a range: null, where nothing is.
+fn push_told(json: &mut Json, text: &str, range: DocumentRange) -> Result<(), AllocError> {
     if text.is_empty() {
-        return Ok(Value::Null);
+        return json.null();
     }
-    let range = Ranges::new(alloc, analysis)?.of_name(mention.name)?;
-    hover_value(alloc, &text, range)
+    json.begin_object()?;
+    json.begin_object_at("contents")?;
+    json.key_string("kind", "markdown")?;
+    json.key_string("value", text)?;
+    json.end()?;
+    push_range_at(json, "range", range)?;
+    json.end()
 }
 
 // What is told of a name, or the empty text.

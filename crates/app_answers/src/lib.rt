@@ -5,6 +5,7 @@
 pub mod actions;
 pub mod analysis;
 pub mod calls;
+mod capabilities;
 pub mod colours;
 pub mod completion;
 pub mod diagnostics;

@@ -2,15 +2,17 @@
 
 use crate::analysis::Analysis;
 use crate::ranges::{Ranges, end_of_name};
-use crate::references::location_of;
+use crate::references::push_location_of;
 use app_messages::messages::text_of;
+use app_messages::ranges::push_range_at;
 use app_messages::refusals::Refusal;
 use cranelift_isle::syntax::{
     Decl, Def, Extern, Fields, Ident, Pos, Rule, StructFields, Type, TypeValue, Variant,
 };
-use report_names::mentions::{MentionKind, Mentions};
-use serde_json::{Value, json};
+use report_names::mentions::{Mention, MentionKind, Mentions};
+use serde_json::Value;
 use std::alloc::{AllocError, Global};
+use text_json::Json;
 
 // What a definition is, in the words of the protocol.
 #[derive(Clone, Copy, PartialEq, Eq)]
@@ -30,7 +32,7 @@ enum Sort {
 
 impl Sort {
     // Its number in the protocol.
-    fn number(self) -> u8 {
+    fn number(self) -> usize {
         match self {
             Sort::Primitive => 5,
             Sort::Enumeration => 10,
@@ -46,16 +48,21 @@ impl Sort {
     }
 }
 
-/// The definitions of a file, in the order of its text.
-pub fn outline_of(alloc: Global, analysis: &Analysis, file: usize) -> Result<Value, AllocError> {
+/// Adds the definitions of a file, in the order of its text.
+pub fn outline_of(
+    alloc: Global,
+    json: &mut Json,
+    analysis: &Analysis,
+    file: usize,
+) -> Result<(), AllocError> {
     let ranges = Ranges::new(alloc, analysis)?;
-    let mut found = Vec::new(alloc);
+    json.begin_list()?;
     for def in &analysis.defs {
         if is_in(def, file) {
-            push_definition(alloc, &ranges, def, &mut found)?;
+            push_definition(alloc, json, &ranges, def)?;
         }
     }
-    Ok(Value::Array(found))
+    json.end()
 }
 
 fn is_in(def: &Def, file: usize) -> bool {
@@ -65,24 +72,38 @@ fn is_in(def: &Def, file: usize) -> bool {
     }
 }
 
-/// The names that the files of all lists define, but for variables, whose letters have those of a query among them in its order.
+/// Adds the names that the files of all lists define, but for variables, whose letters have those of a query among them in its
+/// order.
 pub fn found_symbols(
     alloc: Global,
+    json: &mut Json,
     analyses: &[Analysis],
     params: &Value,
-) -> Result<Value, Refusal> {
+) -> Result<(), Refusal> {
     let query = text_of(params, "query")?;
-    let mut found = Vec::new(alloc);
+    json.begin_list()?;
     for (number, analysis) in analyses.iter().enumerate() {
         let earlier = analyses.get(..number).unwrap_or(&[]);
-        let ranges = Ranges::new(alloc, analysis)?;
-        for def in &analysis.defs {
-            if !is_in_lists(earlier, analysis, def) {
-                add_symbols(alloc, &ranges, def, query, &mut found)?;
-            }
+        push_list_symbols(alloc, json, analysis, earlier, query)?;
+    }
+    Ok(json.end()?)
+}
+
+// Adds the names that those files of a list define which no earlier list has.
+fn push_list_symbols(
+    alloc: Global,
+    json: &mut Json,
+    analysis: &Analysis,
+    earlier: &[Analysis],
+    query: &str,
+) -> Result<(), AllocError> {
+    let ranges = Ranges::new(alloc, analysis)?;
+    for def in &analysis.defs {
+        if !is_in_lists(earlier, analysis, def) {
+            push_symbols(alloc, json, &ranges, def, query)?;
         }
     }
-    Ok(Value::Array(found))
+    Ok(())
 }
 
 // Whether one of some lists has the file of a definition.
@@ -97,27 +118,39 @@ fn is_in_lists(lists: &[Analysis], analysis: &Analysis, def: &Def) -> bool {
 }
 
 // Adds the names that a definition defines.
-fn add_symbols(
+fn push_symbols(
     alloc: Global,
+    json: &mut Json,
     ranges: &Ranges<'_>,
     def: &Def,
     query: &str,
-    found: &mut Vec<Value>,
 ) -> Result<(), AllocError> {
     let mentions = Mentions::of(alloc, def)?;
     for mention in &mentions.names {
         let kind = symbol_kind(mention.kind);
-        let name = mention.text();
-        if mention.defines && kind > 0 && is_like(name, query) {
-            let location = location_of(ranges, mention)?;
-            found.push(json!(in alloc; {"name": name, "kind": kind, "location": location})?)?;
+        if mention.defines && kind > 0 && is_like(mention.text(), query) {
+            push_symbol(json, ranges, mention, kind)?;
         }
     }
     Ok(())
 }
 
+fn push_symbol(
+    json: &mut Json,
+    ranges: &Ranges<'_>,
+    mention: &Mention<'_>,
+    kind: usize,
+) -> Result<(), AllocError> {
+    json.begin_object()?;
+    json.key_number("kind", kind)?;
+    json.key("location")?;
+    push_location_of(json, ranges, mention)?;
+    json.key_string("name", mention.text())?;
+    json.end()
+}
+
 // What a name stands for, in the protocol's numbers; 0 for what is no symbol of the workspace.
-fn symbol_kind(kind: MentionKind) -> u8 {
+fn symbol_kind(kind: MentionKind) -> usize {
     match kind {
         MentionKind::Type => Sort::Enumeration.number(),
         MentionKind::Term => Sort::Term.number(),
@@ -137,74 +170,74 @@ fn is_like(name: &str, query: &str) -> bool {
         .all(|c| letters.any(|letter| letter.eq_ignore_ascii_case(&c)))
 }
 
+// Adds the entry of a definition.
 fn push_definition(
     alloc: Global,
+    json: &mut Json,
     ranges: &Ranges<'_>,
     def: &Def,
-    found: &mut Vec<Value>,
 ) -> Result<(), AllocError> {
-    let entry = match def {
-        Def::TypeDef(ty) => type_entry(alloc, ranges, ty)?,
-        Def::Decl(decl) => declaration_entry(alloc, ranges, decl)?,
+    match def {
+        Def::TypeDef(ty) => push_type(json, ranges, ty),
+        Def::Decl(decl) => {
+            json.begin_object()?;
+            push_declaration(alloc, json, ranges, decl)?;
+            json.end()
+        }
         Def::Extractor(extractor) => {
-            let detail = "extractor";
-            let name = &extractor.term;
-            entry_of(
-                alloc,
-                ranges,
-                (name, Sort::Extractor, detail),
-                extractor.pos,
-            )?
+            let head = (&extractor.term, Sort::Extractor, "extractor");
+            push_entry(json, ranges, head, extractor.pos)
         }
         Def::Converter(converter) => {
-            let detail = "conversion";
-            let name = &converter.term;
-            entry_of(
-                alloc,
-                ranges,
-                (name, Sort::Converter, detail),
-                converter.pos,
-            )?
+            let head = (&converter.term, Sort::Converter, "conversion");
+            push_entry(json, ranges, head, converter.pos)
         }
-        Def::Rule(rule) => named_rule_entry(alloc, ranges, rule)?,
-        Def::Extern(external) => external_entry(alloc, ranges, external)?,
-        Def::Other => return Ok(()),
-    };
-    found.push(entry)?;
-    Ok(())
+        Def::Rule(rule) => push_named_rule(alloc, json, ranges, rule),
+        Def::Extern(external) => push_external(alloc, json, ranges, external),
+        Def::Other => Ok(()),
+    }
 }
 
-// An entry of a name, with what is said of it, for the form at a position.
-fn entry_of(
-    alloc: Global,
+// Adds an entry without parts.
+fn push_entry(
+    json: &mut Json,
+    ranges: &Ranges<'_>,
+    head: (&Ident, Sort, &str),
+    pos: Pos,
+) -> Result<(), AllocError> {
+    json.begin_object()?;
+    push_head(json, ranges, head, pos)?;
+    json.end()
+}
+
+// Adds what an entry says of a name, for the form at a position.
+fn push_head(
+    json: &mut Json,
     ranges: &Ranges<'_>,
     (name, sort, detail): (&Ident, Sort, &str),
     pos: Pos,
-) -> Result<Value, AllocError> {
+) -> Result<(), AllocError> {
     let begin = pos.offset.min(name.1.offset);
     let end = ranges.end_of_form(pos).max(end_of_name(name));
-    let range = ranges.between(pos.file, begin, end)?;
-    let selection = ranges.of_name(name)?;
-    json!(in alloc; {
-        "name": name.0.as_str(),
-        "detail": detail,
-        "kind": sort.number(),
-        "range": range,
-        "selectionRange": selection
-    })
+    json.key_string("detail", detail)?;
+    json.key_number("kind", sort.number())?;
+    json.key_string("name", &name.0)?;
+    push_range_at(json, "range", ranges.between(pos.file, begin, end))?;
+    push_range_at(json, "selectionRange", ranges.of_name(name))
 }
 
-// The entry of an external function or a constant.
-fn external_entry(
+// Adds the entry of an external function or a constant.
+fn push_external(
     alloc: Global,
+    json: &mut Json,
     ranges: &Ranges<'_>,
     external: &Extern,
-) -> Result<Value, AllocError> {
+) -> Result<(), AllocError> {
     match external {
         Extern::Constructor { term, func, pos } => {
             let func = &func.0;
             let detail = format!(in alloc; "constructor {func}")?;
-            entry_of(alloc, ranges, (term, Sort::External, &detail), *pos)
+            push_entry(json, ranges, (term, Sort::External, &detail), *pos)
         }
         Extern::Extractor {
             term,
@@ -214,22 +247,23 @@ fn external_entry(
         } => {
             let func = &func.0;
             let detail = format!(in alloc; "extractor {func}")?;
-            entry_of(alloc, ranges, (term, Sort::External, &detail), *pos)
+            push_entry(json, ranges, (term, Sort::External, &detail), *pos)
         }
         Extern::Const { name, ty, pos } => {
-            entry_of(alloc, ranges, (name, Sort::Constant, ty.0.as_str()), *pos)
+            push_entry(json, ranges, (name, Sort::Constant, &ty.0), *pos)
         }
     }
 }
 
-/// The entry of a declaration.
-pub(crate) fn declaration_entry(
+/// Adds what the entry of a declaration says.
+pub(crate) fn push_declaration(
     alloc: Global,
+    json: &mut Json,
     ranges: &Ranges<'_>,
     decl: &Decl,
-) -> Result<Value, AllocError> {
+) -> Result<(), AllocError> {
     let detail = signature_of(alloc, decl)?;
-    entry_of(alloc, ranges, (&decl.term, Sort::Term, &detail), decl.pos)
+    push_head(json, ranges, (&decl.term, Sort::Term, &detail), decl.pos)
 }
 
 /// The types of a term's arguments and of its result, as they are declared.
@@ -246,93 +280,86 @@ pub(crate) fn signature_of(alloc: Global, decl: &Decl) -> Result<String, AllocEr
     Ok(text)
 }
 
-// The entry of a rule: by its name, or by that of its term.
-fn named_rule_entry(alloc: Global, ranges: &Ranges<'_>, rule: &Rule) -> Result<Value, AllocError> {
+// Adds the entry of a rule: by its name, or by that of its term.
+fn push_named_rule(
+    alloc: Global,
+    json: &mut Json,
+    ranges: &Ranges<'_>,
+    rule: &Rule,
+) -> Result<(), AllocError> {
     match (&rule.name, rule.pattern.root_term()) {
-        (Some(name), _) => rule_entry(alloc, ranges, (name, "rule"), rule.pos),
-        (None, Some(term)) => rule_entry(alloc, ranges, (term, "rule"), rule.pos),
+        (Some(name), _) => push_entry(json, ranges, (name, Sort::Rule, "rule"), rule.pos),
+        (None, Some(term)) => push_entry(json, ranges, (term, Sort::Rule, "rule"), rule.pos),
         (None, None) => {
             let name = Ident(String::from_str(alloc, "rule")?, rule.pos);
-            rule_entry(alloc, ranges, (&name, "rule"), rule.pos)
+            push_entry(json, ranges, (&name, Sort::Rule, "rule"), rule.pos)
         }
     }
 }
 
-/// The entry of the rule at a position, by a name, with what is said of it.
-pub(crate) fn rule_entry(
-    alloc: Global,
+/// Adds what the entry of the rule at a position says, by a name, with what is said of it.
+pub(crate) fn push_rule(
+    json: &mut Json,
     ranges: &Ranges<'_>,
     (name, detail): (&Ident, &str),
     pos: Pos,
-) -> Result<Value, AllocError> {
-    entry_of(alloc, ranges, (name, Sort::Rule, detail), pos)
+) -> Result<(), AllocError> {
+    push_head(json, ranges, (name, Sort::Rule, detail), pos)
 }
 
-// The entry of a type, with those of its parts.
-fn type_entry(alloc: Global, ranges: &Ranges<'_>, ty: &Type) -> Result<Value, AllocError> {
-    match &ty.ty {
-        TypeValue::Primitive(..) => {
-            entry_of(
-                alloc,
-                ranges,
-                (&ty.name, Sort::Primitive, "primitive"),
-                ty.pos,
-            )
-        }
+// Adds the entry of a type, with those of its parts.
+fn push_type(json: &mut Json, ranges: &Ranges<'_>, ty: &Type) -> Result<(), AllocError> {
+    json.begin_object()?;
+    let (sort, detail) = match &ty.ty {
+        TypeValue::Primitive(..) => (Sort::Primitive, "primitive"),
         TypeValue::Enum(variants, _) => {
-            let entry = entry_of(alloc, ranges, (&ty.name, Sort::Enumeration, "enum"), ty.pos)?;
-            with_parts(alloc, entry, variant_entries(alloc, ranges, variants)?)
+            push_variants(json, ranges, variants)?;
+            (Sort::Enumeration, "enum")
         }
         TypeValue::Struct(fields, _) => {
-            let entry = entry_of(alloc, ranges, (&ty.name, Sort::Record, "struct"), ty.pos)?;
-            with_parts(alloc, entry, field_entries(alloc, ranges, fields)?)
+            push_fields(json, ranges, fields)?;
+            (Sort::Record, "struct")
         }
-    }
+    };
+    push_head(json, ranges, (&ty.name, sort, detail), ty.pos)?;
+    json.end()
 }
 
-fn with_parts(alloc: Global, mut entry: Value, parts: Vec<Value>) -> Result<Value, AllocError> {
-    if let Some(object) = entry.as_object_mut() {
-        serde_json::put(object, alloc, "children", Value::Array(parts))?;
-    }
-    Ok(entry)
-}
-
-fn variant_entries(
-    alloc: Global,
+// Adds variants, as the parts of an entry.
+fn push_variants(
+    json: &mut Json,
     ranges: &Ranges<'_>,
     variants: &[Variant],
-) -> Result<Vec<Value>, AllocError> {
-    let mut found = Vec::new(alloc);
+) -> Result<(), AllocError> {
+    json.begin_list_at("children")?;
     for variant in variants {
+        json.begin_object()?;
+        push_fields(json, ranges, &variant.fields)?;
         let head = (&variant.name, Sort::Variant, "variant");
-        let entry = entry_of(alloc, ranges, head, variant.pos)?;
-        let parts = field_entries(alloc, ranges, &variant.fields)?;
-        found.push(with_parts(alloc, entry, parts)?)?;
+        push_head(json, ranges, head, variant.pos)?;
+        json.end()?;
     }
-    Ok(found)
+    json.end()
 }
 
-// The entries of fields that have names.
-fn field_entries(
-    alloc: Global,
-    ranges: &Ranges<'_>,
-    fields: &Fields,
-) -> Result<Vec<Value>, AllocError> {
+// Adds the fields that have names, as the parts of an entry.
+fn push_fields(json: &mut Json, ranges: &Ranges<'_>, fields: &Fields) -> Result<(), AllocError> {
+    json.begin_list_at("children")?;
     match fields {
-        Fields::Struct(fields) => named_entries(alloc, ranges, fields),
-        Fields::Unit | Fields::Tuple(_) => Ok(Vec::new(alloc)),
+        Fields::Struct(fields) => push_named_fields(json, ranges, fields)?,
+        Fields::Unit | Fields::Tuple(_) => {}
     }
+    json.end()
 }
 
-fn named_entries(
-    alloc: Global,
+fn push_named_fields(
+    json: &mut Json,
     ranges: &Ranges<'_>,
     fields: &StructFields,
-) -> Result<Vec<Value>, AllocError> {
-    let mut found = Vec::new(alloc);
+) -> Result<(), AllocError> {
     for field in &fields.fields {
         let head = (&field.name, Sort::Field, field.ty.0.as_str());
-        found.push(entry_of(alloc, ranges, head, field.pos)?)?;
+        push_entry(json, ranges, head, field.pos)?;
     }
-    Ok(found)
+    Ok(())
 }

@@ -1,15 +1,15 @@
 //! Ranges and locations of the protocol.
 
 use crate::analysis::Analysis;
+use app_messages::ranges::{DocumentRange, push_range_at};
 use cranelift_isle::syntax::{Ident, Pos};
 use report_names::extents::end_of_form;
-use serde_json::{Value, json};
 use std::alloc::{AllocError, Global};
 use text_documents::places::{DocumentPosition, PlaceTable};
+use text_json::Json;
 
 /// The ranges in the files of an analysis, found by tables of their texts.
 pub struct Ranges<'a> {
-    alloc: Global,
     analysis: &'a Analysis,
     tables: Vec<PlaceTable<'a>>,
 }
@@ -17,7 +17,6 @@ pub struct Ranges<'a> {
 impl<'a> Drop for Ranges<'a> {
     fn drop(self) {
         let Ranges {
-            alloc: _,
             analysis: _,
             tables: _,
         } = self;
@@ -31,33 +30,24 @@ impl<'a> Ranges<'a> {
         for text in &analysis.sources.files.texts {
             tables.push(PlaceTable::new(alloc, text)?)?;
         }
-        Ok(Ranges {
-            alloc,
-            analysis,
-            tables,
-        })
+        Ok(Ranges { analysis, tables })
     }
 
     /// The range between two offsets of a file.
-    pub fn between(&self, file: usize, begin: usize, end: usize) -> Result<Value, AllocError> {
-        let begin = self.place_value(file, begin)?;
-        let end = self.place_value(file, end)?;
-        json!(in self.alloc; {"start": begin, "end": end})
-    }
-
-    /// The place of an offset of a file.
-    pub fn place_value(&self, file: usize, offset: usize) -> Result<Value, AllocError> {
-        let place = self.place_near(file, offset);
-        json!(in self.alloc; {"line": place.line, "character": place.character})
+    pub fn between(&self, file: usize, begin: usize, end: usize) -> DocumentRange {
+        DocumentRange {
+            begin: self.place_near(file, begin),
+            end: self.place_near(file, end),
+        }
     }
 
     /// The range of the form at a position.
-    pub fn of_form(&self, pos: Pos) -> Result<Value, AllocError> {
+    pub fn of_form(&self, pos: Pos) -> DocumentRange {
         self.between(pos.file, pos.offset, self.end_of_form(pos))
     }
 
     /// The range of the parenthesis at a position and the word behind it.
-    pub fn of_head(&self, pos: Pos) -> Result<Value, AllocError> {
+    pub fn of_head(&self, pos: Pos) -> DocumentRange {
         let word = Pos {
             file: pos.file,
             offset: pos.offset.saturating_add(1),
@@ -75,13 +65,21 @@ impl<'a> Ranges<'a> {
     }
 
     /// The range of a name.
-    pub fn of_name(&self, name: &Ident) -> Result<Value, AllocError> {
+    pub fn of_name(&self, name: &Ident) -> DocumentRange {
         self.between(name.1.file, name.1.offset, end_of_name(name))
     }
 
-    /// A range with the document that it is in.
-    pub fn location(&self, file: usize, range: Value) -> Result<Value, AllocError> {
-        json!(in self.alloc; {"uri": self.analysis.uri(file), "range": range})
+    /// Adds a range with the document that it is in.
+    pub fn push_location(
+        &self,
+        json: &mut Json,
+        file: usize,
+        range: DocumentRange,
+    ) -> Result<(), AllocError> {
+        json.begin_object()?;
+        push_range_at(json, "range", range)?;
+        json.key_string("uri", self.analysis.uri(file))?;
+        json.end()
     }
 
     /// The place of an offset. Between `\r` and `\n` that is the end of the line, before both. Where it is no place, this is the

@@ -3,13 +3,15 @@
 use crate::analysis::Analysis;
 use crate::ranges::Ranges;
 use app_messages::messages::{member, place_of};
+use app_messages::ranges::push_range_at;
 use app_messages::refusals::Refusal;
 use app_names::symbols::{Specs, mention_at, names_of, specs_of, symbol_of};
 use cranelift_isle::syntax::Pos;
 use report_names::mentions::Mention;
-use serde_json::{Value, json};
+use serde_json::Value;
 use std::alloc::{AllocError, Global};
 use text_documents::places::offset_at;
+use text_json::Json;
 
 /// The position in a file that a request is of.
 pub(crate) fn position_in(
@@ -24,64 +26,77 @@ pub(crate) fn position_in(
     }
 }
 
-/// Where the name at a place is defined.
+/// Adds where the name at a place is defined.
 pub fn definition_at(
     alloc: Global,
+    json: &mut Json,
     analysis: &Analysis,
     file: usize,
     params: &Value,
-) -> Result<Value, Refusal> {
+) -> Result<(), Refusal> {
     let pos = position_in(analysis, file, params)?;
     let specs = specs_of(alloc, &analysis.sources.files.texts)?;
     let ranges = Ranges::new(alloc, analysis)?;
-    let mut found = Vec::new(alloc);
+    json.begin_list()?;
     for mention in &same_names(alloc, analysis, &specs, pos)? {
         if mention.defines {
-            found.push(location_of(&ranges, mention)?)?;
+            push_location_of(json, &ranges, mention)?;
         }
     }
-    Ok(Value::Array(found))
+    Ok(json.end()?)
 }
 
-/// Where the name at a place stands, with its definitions if they are wanted.
+/// Adds where the name at a place stands, with its definitions if they are wanted.
 pub fn references_at(
     alloc: Global,
+    json: &mut Json,
     analysis: &Analysis,
     file: usize,
     params: &Value,
-) -> Result<Value, Refusal> {
+) -> Result<(), Refusal> {
     let pos = position_in(analysis, file, params)?;
     let with_definitions = wants_definitions(params).unwrap_or(true);
     let specs = specs_of(alloc, &analysis.sources.files.texts)?;
     let ranges = Ranges::new(alloc, analysis)?;
-    let mut found = Vec::new(alloc);
+    json.begin_list()?;
     for mention in &same_names(alloc, analysis, &specs, pos)? {
         if with_definitions || !mention.defines {
-            found.push(location_of(&ranges, mention)?)?;
+            push_location_of(json, &ranges, mention)?;
         }
     }
-    Ok(Value::Array(found))
+    Ok(json.end()?)
 }
 
-/// Where the name at a place stands in its file: as it is written where it is defined, else as it is read.
+/// Adds where the name at a place stands in its file: as it is written where it is defined, else as it is read.
 pub fn highlights_at(
     alloc: Global,
+    json: &mut Json,
     analysis: &Analysis,
     file: usize,
     params: &Value,
-) -> Result<Value, Refusal> {
+) -> Result<(), Refusal> {
     let pos = position_in(analysis, file, params)?;
     let specs = specs_of(alloc, &analysis.sources.files.texts)?;
     let ranges = Ranges::new(alloc, analysis)?;
-    let mut found = Vec::new(alloc);
+    json.begin_list()?;
     for mention in &same_names(alloc, analysis, &specs, pos)? {
         if mention.name.1.file == file {
-            let range = ranges.of_name(mention.name)?;
-            let kind = if mention.defines { 3u8 } else { 2u8 };
-            found.push(json!(in alloc; {"range": range, "kind": kind})?)?;
+            push_highlight(json, &ranges, mention)?;
         }
     }
-    Ok(Value::Array(found))
+    Ok(json.end()?)
+}
+
+// Adds a place where a name is written, which is 3 in the protocol's numbers, or is read, which is 2.
+fn push_highlight(
+    json: &mut Json,
+    ranges: &Ranges<'_>,
+    mention: &Mention<'_>,
+) -> Result<(), AllocError> {
+    json.begin_object()?;
+    json.key_number("kind", if mention.defines { 3 } else { 2 })?;
+    push_range_at(json, "range", ranges.of_name(mention.name))?;
+    json.end()
 }
 
 // Whether a request for names wants those that define.
@@ -105,8 +120,11 @@ fn same_names<'a>(
     }
 }
 
-/// The place of a name.
-pub(crate) fn location_of(ranges: &Ranges<'_>, mention: &Mention<'_>) -> Result<Value, AllocError> {
-    let range = ranges.of_name(mention.name)?;
-    ranges.location(mention.name.1.file, range)
+/// Adds the place of a name.
+pub(crate) fn push_location_of(
+    json: &mut Json,
+    ranges: &Ranges<'_>,
+    mention: &Mention<'_>,
+) -> Result<(), AllocError> {
+    ranges.push_location(json, mention.name.1.file, ranges.of_name(mention.name))
 }

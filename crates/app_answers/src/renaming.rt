@@ -3,11 +3,12 @@
 ghost use Rattle.std.specs.Prelude.{◌≡◌, IfOk};
 
 use crate::analysis::Analysis;
-use crate::edits::file_changes;
+use crate::edits::{FileEdit, file_edits, push_changes, uris_of};
 use crate::ranges::{Ranges, end_of_name};
 use crate::references::position_in;
 use app_messages::edits::{Edit, name_edit};
 use app_messages::messages::text_of;
+use app_messages::ranges::push_range_at;
 use app_messages::refusals::Refusal;
 use app_names::symbols::{
     Specs, Symbol, has_rule, has_variable, is_built_in, mention_at, names_of, specs_of, symbol_of,
@@ -18,62 +19,70 @@ use report_names::definitions::{
     declaration_of, definition_around, place_of_constant, place_of_term,
 };
 use report_names::mentions::{Mention, MentionKind, Mentions};
-use serde_json::{Value, json};
+use serde_json::Value;
 use std::alloc::{AllocError, Global};
+use text_json::Json;
 
-/// The name at a place that can be renamed, with its range.
+/// Adds the name at a place that can be renamed, with its range.
 pub fn prepared_at(
     alloc: Global,
+    json: &mut Json,
     analysis: &Analysis,
     file: usize,
     params: &Value,
-) -> Result<Value, Refusal> {
+) -> Result<(), Refusal> {
     let pos = position_in(analysis, file, params)?;
     let specs = specs_of(alloc, &analysis.sources.files.texts)?;
     let (mention, symbol) = renamed_at_place(alloc, analysis, &specs, pos)?;
     let old = old_name(&mention, symbol);
     let end = end_of_name(mention.name);
-    let range = Ranges::new(alloc, analysis)?.between(file, end.saturating_sub(old.len()), end)?;
-    Ok(json!(in alloc; {"range": range, "placeholder": old})?)
+    let range = Ranges::new(alloc, analysis)?.between(file, end.saturating_sub(old.len()), end);
+    json.begin_object()?;
+    json.key_string("placeholder", old)?;
+    push_range_at(json, "range", range)?;
+    Ok(json.end()?)
 }
 
-/// The edits that give what is named at a place a new name, in all lists that have its file.
+/// Adds the edits that give what is named at a place a new name, in all lists that have its file.
 pub fn renamed_in_lists(
     alloc: Global,
+    json: &mut Json,
     analyses: &[Analysis],
     path: &str,
     params: &Value,
-) -> Result<Value, Refusal> {
-    let mut changes = json!(in alloc; {})?;
+) -> Result<(), Refusal> {
+    let mut edits = Vec::new(alloc);
     for analysis in analyses {
         if let Some(file) = analysis.sources.number_of(path) {
             let found = renamed_at(alloc, analysis, file, params)?;
-            add_changes(alloc, &mut changes, &found)?;
+            add_others(alloc, &mut edits, &found)?;
         }
     }
-    Ok(json!(in alloc; {"changes": changes})?)
+    Ok(push_changes(alloc, json, &edits)?)
 }
 
 // Adds the edits of those files that aren't there: a file has the same ones in each list.
-fn add_changes(alloc: Global, changes: &mut Value, found: &Value) -> Result<(), AllocError> {
-    let (Some(object), Some(found)) = (changes.as_object_mut(), found.as_object()) else {
-        return Ok(());
-    };
-    for (uri, edits) in found.iter() {
-        if !object.contains_key(uri.as_str()) {
-            serde_json::put(object, alloc, uri, edits.clone()?)?;
+fn add_others<'a>(
+    alloc: Global,
+    edits: &mut Vec<FileEdit<'a>>,
+    found: &[FileEdit<'a>],
+) -> Result<(), AllocError> {
+    let uris = uris_of(alloc, edits)?;
+    for edit in found {
+        if !uris.contains(&edit.uri) {
+            edits.push(*edit)?;
         }
     }
     Ok(())
 }
 
 // The edits of each file of a list that give what is named at a place a new name.
-fn renamed_at(
+fn renamed_at<'a>(
     alloc: Global,
-    analysis: &Analysis,
+    analysis: &'a Analysis,
     file: usize,
-    params: &Value,
-) -> Result<Value, Refusal> {
+    params: &'a Value,
+) -> Result<Vec<FileEdit<'a>>, Refusal> {
     let pos = position_in(analysis, file, params)?;
     let name = text_of(params, "newName")?;
     let specs = specs_of(alloc, &analysis.sources.files.texts)?;
@@ -105,7 +114,8 @@ fn renamed_at(
             }
         }
     }
-    Ok(file_changes(alloc, analysis, &edits)?)
+    let ranges = Ranges::new(alloc, analysis)?;
+    Ok(file_edits(alloc, analysis, &ranges, &edits)?)
 }
 
 // The edit that writes a new name in place of an old one, which begins at an offset in the name of a mention.

@@ -1,14 +1,16 @@
 //! What the server knows of its client: the stage that they are in, the open documents, and what was last told.
 
+use crate::capabilities::push_capabilities;
 use crate::documents::{Documents, OpenDocument};
 use crate::sources::Workspace;
 use app_messages::messages::{changes_of, document_uri, member, text_of};
 use app_messages::protocol::ServerStage;
 use app_messages::refusals::Refusal;
 use app_messages::uris::name_of;
-use serde_json::{Value, json};
+use serde_json::Value;
 use std::alloc::{AllocError, Global};
 use text_documents::documents::Document;
+use text_json::Json;
 
 /// What the server knows of its client.
 pub struct Session {
@@ -59,13 +61,17 @@ impl Session {
         }
     }
 
-    /// Begins, with what the client says of its folders, and answers what the server can do.
-    pub fn initialize(&mut self, alloc: Global, params: &Value) -> Result<Value, Refusal> {
-        let workspaces = workspaces_of(alloc, params)?;
-        let answer = capabilities(alloc)?;
-        self.workspaces = workspaces;
+    /// Begins, with what the client says of its folders, and adds what the server can do.
+    pub fn initialize(
+        &mut self,
+        alloc: Global,
+        json: &mut Json,
+        params: &Value,
+    ) -> Result<(), Refusal> {
+        push_capabilities(json)?;
+        self.workspaces = workspaces_of(alloc, params)?;
         self.stage = ServerStage::Open;
-        Ok(answer)
+        Ok(())
     }
 
     /// Opens a document.
@@ -168,56 +174,4 @@ fn named_files(alloc: Global, params: &Value) -> Result<Vec<String>, AllocError>
 fn files_option(params: &Value) -> Option<&Vec<Value>> {
     let options = params.get("initializationOptions")?;
     options.get("files").and_then(Value::as_array)
-}
-
-// What the server offers: each name in the protocol, with its value as JSON. The kinds of semantic tokens are in the order of
-// `colours`.
-const OFFERED: [(&str, &str); 21] = [
-    ("positionEncoding", "\"utf-16\""),
-    (
-        "textDocumentSync",
-        "{\"openClose\":true,\"change\":2,\"save\":true}",
-    ),
-    ("hoverProvider", "true"),
-    ("definitionProvider", "true"),
-    ("referencesProvider", "true"),
-    ("documentHighlightProvider", "true"),
-    ("documentSymbolProvider", "true"),
-    ("workspaceSymbolProvider", "true"),
-    ("foldingRangeProvider", "true"),
-    ("selectionRangeProvider", "true"),
-    (
-        "completionProvider",
-        "{\"triggerCharacters\":[\"(\",\".\",\"$\"]}",
-    ),
-    (
-        "signatureHelpProvider",
-        "{\"triggerCharacters\":[\"(\",\" \"]}",
-    ),
-    ("inlayHintProvider", "true"),
-    ("codeLensProvider", "{}"),
-    ("callHierarchyProvider", "true"),
-    ("documentFormattingProvider", "true"),
-    ("documentRangeFormattingProvider", "true"),
-    ("renameProvider", "{\"prepareProvider\":true}"),
-    ("codeActionProvider", "{\"codeActionKinds\":[\"quickfix\"]}"),
-    ("workspace", "{\"workspaceFolders\":{\"supported\":true}}"),
-    (
-        "semanticTokensProvider",
-        "{\"legend\":{\"tokenTypes\":[\"type\",\"function\",\"enumMember\",\"property\",\"variable\",\"macro\"],\"tokenModifiers\":[\"declaration\"]},\"full\":true}",
-    ),
-];
-
-// Only memory can be missing: the values are JSON.
-fn capabilities(alloc: Global) -> Result<Value, AllocError> {
-    let mut offered = json!(in alloc; {})?;
-    if let Some(object) = offered.as_object_mut() {
-        for (name, text) in OFFERED {
-            match Value::from_str(alloc, text) {
-                Ok(value) => serde_json::put(object, alloc, name, value)?,
-                Err(_error) => return Err(AllocError),
-            }
-        }
-    }
-    json!(in alloc; {"capabilities": offered, "serverInfo": {"name": "isle"}})
 }

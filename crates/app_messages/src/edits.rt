@@ -5,11 +5,12 @@ ghost use Rattle.std.specs.List.{slice_range};
 ghost use Rattle.app_messages.specs.Edits.{Makes};
 ghost use Rattle.text_documents.specs.Places.{IsEdit};
 
+use crate::ranges::{DocumentRange, push_range_at};
 use crate::refusals::Refusal;
-use serde_json::{Value, json};
 use std::alloc::{AllocError, Global};
 use text_documents::edits::edited;
 use text_documents::places::{DocumentPosition, PlaceTable};
+use text_json::Json;
 
 /// What takes the place of a piece of a text, and where an editor finds the piece.
 #[derive(Drop)]
@@ -125,22 +126,25 @@ fn tried(
     }
 }
 
-/// An edit in the protocol's form, if there is one.
-pub fn edits_value(alloc: Global, edit: Option<PlacedEdit>) -> Result<Value, AllocError> {
-    let mut found = Vec::new(alloc);
-    if let Some(edit) = &edit {
-        let begin = place_value(alloc, edit.begin)?;
-        let end = place_value(alloc, edit.end)?;
-        let range = json!(in alloc; {"start": begin, "end": end})?;
-        let text = edit.text.as_str();
-        found.push(json!(in alloc; {"range": range, "newText": text})?)?;
+/// Adds the list of an edit, or an empty one where there is none.
+pub fn push_edits(json: &mut Json, edit: &Option<PlacedEdit>) -> Result<(), AllocError> {
+    json.begin_list()?;
+    if let Some(edit) = edit {
+        let range = DocumentRange {
+            begin: edit.begin,
+            end: edit.end,
+        };
+        push_edit(json, range, &edit.text)?;
     }
-    Ok(Value::Array(found))
+    json.end()
 }
 
-/// A place in the protocol's form.
-pub fn place_value(alloc: Global, place: DocumentPosition) -> Result<Value, AllocError> {
-    json!(in alloc; {"line": place.line, "character": place.character})
+/// Adds an edit: a range, and the text that takes its place.
+pub fn push_edit(json: &mut Json, range: DocumentRange, text: &str) -> Result<(), AllocError> {
+    json.begin_object()?;
+    json.key_string("newText", text)?;
+    push_range_at(json, "range", range)?;
+    json.end()
 }
 
 /// How many bytes two texts share at their beginnings, and how many behind these at their ends.

@@ -5,6 +5,7 @@ use serde_json::Value;
 use std::alloc::{AllocError, Global};
 use std::io;
 use std::io::Write;
+use text_json::Json;
 
 /// Why something wasn't written.
 #[derive(Clone, Copy, PartialEq, Eq)]
@@ -46,23 +47,34 @@ fn send_parts<W: Write>(out: &mut W, parts: &[&str]) -> io::Result<()> {
     Ok(())
 }
 
-/// Writes the answer to the request of an id, which is JSON.
-pub fn send_answer<W: Write>(
-    alloc: Global,
-    out: &mut W,
-    id: &str,
-    answer: &Value,
-) -> Result<(), Unsent> {
-    let text = answer.to_string(alloc)?;
+/// An answer that is begun: the value that is added to it is what it says. Without one that is `null`.
+pub fn answer_begun(alloc: Global) -> Result<Json, AllocError> {
+    begun(alloc, "result")
+}
+
+/// A notification that is begun: the value that is added to it is what it says.
+pub fn notification_begun(alloc: Global) -> Result<Json, AllocError> {
+    begun(alloc, "params")
+}
+
+// An object whose one key has no value yet.
+fn begun(alloc: Global, key: &str) -> Result<Json, AllocError> {
+    let mut json = Json::new(alloc)?;
+    json.key(key)?;
+    Ok(json)
+}
+
+// The line of an object behind its first character.
+fn behind_brace(line: &str) -> &str {
+    line.trim_end().strip_prefix("{").unwrap_or("}")
+}
+
+/// Writes the answer to the request of an id.
+pub fn send_answer<W: Write>(out: &mut W, id: &str, answer: Json) -> Result<(), Unsent> {
+    let line = answer.line()?;
     send(
         out,
-        &[
-            "{\"jsonrpc\":\"2.0\",\"id\":",
-            id,
-            ",\"result\":",
-            text.as_str(),
-            "}",
-        ],
+        &["{\"jsonrpc\":\"2.0\",\"id\":", id, ",", behind_brace(&line)],
     )?;
     Ok(())
 }
@@ -95,20 +107,18 @@ fn send_error<'a, W: Write>(
 
 /// Writes a notification.
 pub fn send_notification<W: Write>(
-    alloc: Global,
     out: &mut W,
     method: &str,
-    params: &Value,
+    notification: Json,
 ) -> Result<(), Unsent> {
-    let text = params.to_string(alloc)?;
+    let line = notification.line()?;
     send(
         out,
         &[
             "{\"jsonrpc\":\"2.0\",\"method\":\"",
             method,
-            "\",\"params\":",
-            text.as_str(),
-            "}",
+            "\",",
+            behind_brace(&line),
         ],
     )?;
     Ok(())
@@ -133,6 +143,20 @@ pub fn send_out_of_step<W: Write>(out: &mut W) -> io::Result<()> {
             "\"}}",
         ],
     )
+}
+
+/// Tells the client which document that is, as it named the document.
+pub fn send_lost<W: Write>(alloc: Global, out: &mut W, document: &Value) -> Result<(), Unsent> {
+    let text = document.to_string(alloc)?;
+    send(
+        out,
+        &[
+            "{\"jsonrpc\":\"2.0\",\"method\":\"isle/outOfStep\",\"params\":",
+            text.as_str(),
+            "}",
+        ],
+    )?;
+    Ok(())
 }
 
 // Writes the parts of a note on a notification.

@@ -25,7 +25,7 @@ use app_messages::messages::{Message, member, message_of, text_of};
 use app_messages::protocol::{Question, Reply, ServerStage, reply_to};
 use app_messages::refusals::Refusal;
 use app_messages::replies::{
-    Unsent, send_answer, send_log, send_notification, send_out_of_step, send_refusal,
+    Unsent, answer_begun, send_answer, send_log, send_lost, send_out_of_step, send_refusal,
 };
 use app_messages::uris::name_of;
 use report_stack::size_of_stack;
@@ -33,6 +33,7 @@ use serde_json::Value;
 use std::alloc::{AllocError, Global};
 use std::collections::VecDeque;
 use std::io::{Read, Write};
+use text_json::Json;
 
 // The status of an end after `shutdown`, of one without it, and of an output that can't be written.
 const SHUT: u8 = 0;
@@ -247,7 +248,7 @@ impl Server {
         }
         self.is_current = false;
         send_out_of_step(out)?;
-        match send_notification(self.alloc, out, "isle/outOfStep", document) {
+        match send_lost(self.alloc, out, document) {
             Ok(()) | Err(Unsent::Memory) => Ok(()),
             Err(Unsent::Closed) => Err(Unwritten),
         }
@@ -282,104 +283,111 @@ impl Server {
         if is_cancelled {
             return refused(out, &id, Refusal::Cancelled);
         }
-        match self.answer(rt, out, method, params)? {
-            Ok(answer) => match send_answer(self.alloc, out, &id, &answer) {
-                Ok(()) => Ok(Going::On),
-                Err(Unsent::Memory) => refused(out, &id, Refusal::Memory),
-                Err(Unsent::Closed) => Err(Unwritten),
-            },
+        let Ok(mut json) = answer_begun(self.alloc) else {
+            return refused(out, &id, Refusal::Memory);
+        };
+        match self.answer(rt, out, &mut json, method, params)? {
+            Ok(()) => answered(out, &id, json),
             Err(why) => refused(out, &id, why),
         }
     }
 
-    // What a request comes to, by the table of the protocol.
+    // Adds what a request comes to, by the table of the protocol.
     fn answer<R: std::rt::Files + AllocGlobal, O: Write>(
         &mut self,
         rt: &R,
         out: &mut O,
+        json: &mut Json,
         method: &str,
         params: Option<&Value>,
-    ) -> Result<Result<Value, Refusal>, Unwritten> {
+    ) -> Result<Result<(), Refusal>, Unwritten> {
         match reply_to(self.session.stage, method) {
-            Reply::Begin => Ok(self.initialize(params)),
+            Reply::Begin => Ok(self.initialize(json, params)),
             Reply::Shut => {
                 self.session.stage = ServerStage::Shut;
-                Ok(Ok(Value::Null))
+                Ok(Ok(()))
             }
             Reply::Refuse(why) => Ok(Err(why)),
-            Reply::Ask(question) => self.answer_now(rt, out, question, params),
+            Reply::Ask(question) => self.answer_now(rt, out, json, question, params),
         }
     }
 
-    // The answer to a question, by what the files mean now.
+    // Adds the answer to a question, by what the files mean now.
     fn answer_now<R: std::rt::Files + AllocGlobal, O: Write>(
         &mut self,
         rt: &R,
         out: &mut O,
+        json: &mut Json,
         question: Question,
         params: Option<&Value>,
-    ) -> Result<Result<Value, Refusal>, Unwritten> {
+    ) -> Result<Result<(), Refusal>, Unwritten> {
         match self.refresh(rt, out) {
-            Ok(()) => Ok(self.answer_to(question, params)),
+            Ok(()) => Ok(self.answer_to(json, question, params)),
             Err(Unsent::Memory) => Ok(Err(Refusal::Memory)),
             Err(Unsent::Closed) => Err(Unwritten),
         }
     }
 
-    fn initialize(&mut self, params: Option<&Value>) -> Result<Value, Refusal> {
-        self.session.initialize(self.alloc, given(params)?)
+    fn initialize(&mut self, json: &mut Json, params: Option<&Value>) -> Result<(), Refusal> {
+        self.session.initialize(self.alloc, json, given(params)?)
     }
 
-    // The answer to a question, mostly about an open document.
-    fn answer_to(&self, question: Question, params: Option<&Value>) -> Result<Value, Refusal> {
+    // Adds the answer to a question, mostly about an open document.
+    fn answer_to(
+        &self,
+        json: &mut Json,
+        question: Question,
+        params: Option<&Value>,
+    ) -> Result<(), Refusal> {
         let params = given(params)?;
         if question == Question::Symbols {
-            return found_symbols(self.alloc, &self.analyses, params);
+            return found_symbols(self.alloc, json, &self.analyses, params);
         }
         let name = match question {
             Question::Callers | Question::Callees => name_of(self.alloc, item_uri(params)?)?,
             _ => self.session.open_name(self.alloc, params)?,
         };
         if question == Question::Rename {
-            return renamed_in_lists(self.alloc, &self.analyses, &name, params);
+            return renamed_in_lists(self.alloc, json, &self.analyses, &name, params);
         }
         for analysis in &self.analyses {
             if let Some(file) = analysis.sources.number_of(&name) {
-                return answer_in(self.alloc, analysis, file, question, params);
+                return answer_in(self.alloc, json, analysis, file, question, params);
             }
         }
         Err(Refusal::NotOpen)
     }
 }
 
-// The answer to a question about a file.
+// Adds the answer to a question about a file.
 fn answer_in(
     alloc: Global,
+    json: &mut Json,
     analysis: &Analysis,
     file: usize,
     question: Question,
     params: &Value,
-) -> Result<Value, Refusal> {
+) -> Result<(), Refusal> {
     match question {
-        Question::Hover => hover_at(alloc, analysis, file, params),
-        Question::Definition => definition_at(alloc, analysis, file, params),
-        Question::References => references_at(alloc, analysis, file, params),
-        Question::Highlights => highlights_at(alloc, analysis, file, params),
-        Question::Completion => completions_at(alloc, analysis, file, params),
-        Question::Signature => signature_at(alloc, analysis, file, params),
-        Question::Selections => selections_at(alloc, analysis, file, params),
-        Question::Hints => hints_in(alloc, analysis, file, params),
-        Question::Layout => layout_of(alloc, analysis, file),
-        Question::LayoutIn => layout_in(alloc, analysis, file, params),
-        Question::Prepare => prepared_at(alloc, analysis, file, params),
-        Question::Actions => actions_at(alloc, analysis, file, params),
-        Question::Calls => prepared_calls(alloc, analysis, file, params),
-        Question::Callers => callers_of(alloc, analysis, params),
-        Question::Callees => callees_of(alloc, analysis, params),
-        Question::Outline => Ok(outline_of(alloc, analysis, file)?),
-        Question::Folds => Ok(folds_of(alloc, analysis, file)?),
-        Question::Colours => Ok(colours_of(alloc, analysis, file)?),
-        Question::Lenses => Ok(lenses_of(alloc, analysis, file)?),
+        Question::Hover => hover_at(alloc, json, analysis, file, params),
+        Question::Definition => definition_at(alloc, json, analysis, file, params),
+        Question::References => references_at(alloc, json, analysis, file, params),
+        Question::Highlights => highlights_at(alloc, json, analysis, file, params),
+        Question::Completion => completions_at(alloc, json, analysis, file, params),
+        Question::Signature => signature_at(alloc, json, analysis, file, params),
+        Question::Selections => selections_at(alloc, json, analysis, file, params),
+        Question::Hints => hints_in(alloc, json, analysis, file, params),
+        Question::Layout => layout_of(alloc, json, analysis, file),
+        Question::LayoutIn => layout_in(alloc, json, analysis, file, params),
+        Question::Prepare => prepared_at(alloc, json, analysis, file, params),
+        Question::Actions => actions_at(alloc, json, analysis, file, params),
+        Question::Calls => prepared_calls(alloc, json, analysis, file, params),
+        Question::Callers => callers_of(alloc, json, analysis, params),
+        Question::Callees => callees_of(alloc, json, analysis, params),
+        Question::Outline => Ok(outline_of(alloc, json, analysis, file)?),
+        Question::Folds => Ok(folds_of(alloc, json, analysis, file)?),
+        Question::Colours => Ok(colours_of(alloc, json, analysis, file)?),
+        Question::Lenses => Ok(lenses_of(alloc, json, analysis, file)?),
         Question::Rename | Question::Symbols => Err(Refusal::NoMethod),
     }
 }
@@ -412,6 +420,15 @@ fn given(params: Option<&Value>) -> Result<&Value, Refusal> {
 // The URI of the item that a request is of.
 fn item_uri(params: &Value) -> Result<&str, Refusal> {
     text_of(member(params, "item")?, "uri")
+}
+
+// Writes an answer, and goes on.
+fn answered<O: Write>(out: &mut O, id: &str, answer: Json) -> Result<Going, Unwritten> {
+    match send_answer(out, id, answer) {
+        Ok(()) => Ok(Going::On),
+        Err(Unsent::Memory) => refused(out, id, Refusal::Memory),
+        Err(Unsent::Closed) => Err(Unwritten),
+    }
 }
 
 // Writes an error, and goes on.
