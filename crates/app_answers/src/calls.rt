@@ -175,7 +175,7 @@ fn names_in_rules<'a>(
     Ok(if makes { Some(found) } else { None })
 }
 
-// Where a rule makes a term, or takes it apart: wherever its name stands, but for the head of the rule's pattern.
+// The names of a term where a rule makes it, or takes it apart: wherever one stands, but for the head of the rule's pattern.
 fn names_made<'a>(alloc: Global, def: &'a Def, term: &str) -> Result<Vec<&'a Ident>, AllocError> {
     let mut found = Vec::new(alloc);
     let Def::Rule(rule) = def else {

@@ -3,7 +3,7 @@
 use std::alloc::AllocError;
 use text_json::Json;
 
-// What it can do of which no more is said, from one name up to another in the order of names.
+// What it can do and says no more of: the names that follow one another in their order.
 const PLAIN: [&str; 8] = [
     "definitionProvider",
     "documentFormattingProvider",

@@ -83,6 +83,7 @@ fn label_of(alloc: Global, defs: &[Def], term: &str) -> Result<String, AllocErro
 // Adds where the type of each argument stands in that text.
 fn push_parameters(json: &mut Json, defs: &[Def], term: &str) -> Result<(), AllocError> {
     json.begin_list_at("parameters")?;
+    // behind the parenthesis and the term
     let mut end = term.len().saturating_add(1);
     for number in 0..MOST_ARGUMENTS {
         let Some(ty) = argument_type(defs, term, number) else {
